@@ -1,0 +1,21 @@
+//! What a source, a world and a session mean: the numbers, the tale and the definitions that every
+//! other crate's contracts speak of.
+#![tactic(auto)]
+
+mod article;
+mod direction;
+mod exits;
+mod fault;
+mod numbers;
+mod place;
+mod tale;
+mod text;
+
+pub use article::Article;
+pub use direction::Direction;
+pub use exits::{Exits, Way};
+pub use fault::{Fault, FaultCode};
+pub use numbers::{KindNo, ObjNo};
+pub use place::{Place, Rel};
+pub use tale::{Object, Objects, Tale};
+pub use text::TextBytes;

@@ -1,0 +1,64 @@
+//! The numbers by which objects and kinds are named.
+ghost use Rattle.std.specs.Prelude.{◌≡◌};
+
+use std::marker::Model;
+
+/// An object's number: 0 the player, 1 to 12 the directions, then the author's objects.
+#[derive(Clone, Copy, Debug, PartialEq, Eq)]
+pub struct ObjNo(u16);
+
+impl Model for ObjNo {
+    ghost use Rattle.std.specs.Prelude.{ℕ};
+
+    ghost Value = { ℕ };
+
+    ghost view = { λ o. o.0 };
+
+    ghost inverse = { λ n. record { 0 = n } };
+}
+
+impl ObjNo {
+    /// The object of this number.
+    pub const fn new(number: u16) -> ObjNo
+        ensures { result ≡ number }
+    {
+        ObjNo(number)
+    }
+
+    /// The object's number.
+    pub const fn get(self) -> u16
+        ensures { result ≡ self }
+    {
+        self.0
+    }
+}
+
+/// A kind's number: 0 thing, 1 room, 2 direction, then the kinds below them.
+#[derive(Clone, Copy, Debug, PartialEq, Eq)]
+pub struct KindNo(u8);
+
+impl Model for KindNo {
+    ghost use Rattle.std.specs.Prelude.{ℕ};
+
+    ghost Value = { ℕ };
+
+    ghost view = { λ k. k.0 };
+
+    ghost inverse = { λ n. record { 0 = n } };
+}
+
+impl KindNo {
+    /// The kind of this number.
+    pub const fn new(number: u8) -> KindNo
+        ensures { result ≡ number }
+    {
+        KindNo(number)
+    }
+
+    /// The kind's number.
+    pub const fn get(self) -> u8
+        ensures { result ≡ self }
+    {
+        self.0
+    }
+}
