@@ -1,0 +1,6 @@
+//! Tokens of a source (a stand-in until the lexer lands).
+#![tactic(auto)]
+
+mod token;
+
+pub use token::{Lexed, Start, Token, TokenKind};

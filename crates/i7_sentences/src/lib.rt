@@ -1,0 +1,22 @@
+//! The reader of sentences: what the tokens of a source say, sentence by sentence.
+//!
+//! Tokens are cut into sentences, each sentence is given the lowest form that fits it, with the
+//! shortest words for each of the form's letters, and the names in it are tested.
+#![tactic(auto)]
+
+mod cut;
+mod form;
+mod keyword;
+mod literal;
+mod matcher;
+mod name;
+mod reader;
+mod reading;
+mod sentence;
+
+pub use cut::{Part, PartKind};
+pub use form::{Form, Piece};
+pub use keyword::Keyword;
+pub use name::{Name, NameArticle};
+pub use reader::read;
+pub use sentence::{Saying, Sentence, Way};

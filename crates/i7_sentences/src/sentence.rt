@@ -1,0 +1,32 @@
+//! What a sentence says.
+use world_meaning::{Direction, TextBytes};
+
+use crate::Name;
+
+/// What one sentence says.
+#[derive(Debug, Drop)]
+pub enum Saying {
+    /// A text that stands alone: the description of the room of the sentence before.
+    Description(TextBytes),
+    /// `the hall is a room`
+    Room(Name),
+    /// `the garden is north of the hall`
+    Way(Way),
+}
+
+/// A way: the subject lies in this direction of the room.
+#[derive(Debug, Drop)]
+pub struct Way {
+    pub subject: Name,
+    pub direction: Direction,
+    pub room: Name,
+    /// Whether the sentence mentions the room before the subject.
+    pub is_room_first: bool,
+}
+
+/// A sentence and the line, counted from 1, of its first token.
+#[derive(Debug, Drop)]
+pub struct Sentence {
+    pub saying: Saying,
+    pub line: u32,
+}
