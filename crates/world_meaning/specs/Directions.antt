@@ -1,5 +1,5 @@
 -- The directions' numbers and opposites.
-use Rattle.std.specs.Prelude.{ℕ, List, codes}
+use Rattle.std.specs.Prelude.{ℕ, List, [], ◌∷◌, codes}
 use Rattle.world_meaning.specs.declared.direction.Direction.{Direction}
 use Rattle.world_meaning.specs.declared.direction.Direction.TheVariants.{North, Northeast, Northwest, South, Southeast, Southwest, East, West, Up, Down, Inside, Outside}
 
@@ -62,3 +62,7 @@ short_word Up = codes "u"
 short_word Down = codes "d"
 short_word Inside = codes "in"
 short_word Outside = codes "out"
+
+-- the directions in the order of their numbers
+abbrev pub all_directions : List Direction
+all_directions = North ∷ Northeast ∷ Northwest ∷ South ∷ Southeast ∷ Southwest ∷ East ∷ West ∷ Up ∷ Down ∷ Inside ∷ Outside ∷ []

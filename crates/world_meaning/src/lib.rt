@@ -8,6 +8,8 @@ mod exits;
 mod fault;
 mod numbers;
 mod place;
+mod reading;
+mod session;
 mod tale;
 mod text;
 
@@ -17,5 +19,7 @@ pub use exits::{Exits, Way};
 pub use fault::{Fault, FaultCode};
 pub use numbers::{KindNo, ObjNo};
 pub use place::{Place, Rel};
+pub use reading::{Action, Reading};
+pub use session::{Abandon, Ending, ReplyKind};
 pub use tale::{Object, Objects, Tale};
 pub use text::TextBytes;

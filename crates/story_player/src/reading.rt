@@ -1,0 +1,231 @@
+//! Reading a typed line.
+ghost use Rattle.std.specs.Prelude.{◌≡◌, ◌<◌, ◌≤◌, [], ◌∷◌, find, length, map, MatchOption};
+ghost use Rattle.std.specs.List.{list_all, position_or_len};
+ghost use Rattle.world_meaning.specs.Reading.{direction_meant, go_reading, going, is_article, is_blank, is_go, is_look, is_noun_for, is_quit, is_spelled, is_word_for, look_reading, noun_of, reading_of, verb_reading, words_of, words_reading};
+
+use arrayvec::ArrayVec;
+use world_meaning::{Action, Direction, Reading};
+
+/// The most words of a line.
+const MOST_WORDS: usize = 32;
+
+/// The most bytes of a line.
+const MOST_BYTES: usize = 255;
+
+/// Whether the byte parts words.
+fn is_blank(byte: u8) -> bool
+    ensures { result ≡ is_blank byte }
+{
+    byte == b' ' || byte == b'\t'
+}
+
+/// Whether the word is spelled so, letter case aside.
+fn is_spelled(word: &[u8], spelling: &[u8]) -> bool
+    ensures { result ≡ is_spelled word.now spelling.now }
+{
+    word.eq_ignore_ascii_case(spelling)
+}
+
+/// The number of bytes before the first blank.
+fn word_len(line: &[u8]) -> usize
+    ensures place { result ≡ position_or_len is_blank line.now }
+    ensures within { result ≤ length line.now }
+{
+    let mut count = 0;
+    let mut rest = line;
+    while let [first, after @ ..] = rest {
+        if is_blank(*first) {
+            return count;
+        }
+        count += 1;
+        rest = after;
+    }
+    count
+}
+
+/// The words of a line, if they are few enough.
+#[tactic(auto, using(crate::proofs::Words::word_steps))]
+fn words_of(line: &[u8]) -> Option<ArrayVec<&[u8], MOST_WORDS>>
+    ensures { MatchOption result (32 < length (words_of line.now)) (λ words. map (λ word. word.now) words.items ≡ words_of line.now) }
+{
+    let mut words = ArrayVec::new();
+    let mut rest = line;
+    while let [first, after @ ..] = rest {
+        if is_blank(*first) {
+            rest = after;
+        } else {
+            if words.is_full() {
+                return None;
+            }
+            let (word, behind) = rest.split_at(word_len(rest));
+            words.push(word);
+            rest = behind;
+        }
+    }
+    Some(words)
+}
+
+/// Whether the word is `a`, `an`, `the` or `some`.
+fn is_article(word: &[u8]) -> bool
+    ensures { result ≡ is_article word.now }
+{
+    is_spelled(word, b"a")
+        || is_spelled(word, b"an")
+        || is_spelled(word, b"the")
+        || is_spelled(word, b"some")
+}
+
+/// A noun phrase without the one article in front.
+fn noun_of<'a, 'b>(phrase: &'b [&'a [u8]]) -> &'b [&'a [u8]]
+    ensures { map (λ word. word.now) result.now ≡ noun_of (map (λ word. word.now) phrase.now) }
+{
+    match phrase {
+        [first, rest @ ..] if is_article(first) => rest,
+        _ => phrase,
+    }
+}
+
+/// Whether the word is one for the direction: its name or its short word.
+fn is_word_for(direction: Direction, word: &[u8]) -> bool
+    ensures { result ≡ is_word_for direction word.now }
+{
+    is_spelled(word, direction.name()) || is_spelled(word, direction.short_word())
+}
+
+/// Whether each word is one for the direction.
+fn are_words_for(direction: Direction, words: &[&[u8]]) -> bool
+    ensures { result ≡ list_all (is_word_for direction) (map (λ word. word.now) words.now) }
+{
+    let mut rest = words;
+    while let [word, after @ ..] = rest {
+        if !is_word_for(direction, word) {
+            return false;
+        }
+        rest = after;
+    }
+    true
+}
+
+/// Whether each word of a noun is one for the direction, and there is one.
+fn is_noun_for(noun: &[&[u8]], direction: Direction) -> bool
+    ensures { result ≡ is_noun_for (map (λ word. word.now) noun.now) direction }
+{
+    !noun.is_empty() && are_words_for(direction, noun)
+}
+
+/// The first of the directions that the noun means.
+fn first_meant(noun: &[&[u8]], directions: &[Direction]) -> Option<Direction>
+    ensures { result ≡ find (is_noun_for (map (λ word. word.now) noun.now)) directions.now }
+{
+    let mut rest = directions;
+    while let [direction, after @ ..] = rest {
+        if is_noun_for(noun, *direction) {
+            return Some(*direction);
+        }
+        rest = after;
+    }
+    None
+}
+
+/// The direction that a noun phrase means.
+fn direction_meant(phrase: &[&[u8]]) -> Option<Direction>
+    ensures { result ≡ direction_meant (map (λ word. word.now) phrase.now) }
+{
+    first_meant(noun_of(phrase), &Direction::ALL)
+}
+
+/// A direction is where to go; with none, the phrase says what else the line is.
+fn going(phrase: &[&[u8]], otherwise: Reading) -> Reading
+    ensures { result ≡ going (direction_meant (map (λ word. word.now) phrase.now)) otherwise }
+{
+    match direction_meant(phrase) {
+        Some(direction) => Reading::Act(Action::Going(direction)),
+        None => otherwise,
+    }
+}
+
+/// Whether the word is `look` or `l`.
+fn is_look(word: &[u8]) -> bool
+    ensures { result ≡ is_look word.now }
+{
+    is_spelled(word, b"look") || is_spelled(word, b"l")
+}
+
+/// Whether the word is `go`.
+fn is_go(word: &[u8]) -> bool
+    ensures { result ≡ is_go word.now }
+{
+    is_spelled(word, b"go")
+}
+
+/// Whether the word is `quit` or `q`.
+fn is_quit(word: &[u8]) -> bool
+    ensures { result ≡ is_quit word.now }
+{
+    is_spelled(word, b"quit") || is_spelled(word, b"q")
+}
+
+/// What `go` and these words mean.
+fn go_reading(phrase: &[&[u8]]) -> Reading
+    ensures { result ≡ go_reading (map (λ word. word.now) phrase.now) }
+{
+    match phrase {
+        [] => Reading::NotUnderstood,
+        [_, ..] => going(phrase, Reading::NotSeen),
+    }
+}
+
+/// What `look` and these words mean.
+fn look_reading(phrase: &[&[u8]]) -> Reading
+    ensures { result ≡ look_reading (map (λ word. word.now) phrase.now) }
+{
+    match phrase {
+        [] => Reading::Act(Action::Looking),
+        [_, ..] => Reading::NotUnderstood,
+    }
+}
+
+/// What a verb and the words behind it mean.
+fn verb_reading(words: &[&[u8]], verb: &[u8], phrase: &[&[u8]]) -> Reading
+    requires whole { map (λ word. word.now) words.now ≡ verb.now ∷ map (λ word. word.now) phrase.now }
+    ensures { result ≡ verb_reading verb.now (map (λ word. word.now) phrase.now) }
+{
+    if is_go(verb) {
+        return go_reading(phrase);
+    }
+    if is_look(verb) {
+        return look_reading(phrase);
+    }
+    if is_quit(verb) && phrase.is_empty() {
+        return Reading::Quit;
+    }
+    going(words, Reading::NoVerb)
+}
+
+/// What the words of a line mean.
+fn words_reading(words: &[&[u8]]) -> Reading
+    ensures { result ≡ words_reading (map (λ word. word.now) words.now) }
+{
+    match words {
+        [] => Reading::Empty,
+        [verb, phrase @ ..] => verb_reading(words, verb, phrase),
+    }
+}
+
+/// What a typed line means: no word, too many bytes or words, then the first grammar line that fits.
+pub fn read_line(line: &[u8]) -> Reading
+    ensures { result ≡ reading_of line.now }
+{
+    match words_of(line) {
+        None => Reading::TooLong,
+        Some(words) => {
+            if words.is_empty() {
+                Reading::Empty
+            } else if line.len() > MOST_BYTES {
+                Reading::TooLong
+            } else {
+                words_reading(words.as_slice())
+            }
+        }
+    }
+}
