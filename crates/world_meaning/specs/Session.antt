@@ -22,10 +22,14 @@ pub record State : Type 0 where
   pub world : World
   pub ending : Option Ending
 
--- what a line gives: its text, its kind and the state behind it
-pub record Answer : Type 0 where
+-- what is said to a line, and what became of it
+pub record Spoken : Type 0 where
   pub text : List ℕ
   pub kind : ReplyKind
+
+-- what a line gives, and the state behind it
+pub record Answer : Type 0 where
+  pub spoken : Spoken
   pub state : State
 
 abbrev pub described : Option (List ℕ) → List ℕ
@@ -40,32 +44,36 @@ look_text tale room = said (name_of tale room) ++ described (description_of tale
 abbrev pub looked_in : ℕ → World → World
 looked_in room world = record { location = room; visited = slice_set world.visited room true; turns = world.turns }
 
+-- the room in which an action lets the player look round
+abbrev pub room_after : Tale → World → Action → Option ℕ
+room_after tale world Looking = Some world.location
+room_after tale world (Going d) = way_of tale world.location (direction_number d)
+
 -- what an action says and makes of the world
 pub record Deed : Type 0 where
   pub text : List ℕ
   pub world : World
 
-abbrev pub gone : Tale → World → Option ℕ → Deed
-gone tale world None = record { text = no_way_text; world = world }
-gone tale world (Some room) = record { text = look_text tale room; world = looked_in room world }
+abbrev pub deed_in : Tale → World → Option ℕ → Deed
+deed_in tale world None = record { text = no_way_text; world = world }
+deed_in tale world (Some room) = record { text = look_text tale room; world = looked_in room world }
 
 abbrev pub deed_of : Tale → World → Action → Deed
-deed_of tale world Looking = record { text = look_text tale world.location; world = looked_in world.location world }
-deed_of tale world (Going d) = gone tale world (way_of tale world.location (direction_number d))
+deed_of tale world action = deed_in tale world (room_after tale world action)
 
 -- a turn is over
 abbrev pub later : World → World
 later world = record { location = world.location; visited = world.visited; turns = world.turns + 1 }
 
 abbrev pub free : State → List ℕ → Answer
-free state text = record { text = text; kind = Free; state = state }
+free state text = record { spoken = record { text = text; kind = Free }; state = state }
 
 -- a turn that is abandoned gives one line and changes nothing
 abbrev pub abandoned : State → Abandon → List ℕ → Answer
-abandoned state reason text = record { text = text; kind = Abandoned reason; state = state }
+abandoned state reason text = record { spoken = record { text = text; kind = Abandoned reason }; state = state }
 
 abbrev pub kept : Deed → Answer
-kept deed = record { text = deed.text; kind = Kept; state = record { world = later deed.world; ending = None } }
+kept deed = record { spoken = record { text = deed.text; kind = Kept }; state = record { world = later deed.world; ending = None } }
 
 -- the highest turn count
 abbrev pub most_turns : ℕ
@@ -84,13 +92,13 @@ read_answer tale refused state NoVerb = free state no_verb_text
 read_answer tale refused state NotSeen = free state not_seen_text
 read_answer tale refused state NotUnderstood = free state not_understood_text
 read_answer tale refused state Quit =
-    record { text = []; kind = Ended; state = record { world = state.world; ending = Some Quitting } }
+    record { spoken = record { text = []; kind = Ended }; state = record { world = state.world; ending = Some Quitting } }
 read_answer tale refused state (Act action) =
     if refused then abandoned state Memory memory_text else turn_of tale state action
 
 -- what a line gives; after the end, nothing
 abbrev pub ended_answer : Tale → Bool → State → List ℕ → Option Ending → Answer
-ended_answer tale refused state line (Some ending) = record { text = []; kind = Over; state = state }
+ended_answer tale refused state line (Some ending) = record { spoken = record { text = []; kind = Over }; state = state }
 ended_answer tale refused state line None = read_answer tale refused state (reading_of line)
 
 abbrev pub answer_of : Tale → Bool → State → List ℕ → Answer

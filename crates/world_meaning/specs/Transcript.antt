@@ -31,7 +31,7 @@ abbrev pub played : Tale → Bool → List Bool → State → List (List ℕ) �
 played tale echo flags state [] = unless_ended state.ending prompt
 played tale echo flags state (line ∷ lines) =
     let answer = answer_of tale (is_flagged flags) state line
-    in unless_ended state.ending (prompt ++ echoed echo line ++ answer.text ++ played tale echo (later_flags flags) answer.state lines)
+    in unless_ended state.ending (prompt ++ echoed echo line ++ answer.spoken.text ++ played tale echo (later_flags flags) answer.state lines)
 
 -- the ending where the lines run out
 abbrev pub ending_at_end : Option Ending → Option Ending
