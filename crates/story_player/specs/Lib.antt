@@ -1,2 +1,3 @@
 pub mod ReplyTexts
 pub mod Sessions
+pub mod Watches

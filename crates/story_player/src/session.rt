@@ -2,6 +2,7 @@
 ghost use Rattle.std.specs.Prelude.{◌≡◌, ◌<◌, ◌++◌, false, if◌then◌else◌, IfOk, OnOk};
 ghost use Rattle.std.specs.Bool.{MatchBool};
 ghost use Rattle.world_meaning.specs.Texts.{memory_text, said};
+ghost use Rattle.world_meaning.specs.Transcript.{ending_at_end};
 ghost use Rattle.world_meaning.specs.Session.{abandoned, answer_of, later, look_text, looked_in, most_turns, opening_text, read_answer, room_after, start_state};
 
 use std::alloc::{AllocError, Global};
@@ -169,6 +170,16 @@ impl Session {
             Reading::NoVerb => Reply::fixed(texts::NO_VERB, ReplyKind::Free),
             Reading::NotSeen => Reply::fixed(texts::NOT_SEEN, ReplyKind::Free),
             Reading::NotUnderstood => Reply::fixed(texts::NOT_UNDERSTOOD, ReplyKind::Free),
+        }
+    }
+
+    /// The commands have run out.
+    pub fn end_input(&mut self)
+        ensures state { state_of self.new ≡ record (state_of self.old) { ending = ending_at_end (state_of self.old).ending } }
+        ensures tale { tale_of self.new ≡ tale_of self.old }
+    {
+        if self.ending.is_none() {
+            self.ending = Some(Ending::EndOfInput);
         }
     }
 }
