@@ -4,3 +4,4 @@
 mod token;
 
 pub use token::{Lexed, Start, Token, TokenKind};
+pub use token::lex;

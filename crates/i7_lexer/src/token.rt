@@ -47,3 +47,8 @@ impl Lexed {
         self.tokens.as_slice()
     }
 }
+
+pub fn lex(alloc: std::alloc::Global, source: &[u8]) -> Result<Lexed, world_meaning::Fault> {
+    let _ = source;
+    Ok(Lexed { tokens: Vec::new(alloc) })
+}

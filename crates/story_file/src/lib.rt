@@ -2,6 +2,7 @@
 //! together, and the tale that they mean.
 #![tactic(auto)]
 
+mod compiler;
 mod descriptions;
 mod kinds;
 mod limits;
@@ -10,4 +11,6 @@ mod reserved_names;
 mod tale;
 mod ways;
 
+pub use compiler::compile;
+pub use story_format::{LoadFault, Story, load, write};
 pub use tale::tale_of;

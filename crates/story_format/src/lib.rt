@@ -4,3 +4,5 @@
 mod story;
 
 pub use story::Story;
+pub use stub::{LoadFault, load, write};
+mod stub;

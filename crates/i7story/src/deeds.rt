@@ -1,0 +1,91 @@
+//! What the program does with its files and streams.
+use std::alloc::Global;
+use std::fs;
+use std::io::{self, BufReader};
+
+use source_player::{ProgramFault, SourceRunFault, run_source};
+use story_file::{LoadFault, compile, load};
+use story_player::{Session, Watched, run};
+
+use crate::command::Order;
+
+/// Reads a file whole.
+fn bytes_of<'a>(rt: &HostRuntime, path: &'a str) -> Result<Vec<u8>, ProgramFault<'a>> {
+    fs::read(rt, path).map_err(|error| {
+        if error.kind() == io::ErrorKind::OutOfMemory {
+            ProgramFault::Memory
+        } else {
+            ProgramFault::CannotRead(path)
+        }
+    })
+}
+
+/// Compiles a source file to a story file.
+fn compile_file<'a>(
+    rt: &HostRuntime,
+    source: &'a str,
+    story: &'a str,
+) -> Result<(), ProgramFault<'a>> {
+    let bytes = bytes_of(rt, source)?;
+    let compiled = compile(rt.alloc(), bytes.as_slice())
+        .map_err(|fault| ProgramFault::Source(source, fault))?;
+    fs::write(rt, story, compiled.as_slice()).map_err(|_| ProgramFault::CannotWrite(story))
+}
+
+/// Plays a story file over the standard streams.
+fn play_file<'a>(
+    rt: &HostRuntime,
+    path: &'a str,
+    transcript: bool,
+) -> Result<(), ProgramFault<'a>> {
+    let bytes = bytes_of(rt, path)?;
+    let story =
+        load(rt.alloc(), bytes.as_slice()).map_err(|fault| ProgramFault::Story(path, fault))?;
+    let mut session = Session::start(rt.alloc(), story).map_err(|_| ProgramFault::Memory)?;
+    let input = BufReader::new(rt.alloc(), rt.stdin()).map_err(|_| ProgramFault::Memory)?;
+    let mut output = Watched::new(rt.stdout());
+    run(&mut Watched::new(input), &mut output, &mut session, transcript)
+        .map_err(ProgramFault::Stream)?;
+    Ok(())
+}
+
+/// The program's fault for a fault of playing a source.
+fn source_fault<'a>(path: &'a str, fault: SourceRunFault) -> ProgramFault<'a> {
+    match fault {
+        SourceRunFault::Source(fault) => ProgramFault::Source(path, fault),
+        SourceRunFault::Story(LoadFault::Memory) => ProgramFault::Memory,
+        SourceRunFault::Story(fault) => ProgramFault::Story(path, fault),
+        SourceRunFault::Start(_) => ProgramFault::Memory,
+        SourceRunFault::Run(fault) => ProgramFault::Stream(fault),
+    }
+}
+
+/// Plays a source file over the standard streams.
+fn play_source<'a>(
+    rt: &HostRuntime,
+    path: &'a str,
+    transcript: bool,
+) -> Result<(), ProgramFault<'a>> {
+    let source = bytes_of(rt, path)?;
+    let input = BufReader::new(rt.alloc(), rt.stdin()).map_err(|_| ProgramFault::Memory)?;
+    let mut output = Watched::new(rt.stdout());
+    let mut input = Watched::new(input);
+    run_source(
+        rt.alloc(),
+        source.as_slice(),
+        &mut input,
+        &mut output,
+        transcript,
+    )
+    .map_err(|fault| source_fault(path, fault))?;
+    Ok(())
+}
+
+/// Does what the program is told.
+pub fn obey<'a>(rt: &HostRuntime, order: Order<'a>) -> Result<(), ProgramFault<'a>> {
+    match order {
+        Order::Compile { source, story } => compile_file(rt, source, story),
+        Order::Play { story, transcript } => play_file(rt, story, transcript),
+        Order::Run { source, transcript } => play_source(rt, source, transcript),
+    }
+}

@@ -1,0 +1,26 @@
+//! The compiler: from a source's bytes to a story's.
+use std::alloc::{AllocError, Global};
+
+use i7_lexer::lex;
+use i7_sentences::read;
+use story_format::write;
+use world_meaning::{Fault, FaultCode};
+
+use crate::tale_of;
+
+/// Memory was refused.
+fn memory(_: AllocError) -> Fault {
+    Fault {
+        code: FaultCode::Memory,
+        line: 1,
+    }
+}
+
+/// The story file of a source, or the refusal that stands: that of the first step that refuses, each
+/// step being the lexer, the reader of sentences and the tale, in this order.
+pub fn compile(alloc: Global, source: &[u8]) -> Result<Vec<u8>, Fault> {
+    let lexed = lex(alloc, source)?;
+    let sentences = read(alloc, &lexed)?;
+    let tale = tale_of(alloc, sentences.as_slice())?;
+    write(alloc, &tale).map_err(memory)
+}
