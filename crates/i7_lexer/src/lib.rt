@@ -1,7 +1,21 @@
-//! Tokens of a source (a stand-in until the lexer lands).
+//! From the bytes of a source to its tokens: texts, words and marks, each with its line and with
+//! how it stands on it. What no source may hold (bytes that are no text, a text or a comment
+//! without its end, a line that is too deep) is refused here.
 #![tactic(auto)]
 
+mod byte_class;
+mod cursor;
+mod indents;
+mod joins;
+mod lexeme;
+mod lexer;
+mod placed;
+mod source;
+mod span;
+#[cfg(test)]
+mod tests;
+mod text;
 mod token;
 
+pub use lexer::lex;
 pub use token::{Lexed, Start, Token, TokenKind};
-pub use token::lex;

@@ -1,7 +1,7 @@
 //! What the program does with its files and streams.
 use std::alloc::Global;
 use std::fs;
-use std::io::{self, BufReader};
+use std::io::{self, BufReader, Stdin};
 
 use source_player::{ProgramFault, SourceRunFault, run_source};
 use story_file::{LoadFault, compile, load};
@@ -32,6 +32,23 @@ fn compile_file<'a>(
     fs::write(rt, story, compiled.as_slice()).map_err(|_| ProgramFault::CannotWrite(story))
 }
 
+/// Begins the story of a file.
+fn begun<'a>(alloc: Global, path: &'a str, bytes: &[u8]) -> Result<Session, ProgramFault<'a>> {
+    let story = load(alloc, bytes).map_err(|fault| ProgramFault::Story(path, fault))?;
+    match Session::start(alloc, story) {
+        Ok(session) => Ok(session),
+        Err(_) => Err(ProgramFault::Memory),
+    }
+}
+
+/// The commands: the standard input, read by the block.
+fn commands<'a>(rt: &HostRuntime) -> Result<Watched<BufReader<Stdin>>, ProgramFault<'a>> {
+    match BufReader::new(rt.alloc(), rt.stdin()) {
+        Ok(input) => Ok(Watched::new(input)),
+        Err(_) => Err(ProgramFault::Memory),
+    }
+}
+
 /// Plays a story file over the standard streams.
 fn play_file<'a>(
     rt: &HostRuntime,
@@ -39,14 +56,13 @@ fn play_file<'a>(
     transcript: bool,
 ) -> Result<(), ProgramFault<'a>> {
     let bytes = bytes_of(rt, path)?;
-    let story =
-        load(rt.alloc(), bytes.as_slice()).map_err(|fault| ProgramFault::Story(path, fault))?;
-    let mut session = Session::start(rt.alloc(), story).map_err(|_| ProgramFault::Memory)?;
-    let input = BufReader::new(rt.alloc(), rt.stdin()).map_err(|_| ProgramFault::Memory)?;
+    let mut session = begun(rt.alloc(), path, bytes.as_slice())?;
+    let mut input = commands(rt)?;
     let mut output = Watched::new(rt.stdout());
-    run(&mut Watched::new(input), &mut output, &mut session, transcript)
-        .map_err(ProgramFault::Stream)?;
-    Ok(())
+    match run(&mut input, &mut output, &mut session, transcript) {
+        Ok(_) => Ok(()),
+        Err(fault) => Err(ProgramFault::Stream(fault)),
+    }
 }
 
 /// The program's fault for a fault of playing a source.
@@ -67,18 +83,13 @@ fn play_source<'a>(
     transcript: bool,
 ) -> Result<(), ProgramFault<'a>> {
     let source = bytes_of(rt, path)?;
-    let input = BufReader::new(rt.alloc(), rt.stdin()).map_err(|_| ProgramFault::Memory)?;
+    let mut input = commands(rt)?;
     let mut output = Watched::new(rt.stdout());
-    let mut input = Watched::new(input);
-    run_source(
-        rt.alloc(),
-        source.as_slice(),
-        &mut input,
-        &mut output,
-        transcript,
-    )
-    .map_err(|fault| source_fault(path, fault))?;
-    Ok(())
+    let bytes = source.as_slice();
+    match run_source(rt.alloc(), bytes, &mut input, &mut output, transcript) {
+        Ok(_) => Ok(()),
+        Err(fault) => Err(source_fault(path, fault)),
+    }
 }
 
 /// Does what the program is told.

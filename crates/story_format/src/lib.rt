@@ -1,8 +1,26 @@
-//! A stand-in until the story format lands.
+//! The story file's format: what a story's bytes are, and how they are written and loaded. A story's
+//! bytes are its tables, each put into bytes by a format that is known to lose nothing.
 #![tactic(auto)]
 
+mod checks;
+mod fault;
+mod field;
+mod loading;
+mod making;
+mod number;
+mod place;
+mod shape;
 mod story;
+mod strings;
+mod table;
+mod tables;
+mod telling;
+mod text;
+mod words;
+mod writing;
 
+pub use fault::LoadFault;
+pub use loading::load;
+pub use shape::is_writable;
 pub use story::Story;
-pub use stub::{LoadFault, load, write};
-mod stub;
+pub use writing::write;

@@ -1,33 +1,48 @@
-//! The story.
-ghost use Rattle.std.specs.Prelude.{◌≡◌, ◌<◌, length};
-ghost use Rattle.std.specs.Option.{option_copied, option_map};
-ghost use Rattle.world_meaning.specs.Tale.{name_of, description_of, way_of, start_of};
+//! A story that was loaded, and what it says of its objects.
+ghost use Rattle.std.specs.Prelude.{◌≡◌, length};
+ghost use Rattle.std.specs.Option.{option_map};
+ghost use Rattle.world_meaning.specs.Tale.{description_of, name_of, start_of, way_of};
 
 use std::marker::Model;
 use world_meaning::{Direction, ObjNo, Tale};
 
-#[derive(Drop)]
+/// A story: the tale that it tells, which is one that a story file can hold.
+#[derive(Debug, Drop)]
 pub struct Story {
     tale: Tale,
 }
 
 impl Model for Story {
     ghost use Rattle.world_meaning.specs.declared.tale.Tale.{Tale};
+    ghost use Rattle.story_format.specs.Shape.{IsTale};
 
     ghost Value = { Tale };
 
-    ghost view = { λ s. s.tale };
+    ghost view = { λ story. story.tale };
+
+    ghost invariant = { λ story. IsTale story.tale };
 }
 
 impl Story {
+    ghost use Rattle.story_format.specs.Shape.{IsTale};
     ghost use Rattle.world_meaning.specs.Directions.{direction_number};
 
+    /// The story of a tale.
+    pub(crate) fn new(tale: Tale) -> Story
+        requires { IsTale tale }
+        ensures { result ≡ tale }
+    {
+        Story { tale }
+    }
+
+    /// How many objects there are: the player, the directions and the rooms.
     pub fn object_count(&self) -> usize
         ensures { result ≡ length self.now.objects }
     {
         self.tale.objects.as_slice().len()
     }
 
+    /// The object's name, as it is printed; no bytes where there is no such object.
     pub fn name(&self, object: ObjNo) -> &[u8]
         ensures { result.now ≡ name_of self.now object }
     {
@@ -37,8 +52,9 @@ impl Story {
         }
     }
 
+    /// The object's description, if it has one.
     pub fn description(&self, object: ObjNo) -> Option<&[u8]>
-        ensures { option_map (λ x. x.now) result ≡ description_of self.now object }
+        ensures { option_map (λ text. text.now) result ≡ description_of self.now object }
     {
         match self.tale.objects.as_slice().get(object.get() as usize) {
             Some(object) => match &object.description {
@@ -49,6 +65,7 @@ impl Story {
         }
     }
 
+    /// The room beyond the way in that direction.
     pub fn way(&self, room: ObjNo, direction: Direction) -> Option<ObjNo>
         ensures { result ≡ way_of self.now room (direction_number direction) }
     {
@@ -61,11 +78,12 @@ impl Story {
         way.room
     }
 
+    /// The room in which the player stands as the story begins.
     pub fn start(&self) -> ObjNo
         ensures { result ≡ start_of self.now }
     {
         match self.tale.objects.as_slice().get(0) {
-            Some(object) => match object.place {
+            Some(player) => match player.place {
                 Some(place) => place.holder,
                 None => ObjNo::new(0),
             },

@@ -1,0 +1,10 @@
+mod BadPlaces
+mod Runs
+mod Folding
+mod Classes
+mod Quotes
+mod Comments
+mod Scanning
+mod Cutting
+mod Depths
+mod Verdicts

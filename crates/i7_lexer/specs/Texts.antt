@@ -1,0 +1,16 @@
+-- White space in texts.
+use Rattle.std.specs.Prelude.{ℕ, ◌==◌, if◌then◌else◌, List, [], ◌∷◌, ◌++◌}
+use Rattle.i7_lexer.specs.Bytes.{is_blank, newlines}
+
+-- what a run of white space is in a text: one line break is a space, more are a paragraph break
+unfoldable pub folded_run : List ℕ → List ℕ
+folded_run run = if newlines run == 0 then run else (if newlines run == 1 then 32 ∷ [] else 10 ∷ 10 ∷ [])
+
+-- the text behind a run of white space that may go on
+abbrev pub folded_behind : List ℕ → List ℕ → List ℕ
+folded_behind run [] = folded_run run
+folded_behind run (b ∷ bytes) = if is_blank b then folded_behind (run ++ b ∷ []) bytes else folded_run run ++ b ∷ folded_behind [] bytes
+
+-- a text with each run of white space folded
+abbrev pub folded : List ℕ → List ℕ
+folded bytes = folded_behind [] bytes

@@ -1,0 +1,32 @@
+//! A piece of the source, lent to the lexeme that it spells.
+ghost use Rattle.std.specs.Prelude.{◌≡◌};
+
+use std::marker::Model;
+
+/// Bytes of the source, seen by contracts as their list.
+#[derive(Debug, Drop)]
+pub(crate) struct Span<'a> {
+    bytes: &'a [u8],
+}
+
+impl<'a> Model for Span<'a> {
+    ghost use Rattle.std.specs.Prelude.{ℕ, List};
+
+    ghost Value = { List ℕ };
+
+    ghost view = { λ s. s.bytes.now };
+}
+
+impl<'a> Span<'a> {
+    pub(crate) fn new(bytes: &'a [u8]) -> Span<'a>
+        ensures { result ≡ bytes.now }
+    {
+        Span { bytes }
+    }
+
+    pub(crate) fn as_slice(&self) -> &'a [u8]
+        ensures { result.now ≡ self.now }
+    {
+        self.bytes
+    }
+}

@@ -1,0 +1,13 @@
+use Rattle.std.proofs.Common.{◌≡◌, ◌∙◌, ap, sym, Some, None, drop, List, ℕ, [], ◌∷◌}
+use Rattle.std.specs.Prelude.{fold, filter}
+use Rattle.story_format.specs.Mentions.{mention}
+use Rattle.story_format.specs.Words.{is_word, blank_words}
+use Rattle.story_format.proofs.WordLemmas.{mentions_on, mentions_last}
+use Rattle.story_format.proofs.words.mention_words.Goals as goal
+
+pub loop-end-preserved : goal.loop-end-preserved
+loop-end-preserved c =
+    rw (c.split_at-in-Some.ensures.back, c.split_at.ensures.back, c.in_ok-mention_piece.ensures, c.split_at.ensures.front) (mentions_on c.loop-end.words c.loop-end.rest.now c.in-Some.end c.in-Some.ensures ∙ c.loop-end.invariant)
+
+pub returns : goal.returns
+returns c = rw c.in_ok-mention_piece-2.ensures (mentions_last c.loop-end.words c.loop-end.rest.now c.in_default.ensures ∙ c.loop-end.invariant)

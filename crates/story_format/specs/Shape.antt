@@ -1,0 +1,89 @@
+-- The tales that a story file of this version can hold: the player, the directions and rooms.
+use Rattle.std.specs.Prelude.{◌≡◌, ℕ, ◌+◌, Bool, true, false, ◌&&◌, ◌==◌, nat_le, nat_lt, ◌<◌, List, [], ◌∷◌, length, take, drop, Option, Some, None, is_none, is_some, codes, not}
+use Rattle.std.specs.List.{list_all, zip}
+use Rattle.std.specs.Str.{bytes_eq}
+use Rattle.world_meaning.specs.declared.article.Article.{Article}
+use Rattle.world_meaning.specs.declared.article.Article.TheVariants as articles
+use Rattle.world_meaning.specs.declared.place.Rel.{Rel}
+use Rattle.world_meaning.specs.declared.place.Rel.TheVariants as relations
+use Rattle.world_meaning.specs.declared.place.Place.{Place}
+use Rattle.world_meaning.specs.declared.exits.Way.{Way}
+use Rattle.world_meaning.specs.declared.exits.Exits.{Exits}
+use Rattle.world_meaning.specs.declared.direction.Direction.{Direction}
+use Rattle.world_meaning.specs.Directions.{direction_name}
+use Rattle.world_meaning.specs.declared.tale.Object.{Object}
+use Rattle.world_meaning.specs.declared.tale.Tale.{Tale}
+use Rattle.story_format.specs.Words.{all_directions, object_words}
+use Rattle.story_format.specs.Making.{strings_of, tables_of}
+use Rattle.story_format.specs.Layout.{tables_format}
+
+-- of n objects, this one is a room: they stand behind the player and the directions
+abbrev pub is_room_number : ℕ → ℕ → Bool
+is_room_number n o = nat_le 13 o && nat_lt o n
+
+abbrev pub is_room_or_none : ℕ → Option ℕ → Bool
+is_room_or_none n None = true
+is_room_or_none n (Some o) = is_room_number n o
+
+abbrev pub leads_to_room : ℕ → Way → Bool
+leads_to_room n w = is_none w.door && is_room_or_none n w.room
+
+abbrev pub lead_to_rooms : ℕ → Exits → Bool
+lead_to_rooms n e = (length e.ways == 12) && list_all (leads_to_room n) e.ways
+
+abbrev pub is_closed : Way → Bool
+is_closed w = is_none w.room && is_none w.door
+
+abbrev pub are_closed : Exits → Bool
+are_closed e = (length e.ways == 12) && list_all is_closed e.ways
+
+abbrev pub has_no_article : Article → Bool
+has_no_article articles.None = true
+has_no_article articles.A = false
+has_no_article articles.An = false
+has_no_article articles.Some = false
+
+abbrev pub is_in : Rel → Bool
+is_in relations.In = true
+is_in relations.On = false
+is_in relations.Carried = false
+is_in relations.Worn = false
+is_in relations.Part = false
+
+abbrev pub stands_in_room : ℕ → Option Place → Bool
+stands_in_room n None = false
+stands_in_room n (Some place) = is_in place.relation && is_room_number n place.holder
+
+unfoldable pub is_player : ℕ → Object → Bool
+is_player n o = (o.kind == 6) && bytes_eq o.name (codes "yourself") && has_no_article o.article && stands_in_room n o.place && are_closed o.exits
+
+unfoldable pub is_direction : Direction → Object → Bool
+is_direction d o = (o.kind == 2) && bytes_eq o.name (direction_name d) && has_no_article o.article && is_none o.place && are_closed o.exits
+
+unfoldable pub is_room : ℕ → Object → Bool
+is_room n o = (o.kind == 1) && is_none o.place && lead_to_rooms n o.exits
+
+unfoldable pub are_directions : List Direction → List Object → Bool
+are_directions [] [] = true
+are_directions [] (o ∷ os) = false
+are_directions (d ∷ ds) [] = false
+are_directions (d ∷ ds) (o ∷ os) = is_direction d o && are_directions ds os
+
+-- the player, the directions and rooms, 1,000 objects at most
+unfoldable pub has_shape : List Object → Bool
+has_shape [] = false
+has_shape (player ∷ others) =
+    nat_le (length others) 999 && nat_le 12 (length others) && is_player (length others + 1) player && are_directions all_directions (take 12 others)
+    && list_all (is_room (length others + 1)) (drop 12 others)
+
+-- 32 words of each object at most
+unfoldable pub has_few_words : Object → Bool
+has_few_words o = nat_le (length (object_words o)) 32
+
+-- A tale that a story file of this version can hold.
+pub record IsTale (t : Tale) : Type 0 where
+  pub shape : has_shape t.objects ≡ true
+  pub words : list_all has_few_words t.objects ≡ true
+  pub strings : length (strings_of t.objects) < 65535
+  -- each text and table is as short as its count can tell
+  pub fits : tables_format.fits (tables_of t) ≡ true

@@ -1,0 +1,88 @@
+//! Numbers: a byte, and numbers of two and four bytes, the highest byte first.
+ghost use Rattle.std.specs.Prelude.{◌≡◌};
+
+use crate::field::Field;
+use std::alloc::{AllocError, Global};
+
+impl Field for u8 {
+    ghost use Rattle.story_format.specs.Formats.{byte};
+    ghost use Rattle.story_format.specs.FormatLaws.{byte_lawful};
+
+    ghost format = { byte };
+
+    fn read(_alloc: Global, bytes: &[u8]) -> Result<Option<(u8, &[u8])>, AllocError> {
+        match bytes {
+            [] => Ok(None),
+            [first, rest @ ..] => Ok(Some((*first, rest))),
+        }
+    }
+
+    fn write(&self, out: &mut Vec<u8>) -> Result<(), AllocError> {
+        out.push(*self)?;
+        Ok(())
+    }
+
+    fn fits(&self) -> bool {
+        let _value = *self;
+        true
+    }
+
+    ghost lawful = { byte_lawful };
+}
+
+impl Field for u16 {
+    ghost use Rattle.std.specs.Int.{w16};
+    ghost use Rattle.story_format.specs.Formats.{number};
+    ghost use Rattle.story_format.specs.FormatLaws.{number16_lawful};
+
+    ghost format = { number w16 };
+
+    fn read(_alloc: Global, bytes: &[u8]) -> Result<Option<(u16, &[u8])>, AllocError> {
+        if bytes.len() < 2 {
+            return Ok(None);
+        }
+        let (front, rest) = bytes.split_at(2);
+        Ok(Some((u16::from_be_bytes([front[0], front[1]]), rest)))
+    }
+
+    fn write(&self, out: &mut Vec<u8>) -> Result<(), AllocError> {
+        out.extend_from_slice(&self.to_be_bytes())
+    }
+
+    fn fits(&self) -> bool {
+        let _value = *self;
+        true
+    }
+
+    ghost lawful = { number16_lawful };
+}
+
+impl Field for u32 {
+    ghost use Rattle.std.specs.Int.{w32};
+    ghost use Rattle.story_format.specs.Formats.{number};
+    ghost use Rattle.story_format.specs.FormatLaws.{number32_lawful};
+
+    ghost format = { number w32 };
+
+    fn read(_alloc: Global, bytes: &[u8]) -> Result<Option<(u32, &[u8])>, AllocError> {
+        if bytes.len() < 4 {
+            return Ok(None);
+        }
+        let (front, rest) = bytes.split_at(4);
+        Ok(Some((
+            u32::from_be_bytes([front[0], front[1], front[2], front[3]]),
+            rest,
+        )))
+    }
+
+    fn write(&self, out: &mut Vec<u8>) -> Result<(), AllocError> {
+        out.extend_from_slice(&self.to_be_bytes())
+    }
+
+    fn fits(&self) -> bool {
+        let _value = *self;
+        true
+    }
+
+    ghost lawful = { number32_lawful };
+}

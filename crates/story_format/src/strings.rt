@@ -1,0 +1,73 @@
+//! Strings in the order in which they are first mentioned, each once.
+ghost use Rattle.std.specs.Prelude.{◌≡◌, [], IfOk, OnOk, map};
+ghost use Rattle.story_format.specs.Mentions.{mention, number_in};
+
+use crate::place::NONE;
+use crate::table::Table;
+use indexmap::IndexSet;
+use std::alloc::{AllocError, Global};
+use std::marker::Model;
+use world_meaning::TextBytes;
+
+/// The strings mentioned so far.
+#[derive(Drop)]
+pub struct Strings {
+    set: IndexSet<Vec<u8>>,
+}
+
+impl Model for Strings {
+    ghost use Rattle.std.specs.Prelude.{ℕ, List, map};
+
+    ghost Value = { List (List ℕ) };
+
+    ghost view = { λ s. map (λ string. string.items) s.set.keys };
+}
+
+impl Strings {
+    /// No strings.
+    pub fn new(alloc: Global) -> Strings
+        ensures { result ≡ [] }
+    {
+        Strings {
+            set: IndexSet::new(alloc),
+        }
+    }
+
+    /// Puts the string behind the others, unless it is there.
+    pub fn mention(&mut self, alloc: Global, string: &[u8]) -> Result<(), AllocError>
+        ensures { OnOk result (self.new ≡ mention self.old string.now) }
+    {
+        if !self.set.contains(string) {
+            self.set.insert(Vec::from_slice(alloc, string)?)?;
+        }
+        Ok(())
+    }
+
+    /// The string's number: its place, counted from 0.
+    pub fn number_of(&self, string: &[u8]) -> u16
+        ensures { result ≡ number_in self.now string.now }
+    {
+        match self.set.get_index_of(string) {
+            None => NONE,
+            Some(place) => place.min(65535) as u16,
+        }
+    }
+
+    /// The strings, in order.
+    pub fn as_slice(&self) -> &[Vec<u8>]
+        ensures { map (λ string. string.items) result.now ≡ self.now }
+    {
+        self.set.as_slice()
+    }
+
+    /// The table of the strings.
+    pub fn table(&self, alloc: Global) -> Result<Table<TextBytes>, AllocError>
+        ensures { IfOk result (λ table. table ≡ self.now) }
+    {
+        let mut all = Vec::new(alloc);
+        for string in self.set.as_slice() {
+            all.push(TextBytes::copied(alloc, string.as_slice())?)?;
+        }
+        Ok(Table::new(all))
+    }
+}

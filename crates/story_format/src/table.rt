@@ -1,0 +1,164 @@
+//! Lists of values: a table behind a count of two bytes, a list behind a count of one.
+ghost use Rattle.std.specs.Prelude.{◌≡◌, ◌++◌, IfOk, OnOk, IsTrue};
+ghost use Rattle.std.specs.List.{flat_map, list_all};
+ghost use Rattle.story_format.specs.Formats.{get_many, seen_all};
+
+use crate::field::Field;
+use std::alloc::{AllocError, Global};
+use std::marker::Model;
+
+/// The entries of a table, in order.
+#[derive(Drop)]
+pub struct Table<F> {
+    all: Vec<F>,
+}
+
+impl<F> Model for Table<F> {
+    ghost use Rattle.std.specs.Prelude.{List};
+
+    ghost Value = { List F };
+
+    ghost view = { λ table. table.all.items };
+}
+
+impl<F> Table<F> {
+    /// The table of these entries.
+    pub fn new(all: Vec<F>) -> Table<F>
+        ensures { result ≡ all.items }
+    {
+        Table { all }
+    }
+
+    /// The entries, in order.
+    pub fn as_slice(&self) -> &[F]
+        ensures { result.now ≡ self.now }
+    {
+        self.all.as_slice()
+    }
+}
+
+/// The items of a short list, in order.
+#[derive(Drop)]
+pub struct Listed<F> {
+    all: Vec<F>,
+}
+
+impl<F> Model for Listed<F> {
+    ghost use Rattle.std.specs.Prelude.{List};
+
+    ghost Value = { List F };
+
+    ghost view = { λ list. list.all.items };
+}
+
+impl<F> Listed<F> {
+    /// The list of these items.
+    pub fn new(all: Vec<F>) -> Listed<F>
+        ensures { result ≡ all.items }
+    {
+        Listed { all }
+    }
+
+    /// The items, in order.
+    pub fn as_slice(&self) -> &[F]
+        ensures { result.now ≡ self.now }
+    {
+        self.all.as_slice()
+    }
+}
+
+/// That many values from the front of the bytes, and the bytes behind them. Memory grows with the
+/// values that are there, and not with the count.
+pub fn read_many<F: Field>(
+    alloc: Global,
+    count: usize,
+    bytes: &[u8],
+) -> Result<Option<(Vec<F>, &[u8])>, AllocError>
+    ensures { IfOk result (λ found. seen_all found ≡ get_many F.format.get count bytes.now) }
+{
+    let mut all = Vec::new(alloc);
+    let mut rest = bytes;
+    for _ in 0..count {
+        let Some((value, after)) = F::read(alloc, rest)? else {
+            return Ok(None);
+        };
+        all.push(value)?;
+        rest = after;
+    }
+    Ok(Some((all, rest)))
+}
+
+/// Appends the values' bytes, one behind the other.
+pub fn write_all<F: Field>(values: &[F], out: &mut Vec<u8>) -> Result<(), AllocError>
+    requires { IsTrue (list_all F.format.fits values.now) }
+    ensures { OnOk result (out.new.items ≡ out.old.items ++ flat_map F.format.put values.now) }
+{
+    for value in values {
+        value.write(out)?;
+    }
+    Ok(())
+}
+
+/// Whether each value can be written.
+pub fn fit_all<F: Field>(values: &[F]) -> bool
+    ensures { result ≡ list_all F.format.fits values.now }
+{
+    values.iter().all(|value| value.fits())
+}
+
+impl<F: Field> Field for Table<F> {
+    ghost use Rattle.std.specs.Int.{w16};
+    ghost use Rattle.story_format.specs.Formats.{number, counted};
+    ghost use Rattle.story_format.specs.FormatLaws.{number16_lawful, counted_lawful};
+
+    ghost format = { counted (number w16) F.format };
+
+    fn read(alloc: Global, bytes: &[u8]) -> Result<Option<(Table<F>, &[u8])>, AllocError> {
+        let Some((count, rest)) = u16::read(alloc, bytes)? else {
+            return Ok(None);
+        };
+        let Some((all, rest)) = read_many(alloc, count as usize, rest)? else {
+            return Ok(None);
+        };
+        Ok(Some((Table { all }, rest)))
+    }
+
+    fn write(&self, out: &mut Vec<u8>) -> Result<(), AllocError> {
+        (self.all.len() as u16).write(out)?;
+        write_all(self.all.as_slice(), out)
+    }
+
+    fn fits(&self) -> bool {
+        self.all.len() < 65536 && fit_all(self.all.as_slice())
+    }
+
+    ghost lawful = { counted_lawful (number w16) F.format number16_lawful F.lawful };
+}
+
+impl<F: Field> Field for Listed<F> {
+    ghost use Rattle.story_format.specs.Formats.{byte, counted};
+    ghost use Rattle.story_format.specs.FormatLaws.{byte_lawful, counted_lawful};
+
+    ghost format = { counted byte F.format };
+
+    fn read(alloc: Global, bytes: &[u8]) -> Result<Option<(Listed<F>, &[u8])>, AllocError> {
+        let Some((count, rest)) = u8::read(alloc, bytes)? else {
+            return Ok(None);
+        };
+        let Some((all, rest)) = read_many(alloc, count as usize, rest)? else {
+            return Ok(None);
+        };
+        Ok(Some((Listed { all }, rest)))
+    }
+
+    fn write(&self, out: &mut Vec<u8>) -> Result<(), AllocError> {
+        (self.all.len() as u8).write(out)?;
+        write_all(self.all.as_slice(), out)
+    }
+
+    fn fits(&self) -> bool {
+        self.all.len() < 256 && fit_all(self.all.as_slice())
+    }
+
+    ghost lawful = { counted_lawful byte F.format byte_lawful F.lawful };
+}
