@@ -1,0 +1,5 @@
+pub mod Cuts
+pub mod Forms
+pub mod Literals
+pub mod Pieces
+pub mod Words

@@ -1,49 +1,69 @@
-//! Cutting tokens into sentences.
+//! Cutting tokens into paragraphs, and these into headings and sentences.
+ghost use Rattle.std.specs.Prelude.{◌≡◌, ◌<◌, ◌≤◌, fold, length, not, IfOk, OnOk};
+ghost use Rattle.std.specs.List.{list_all};
+ghost use Rattle.i7_sentences.specs.Cuts.{cut, ends_sentence_kind, has_final_end, is_capitalised, is_final, is_full_stop, is_heading, is_same_paragraph, is_same_sentence, is_stop_alone, is_text_kind, is_title, is_within_line, kind_of, may_begin_kind, opens_heading, parts_of, with_paragraph, with_sentence};
+ghost use Rattle.i7_sentences.specs.Pieces.{piece_len, pieces_of};
+
 use std::alloc::{AllocError, Global};
 
 use i7_lexer::{Start, Token, TokenKind};
 
-use crate::Keyword;
-use crate::keyword::word_of;
+use crate::part::{Part, PartKind};
+use crate::word::{is_spelled, word_of};
 
-/// What a part of a source is read as.
-#[derive(Clone, Copy, Debug, PartialEq, Eq)]
-pub enum PartKind {
-    /// The source's first sentence, if it is a text alone or a text by somebody.
-    Title,
-    /// A paragraph of one line that begins with `Volume`, `Book`, `Part`, `Chapter` or `Section`.
-    Heading,
-    Sentence,
+/// Whether the next token belongs to the same paragraph.
+fn is_same_paragraph(token: &Token, next: &Token) -> bool
+    ensures { result ≡ is_same_paragraph token.now next.now }
+{
+    let _ = token;
+    match next.start {
+        Start::Paragraph => false,
+        Start::Line { .. } | Start::Within => true,
+    }
 }
 
-/// A part of a source: one or more tokens.
-#[derive(Clone, Copy, Debug)]
-pub struct Part<'a> {
-    pub kind: PartKind,
-    pub tokens: &'a [Token],
+/// Whether a token stands within its line.
+fn is_within_line(start: Start) -> bool
+    ensures { result ≡ is_within_line start }
+{
+    match start {
+        Start::Within => true,
+        Start::Paragraph | Start::Line { .. } => false,
+    }
 }
 
 /// Whether the word opens a heading.
-fn opens_heading(word: &[u8]) -> bool {
-    word.eq_ignore_ascii_case(b"volume")
-        || word.eq_ignore_ascii_case(b"book")
-        || word.eq_ignore_ascii_case(b"part")
-        || word.eq_ignore_ascii_case(b"chapter")
-        || word.eq_ignore_ascii_case(b"section")
+fn opens_heading(word: &[u8]) -> bool
+    ensures { result ≡ opens_heading word.now }
+{
+    is_spelled(word, b"volume")
+        || is_spelled(word, b"book")
+        || is_spelled(word, b"part")
+        || is_spelled(word, b"chapter")
+        || is_spelled(word, b"section")
+}
+
+/// Whether all tokens stand within their line.
+fn are_within_line(tokens: &[Token]) -> bool
+    ensures { result ≡ list_all (λ token. is_within_line token.start) tokens.now }
+{
+    tokens.iter().all(|token| is_within_line(token.start))
 }
 
 /// Whether a paragraph is a heading.
-fn is_heading(paragraph: &[Token]) -> bool {
+fn is_heading(paragraph: &[Token]) -> bool
+    ensures { result ≡ is_heading paragraph.now }
+{
     match paragraph {
         [] => false,
-        [first, rest @ ..] => {
-            opens_heading(word_of(first)) && rest.iter().all(|token| token.start == Start::Within)
-        }
+        [first, rest @ ..] => opens_heading(word_of(first)) && are_within_line(rest),
     }
 }
 
 /// Whether the token is a full stop.
-fn is_full_stop(token: &Token) -> bool {
+fn is_full_stop(token: &Token) -> bool
+    ensures { result ≡ is_full_stop token.now }
+{
     match &token.kind {
         TokenKind::Mark(mark) => *mark == b'.',
         TokenKind::Text(_) | TokenKind::Word(_) => false,
@@ -51,93 +71,185 @@ fn is_full_stop(token: &Token) -> bool {
 }
 
 /// Whether the byte ends a spoken sentence.
-fn is_final(byte: u8) -> bool {
+fn is_final(byte: u8) -> bool
+    ensures { result ≡ is_final byte }
+{
     byte == b'.' || byte == b'?' || byte == b'!'
 }
 
 /// Whether the bytes end as a sentence does: in `.`, `?` or `!`, or in one of these and `'`.
-fn has_final_end(text: &[u8]) -> bool {
-    match text {
-        [.., last] if is_final(*last) => true,
-        [.., last, b'\''] => is_final(*last),
-        _ => false,
-    }
+fn has_final_end(text: &[u8]) -> bool
+    ensures { result ≡ has_final_end text.now }
+{
+    let len = text.len();
+    len > 0 && is_final(text[len - 1])
+        || len > 1 && text[len - 1] == b'\'' && is_final(text[len - 2])
 }
 
 /// Whether the token is a text that ends as a sentence does.
-fn ends_sentence(token: &Token) -> bool {
+fn ends_sentence(token: &Token) -> bool
+    ensures { result ≡ ends_sentence_kind token.now.kind }
+{
     match &token.kind {
         TokenKind::Text(text) => has_final_end(text.as_slice()),
         TokenKind::Word(_) | TokenKind::Mark(_) => false,
     }
 }
 
+/// Whether the word begins with a capital ASCII letter.
+fn is_capitalised(word: &[u8]) -> bool
+    ensures { result ≡ is_capitalised word.now }
+{
+    match word {
+        [] => false,
+        [first, ..] => first.is_ascii_uppercase(),
+    }
+}
+
 /// Whether a sentence may begin with this token behind a text: a text, or a word with a capital.
-fn may_begin(token: &Token) -> bool {
+fn may_begin(token: &Token) -> bool
+    ensures { result ≡ may_begin_kind token.now.kind }
+{
     match &token.kind {
         TokenKind::Text(_) => true,
-        TokenKind::Word(word) => match word.as_slice() {
-            [first, ..] => first.is_ascii_uppercase(),
-            [] => false,
-        },
+        TokenKind::Word(word) => is_capitalised(word.as_slice()),
         TokenKind::Mark(_) => false,
     }
 }
 
-/// Whether a sentence ends between two tokens that follow each other in a paragraph: at a full stop,
+/// Whether the next token of a paragraph belongs to the same sentence: none does at a full stop,
 /// which is in no sentence, and behind a text that ends as a sentence does.
-fn is_boundary(token: &Token, next: &Token) -> bool {
-    is_full_stop(token) || is_full_stop(next) || ends_sentence(token) && may_begin(next)
+fn is_same_sentence(token: &Token, next: &Token) -> bool
+    ensures { result ≡ is_same_sentence token.now next.now }
+{
+    !(is_full_stop(token) || is_full_stop(next) || ends_sentence(token) && may_begin(next))
 }
 
-/// Whether a sentence is a text alone, or a text, `by` and words.
-fn is_title(sentence: &[Token]) -> bool {
-    match sentence {
-        [text] => is_text(text),
-        [text, by, _, ..] => is_text(text) && word_of(by).eq_ignore_ascii_case(b"by"),
-        _ => false,
+/// Whether a piece of a paragraph is a full stop.
+fn is_stop_alone(piece: &[Token]) -> bool
+    ensures { result ≡ is_stop_alone piece.now }
+{
+    match piece {
+        [] => false,
+        [first, ..] => is_full_stop(first),
     }
 }
 
 /// Whether the token is a text.
-pub fn is_text(token: &Token) -> bool {
+fn is_text(token: &Token) -> bool
+    ensures { result ≡ is_text_kind token.now.kind }
+{
     match &token.kind {
         TokenKind::Text(_) => true,
         TokenKind::Word(_) | TokenKind::Mark(_) => false,
     }
 }
 
-/// What the first or a later sentence is read as.
-fn kind_of(is_first: bool, sentence: &[Token]) -> PartKind {
-    if is_first && is_title(sentence) {
-        PartKind::Title
-    } else {
-        PartKind::Sentence
+/// Whether a sentence is a text alone, or a text, `by` and something.
+fn is_title(sentence: &[Token]) -> bool
+    ensures { result ≡ is_title sentence.now }
+{
+    match sentence {
+        [] => false,
+        [text] => is_text(text),
+        [_, _] => false,
+        [text, by, _, ..] => is_text(text) && is_spelled(word_of(by), b"by"),
     }
 }
 
-/// Adds the sentences of a paragraph to the parts; a full stop by itself is none.
-fn add_sentences<'a>(
-    paragraph: &'a [Token],
-    parts: &mut Vec<Part<'a>>,
-) -> Result<(), AllocError> {
-    for sentence in paragraph.chunk_by(|token, next| !is_boundary(token, next)) {
-        if !sentence.first().is_some_and(is_full_stop) {
-            let kind = kind_of(parts.is_empty(), sentence);
-            parts.push(Part {
-                kind,
-                tokens: sentence,
-            })?;
+/// What a sentence is read as, with these parts before it: only the first part may be a title.
+fn kind_of(parts: &[Part<'_>], sentence: &[Token]) -> PartKind
+    ensures { result ≡ kind_of (pieces_of parts.now) sentence.now }
+{
+    match parts {
+        [] => {
+            if is_title(sentence) {
+                PartKind::Title
+            } else {
+                PartKind::Sentence
+            }
         }
+        [_, ..] => PartKind::Sentence,
+    }
+}
+
+/// The number of tokens of the first paragraph.
+fn paragraph_len(tokens: &[Token]) -> usize
+    ensures len { result ≡ piece_len is_same_paragraph tokens.now }
+    ensures within { result ≤ length tokens.now }
+{
+    let mut count = 0;
+    let mut rest = tokens;
+    while let [token, after @ ..] = rest {
+        count += 1;
+        rest = after;
+        match after {
+            [] => {}
+            [next, ..] => {
+                if !is_same_paragraph(token, next) {
+                    return count;
+                }
+            }
+        }
+    }
+    count
+}
+
+/// The number of tokens of the first piece of a paragraph: a sentence or a full stop.
+fn sentence_len(tokens: &[Token]) -> usize
+    ensures len { result ≡ piece_len is_same_sentence tokens.now }
+    ensures within { result ≤ length tokens.now }
+{
+    let mut count = 0;
+    let mut rest = tokens;
+    while let [token, after @ ..] = rest {
+        count += 1;
+        rest = after;
+        match after {
+            [] => {}
+            [next, ..] => {
+                if !is_same_sentence(token, next) {
+                    return count;
+                }
+            }
+        }
+    }
+    count
+}
+
+/// Adds a sentence to the parts; a full stop alone is none.
+fn add_sentence<'a>(piece: &'a [Token], parts: &mut Vec<Part<'a>>) -> Result<(), AllocError>
+    ensures { OnOk result (pieces_of parts.new.items ≡ with_sentence (pieces_of parts.old.items) piece.now) }
+{
+    if is_stop_alone(piece) {
+        return Ok(());
+    }
+    let kind = kind_of(parts.as_slice(), piece);
+    parts.push(Part {
+        kind,
+        tokens: piece,
+    })?;
+    Ok(())
+}
+
+/// Adds the sentences of a paragraph to the parts.
+#[tactic(auto, using(crate::proofs::Cutting::cut_steps))]
+fn add_sentences<'a>(paragraph: &'a [Token], parts: &mut Vec<Part<'a>>) -> Result<(), AllocError>
+    ensures { OnOk result (pieces_of parts.new.items ≡ fold with_sentence (pieces_of parts.old.items) (cut is_same_sentence paragraph.now)) }
+{
+    let mut rest = paragraph;
+    while !rest.is_empty() {
+        let (piece, behind) = rest.split_at(sentence_len(rest));
+        add_sentence(piece, parts)?;
+        rest = behind;
     }
     Ok(())
 }
 
 /// Adds a paragraph's parts: the heading that it is, or its sentences.
-fn add_paragraph<'a>(
-    paragraph: &'a [Token],
-    parts: &mut Vec<Part<'a>>,
-) -> Result<(), AllocError> {
+fn add_paragraph<'a>(paragraph: &'a [Token], parts: &mut Vec<Part<'a>>) -> Result<(), AllocError>
+    ensures { OnOk result (pieces_of parts.new.items ≡ with_paragraph (pieces_of parts.old.items) paragraph.now) }
+{
     if !is_heading(paragraph) {
         return add_sentences(paragraph, parts);
     }
@@ -149,10 +261,16 @@ fn add_paragraph<'a>(
 }
 
 /// The parts of a source, in order.
-pub fn parts_of(alloc: Global, tokens: &[Token]) -> Result<Vec<Part<'_>>, AllocError> {
+#[tactic(auto, using(crate::proofs::Cutting::cut_steps))]
+pub fn parts_of(alloc: Global, tokens: &[Token]) -> Result<Vec<Part<'_>>, AllocError>
+    ensures { IfOk result (λ parts. pieces_of parts.items ≡ parts_of tokens.now) }
+{
     let mut parts = Vec::new(alloc);
-    for paragraph in tokens.chunk_by(|_, next| next.start != Start::Paragraph) {
+    let mut rest = tokens;
+    while !rest.is_empty() {
+        let (paragraph, behind) = rest.split_at(paragraph_len(rest));
         add_paragraph(paragraph, &mut parts)?;
+        rest = behind;
     }
     Ok(parts)
 }

@@ -1,6 +1,7 @@
-//! The words that sentence forms are made of, the directions and the reserved words.
-use i7_lexer::{Token, TokenKind};
-use world_meaning::Direction;
+//! The words that sentence forms are made of.
+ghost use Rattle.std.specs.Prelude.{◌≡◌};
+
+use crate::word::is_spelled;
 
 /// A word that stands in a sentence form.
 #[derive(Clone, Copy, Debug, PartialEq, Eq)]
@@ -48,8 +49,12 @@ pub enum Keyword {
 }
 
 impl Keyword {
+    ghost use Rattle.i7_sentences.specs.Words.{is_copula, is_keyword, is_spelled, keyword_spelling};
+
     /// The keyword in small letters.
-    pub fn spelling(self) -> &'static [u8] {
+    pub fn spelling(self) -> &'static [u8]
+        ensures { result.now ≡ keyword_spelling self }
+    {
         match self {
             Keyword::A => b"a",
             Keyword::Above => b"above",
@@ -93,50 +98,20 @@ impl Keyword {
         }
     }
 
-    /// Whether the word is this keyword, letter case aside.
-    pub fn is_word(self, word: &[u8]) -> bool {
-        word.eq_ignore_ascii_case(self.spelling())
-            || self == Keyword::Is && word.eq_ignore_ascii_case(b"are")
-    }
-}
-
-/// The bytes of a word as written; none for a text or a mark.
-pub fn word_of(token: &Token) -> &[u8] {
-    match &token.kind {
-        TokenKind::Word(word) => word.as_slice(),
-        TokenKind::Text(_) | TokenKind::Mark(_) => &[],
-    }
-}
-
-/// The direction that a word names in a sentence; short words aren't read there.
-pub fn direction_of(word: &[u8]) -> Option<Direction> {
-    for direction in Direction::ALL {
-        if word.eq_ignore_ascii_case(direction.name()) {
-            return Some(direction);
+    /// Whether the keyword is `is`, which reads `are` too.
+    fn is_copula(self) -> bool
+        ensures { result ≡ is_copula self }
+    {
+        match self {
+            Keyword::Is => true,
+            _ => false,
         }
     }
-    None
-}
 
-/// Whether the word is `a`, `an`, `the` or `some`.
-pub fn is_article(word: &[u8]) -> bool {
-    word.eq_ignore_ascii_case(b"a")
-        || word.eq_ignore_ascii_case(b"an")
-        || word.eq_ignore_ascii_case(b"the")
-        || word.eq_ignore_ascii_case(b"some")
-}
-
-/// The words that no name of an object may hold.
-const RESERVED: [&[u8]; 19] = [
-    b"a", b"an", b"the", b"some", b"is", b"are", b"in", b"on", b"of", b"by", b"from", b"and", b"or",
-    b"not", b"usually", b"kind", b"rule", b"rules", b"if",
-];
-
-/// Whether the word may stand in no name of an object.
-pub fn is_reserved(word: &[u8]) -> bool {
-    RESERVED
-        .iter()
-        .any(|reserved| word.eq_ignore_ascii_case(reserved))
-        || word.eq_ignore_ascii_case(b"when")
-        || word.eq_ignore_ascii_case(b"during")
+    /// Whether the word is this keyword, letter case aside.
+    pub fn is_word(self, word: &[u8]) -> bool
+        ensures { result ≡ is_keyword self word.now }
+    {
+        is_spelled(word, self.spelling()) || self.is_copula() && is_spelled(word, b"are")
+    }
 }

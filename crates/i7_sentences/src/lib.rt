@@ -10,11 +10,13 @@ mod keyword;
 mod literal;
 mod matcher;
 mod name;
+mod part;
 mod reader;
 mod reading;
 mod sentence;
+mod word;
 
-pub use cut::{Part, PartKind};
+pub use part::{Part, PartKind};
 pub use form::{Form, Piece};
 pub use keyword::Keyword;
 pub use name::{Name, NameArticle};

@@ -1,38 +1,83 @@
 //! Literal numbers, from -2147483648 to 2147483647.
+ghost use Rattle.std.specs.Prelude.{◌≡◌, ◌<◌, nat_lt};
+ghost use Rattle.std.specs.List.{list_all};
+ghost use Rattle.std.specs.Char.{is_ascii_digit};
+ghost use Rattle.i7_sentences.specs.Literals.{digits_of, is_literal, is_negative, is_out_of_range, magnitude, most_of};
 
-/// The digits of a word, behind a `-` or not.
-fn digits_of(word: &[u8]) -> &[u8] {
+/// Whether the word begins with `-`.
+fn is_negative(word: &[u8]) -> bool
+    ensures { result ≡ is_negative word.now }
+{
     match word {
-        [b'-', digits @ ..] => digits,
-        _ => word,
+        [] => false,
+        [first, ..] => *first == b'-',
     }
+}
+
+/// The word without a `-` in front.
+fn digits_of(word: &[u8]) -> &[u8]
+    ensures { result.now ≡ digits_of word.now }
+{
+    match word {
+        [] => word,
+        [first, rest @ ..] => {
+            if *first == b'-' {
+                rest
+            } else {
+                word
+            }
+        }
+    }
+}
+
+/// Whether each byte is a digit.
+fn are_digits(bytes: &[u8]) -> bool
+    ensures { result ≡ list_all is_ascii_digit bytes.now }
+{
+    bytes.iter().all(|byte| byte.is_ascii_digit())
 }
 
 /// Whether the word is a literal: digits, perhaps behind a `-`.
-pub fn is_literal(word: &[u8]) -> bool {
+pub fn is_literal(word: &[u8]) -> bool
+    ensures { result ≡ is_literal word.now }
+{
     let digits = digits_of(word);
-    !digits.is_empty() && digits.iter().all(|digit| digit.is_ascii_digit())
+    !digits.is_empty() && are_digits(digits)
 }
 
-/// A number past every literal's range, at which counting stops.
-const PAST: u64 = 10_000_000_000;
-
-/// The number that the digits spell, or a number past every range.
-fn magnitude(digits: &[u8]) -> u64 {
-    let mut number: u64 = 0;
-    for digit in digits {
-        if number < PAST {
-            number = number * 10 + u64::from(digit % 16);
-        }
+/// The highest number, or of negative ones the lowest.
+fn most_of(word: &[u8]) -> u64
+    ensures value { result ≡ most_of word.now }
+    ensures bound { result < 2147483649 }
+{
+    if is_negative(word) {
+        2_147_483_648
+    } else {
+        2_147_483_647
     }
-    number
+}
+
+/// Whether the number that the digits spell is above `most`.
+#[tactic(auto, using(crate::proofs::Digits::stays_past))]
+fn exceeds(digits: &[u8], most: u64) -> bool
+    requires { most < 2147483649 }
+    ensures { result ≡ nat_lt most (magnitude digits.now) }
+{
+    let mut number: u64 = 0;
+    let mut rest = digits;
+    while let [digit, after @ ..] = rest {
+        number = number * 10 + u64::from(digit.saturating_sub(b'0'));
+        if number > most {
+            return true;
+        }
+        rest = after;
+    }
+    false
 }
 
 /// Whether the word is a literal whose number is out of range.
-pub fn is_out_of_range(word: &[u8]) -> bool {
-    let most = match word {
-        [b'-', ..] => 2_147_483_648,
-        _ => 2_147_483_647,
-    };
-    is_literal(word) && magnitude(digits_of(word)) > most
+pub fn is_out_of_range(word: &[u8]) -> bool
+    ensures { result ≡ is_out_of_range word.now }
+{
+    is_literal(word) && exceeds(digits_of(word), most_of(word))
 }

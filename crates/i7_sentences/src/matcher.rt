@@ -5,7 +5,7 @@ use std::alloc::{AllocError, Global};
 
 use i7_lexer::Token;
 
-use crate::keyword::{direction_of, word_of};
+use crate::word::{direction_of, word_of};
 use crate::literal::is_literal;
 use crate::{Keyword, Piece};
 

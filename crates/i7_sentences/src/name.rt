@@ -4,7 +4,7 @@ use std::alloc::{AllocError, Global};
 use i7_lexer::Token;
 use world_meaning::TextBytes;
 
-use crate::keyword::{is_article, word_of};
+use crate::word::{is_article, word_of};
 
 /// The article that a sentence puts before a name.
 #[derive(Clone, Copy, Debug, PartialEq, Eq)]

@@ -5,7 +5,7 @@ use i7_lexer::{Lexed, Token};
 use world_meaning::{Fault, FaultCode, TextBytes};
 
 use crate::cut::parts_of;
-use crate::keyword::word_of;
+use crate::word::word_of;
 use crate::literal::is_out_of_range;
 use crate::name::name_of;
 use crate::reading::{Reading, has_reserved_name, understood};

@@ -5,7 +5,7 @@ use i7_lexer::{Token, TokenKind};
 use world_meaning::{Direction, TextBytes};
 
 use crate::Form;
-use crate::keyword::{direction_of, is_reserved, word_of};
+use crate::word::{direction_of, is_reserved, word_of};
 use crate::matcher::fit;
 use crate::name::name_words;
 

@@ -1,0 +1,127 @@
+-- The parts of a source: its headings, its title and its sentences.
+use Rattle.std.specs.Prelude.{ℕ, ◌-◌, nat_lt, slice_index, length, Bool, true, false, not, ◌&&◌, ◌||◌, ◌==◌, List, [], ◌∷◌, ◌++◌, fold, codes, if◌then◌else◌}
+use Rattle.std.specs.List.{list_all}
+use Rattle.std.specs.Char.{is_ascii_uppercase}
+use Rattle.i7_lexer.specs.declared.token.Token.{Token}
+use Rattle.i7_lexer.specs.declared.token.TokenKind.{TokenKind}
+use Rattle.i7_lexer.specs.declared.token.TokenKind.TheVariants.{Text, Word, Mark}
+use Rattle.i7_lexer.specs.declared.token.Start.{Start}
+use Rattle.i7_lexer.specs.declared.token.Start.TheVariants.{Paragraph, Line, Within}
+use Rattle.i7_sentences.specs.Words.{word_of, is_spelled}
+use Rattle.i7_sentences.specs.declared.part.PartKind.{PartKind}
+use Rattle.i7_sentences.specs.declared.part.PartKind.TheVariants.{Title, Heading, Sentence}
+
+-- a token goes in front of the piece behind it, where it belongs to the same
+abbrev pub onto_piece : (Token → Token → Bool) → Token → List (List Token) → List (List Token)
+onto_piece same token [] = (token ∷ []) ∷ []
+onto_piece same token ([] ∷ pieces) = (token ∷ []) ∷ pieces
+onto_piece same token ((next ∷ more) ∷ pieces) =
+    if same token next then (token ∷ next ∷ more) ∷ pieces else (token ∷ []) ∷ (next ∷ more) ∷ pieces
+
+-- tokens cut between each two neighbours that don't belong to the same piece
+abbrev pub cut : (Token → Token → Bool) → List Token → List (List Token)
+cut same [] = []
+cut same (token ∷ tokens) = onto_piece same token (cut same tokens)
+
+abbrev pub is_paragraph_start : Start → Bool
+is_paragraph_start Paragraph = true
+is_paragraph_start (Line indent) = false
+is_paragraph_start Within = false
+
+-- a paragraph goes on to the next token that begins one
+abbrev pub is_same_paragraph : Token → Token → Bool
+is_same_paragraph token next = not (is_paragraph_start next.start)
+
+abbrev pub is_within_line : Start → Bool
+is_within_line Paragraph = false
+is_within_line (Line indent) = false
+is_within_line Within = true
+
+abbrev pub opens_heading : List ℕ → Bool
+opens_heading word =
+    is_spelled word (codes "volume") || is_spelled word (codes "book") || is_spelled word (codes "part")
+    || is_spelled word (codes "chapter") || is_spelled word (codes "section")
+
+-- a heading is a paragraph of one line that begins with one of these words
+abbrev pub is_heading : List Token → Bool
+is_heading [] = false
+is_heading (first ∷ rest) = opens_heading (word_of first) && list_all (λ token. is_within_line token.start) rest
+
+abbrev pub is_full_stop_kind : TokenKind → Bool
+is_full_stop_kind (Text text) = false
+is_full_stop_kind (Word word) = false
+is_full_stop_kind (Mark mark) = mark == 46
+
+abbrev pub is_full_stop : Token → Bool
+is_full_stop token = is_full_stop_kind token.kind
+
+-- `.`, `?` and `!`
+abbrev pub is_final : ℕ → Bool
+is_final b = (b == 46) || (b == 63) || (b == 33)
+
+-- a text ends as a sentence does: in a final byte, or in one and a single quote
+abbrev pub has_final_end : List ℕ → Bool
+has_final_end text =
+    (nat_lt 0 (length text) && is_final (slice_index text (length text - 1)))
+    || (nat_lt 1 (length text) && (slice_index text (length text - 1) == 39) && is_final (slice_index text (length text - 2)))
+
+abbrev pub ends_sentence_kind : TokenKind → Bool
+ends_sentence_kind (Text text) = has_final_end text
+ends_sentence_kind (Word word) = false
+ends_sentence_kind (Mark mark) = false
+
+abbrev pub is_capitalised : List ℕ → Bool
+is_capitalised [] = false
+is_capitalised (b ∷ bs) = is_ascii_uppercase b
+
+-- a sentence may begin with a text or a capitalised word, behind a text
+abbrev pub may_begin_kind : TokenKind → Bool
+may_begin_kind (Text text) = true
+may_begin_kind (Word word) = is_capitalised word
+may_begin_kind (Mark mark) = false
+
+-- a sentence ends at a full stop, which is in none, and behind a text that ends so
+abbrev pub is_same_sentence : Token → Token → Bool
+is_same_sentence token next =
+    not (is_full_stop token || is_full_stop next || (ends_sentence_kind token.kind && may_begin_kind next.kind))
+
+abbrev pub is_stop_alone : List Token → Bool
+is_stop_alone [] = false
+is_stop_alone (first ∷ rest) = is_full_stop first
+
+abbrev pub is_text_kind : TokenKind → Bool
+is_text_kind (Text text) = true
+is_text_kind (Word word) = false
+is_text_kind (Mark mark) = false
+
+-- a text alone, or a text, `by` and something
+abbrev pub is_title : List Token → Bool
+is_title [] = false
+is_title (text ∷ []) = is_text_kind text.kind
+is_title (text ∷ by ∷ []) = false
+is_title (text ∷ by ∷ name ∷ names) = is_text_kind text.kind && is_spelled (word_of by) (codes "by")
+
+-- a part and what it is read as
+pub record Piece : Type 0 where
+  pub kind : PartKind
+  pub tokens : List Token
+
+-- only the source's first part may be a title
+abbrev pub kind_of : List Piece → List Token → PartKind
+kind_of [] sentence = if is_title sentence then Title else Sentence
+kind_of (part ∷ parts) sentence = Sentence
+
+-- the parts so far, and one more sentence; a full stop alone is none
+abbrev pub with_sentence : List Piece → List Token → List Piece
+with_sentence parts sentence =
+    if is_stop_alone sentence then parts else parts ++ record { kind = kind_of parts sentence; tokens = sentence } ∷ []
+
+-- the parts so far, and those of one more paragraph: the heading that it is, or its sentences
+abbrev pub with_paragraph : List Piece → List Token → List Piece
+with_paragraph parts paragraph =
+    if is_heading paragraph then parts ++ record { kind = Heading; tokens = paragraph } ∷ []
+    else fold with_sentence parts (cut is_same_sentence paragraph)
+
+-- the parts of a source
+abbrev pub parts_of : List Token → List Piece
+parts_of tokens = fold with_paragraph [] (cut is_same_paragraph tokens)

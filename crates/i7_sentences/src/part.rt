@@ -1,0 +1,19 @@
+//! The parts of a source.
+use i7_lexer::Token;
+
+/// What a part of a source is read as.
+#[derive(Clone, Copy, Debug, PartialEq, Eq)]
+pub enum PartKind {
+    /// The source's first sentence, if it is a text alone or a text by somebody.
+    Title,
+    /// A paragraph of one line that begins with `Volume`, `Book`, `Part`, `Chapter` or `Section`.
+    Heading,
+    Sentence,
+}
+
+/// A part of a source: one or more tokens.
+#[derive(Clone, Copy, Debug)]
+pub struct Part<'a> {
+    pub kind: PartKind,
+    pub tokens: &'a [Token],
+}
