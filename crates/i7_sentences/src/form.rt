@@ -1,5 +1,11 @@
 //! The sentence forms as data: fixed words and one-word classes, parted by open letters.
+ghost use Rattle.std.specs.Prelude.{◌≡◌};
+
+use i7_lexer::Token;
+
 use crate::Keyword;
+use crate::literal::is_literal;
+use crate::word::{direction_of, word_of};
 
 /// A piece of a sentence form.
 #[derive(Clone, Copy, Debug, PartialEq, Eq)]
@@ -12,6 +18,22 @@ pub enum Piece {
     Direction,
     /// A literal number.
     Number,
+}
+
+impl Piece {
+    ghost use Rattle.i7_sentences.specs.Forms.{takes};
+
+    /// Whether a piece that is no letter takes this one token.
+    pub fn takes(self, token: &Token) -> bool
+        ensures { result ≡ takes self token.now }
+    {
+        match self {
+            Piece::Letter => false,
+            Piece::Word(keyword) => keyword.is_word(word_of(token)),
+            Piece::Direction => direction_of(word_of(token)).is_some(),
+            Piece::Number => is_literal(word_of(token)),
+        }
+    }
 }
 
 /// A sentence form made of words, the lowest first: where several fit, the lowest is the sentence's.
@@ -90,8 +112,12 @@ impl Form {
 }
 
 impl Form {
+    ghost use Rattle.i7_sentences.specs.Forms.{pieces_of};
+
     /// The form's pieces, in order.
-    pub fn pieces(self) -> &'static [Piece] {
+    pub fn pieces(self) -> &'static [Piece]
+        ensures { result.now ≡ pieces_of self }
+    {
         match self {
             Form::SceneBegins => &[Piece::Letter, Piece::Word(Keyword::Begins), Piece::Word(Keyword::When), Piece::Letter],
             Form::SceneEnds => &[Piece::Letter, Piece::Word(Keyword::Ends), Piece::Word(Keyword::When), Piece::Letter],

@@ -1,58 +1,78 @@
 //! The matcher: the letters of a form in a sentence, each as short as it can be, tried once.
-ghost use Rattle.std.specs.Prelude.{◌≤◌, length, IfSome};
+ghost use Rattle.std.specs.Prelude.{◌≡◌, ◌≤◌, length, map, option_map, IfOk, IfSome};
+ghost use Rattle.std.specs.List.{list_all};
+ghost use Rattle.i7_sentences.specs.Matching.{first_fit, is_fixed, is_kept, is_letter, leftmost_from, letter_len, rightmost, stands, taken};
 
 use std::alloc::{AllocError, Global};
 
 use i7_lexer::Token;
 
-use crate::word::{direction_of, word_of};
-use crate::literal::is_literal;
-use crate::{Keyword, Piece};
+use crate::Piece;
 
-impl Piece {
-    /// Whether the piece takes this one token.
-    fn takes(self, token: &Token) -> bool {
-        match self {
-            Piece::Letter => false,
-            Piece::Word(keyword) => keyword.is_word(word_of(token)),
-            Piece::Direction => direction_of(word_of(token)).is_some(),
-            Piece::Number => is_literal(word_of(token)),
-        }
-    }
-
-    /// Whether the words that the piece takes are kept for the form's reader.
-    fn is_kept(self) -> bool {
-        match self {
-            Piece::Letter | Piece::Direction | Piece::Number => true,
-            Piece::Word(_) => false,
-        }
-    }
-}
-
-/// The number of fixed pieces in front.
-fn segment_len(pieces: &[Piece]) -> usize
-    ensures within { result ≤ length pieces.now }
+/// Whether the piece is a letter.
+fn is_letter(piece: Piece) -> bool
+    ensures { result ≡ is_letter piece }
 {
-    pieces
-        .iter()
-        .position(|piece| *piece == Piece::Letter)
-        .unwrap_or(pieces.len())
+    match piece {
+        Piece::Letter => true,
+        Piece::Word(_) | Piece::Direction | Piece::Number => false,
+    }
 }
 
-/// Whether the tokens begin with the segment.
-fn stands(segment: &[Piece], tokens: &[Token]) -> bool {
-    segment.len() <= tokens.len() && segment.iter().zip(tokens).all(|(piece, token)| piece.takes(token))
+/// Whether the piece is no letter.
+fn is_fixed(piece: Piece) -> bool
+    ensures { result ≡ is_fixed piece }
+{
+    match piece {
+        Piece::Letter => false,
+        Piece::Word(_) | Piece::Direction | Piece::Number => true,
+    }
 }
 
-/// The leftmost place of the segment behind at least one token.
-fn leftmost(segment: &[Piece], tokens: &[Token]) -> Option<usize>
+/// Whether the words that the piece takes are kept for the form's reader.
+fn is_kept(piece: Piece) -> bool
+    ensures { result ≡ is_kept piece }
+{
+    match piece {
+        Piece::Letter | Piece::Direction | Piece::Number => true,
+        Piece::Word(_) => false,
+    }
+}
+
+/// Whether the tokens begin with the pieces up to the next letter.
+fn stands(form: &[Piece], tokens: &[Token]) -> bool
+    ensures { result ≡ stands form.now tokens.now }
+{
+    let mut pieces = form;
+    let mut rest = tokens;
+    while let [piece, more @ ..] = pieces {
+        match rest {
+            [] => return is_letter(*piece),
+            [token, after @ ..] => {
+                if is_letter(*piece) {
+                    return true;
+                }
+                if !piece.takes(token) {
+                    return false;
+                }
+                rest = after;
+            }
+        }
+        pieces = more;
+    }
+    true
+}
+
+/// The first place behind a first token where the pieces stand.
+fn leftmost(form: &[Piece], tokens: &[Token]) -> Option<usize>
+    ensures place { result ≡ leftmost_from 1 form.now tokens.now }
     ensures within { IfSome result (λ place. place ≤ length tokens.now) }
 {
     let mut place = 1;
     let mut rest = tokens;
     while let [_, after @ ..] = rest {
         rest = after;
-        if stands(segment, rest) {
+        if stands(form, after) {
             return Some(place);
         }
         place += 1;
@@ -60,28 +80,54 @@ fn leftmost(segment: &[Piece], tokens: &[Token]) -> Option<usize>
     None
 }
 
-/// The place of the segment at the tokens' end, behind at least one token.
-fn rightmost(segment: &[Piece], tokens: &[Token]) -> Option<usize>
+/// The place where the pieces stand at the tokens' end.
+fn rightmost(form: &[Piece], tokens: &[Token]) -> Option<usize>
+    ensures place { result ≡ rightmost form.now tokens.now }
     ensures within { IfSome result (λ place. place ≤ length tokens.now) }
 {
-    if segment.len() >= tokens.len() {
+    if form.len() >= tokens.len() {
         return None;
     }
-    let place = tokens.len() - segment.len();
+    let place = tokens.len() - form.len();
     let (_, end) = tokens.split_at(place);
-    if stands(segment, end) { Some(place) } else { None }
+    if stands(form, end) { Some(place) } else { None }
+}
+
+/// Whether no letter is among the pieces.
+fn are_fixed(form: &[Piece]) -> bool
+    ensures { result ≡ list_all is_fixed form.now }
+{
+    form.iter().all(|piece| is_fixed(*piece))
 }
 
 /// The length of the letter in front of these pieces: the shortest with which they can fit.
-fn letter_len(after: &[Piece], tokens: &[Token]) -> Option<usize>
+fn letter_len(form: &[Piece], tokens: &[Token]) -> Option<usize>
+    ensures len { result ≡ letter_len form.now tokens.now }
     ensures within { IfSome result (λ place. place ≤ length tokens.now) }
 {
-    let len = segment_len(after);
-    let (segment, _) = after.split_at(len);
-    if len == after.len() {
-        rightmost(segment, tokens)
+    if are_fixed(form) {
+        rightmost(form, tokens)
     } else {
-        leftmost(segment, tokens)
+        leftmost(form, tokens)
+    }
+}
+
+/// How many tokens the piece takes, with these pieces behind it.
+fn taken(piece: Piece, form: &[Piece], tokens: &[Token]) -> Option<usize>
+    ensures count { result ≡ taken piece form.now tokens.now }
+    ensures within { IfSome result (λ count. count ≤ length tokens.now) }
+{
+    match tokens {
+        [] => None,
+        [first, ..] => {
+            if is_letter(piece) {
+                letter_len(form, tokens)
+            } else if piece.takes(first) {
+                Some(1)
+            } else {
+                None
+            }
+        }
     }
 }
 
@@ -91,7 +137,9 @@ pub fn fit<'a>(
     alloc: Global,
     pieces: &[Piece],
     tokens: &'a [Token],
-) -> Result<Option<Vec<&'a [Token]>>, AllocError> {
+) -> Result<Option<Vec<&'a [Token]>>, AllocError>
+    ensures { IfOk result (λ found. option_map (λ letters. map (λ letter. letter.now) letters.items) found ≡ first_fit pieces.now tokens.now) }
+{
     let mut letters = Vec::new(alloc);
     let mut form = pieces;
     let mut rest = tokens;
@@ -102,29 +150,11 @@ pub fn fit<'a>(
             Some(count) => {
                 let (words, behind) = rest.split_at(count);
                 rest = behind;
-                if piece.is_kept() {
+                if is_kept(*piece) {
                     letters.push(words)?;
                 }
             }
         }
     }
     Ok(if rest.is_empty() { Some(letters) } else { None })
-}
-
-/// How many tokens the piece takes, with these pieces after it.
-fn taken(piece: Piece, after: &[Piece], tokens: &[Token]) -> Option<usize>
-    ensures within { IfSome result (λ place. place ≤ length tokens.now) }
-{
-    match tokens {
-        [] => None,
-        [first, ..] => {
-            if piece == Piece::Letter {
-                letter_len(after, tokens)
-            } else if piece.takes(first) {
-                Some(1)
-            } else {
-                None
-            }
-        }
-    }
 }

@@ -1,0 +1,67 @@
+-- Fitting a form to words from left to right: each letter ends where the fixed pieces behind it
+-- first stand, the last one where they stand at the end.
+use Rattle.std.specs.Prelude.{ℕ, ◌+◌, ◌-◌, Bool, true, false, ◌&&◌, nat_lt, List, [], ◌∷◌, ◌++◌, length, take, drop, map, Option, Some, None, option_map, if◌then◌else◌}
+use Rattle.std.specs.List.{list_all}
+use Rattle.i7_lexer.specs.declared.token.Token.{Token}
+use Rattle.i7_sentences.specs.Forms.{takes, all_forms, pieces_of}
+use Rattle.i7_sentences.specs.declared.form.Form.{Form}
+use Rattle.i7_sentences.specs.declared.form.Piece.{Piece}
+use Rattle.i7_sentences.specs.declared.form.Piece.TheVariants as piece
+
+abbrev pub is_letter : Piece → Bool
+is_letter piece.Letter = true
+is_letter (piece.Word keyword) = false
+is_letter piece.Direction = false
+is_letter piece.Number = false
+
+abbrev pub is_fixed : Piece → Bool
+is_fixed piece.Letter = false
+is_fixed (piece.Word keyword) = true
+is_fixed piece.Direction = true
+is_fixed piece.Number = true
+
+-- what a piece takes is kept, unless it is a word of the form's own
+abbrev pub is_kept : Piece → Bool
+is_kept piece.Letter = true
+is_kept (piece.Word keyword) = false
+is_kept piece.Direction = true
+is_kept piece.Number = true
+
+-- the tokens begin with the pieces up to the next letter
+abbrev pub stands : List Piece → List Token → Bool
+stands [] tokens = true
+stands (p ∷ form) [] = is_letter p
+stands (p ∷ form) (token ∷ tokens) = if is_letter p then true else (takes p token && stands form tokens)
+
+-- the first place behind a first token where the pieces stand
+abbrev pub leftmost_from : ℕ → List Piece → List Token → Option ℕ
+leftmost_from place form [] = None
+leftmost_from place form (token ∷ tokens) =
+    if stands form tokens then Some place else leftmost_from (place + 1) form tokens
+
+-- the place where the pieces stand at the end
+abbrev pub rightmost : List Piece → List Token → Option ℕ
+rightmost form tokens =
+    if nat_lt (length form) (length tokens) && stands form (drop (length tokens - length form) tokens)
+    then Some (length tokens - length form) else None
+
+abbrev pub letter_len : List Piece → List Token → Option ℕ
+letter_len form tokens = if list_all is_fixed form then rightmost form tokens else leftmost_from 1 form tokens
+
+-- how many tokens a piece takes, with these pieces behind it
+abbrev pub taken : Piece → List Piece → List Token → Option ℕ
+taken p form [] = None
+taken p form (token ∷ tokens) =
+    if is_letter p then letter_len form (token ∷ tokens)
+    else if takes p token then Some 1 else None
+
+abbrev pub with_taken : Bool → List Token → Option ℕ → (List Token → Option (List (List Token))) → Option (List (List Token))
+with_taken is_kept tokens None next = None
+with_taken is_kept tokens (Some n) next =
+    if is_kept then option_map (λ letters. take n tokens ∷ letters) (next (drop n tokens)) else next (drop n tokens)
+
+-- the words for a form's letters and classes, if it fits
+abbrev pub first_fit : List Piece → List Token → Option (List (List Token))
+first_fit [] [] = Some []
+first_fit [] (token ∷ tokens) = None
+first_fit (p ∷ form) tokens = with_taken (is_kept p) tokens (taken p form tokens) (first_fit form)
