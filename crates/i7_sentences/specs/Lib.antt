@@ -1,6 +1,9 @@
 pub mod Cuts
 pub mod Forms
+pub mod Heards
 pub mod Literals
 pub mod Matching
 pub mod Pieces
+pub mod Read
+pub mod Senses
 pub mod Words

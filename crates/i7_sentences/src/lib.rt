@@ -14,11 +14,13 @@ mod part;
 mod reader;
 mod reading;
 mod sentence;
+mod shape;
 mod word;
 
 pub use part::{Part, PartKind};
+pub use reader::read;
 pub use form::{Form, Piece};
 pub use keyword::Keyword;
 pub use name::{Name, NameArticle};
-pub use reader::read;
+
 pub use sentence::{Saying, Sentence, Way};

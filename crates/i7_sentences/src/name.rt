@@ -1,10 +1,13 @@
 //! Names as a sentence mentions them.
+ghost use Rattle.std.specs.Prelude.{◌≡◌, IfOk, OnOk};
+ghost use Rattle.i7_sentences.specs.Senses.{article_of, has_article, is_some_article, joined, name_of, name_words, rest_of, with_word};
+
 use std::alloc::{AllocError, Global};
 
 use i7_lexer::Token;
 use world_meaning::TextBytes;
 
-use crate::word::{is_article, word_of};
+use crate::word::{is_article, is_spelled, word_of};
 
 /// The article that a sentence puts before a name.
 #[derive(Clone, Copy, Debug, PartialEq, Eq)]
@@ -22,42 +25,89 @@ pub struct Name {
     pub article: NameArticle,
 }
 
-/// The words of a name without the one free article in front, unless it is all there is.
-pub fn name_words(letter: &[Token]) -> &[Token] {
+/// Whether an article stands before a name; an article alone is the name.
+fn has_article(letter: &[Token]) -> bool
+    ensures { result ≡ has_article letter.now }
+{
     match letter {
-        [first, rest @ ..] if !rest.is_empty() && is_article(word_of(first)) => rest,
-        _ => letter,
+        [] => false,
+        [_] => false,
+        [first, _, ..] => is_article(word_of(first)),
+    }
+}
+
+/// The words behind the first.
+fn rest_of(letter: &[Token]) -> &[Token]
+    ensures { result.now ≡ rest_of letter.now }
+{
+    match letter {
+        [] => letter,
+        [_, rest @ ..] => rest,
+    }
+}
+
+/// The words of a name without the one free article in front, unless it is all there is.
+pub fn name_words(letter: &[Token]) -> &[Token]
+    ensures { result.now ≡ name_words letter.now }
+{
+    if has_article(letter) {
+        rest_of(letter)
+    } else {
+        letter
+    }
+}
+
+/// Whether the first word is `some`.
+fn is_some_article(letter: &[Token]) -> bool
+    ensures { result ≡ is_some_article letter.now }
+{
+    match letter {
+        [] => false,
+        [first, ..] => is_spelled(word_of(first), b"some"),
     }
 }
 
 /// The article before a name.
-fn article_of(letter: &[Token]) -> NameArticle {
-    match letter {
-        [first, rest @ ..] if !rest.is_empty() && is_article(word_of(first)) => {
-            if word_of(first).eq_ignore_ascii_case(b"some") {
-                NameArticle::Some
-            } else {
-                NameArticle::Plain
-            }
-        }
-        _ => NameArticle::None,
+fn article_of(letter: &[Token]) -> NameArticle
+    ensures { result ≡ article_of letter.now }
+{
+    if !has_article(letter) {
+        NameArticle::None
+    } else if is_some_article(letter) {
+        NameArticle::Some
+    } else {
+        NameArticle::Plain
     }
 }
 
+/// Adds a word, parted by one space from what is there.
+fn add_word(bytes: &mut Vec<u8>, word: &Token) -> Result<(), AllocError>
+    ensures { OnOk result (bytes.new.items ≡ with_word bytes.old.items word.now) }
+{
+    if !bytes.is_empty() {
+        bytes.push(b' ')?;
+    }
+    bytes.extend_from_slice(word_of(word))?;
+    Ok(())
+}
+
 /// The words as written, parted by one space.
-fn joined(alloc: Global, words: &[Token]) -> Result<TextBytes, AllocError> {
+fn joined(alloc: Global, words: &[Token]) -> Result<TextBytes, AllocError>
+    ensures { IfOk result (λ text. text ≡ joined words.now) }
+{
     let mut bytes = Vec::new(alloc);
-    for (place, word) in words.iter().enumerate() {
-        if place > 0 {
-            bytes.push(b' ')?;
-        }
-        bytes.extend_from_slice(word_of(word))?;
+    let mut rest = words;
+    while let [word, after @ ..] = rest {
+        add_word(&mut bytes, word)?;
+        rest = after;
     }
     Ok(TextBytes::new(bytes))
 }
 
 /// The name that these words mention.
-pub fn name_of(alloc: Global, letter: &[Token]) -> Result<Name, AllocError> {
+pub fn name_of(alloc: Global, letter: &[Token]) -> Result<Name, AllocError>
+    ensures { IfOk result (λ name. name ≡ name_of letter.now) }
+{
     Ok(Name {
         text: joined(alloc, name_words(letter))?,
         article: article_of(letter),

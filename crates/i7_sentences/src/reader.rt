@@ -1,34 +1,40 @@
 //! Reading a source: cut it into sentences, understand each, test the names.
+ghost use Rattle.std.specs.Prelude.{◌≡◌, ◌≢◌, true, false, Some, None, Ok, Err, find, map, option_map, IfErr, IfOk, OnOk, MatchOption};
+ghost use Rattle.std.specs.List.{filter_map, list_any};
+ghost use Rattle.i7_sentences.specs.Literals.{is_out_of_range};
+ghost use Rattle.i7_sentences.specs.Words.{word_of};
+ghost use Rattle.i7_sentences.specs.Cuts.{parts_of};
+ghost use Rattle.i7_sentences.specs.Heards.{heard_of, heards_of, sense_in};
+ghost use Rattle.i7_sentences.specs.Pieces.{piece_of, pieces_of};
+ghost use Rattle.i7_sentences.specs.Read.{has_bad_literal, heard_in, is_sentence, is_unread, line_heard, line_in, line_of, part_sense, read_of, reserves, sentence_of};
+ghost use Rattle.i7_sentences.specs.Senses.{saying_of};
+
 use std::alloc::{AllocError, AllocFailed, Global};
 
 use i7_lexer::{Lexed, Token};
 use world_meaning::{Fault, FaultCode, TextBytes};
 
 use crate::cut::parts_of;
-use crate::word::word_of;
 use crate::literal::is_out_of_range;
 use crate::name::name_of;
-use crate::reading::{Reading, has_reserved_name, understood};
+use crate::reading::{HeardPart, Reading, has_reserved_name, understood};
+use crate::word::word_of;
 use crate::{Part, PartKind, Saying, Sentence, Way};
 
 /// The line of a part: that of its first token.
-fn line_of(part: &Part<'_>) -> u32 {
+fn line_of(part: &Part<'_>) -> u32
+    ensures { result ≡ line_of (piece_of part.now) }
+{
     match part.tokens {
         [first, ..] => first.line,
         [] => 1,
     }
 }
 
-/// The refusal with this code at the part's line.
-fn fault_at(part: &Part<'_>, code: FaultCode) -> Fault {
-    Fault {
-        code,
-        line: line_of(part),
-    }
-}
-
 /// Memory was refused.
-fn memory(_: AllocError) -> Fault {
+fn memory(_: AllocError) -> Fault
+    ensures { result.code ≡ FaultCode.Memory }
+{
     Fault {
         code: FaultCode::Memory,
         line: 1,
@@ -36,62 +42,122 @@ fn memory(_: AllocError) -> Fault {
 }
 
 /// Memory was refused as something was kept.
-fn no_room<T: Drop>(_: AllocFailed<T>) -> Fault {
+fn no_room<T: Drop>(_: AllocFailed<T>) -> Fault
+    ensures { result.code ≡ FaultCode.Memory }
+{
     memory(AllocError)
 }
 
-/// Whether a part holds a literal out of range; titles and headings hold none.
-fn has_bad_literal(part: &Part<'_>) -> bool {
-    part.kind == PartKind::Sentence
-        && part
-            .tokens
-            .iter()
-            .any(|token| is_out_of_range(word_of(token)))
+/// Whether a part is a sentence, neither a title nor a heading.
+fn is_sentence(kind: PartKind) -> bool
+    ensures { result ≡ is_sentence kind }
+{
+    match kind {
+        PartKind::Title | PartKind::Heading => false,
+        PartKind::Sentence => true,
+    }
 }
 
-/// The first part that holds a literal out of range is refused.
-fn check_literals(parts: &[Part<'_>]) -> Result<(), Fault> {
-    for part in parts {
+/// Whether a token is a literal out of range.
+fn has_out_of_range(tokens: &[Token]) -> bool
+    ensures { result ≡ list_any (λ token. is_out_of_range (word_of token)) tokens.now }
+{
+    tokens.iter().any(|token| is_out_of_range(word_of(token)))
+}
+
+/// Whether a part holds a literal out of range; titles and headings hold none.
+fn has_bad_literal(part: &Part<'_>) -> bool
+    ensures { result ≡ has_bad_literal (piece_of part.now) }
+{
+    is_sentence(part.kind) && has_out_of_range(part.tokens)
+}
+
+/// The line of the first part that holds a literal out of range.
+fn bad_literal(parts: &[Part<'_>]) -> Option<u32>
+    ensures { result ≡ option_map line_of (find has_bad_literal (pieces_of parts.now)) }
+{
+    let mut rest = parts;
+    while let [part, after @ ..] = rest {
         if has_bad_literal(part) {
-            return Err(fault_at(part, FaultCode::NumberOutOfRange));
+            return Some(line_of(part));
         }
+        rest = after;
     }
-    Ok(())
+    None
 }
 
 /// The reading of a part; titles and headings aren't read yet.
-fn part_reading<'a>(alloc: Global, part: &Part<'a>) -> Result<Reading<'a>, Fault> {
-    if part.kind != PartKind::Sentence {
-        return Err(fault_at(part, FaultCode::NotUnderstood));
-    }
-    match understood(alloc, part.tokens).map_err(memory)? {
-        Some(reading) => Ok(reading),
-        None => Err(fault_at(part, FaultCode::NotUnderstood)),
+fn part_reading<'a>(alloc: Global, part: &Part<'a>) -> Result<Option<Reading<'a>>, AllocError>
+    ensures { IfOk result (λ found. option_map sense_in found ≡ part_sense (piece_of part.now)) }
+{
+    if is_sentence(part.kind) {
+        Ok(understood(alloc, part.tokens)?)
+    } else {
+        Ok(None)
     }
 }
 
-/// The readings of all parts; the first that isn't understood is refused.
-fn readings_of<'a>(alloc: Global, parts: &[Part<'a>]) -> Result<Vec<Reading<'a>>, Fault> {
-    let mut readings = Vec::new(alloc);
-    for part in parts {
-        let reading = part_reading(alloc, part)?;
-        readings.push(reading).map_err(no_room)?;
+/// The refusal with this code at the part's line.
+fn fault_at(part: &Part<'_>, code: FaultCode) -> Fault
+    ensures { result ≡ record { code = code; line = line_of (piece_of part.now) } }
+{
+    Fault {
+        code,
+        line: line_of(part),
     }
-    Ok(readings)
 }
 
-/// The first part with a reserved word in a name is refused.
-fn check_names(parts: &[Part<'_>], readings: &[Reading<'_>]) -> Result<(), Fault> {
-    for (part, reading) in parts.iter().zip(readings) {
-        if has_reserved_name(reading) {
-            return Err(fault_at(part, FaultCode::ReservedWord));
+/// What a part says and its line; a part that isn't understood is refused.
+fn heard<'a>(alloc: Global, part: &Part<'a>) -> Result<HeardPart<'a>, Fault>
+    ensures heard { IfOk result (λ heard. heard_in (piece_of part.now) ≡ Some (heard_of heard)) }
+    ensures known { OnOk result (is_unread (piece_of part.now) ≡ false) }
+    ensures unread { IfErr result (λ fault. fault.code ≢ FaultCode.Memory → (is_unread (piece_of part.now) ≡ true) × (fault ≡ record { code = FaultCode.NotUnderstood; line = line_of (piece_of part.now) })) }
+{
+    match part_reading(alloc, part) {
+        Ok(Some(reading)) => Ok(HeardPart {
+            reading,
+            line: line_of(part),
+        }),
+        Ok(None) => Err(fault_at(part, FaultCode::NotUnderstood)),
+        Err(refused) => Err(memory(refused)),
+    }
+}
+
+/// What all parts say; the first that isn't understood is refused.
+#[tactic(auto, using(crate::proofs::Hearing::hearing_steps))]
+fn heard_parts<'a>(alloc: Global, parts: &[Part<'a>]) -> Result<Vec<HeardPart<'a>>, Fault>
+    ensures heard { IfOk result (λ heard. heards_of heard.items ≡ filter_map heard_in (pieces_of parts.now)) }
+    ensures read { OnOk result (find is_unread (pieces_of parts.now) ≡ None) }
+    ensures unread { IfErr result (λ fault. fault.code ≢ FaultCode.Memory → (fault.code ≡ FaultCode.NotUnderstood) × (option_map line_of (find is_unread (pieces_of parts.now)) ≡ Some fault.line)) }
+{
+    let mut heard_so_far = Vec::new(alloc);
+    let mut rest = parts;
+    while let [part, after @ ..] = rest {
+        let one = heard(alloc, part)?;
+        heard_so_far.push(one).map_err(no_room)?;
+        rest = after;
+    }
+    Ok(heard_so_far)
+}
+
+/// The line of the first sentence with a reserved word in a name.
+fn reserved_name(heard: &[HeardPart<'_>]) -> Option<u32>
+    ensures { result ≡ option_map line_heard (find reserves (heards_of heard.now)) }
+{
+    let mut rest = heard;
+    while let [one, after @ ..] = rest {
+        if has_reserved_name(&one.reading) {
+            return Some(one.line);
         }
+        rest = after;
     }
-    Ok(())
+    None
 }
 
 /// What a reading says, its words copied.
-fn saying_of(alloc: Global, reading: &Reading<'_>) -> Result<Saying, AllocError> {
+fn saying_of(alloc: Global, reading: &Reading<'_>) -> Result<Saying, AllocError>
+    ensures { IfOk result (λ saying. saying ≡ saying_of (sense_in reading.now)) }
+{
     Ok(match reading {
         Reading::Text(text) => Saying::Description(TextBytes::copied(alloc, text.as_slice())?),
         Reading::Room(name) => Saying::Room(name_of(alloc, name)?),
@@ -104,28 +170,47 @@ fn saying_of(alloc: Global, reading: &Reading<'_>) -> Result<Saying, AllocError>
     })
 }
 
-/// The sentences of these parts and readings.
-fn sentences_of(
-    alloc: Global,
-    parts: &[Part<'_>],
-    readings: &[Reading<'_>],
-) -> Result<Vec<Sentence>, Fault> {
+/// The sentences of what was heard.
+fn sentences_of(alloc: Global, heard: &[HeardPart<'_>]) -> Result<Vec<Sentence>, AllocError>
+    ensures { IfOk result (λ sentences. sentences.items ≡ map sentence_of (heards_of heard.now)) }
+{
     let mut sentences = Vec::new(alloc);
-    for (part, reading) in parts.iter().zip(readings) {
-        let saying = saying_of(alloc, reading).map_err(memory)?;
-        let line = line_of(part);
-        sentences.push(Sentence { saying, line }).map_err(no_room)?;
+    let mut rest = heard;
+    while let [one, after @ ..] = rest {
+        let saying = saying_of(alloc, &one.reading)?;
+        let line = one.line;
+        sentences.push(Sentence { saying, line })?;
+        rest = after;
     }
     Ok(sentences)
+}
+
+/// Refuses at the line, if there is one.
+fn refuse(code: FaultCode, line: Option<u32>) -> Result<(), Fault>
+    ensures { MatchOption line (result ≡ Ok tt) (λ line. result ≡ Err (record { code = code; line = line })) }
+{
+    match line {
+        Some(line) => Err(Fault { code, line }),
+        None => Ok(()),
+    }
 }
 
 /// The sentences that the tokens spell, or the refusal that stands: a literal out of range (C15),
 /// a sentence that isn't understood (C5), a reserved word in a name (C6); each is looked for in the
 /// whole source before the next, and the lowest line is given. Memory is C14.
-pub fn read(alloc: Global, lexed: &Lexed) -> Result<Vec<Sentence>, Fault> {
-    let parts = parts_of(alloc, lexed.tokens()).map_err(memory)?;
-    check_literals(parts.as_slice())?;
-    let readings = readings_of(alloc, parts.as_slice())?;
-    check_names(parts.as_slice(), readings.as_slice())?;
-    sentences_of(alloc, parts.as_slice(), readings.as_slice())
+pub fn read(alloc: Global, lexed: &Lexed) -> Result<Vec<Sentence>, Fault>
+    ensures read { IfOk result (λ sentences. read_of lexed.now ≡ Ok sentences.items) }
+    ensures refused { IfErr result (λ fault. fault.code ≢ FaultCode.Memory → read_of lexed.now ≡ Err fault) }
+{
+    let parts = match parts_of(alloc, lexed.tokens()) {
+        Ok(parts) => parts,
+        Err(refused) => return Err(memory(refused)),
+    };
+    refuse(FaultCode::NumberOutOfRange, bad_literal(parts.as_slice()))?;
+    let heard = heard_parts(alloc, parts.as_slice())?;
+    refuse(FaultCode::ReservedWord, reserved_name(heard.as_slice()))?;
+    match sentences_of(alloc, heard.as_slice()) {
+        Ok(sentences) => Ok(sentences),
+        Err(refused) => Err(memory(refused)),
+    }
 }
