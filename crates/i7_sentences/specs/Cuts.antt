@@ -7,7 +7,8 @@ use Rattle.i7_lexer.specs.declared.token.TokenKind.{TokenKind}
 use Rattle.i7_lexer.specs.declared.token.TokenKind.TheVariants.{Text, Word, Mark}
 use Rattle.i7_lexer.specs.declared.token.Start.{Start}
 use Rattle.i7_lexer.specs.declared.token.Start.TheVariants.{Paragraph, Line, Within}
-use Rattle.i7_sentences.specs.Words.{word_of, is_spelled}
+use Rattle.i7_sentences.specs.Words.{word_of}
+use Rattle.world_meaning.specs.Spelling.{is_spelled}
 use Rattle.i7_sentences.specs.declared.part.PartKind.{PartKind}
 use Rattle.i7_sentences.specs.declared.part.PartKind.TheVariants.{Title, Heading, Sentence}
 

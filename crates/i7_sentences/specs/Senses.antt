@@ -8,7 +8,8 @@ use Rattle.i7_lexer.specs.declared.token.TokenKind.{TokenKind}
 use Rattle.i7_lexer.specs.declared.token.TokenKind.TheVariants.{Text, Word, Mark}
 use Rattle.i7_sentences.specs.Forms.{pieces_of, all_forms}
 use Rattle.i7_sentences.specs.Matching.{first_fit}
-use Rattle.i7_sentences.specs.Words.{word_of, direction_named, is_article, is_reserved, is_spelled}
+use Rattle.i7_sentences.specs.Words.{word_of, direction_named, is_article, is_reserved}
+use Rattle.world_meaning.specs.Spelling.{is_spelled}
 use Rattle.i7_sentences.specs.declared.form.Form.{Form}
 use Rattle.i7_sentences.specs.declared.form.Form.TheVariants as form
 use Rattle.i7_sentences.specs.declared.name.Name.{Name}

@@ -1,6 +1,6 @@
 -- The words of sentences: the forms' own words, directions, articles and reserved words.
 use Rattle.std.specs.Prelude.{ℕ, ◌-◌, ◌*◌, ◌+◌, Bool, true, false, not, ◌&&◌, ◌||◌, ◌==◌, nat_lt, List, [], ◌∷◌, length, Option, None, Some, find, fold, codes}
-use Rattle.std.specs.Str.{str_eq_ignore_ascii_case}
+use Rattle.world_meaning.specs.Spelling.{is_spelled}
 use Rattle.world_meaning.specs.Directions.{all_directions, direction_name}
 use Rattle.world_meaning.specs.declared.direction.Direction.{Direction}
 use Rattle.i7_lexer.specs.declared.token.Token.{Token}
@@ -17,10 +17,6 @@ word_in (Mark mark) = []
 -- the bytes of a word as written; none of a text or a mark
 abbrev pub word_of : Token → List ℕ
 word_of token = word_in token.kind
-
--- words are compared without the case of ASCII letters
-abbrev pub is_spelled : List ℕ → List ℕ → Bool
-is_spelled word spelling = str_eq_ignore_ascii_case word spelling
 
 -- a keyword in small letters
 abbrev pub keyword_spelling : Keyword → List ℕ

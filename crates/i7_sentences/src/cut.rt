@@ -7,9 +7,10 @@ ghost use Rattle.i7_sentences.specs.Pieces.{piece_len, pieces_of};
 use std::alloc::{AllocError, Global};
 
 use i7_lexer::{Start, Token, TokenKind};
+use world_meaning::is_spelled;
 
 use crate::part::{Part, PartKind};
-use crate::word::{is_spelled, word_of};
+use crate::word::word_of;
 
 /// Whether the next token belongs to the same paragraph.
 fn is_same_paragraph(token: &Token, next: &Token) -> bool

@@ -1,7 +1,7 @@
 //! The words that sentence forms are made of.
 ghost use Rattle.std.specs.Prelude.{◌≡◌};
 
-use crate::word::is_spelled;
+use world_meaning::is_spelled;
 
 /// A word that stands in a sentence form.
 #[derive(Clone, Copy, Debug, PartialEq, Eq)]
@@ -49,7 +49,7 @@ pub enum Keyword {
 }
 
 impl Keyword {
-    ghost use Rattle.i7_sentences.specs.Words.{is_copula, is_keyword, is_spelled, keyword_spelling};
+    ghost use Rattle.i7_sentences.specs.Words.{is_copula, is_keyword, keyword_spelling};
 
     /// The keyword in small letters.
     pub fn spelling(self) -> &'static [u8]

@@ -5,9 +5,9 @@ ghost use Rattle.i7_sentences.specs.Senses.{article_of, has_article, is_some_art
 use std::alloc::{AllocError, Global};
 
 use i7_lexer::Token;
-use world_meaning::TextBytes;
+use world_meaning::{TextBytes, is_spelled};
 
-use crate::word::{is_article, is_spelled, word_of};
+use crate::word::{is_article, word_of};
 
 /// The article that a sentence puts before a name.
 #[derive(Clone, Copy, Debug, PartialEq, Eq)]

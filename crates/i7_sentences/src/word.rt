@@ -1,16 +1,9 @@
 //! Words of a sentence: their bytes, directions, articles, reserved words.
 ghost use Rattle.std.specs.Prelude.{◌≡◌, find};
-ghost use Rattle.i7_sentences.specs.Words.{direction_named, is_article, is_reserved, is_reserved_link, is_reserved_noun, is_spelled, names_direction, word_of};
+ghost use Rattle.i7_sentences.specs.Words.{direction_named, is_article, is_reserved, is_reserved_link, is_reserved_noun, names_direction, word_of};
 
 use i7_lexer::{Token, TokenKind};
-use world_meaning::Direction;
-
-/// Whether the word is spelled so, letter case aside.
-pub fn is_spelled(word: &[u8], spelling: &[u8]) -> bool
-    ensures { result ≡ is_spelled word.now spelling.now }
-{
-    word.eq_ignore_ascii_case(spelling)
-}
+use world_meaning::{Direction, is_spelled};
 
 /// The bytes of a word as written; none of a text or a mark.
 pub fn word_of(token: &Token) -> &[u8]

@@ -1,4 +1,8 @@
 //! Lone texts: each describes the room that is the subject of the sentence before it.
+ghost use Rattle.std.specs.Prelude.{◌≡◌};
+ghost use Rattle.story_file.specs.Demands.{subject_of};
+ghost use Rattle.story_file.specs.Views.{fact_of};
+
 use std::alloc::{AllocError, Global};
 
 use world_meaning::TextBytes;
@@ -14,10 +18,12 @@ pub struct Description<'a> {
 }
 
 /// The number of the object that a sentence is about, if there is one.
-pub fn subject_of(fact: Fact<'_>) -> Option<usize> {
+pub fn subject_of(fact: &Fact<'_>) -> Option<usize>
+    ensures { result ≡ subject_of (fact_of fact.now) }
+{
     match fact {
         Fact::Description(_) => None,
-        Fact::Room(number) => Some(number),
+        Fact::Room(number) => Some(*number),
         Fact::Way(way) => Some(way.subject),
     }
 }
@@ -39,7 +45,7 @@ pub fn descriptions_of<'a>(
                 })?;
             }
         }
-        subject = subject_of(statement.fact);
+        subject = subject_of(&statement.fact);
     }
     Ok(descriptions)
 }

@@ -1,33 +1,35 @@
 //! Kinds: every sentence so far is about rooms, and the player and the directions are none.
+ghost use Rattle.std.specs.Prelude.{◌≡◌};
+ghost use Rattle.story_file.specs.Demands.{is_wrong, wrong_kind};
+ghost use Rattle.story_file.specs.Views.{fact_of, statements_of};
+
 use crate::descriptions::subject_of;
 use crate::numbering::{FIRST_OF_AUTHOR, Fact, Statement};
 
-/// Whether a sentence makes a room of the player or of a direction.
-fn has_wrong_kind(fact: Fact<'_>) -> bool {
+/// Whether a fact, behind a sentence about this object or none, makes a room of the player or of a
+/// direction, or describes nothing.
+fn is_wrong(before: Option<usize>, fact: &Fact<'_>) -> bool
+    ensures { result ≡ is_wrong before (fact_of fact.now) }
+{
     match fact {
-        Fact::Description(_) => false,
-        Fact::Room(number) => number < FIRST_OF_AUTHOR,
+        Fact::Description(_) => before.is_none(),
+        Fact::Room(number) => *number < FIRST_OF_AUTHOR,
         Fact::Way(way) => way.subject < FIRST_OF_AUTHOR || way.room < FIRST_OF_AUTHOR,
     }
 }
 
-/// Whether the fact is a text that stands alone.
-fn is_description(fact: Fact<'_>) -> bool {
-    match fact {
-        Fact::Description(_) => true,
-        Fact::Room(_) | Fact::Way(_) => false,
-    }
-}
-
 /// The line of the first sentence that makes a room of what is none, or that describes nothing.
-pub fn wrong_kind(statements: &[Statement<'_>]) -> Option<u32> {
+pub fn wrong_kind(statements: &[Statement<'_>]) -> Option<u32>
+    ensures { result ≡ wrong_kind (statements_of statements.now) }
+{
     let mut subject = None;
-    for statement in statements {
-        let describes_nothing = is_description(statement.fact) && subject.is_none();
-        if has_wrong_kind(statement.fact) || describes_nothing {
+    let mut rest = statements;
+    while let [statement, after @ ..] = rest {
+        if is_wrong(subject, &statement.fact) {
             return Some(statement.line);
         }
-        subject = subject_of(statement.fact);
+        subject = subject_of(&statement.fact);
+        rest = after;
     }
     None
 }

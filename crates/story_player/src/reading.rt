@@ -1,10 +1,10 @@
 //! Reading a typed line.
 ghost use Rattle.std.specs.Prelude.{◌≡◌, ◌<◌, ◌≤◌, [], ◌∷◌, find, length, map, MatchOption};
 ghost use Rattle.std.specs.List.{list_all, position_or_len};
-ghost use Rattle.world_meaning.specs.Reading.{direction_meant, go_reading, going, is_article, is_blank, is_go, is_look, is_noun_for, is_quit, is_spelled, is_word_for, look_reading, noun_of, reading_of, verb_reading, words_of, words_reading};
+ghost use Rattle.world_meaning.specs.Reading.{direction_meant, go_reading, going, is_article, is_blank, is_go, is_look, is_noun_for, is_quit, is_word_for, look_reading, noun_of, reading_of, verb_reading, words_of, words_reading};
 
 use arrayvec::ArrayVec;
-use world_meaning::{Action, Direction, Reading};
+use world_meaning::{Action, Direction, Reading, is_spelled};
 
 /// The most words of a line.
 const MOST_WORDS: usize = 32;
@@ -17,13 +17,6 @@ fn is_blank(byte: u8) -> bool
     ensures { result ≡ is_blank byte }
 {
     byte == b' ' || byte == b'\t'
-}
-
-/// Whether the word is spelled so, letter case aside.
-fn is_spelled(word: &[u8], spelling: &[u8]) -> bool
-    ensures { result ≡ is_spelled word.now spelling.now }
-{
-    word.eq_ignore_ascii_case(spelling)
 }
 
 /// The number of bytes before the first blank.

@@ -1,7 +1,7 @@
 -- What a typed line means: the grammar `look`, `l`, DIRECTION, `go` DIRECTION, and `quit`, `q`.
 use Rattle.std.specs.Prelude.{ℕ, ◌+◌, Bool, true, false, not, ◌&&◌, ◌||◌, ◌==◌, nat_lt, List, [], ◌∷◌, length, filter, find, Option, None, Some, codes, if◌then◌else◌}
 use Rattle.std.specs.List.{list_all, slice_split}
-use Rattle.std.specs.Str.{str_eq_ignore_ascii_case}
+use Rattle.world_meaning.specs.Spelling.{is_spelled}
 use Rattle.world_meaning.specs.Directions.{direction_name, short_word, all_directions}
 use Rattle.world_meaning.specs.declared.direction.Direction.{Direction}
 use Rattle.world_meaning.specs.declared.reading.Action.TheVariants.{Looking, Going}
@@ -17,10 +17,6 @@ is_word piece = not (length piece == 0)
 -- the words of a line, parted by blanks
 abbrev pub words_of : List ℕ → List (List ℕ)
 words_of line = filter is_word (slice_split is_blank line)
-
--- words are compared without the case of ASCII letters
-abbrev pub is_spelled : List ℕ → List ℕ → Bool
-is_spelled word spelling = str_eq_ignore_ascii_case word spelling
 
 abbrev pub is_article : List ℕ → Bool
 is_article word = is_spelled word (codes "a") || is_spelled word (codes "an") || is_spelled word (codes "the") || is_spelled word (codes "some")

@@ -10,6 +10,7 @@ mod numbers;
 mod place;
 mod reading;
 mod session;
+mod spelling;
 mod tale;
 mod text;
 
@@ -21,5 +22,6 @@ pub use numbers::{KindNo, ObjNo};
 pub use place::{Place, Rel};
 pub use reading::{Action, Reading};
 pub use session::{Abandon, Ending, ReplyKind};
+pub use spelling::is_spelled;
 pub use tale::{Object, Objects, Tale};
 pub use text::TextBytes;

@@ -1,0 +1,88 @@
+-- What the sentences of a source state, objects by their numbers: 0 the player, 1 to 12 the
+-- directions, then the author's by first mention.
+use Rattle.std.specs.Prelude.{ℕ, ◌+◌, ◌-◌, Bool, true, false, ◌||◌, nat_lt, List, [], ◌∷◌, ◌++◌, length, map, fold, Option, Some, None, codes, bytes_eq, if◌then◌else◌}
+use Rattle.std.specs.List.{list_any, position_or_len}
+use Rattle.std.specs.Str.{str_to_ascii_lowercase}
+use Rattle.world_meaning.specs.Spelling.{is_spelled}
+use Rattle.world_meaning.specs.Directions.{all_directions, direction_name}
+use Rattle.world_meaning.specs.declared.direction.Direction.{Direction}
+use Rattle.i7_sentences.specs.declared.name.Name.{Name}
+use Rattle.i7_sentences.specs.declared.sentence.Saying.{Saying}
+use Rattle.i7_sentences.specs.declared.sentence.Saying.TheVariants.{Description, Room, Way}
+use Rattle.i7_sentences.specs.declared.sentence.Sentence.{Sentence}
+
+-- names are compared in small letters; `player` and `yourself` are one
+abbrev pub key_of : List ℕ → List ℕ
+key_of name = if is_spelled name (codes "player") then codes "yourself" else str_to_ascii_lowercase name
+
+-- a name and the line of its sentence
+pub record NameAt : Type 0 where
+  pub name : Name
+  pub line : ℕ
+
+-- the names that a sentence mentions, in the order of its words
+abbrev pub names_in : Saying → List Name
+names_in (Description text) = []
+names_in (Room name) = name ∷ []
+names_in (Way way) = if way.is_room_first then way.room ∷ way.subject ∷ [] else way.subject ∷ way.room ∷ []
+
+abbrev pub names_at : Sentence → List NameAt
+names_at sentence = map (λ name. record { name = name; line = sentence.line }) (names_in sentence.saying)
+
+-- the keys of the built-in objects, in the order of their numbers
+abbrev pub built_in_keys : List (List ℕ)
+built_in_keys = codes "yourself" ∷ map direction_name all_directions
+
+abbrev pub has_key : List (List ℕ) → List ℕ → Bool
+has_key keys key = list_any (bytes_eq key) keys
+
+-- the keys so far and one more, if it is new
+abbrev pub with_key : List (List ℕ) → List ℕ → List (List ℕ)
+with_key keys key = if has_key keys key then keys else keys ++ key ∷ []
+
+-- an object's number: the place of its key
+abbrev pub number_in : List (List ℕ) → List ℕ → ℕ
+number_in keys key = position_or_len (bytes_eq key) keys
+
+-- the keys and the first mentions of the author's objects so far
+pub record Named : Type 0 where
+  pub keys : List (List ℕ)
+  pub mentions : List NameAt
+
+abbrev pub with_name : Named → NameAt → Named
+with_name named at =
+    if has_key named.keys (key_of at.name.text) then named
+    else record { keys = named.keys ++ key_of at.name.text ∷ []; mentions = named.mentions ++ at ∷ [] }
+
+abbrev pub with_names_of : Named → Sentence → Named
+with_names_of named sentence = fold with_name named (names_at sentence)
+
+-- the objects of a source, numbered by their first mention
+abbrev pub named_by : List Sentence → Named
+named_by sentences = fold with_names_of (record { keys = built_in_keys; mentions = [] }) sentences
+
+-- what a sentence states
+pub data Fact : Type 0 where
+  Told : List ℕ → Fact
+  IsRoom : ℕ → Fact
+  LeadsTo : ℕ → Direction → ℕ → Fact
+
+pub record Statement : Type 0 where
+  pub fact : Fact
+  pub line : ℕ
+
+abbrev pub number_of : Named → Name → ℕ
+number_of named name = number_in named.keys (key_of name.text)
+
+-- the subject lies in the direction of the room
+abbrev pub fact_in : Named → Saying → Fact
+fact_in named (Description text) = Told text
+fact_in named (Room name) = IsRoom (number_of named name)
+fact_in named (Way way) = LeadsTo (number_of named way.subject) way.direction (number_of named way.room)
+
+abbrev pub statement_in : Named → Sentence → Statement
+statement_in named sentence = record { fact = fact_in named sentence.saying; line = sentence.line }
+
+-- what all sentences state
+abbrev pub stated_by : List Sentence → List Statement
+stated_by sentences = map (statement_in (named_by sentences)) sentences

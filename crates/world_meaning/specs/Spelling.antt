@@ -1,0 +1,6 @@
+-- Words are compared without the case of ASCII letters.
+use Rattle.std.specs.Prelude.{ℕ, Bool, List}
+use Rattle.std.specs.Str.{str_eq_ignore_ascii_case}
+
+abbrev pub is_spelled : List ℕ → List ℕ → Bool
+is_spelled word spelling = str_eq_ignore_ascii_case word spelling
