@@ -1,3 +1,5 @@
 pub mod Demands
 pub mod Statements
+pub mod Tales
+pub mod WorkedRows
 pub mod Views

@@ -10,7 +10,9 @@ mod numbering;
 mod reserved_names;
 mod tale;
 mod ways;
+mod worked_rows;
 
 pub use compiler::compile;
 pub use story_format::{LoadFault, Story, load, write};
 pub use tale::tale_of;
+pub use worked_rows::{empty_source_is_refused, two_rooms_are_played};

@@ -1,0 +1,119 @@
+-- The tale that a source's sentences mean, or the refusal that stands.
+use Rattle.std.specs.Prelude.{ℕ, ◌+◌, ◌-◌, Bool, true, false, ◌&&◌, ◌||◌, ◌==◌, nat_lt, min, List, [], ◌∷◌, ◌++◌, length, map, fold, find, replicate, slice_get, Option, Some, None, option_map, codes, Result, Ok, Err, if◌then◌else◌}
+use Rattle.std.specs.List.{list_any, slice_split, enumerate_from}
+use Rattle.std.specs.Str.{str_to_ascii_lowercase}
+use Rattle.world_meaning.specs.Directions.{all_directions, direction_name, direction_number}
+use Rattle.world_meaning.specs.declared.article.Article.{Article}
+use Rattle.world_meaning.specs.declared.article.Article.TheVariants as article
+use Rattle.world_meaning.specs.declared.direction.Direction.{Direction}
+use Rattle.world_meaning.specs.declared.exits.Exits.{Exits}
+use Rattle.world_meaning.specs.declared.exits.Way.{Way}
+use Rattle.world_meaning.specs.declared.fault.Fault.{Fault}
+use Rattle.world_meaning.specs.declared.fault.FaultCode.{FaultCode}
+use Rattle.world_meaning.specs.declared.fault.FaultCode.TheVariants.{Twice, WrongKind, TwoPlaces, TooMany, NoRoom}
+use Rattle.world_meaning.specs.declared.place.Place.{Place}
+use Rattle.world_meaning.specs.declared.place.Rel.TheVariants.{In}
+use Rattle.world_meaning.specs.declared.tale.Object.{Object}
+use Rattle.world_meaning.specs.declared.tale.Tale.{Tale}
+use Rattle.i7_sentences.specs.declared.name.NameArticle.{NameArticle}
+use Rattle.i7_sentences.specs.declared.name.NameArticle.TheVariants as written
+use Rattle.i7_sentences.specs.declared.sentence.Sentence.{Sentence}
+use Rattle.story_file.specs.Demands.{Description, taken_name, wrong_kind, descriptions_of, description_of, second_description, second_target, target_of, first_of_author, line_at}
+use Rattle.story_file.specs.Statements.{NameAt, Statement, with_key, named_by, stated_by}
+
+-- the lower of two lines
+abbrev pub earlier : Option ℕ → Option ℕ → Option ℕ
+earlier None other = other
+earlier (Some a) None = Some a
+earlier (Some a) (Some b) = Some (min a b)
+
+-- C12: the object that is one too many; the player and the directions are among the 1,000
+abbrev pub object_too_many : List NameAt → Option ℕ
+object_too_many mentions = option_map line_at (slice_get mentions (1000 - first_of_author))
+
+-- the words of a name in small letters, each once
+abbrev pub words_of : List ℕ → List (List ℕ)
+words_of name = fold with_key [] (slice_split (λ b. b == 32) (str_to_ascii_lowercase name))
+
+-- C12: a name of over 65,535 bytes or 32 words, at its first mention
+abbrev pub is_too_long : List ℕ → Bool
+is_too_long name = nat_lt 65535 (length name) || nat_lt 32 (length (words_of name))
+
+abbrev pub name_too_long : List NameAt → Option ℕ
+name_too_long mentions = option_map line_at (find (λ at. is_too_long at.name.text) mentions)
+
+-- C12: a description of over 65,535 bytes
+abbrev pub text_too_long : List Description → Option ℕ
+text_too_long descriptions = option_map (λ d. d.line) (find (λ d. nat_lt 65535 (length d.text)) descriptions)
+
+abbrev pub is_vowel : ℕ → Bool
+is_vowel b = list_any (λ vowel. b == vowel) (codes "aeiouAEIOU")
+
+-- `an` stands before a vowel
+abbrev pub plain_article : List ℕ → Article
+plain_article [] = article.A
+plain_article (b ∷ bs) = if is_vowel b then article.An else article.A
+
+-- the article that an object is printed with, by that of its first mention
+abbrev pub article_of : NameArticle → List ℕ → Article
+article_of written.None name = article.None
+article_of written.Plain name = plain_article name
+article_of written.Some name = article.Some
+
+abbrev pub way_to : Option ℕ → Way
+way_to target = record { room = target; door = None }
+
+-- where a room's twelve directions lead
+abbrev pub exits_of : List Statement → ℕ → Exits
+exits_of statements room = record { ways = map (λ d. way_to (target_of statements room (direction_number d))) all_directions }
+
+abbrev pub no_exits : Exits
+no_exits = record { ways = replicate 12 (way_to None) }
+
+abbrev pub built_in : ℕ → List ℕ → Option Place → Object
+built_in kind name place = record { kind = kind; name = name; article = article.None; description = None; place = place; exits = no_exits }
+
+-- the player stands in the lowest-numbered room
+abbrev pub player : Object
+player = built_in 6 (codes "yourself") (Some (record { relation = In; holder = first_of_author }))
+
+abbrev pub direction_object : Direction → Object
+direction_object d = built_in 2 (direction_name d) None
+
+-- a room of the author's, by its number and its first mention
+abbrev pub room_of : List Statement → ℕ → NameAt → Object
+room_of statements o at = record {
+  kind = 1; name = at.name.text; article = article_of at.name.article at.name.text;
+  description = description_of (descriptions_of statements) o; place = None; exits = exits_of statements o }
+
+abbrev pub rooms_from : List Statement → ℕ → List NameAt → List Object
+rooms_from statements o [] = []
+rooms_from statements o (at ∷ mentions) = room_of statements o at ∷ rooms_from statements (o + 1) mentions
+
+-- the objects by number: the player, the directions, the author's rooms
+abbrev pub objects_of : List Statement → List NameAt → List Object
+objects_of statements mentions = player ∷ map direction_object all_directions ++ rooms_from statements first_of_author mentions
+
+abbrev pub or_refused : FaultCode → Option ℕ → Result Tale Fault → Result Tale Fault
+or_refused code None next = next
+or_refused code (Some line) next = Err (record { code = code; line = line })
+
+-- a source without a room is refused at line 1
+abbrev pub no_room : List NameAt → Option ℕ
+no_room [] = Some 1
+no_room (at ∷ mentions) = None
+
+-- each code is looked for in all statements before the next
+abbrev pub judged : List Statement → List NameAt → Result Tale Fault
+judged statements mentions =
+    or_refused Twice (earlier (taken_name mentions) (second_description (descriptions_of statements)))
+    (or_refused WrongKind (wrong_kind statements)
+    (or_refused TwoPlaces (second_target statements)
+    (or_refused TooMany (object_too_many mentions)
+    (or_refused NoRoom (no_room mentions)
+    (or_refused TooMany (earlier (name_too_long mentions) (text_too_long (descriptions_of statements)))
+    (Ok (record { objects = objects_of statements mentions })))))))
+
+-- the tale of a source's sentences, or the refusal that stands
+abbrev pub tale_said : List Sentence → Result Tale Fault
+tale_said sentences = judged (stated_by sentences) ((named_by sentences).mentions)

@@ -1,0 +1,51 @@
+-- The definitions computed on the two-room source.
+use Rattle.std.specs.Prelude.{◌≡◌, ℕ, Bool, true, false, List, [], ◌∷◌, ◌++◌, Option, Some, None, codes, Result, Ok, Err}
+use Rattle.std.specs.Str.Lines.{lines}
+use Rattle.world_meaning.specs.Session.{opening_text, start_state}
+use Rattle.world_meaning.specs.Transcript.{played}
+use Rattle.world_meaning.specs.declared.direction.Direction.TheVariants.{North, South}
+use Rattle.world_meaning.specs.declared.fault.Fault.{Fault}
+use Rattle.world_meaning.specs.declared.fault.FaultCode.TheVariants.{NoRoom}
+use Rattle.world_meaning.specs.declared.tale.Tale.{Tale}
+use Rattle.i7_sentences.specs.declared.name.Name.{Name}
+use Rattle.i7_sentences.specs.declared.name.NameArticle.TheVariants.{Plain}
+use Rattle.i7_sentences.specs.declared.sentence.Saying.TheVariants.{Description, Room, Way}
+use Rattle.i7_sentences.specs.declared.sentence.Sentence.{Sentence}
+use Rattle.story_file.specs.Tales.{tale_said}
+
+abbrev pub plain : List ℕ → Name
+plain text = record { text = text; article = Plain }
+
+-- `The Hall is a room. "A bare hall."`, a blank line, `The Garden is north of the Hall.`
+abbrev pub two_rooms : List Sentence
+two_rooms =
+    record { saying = Room (plain (codes "Hall")); line = 1 }
+    ∷ record { saying = Description (codes "A bare hall."); line = 1 }
+    ∷ record { saying = Way (record { subject = plain (codes "Garden"); direction = North; room = plain (codes "Hall"); is_room_first = false }); line = 3 }
+    ∷ []
+
+abbrev pub transcript_by : Result Tale Fault → List ℕ → List ℕ
+transcript_by (Err fault) commands = []
+transcript_by (Ok tale) commands = opening_text tale ++ played tale true [] (start_state tale) (lines commands)
+
+abbrev pub break : List ℕ
+break = 10 ∷ []
+
+abbrev pub commands : List ℕ
+commands = codes "n" ++ break ++ codes "look" ++ break ++ codes "s" ++ break
+
+abbrev pub transcript : List ℕ
+transcript =
+    codes "Hall" ++ break ++ codes "A bare hall." ++ break ++ break
+    ++ codes ">n" ++ break ++ codes "Garden" ++ break ++ break
+    ++ codes ">look" ++ break ++ codes "Garden" ++ break ++ break
+    ++ codes ">s" ++ break ++ codes "Hall" ++ break ++ codes "A bare hall." ++ break ++ break
+    ++ codes ">"
+
+-- The two-room source gives its transcript.
+abbrev pub GivesTranscript : Type 0
+GivesTranscript = transcript_by (tale_said two_rooms) commands ≡ transcript
+
+-- The empty source has no room, at line 1.
+abbrev pub IsRefusedEmpty : Type 0
+IsRefusedEmpty = tale_said [] ≡ Err (record { code = NoRoom; line = 1 })
