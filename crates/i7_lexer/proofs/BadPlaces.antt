@@ -2,6 +2,7 @@
 use Rattle.std.proofs.Common.{◌≡◌, ℕ, ◌+◌, ◌<◌, ◌≤◌, zero, suc, min, Bool, true, false, cond, List, [], ◌∷◌, length, drop, refl, inl, inr, ◌⊎◌, ⊎_elim, arith}
 use Rattle.std.proofs.lemmas.Bool.{cases_lt}
 use Rattle.std.specs.Str.Lossy.{utf8_valid_len}
+use Rattle.i7_lexer.proofs.Controls.{begins_from, starts_from}
 use Rattle.i7_lexer.specs.Sources.{starts_with_control, plain_len, IsBad, IsFirstBad, IsText}
 
 -- a control character stands no further in front than the count says
@@ -25,12 +26,12 @@ pub first_bad : (bytes : List ℕ) (valid plain place : ℕ) → valid ≡ utf8_
 first_bad bytes valid plain place v p m h = record {
   within = h;
   bad = bad_at (cases_lt plain valid);
-  first = λ k lt bad. ⊎_elim (λ e. omega arith) (λ e. omega (arith, plain_len-le bytes k e)) bad;
+  first = λ k lt bad. ⊎_elim (λ e. omega arith) (λ e. omega (arith, plain_len-le bytes k (starts_from (drop k bytes) e))) bad;
 }
   where
     bad_at : (plain < valid) ⊎ (valid ≤ plain) → IsBad bytes place
     bad_at (inr le) = let e : place ≡ valid = omega arith in inl (cc)
-    bad_at (inl lt) = let e : place ≡ plain_len bytes = omega arith in inr (rw e (plain_len-stops bytes (omega arith)))
+    bad_at (inl lt) = let e : place ≡ plain_len bytes = omega arith in inr (rw e (begins_from _ (plain_len-stops bytes (omega arith))))
 
 pub all_text : (bytes : List ℕ) (valid plain place : ℕ) → valid ≡ utf8_valid_len bytes → plain ≡ plain_len bytes → place ≡ min valid plain → length bytes ≤ place → IsText bytes
-all_text bytes valid plain place v p m h = λ k lt bad. ⊎_elim (λ e. omega arith) (λ e. omega (arith, plain_len-le bytes k e)) bad
+all_text bytes valid plain place v p m h = λ k lt bad. ⊎_elim (λ e. omega arith) (λ e. omega (arith, plain_len-le bytes k (starts_from (drop k bytes) e))) bad

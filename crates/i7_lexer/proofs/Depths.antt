@@ -16,8 +16,11 @@ no_part : (before rest : List Placed) (token : Placed) → [] ≡ before ++ toke
 no_part [] rest token e = cc
 no_part (k ∷ before) rest token e = cc
 
+pub nothing_indented : AreIndented []
+nothing_indented = λ before rest token e. absurd (no_part before rest token e)
+
 pub depths-start : (tokens : List Placed) → IsIndentedSoFar tokens tokens (record { indent = 0; colon = false })
-depths-start tokens = record { done = []; parts = refl; line_is = refl; indented = λ before rest token e. absurd (no_part before rest token e) }
+depths-start tokens = record { done = []; parts = refl; line_is = refl; indented = nothing_indented }
 
 -- the last token, or one of those before it
 last_or_before : (tokens before rest : List Placed) (last token : Placed) → tokens ++ last ∷ [] ≡ before ++ token ∷ rest → ((rest ≡ []) × (before ≡ tokens) × (token ≡ last)) ⊎ ((front : List Placed) × (tokens ≡ before ++ token ∷ front))
@@ -33,7 +36,7 @@ last_or_before (t ∷ tokens) (k ∷ before) rest last token e =
     later t k tokens before rest last token same (inl (a, b, c)) = inl (a, cc, c)
     later t k tokens before rest last token same (inr (front, parts)) = inr (front, cc)
 
-indented-push : (tokens : List Placed) (last : Placed) → AreIndented tokens → forbids (line_of tokens) last.at.start ≡ false → AreIndented (tokens ++ last ∷ [])
+pub indented-push : (tokens : List Placed) (last : Placed) → AreIndented tokens → forbids (line_of tokens) last.at.start ≡ false → AreIndented (tokens ++ last ∷ [])
 indented-push tokens last indented shallow = λ before rest token e. by_place before rest token (last_or_before tokens before rest last token e)
   where
     by_place : (before rest : List Placed) (token : Placed) → ((rest ≡ []) × (before ≡ tokens) × (token ≡ last)) ⊎ ((front : List Placed) × (tokens ≡ before ++ token ∷ front)) → forbids (line_of before) token.at.start ≡ false

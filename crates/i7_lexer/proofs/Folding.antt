@@ -6,7 +6,7 @@ use Rattle.i7_lexer.specs.Bytes.{is_blank, newlines}
 use Rattle.i7_lexer.specs.Texts.{folded, folded_behind, folded_run}
 use Rattle.i7_lexer.proofs.Runs.{prefix_len-yes, prefix_len-no}
 
-folded_run-nil : folded_run [] ≡ []
+pub folded_run-nil : folded_run [] ≡ []
 unfolding folded_run newlines
 folded_run-nil = refl
 
@@ -14,7 +14,7 @@ front_by : (run : List ℕ) (b : ℕ) (bytes : List ℕ) (v : Bool) → is_blank
 front_by run b bytes true e ih = rw (prefix_len-yes is_blank b bytes e, e) (simp append_assoc at ih)
 front_by run b bytes false e ih = rw (prefix_len-no is_blank b bytes e, e, append-nil run, folded_run-nil) refl
 
-folded_front : (run bytes : List ℕ) → folded_behind run bytes ≡ folded_run (run ++ take (prefix_len is_blank bytes) bytes) ++ folded (drop (prefix_len is_blank bytes) bytes)
+pub folded_front : (run bytes : List ℕ) → folded_behind run bytes ≡ folded_run (run ++ take (prefix_len is_blank bytes) bytes) ++ folded (drop (prefix_len is_blank bytes) bytes)
 folded_front run [] = simp (append-nil, folded_run-nil)
 folded_front run (b ∷ bytes) = front_by run b bytes (is_blank b) refl (folded_front (run ++ b ∷ []) bytes)
 

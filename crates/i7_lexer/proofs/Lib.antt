@@ -1,3 +1,4 @@
+mod Controls
 mod BadPlaces
 mod Runs
 mod Folding
@@ -8,3 +9,8 @@ mod Scanning
 mod Cutting
 mod Depths
 mod Verdicts
+mod Readings
+mod LawLemmas
+mod FoldingLaws
+mod Lines
+mod Totality

@@ -1,7 +1,7 @@
 -- What the lexer's steps say of a source, together.
 use Rattle.std.proofs.Common.{◌≡◌, ℕ, ◌≤◌, List, length, sym, ap, ◌∙◌, subst}
 use Rattle.world_meaning.specs.declared.fault.FaultCode.{FaultCode}
-use Rattle.world_meaning.specs.declared.fault.FaultCode.TheVariants.{TooLong, NotText, Unclosed, BadIndent, NotUnderstood, ReservedWord, UnknownName, WrongKind, Twice, TwoPlaces, Cycle, TooMany, NoRoom, Memory, NumberOutOfRange}
+use Rattle.world_meaning.specs.declared.fault.FaultCode.TheVariants.{Unclosed, BadIndent, Memory}
 use Rattle.i7_lexer.specs.declared.placed.Placed.{Placed}
 use Rattle.i7_lexer.specs.declared.token.Token.{Token}
 use Rattle.i7_lexer.specs.Sources.{text_of, IsText}
@@ -15,21 +15,9 @@ pub readable : (source checked : List ℕ) → length source ≤ longest → IsT
 readable source checked short text e = record { short = short; text = let P : List ℕ → Type 0 = λ t. IsText t in subst P e text }
 
 pub uncut : (code : FaultCode) (line : ℕ) (source checked cut : List ℕ) → checked ≡ text_of source → cut ≡ text_of source → length source ≤ longest → IsText checked → Uncut code line cut → Stands code line source
-uncut TooLong line source checked cut e d short text h = absurd h
-uncut NotText line source checked cut e d short text h = absurd h
 uncut Unclosed line source checked cut e d short text h = (readable source checked short text e, let P : List ℕ → Type 0 = λ t. IsUnclosedIn t line in subst P d h)
-uncut BadIndent line source checked cut e d short text h = absurd h
-uncut NotUnderstood line source checked cut e d short text h = absurd h
-uncut ReservedWord line source checked cut e d short text h = absurd h
-uncut UnknownName line source checked cut e d short text h = absurd h
-uncut WrongKind line source checked cut e d short text h = absurd h
-uncut Twice line source checked cut e d short text h = absurd h
-uncut TwoPlaces line source checked cut e d short text h = absurd h
-uncut Cycle line source checked cut e d short text h = absurd h
-uncut TooMany line source checked cut e d short text h = absurd h
-uncut NoRoom line source checked cut e d short text h = absurd h
 uncut Memory line source checked cut e d short text h = h
-uncut NumberOutOfRange line source checked cut e d short text h = absurd h
+uncut _ line source checked cut e d short text h = absurd h
 
 pub deep : (code : FaultCode) (line : ℕ) (source checked cut : List ℕ) (placed asked : List Placed) → checked ≡ text_of source → cut ≡ text_of source → asked ≡ placed → length source ≤ longest → IsText checked → IsPlaced cut placed → code ≡ BadIndent → IsTooDeep asked line → Stands code line source
 deep code line source checked cut placed asked e d a short text parts is_bad too_deep =

@@ -1,5 +1,5 @@
 -- How deep a line may be.
-use Rattle.std.specs.Prelude.{◌≡◌, ℕ, ◌+◌, Bool, true, false, ◌==◌, nat_lt, if◌then◌else◌, List, [], ◌∷◌, ◌++◌, Option, Some, None, fold}
+use Rattle.std.specs.Prelude.{◌≡◌, ℕ, ◌+◌, Bool, true, false, ◌==◌, nat_lt, if◌then◌else◌, List, ◌∷◌, ◌++◌, fold}
 use Rattle.i7_lexer.specs.declared.indents.LineBefore.{LineBefore}
 use Rattle.i7_lexer.specs.declared.token.Start.{Start}
 use Rattle.i7_lexer.specs.declared.token.Start.TheVariants.{Paragraph, Line, Within}
@@ -45,8 +45,3 @@ pub record IsTooDeep (tokens : List Placed) (line : ℕ) : Type 0 where
   pub indented : AreIndented before
   pub deep : forbids (line_of before) token.at.start ≡ true
   pub line_is : line ≡ token.at.line
-
--- the first line that is too deep behind these, by reading from left to right
-abbrev pub deep_line_from : LineBefore → List Placed → Option ℕ
-deep_line_from before [] = None
-deep_line_from before (token ∷ tokens) = if forbids before token.at.start then Some token.at.line else deep_line_from (line_with before token) tokens

@@ -2,7 +2,7 @@
 use Rattle.std.specs.Prelude.{◌≡◌, ℕ, ◌<◌, ◌≤◌, List, length}
 use Rattle.world_meaning.specs.declared.fault.Fault.{Fault}
 use Rattle.world_meaning.specs.declared.fault.FaultCode.{FaultCode}
-use Rattle.world_meaning.specs.declared.fault.FaultCode.TheVariants.{TooLong, NotText, Unclosed, BadIndent, NotUnderstood, ReservedWord, UnknownName, WrongKind, Twice, TwoPlaces, Cycle, TooMany, NoRoom, Memory, NumberOutOfRange}
+use Rattle.world_meaning.specs.declared.fault.FaultCode.TheVariants.{TooLong, NotText, Unclosed, BadIndent, Memory}
 use Rattle.i7_lexer.specs.declared.placed.Placed.{Placed}
 use Rattle.i7_lexer.specs.Sources.{text_of, line_at, IsFirstBad, IsText}
 use Rattle.i7_lexer.specs.Cuts.{IsPlaced, IsUnclosedIn}
@@ -36,34 +36,13 @@ Stands NotText line source = (length source ≤ longest) × IsNoText (text_of so
 Stands Unclosed line source = IsReadable source × IsUnclosedIn (text_of source) line
 Stands BadIndent line source = IsReadable source × IsDeepIn (text_of source) line
 Stands Memory line source = line ≡ 1
-Stands NotUnderstood line source = ⊥
-Stands ReservedWord line source = ⊥
-Stands UnknownName line source = ⊥
-Stands WrongKind line source = ⊥
-Stands Twice line source = ⊥
-Stands TwoPlaces line source = ⊥
-Stands Cycle line source = ⊥
-Stands TooMany line source = ⊥
-Stands NoRoom line source = ⊥
-Stands NumberOutOfRange line source = ⊥
+Stands _ line source = ⊥
 
 abbrev pub IsRefused : List ℕ → Fault → Type 0
 IsRefused source fault = Stands fault.code fault.line source
 
 -- a text can't be cut into lexemes, with that code at that line; memory may be refused at any text
 abbrev pub Uncut : FaultCode → ℕ → List ℕ → Type 0
-Uncut TooLong line text = ⊥
-Uncut NotText line text = ⊥
 Uncut Unclosed line text = IsUnclosedIn text line
-Uncut BadIndent line text = ⊥
 Uncut Memory line text = line ≡ 1
-Uncut NotUnderstood line text = ⊥
-Uncut ReservedWord line text = ⊥
-Uncut UnknownName line text = ⊥
-Uncut WrongKind line text = ⊥
-Uncut Twice line text = ⊥
-Uncut TwoPlaces line text = ⊥
-Uncut Cycle line text = ⊥
-Uncut TooMany line text = ⊥
-Uncut NoRoom line text = ⊥
-Uncut NumberOutOfRange line text = ⊥
+Uncut _ line text = ⊥

@@ -1,5 +1,5 @@
 -- A source's bytes: what is dropped before it is read, and what no source may hold.
-use Rattle.std.specs.Prelude.{◌≡◌, ◌⊎◌, ℕ, ◌+◌, ◌<◌, Bool, true, false, ◌==◌, ◌||◌, ◌&&◌, not, nat_le, nat_lt, if◌then◌else◌, List, [], ◌∷◌, take, drop, length}
+use Rattle.std.specs.Prelude.{◌≡◌, ◌≢◌, ◌⊎◌, ℕ, ◌+◌, ◌<◌, ◌≤◌, Bool, false, ◌==◌, ◌||◌, ◌&&◌, not, nat_le, nat_lt, if◌then◌else◌, List, [], ◌∷◌, ◌++◌, encode_utf8, take, drop, length}
 use Rattle.std.specs.Str.Lossy.{utf8_valid_len}
 use Rattle.i7_lexer.specs.Bytes.{newlines}
 
@@ -35,10 +35,21 @@ starts_with_control [] = false
 starts_with_control (a ∷ []) = is_control a
 starts_with_control (a ∷ b ∷ rest) = is_control a || is_late_control a b
 
+-- a control character, U+0000 to U+001F or U+007F to U+009F, other than a tab and a line feed
+abbrev pub IsForbidden : ℕ → Type 0
+IsForbidden c = ((c < 32) ⊎ ((127 ≤ c) × (c < 160))) × (c ≢ 9) × (c ≢ 10)
+
+-- the bytes begin with a control character that no source may hold
+pub record BeginsWithControl (bytes : List ℕ) : Type 0 where
+  pub control : ℕ
+  pub forbidden : IsForbidden control
+  pub rest : List ℕ
+  pub spells : bytes ≡ encode_utf8 control ++ rest
+
 -- no character of a source stands there: the bytes are UTF-8 up to there and no further, or a
 -- control character stands there
 abbrev pub IsBad : List ℕ → ℕ → Type 0
-IsBad bytes place = (place ≡ utf8_valid_len bytes) ⊎ (starts_with_control (drop place bytes) ≡ true)
+IsBad bytes place = (place ≡ utf8_valid_len bytes) ⊎ BeginsWithControl (drop place bytes)
 
 -- the first place where no character of a source stands
 pub record IsFirstBad (bytes : List ℕ) (place : ℕ) : Type 0 where

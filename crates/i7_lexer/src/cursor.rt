@@ -1,4 +1,5 @@
-//! A place between two lexemes, and what the token behind it has to know of those before.
+//! A place between two lexemes, and what the token behind it has to know of those before. White
+//! space with one line break begins a line, with two or more a paragraph; a comment begins neither.
 ghost use Rattle.std.specs.Prelude.{◌≡◌, ◌+◌, ◌<◌, ◌≤◌, ◌^◌, length};
 ghost use Rattle.i7_lexer.specs.Bytes.{newlines};
 ghost use Rattle.std.specs.List.{prefix_len};

@@ -1,4 +1,4 @@
-//! How deep a line may be.
+//! How deep a line may be: as deep as the line before, and one tab deeper behind a colon.
 ghost use Rattle.std.specs.Prelude.{◌≡◌, MatchOption};
 ghost use Rattle.i7_lexer.specs.Indents.{AreIndented, IsTooDeep, forbids, indent_with, is_colon, line_with};
 

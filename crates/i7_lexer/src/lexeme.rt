@@ -1,4 +1,5 @@
-//! The lexemes that a source is made of, and how the first of them is cut off.
+//! The lexemes that a source is made of, and how the first of them is cut off: `ball [red].` is a
+//! word, white space, a comment and a mark.
 ghost use Rattle.std.specs.Prelude.{◌≡◌, ◌-◌, ◌<◌, ◌≤◌, length, take, MatchOption, IfSome};
 ghost use Rattle.std.specs.List.{prefix_len};
 ghost use Rattle.i7_lexer.specs.Bytes.{is_letter, is_blank};

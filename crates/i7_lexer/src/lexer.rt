@@ -14,7 +14,9 @@ use crate::source::{LONGEST, bad_place, text_of};
 use std::alloc::Global;
 use world_meaning::{Fault, FaultCode};
 
-/// The tokens that a source spells.
+/// The tokens that a source spells: texts, words and marks, comments and white space left out, each
+/// with its line and with how it begins it. The rules are this profile's; comments, texts and
+/// paragraphs are meant as in "Writing with Inform", chapter 2.
 ///
 /// # Errors
 ///

@@ -7,6 +7,7 @@ mod byte_class;
 mod cursor;
 mod indents;
 mod joins;
+mod laws;
 mod lexeme;
 mod lexer;
 mod placed;
@@ -17,5 +18,6 @@ mod tests;
 mod text;
 mod token;
 
+pub use laws::{lines_are_counted, one_reading, one_refusal, spelled_or_refused, texts_are_folded};
 pub use lexer::lex;
 pub use token::{Lexed, Start, Token, TokenKind};

@@ -1,4 +1,4 @@
-//! White space in texts.
+//! White space in texts: `"one` and, on the next line, `two"` is `one two`.
 ghost use Rattle.std.specs.Prelude.{◌≡◌, IfOk};
 ghost use Rattle.i7_lexer.specs.Texts.{folded, folded_run};
 

@@ -4,3 +4,6 @@ pub mod StringLemmas
 pub mod StoryLemmas
 pub mod WordLemmas
 pub mod TellingLoop
+pub mod RoundTrip
+pub mod ReadingLemmas
+pub mod TableLemmas

@@ -8,3 +8,5 @@ pub mod Shape
 pub mod Spells
 pub mod Telling
 pub mod Reading
+pub mod Checks
+pub mod Refusals

@@ -36,9 +36,12 @@ abbrev pub player_words : List (List ℕ)
 player_words = codes "me" ∷ codes "myself" ∷ codes "self" ∷ codes "yourself" ∷ []
 
 -- the words that the player and the directions have beside their names'
-unfoldable pub more_words : Object → List (List ℕ)
-more_words o = if o.kind == 6 then player_words else (if o.kind == 2 then short_words o.name else [])
+unfoldable pub more_words : ℕ → List ℕ → List (List ℕ)
+more_words kind name = if kind == 6 then player_words else (if kind == 2 then short_words name else [])
 
 -- the words of the name in small letters, then the others, each word once
-unfoldable pub object_words : Object → List (List ℕ)
-object_words o = first_mentions (blank_words (lowered o.name) ++ more_words o)
+unfoldable pub words_for : ℕ → List ℕ → List (List ℕ)
+words_for kind name = first_mentions (blank_words (lowered name) ++ more_words kind name)
+
+abbrev pub object_words : Object → List (List ℕ)
+object_words o = words_for o.kind o.name

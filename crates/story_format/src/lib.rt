@@ -5,6 +5,7 @@
 mod checks;
 mod fault;
 mod field;
+mod laws;
 mod loading;
 mod making;
 mod number;
@@ -20,7 +21,11 @@ mod words;
 mod writing;
 
 pub use fault::LoadFault;
+pub use laws::{one_spelling, one_story, stories_stand, written_is_spelled};
 pub use loading::load;
 pub use shape::is_writable;
 pub use story::Story;
 pub use writing::write;
+
+#[cfg(test)]
+mod tests;

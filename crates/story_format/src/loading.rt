@@ -1,10 +1,13 @@
 //! Loading a story: its tables are read, the tale that they tell is looked at, and its own spelling is
 //! compared with the bytes, so that no story has two spellings.
-ghost use Rattle.std.specs.Prelude.{◌≡◌, ◌↔◌, List, IfOk, IsTrue, Ok, IfErr};
+ghost use Rattle.std.specs.Prelude.{◌≡◌, ◌↔◌, IfOk, IsTrue, Ok, None, IfErr, IfSome};
 ghost use Rattle.std.specs.Result.{MatchResult};
 ghost use Rattle.story_format.specs.Making.{magic, spelling};
 ghost use Rattle.story_format.specs.Reading.{Gives, tables_read};
 ghost use Rattle.story_format.specs.Spells.{Spells};
+ghost use Rattle.story_format.specs.Refusals.{IsNoStory, IsRefused};
+ghost use Rattle.story_format.specs.declared.fault.LoadFault.TheVariants.{Memory};
+ghost use Rattle.world_meaning.specs.declared.tale.Tale.{Tale};
 
 use crate::checks::are_right;
 use crate::fault::LoadFault;
@@ -55,19 +58,39 @@ fn spell(alloc: Global, bytes: &[u8], tale: &Tale) -> Result<bool, AllocError>
     Ok(spelling.as_slice() == bytes)
 }
 
-/// The story that the bytes spell.
+/// The story of bytes whose tables were read, if they are a story's.
+fn story_told(alloc: Global, bytes: &[u8], tables: &Tables) -> Result<Option<Story>, AllocError>
+    requires { tables_read bytes.now ≡ Ok tables.now }
+    ensures found { IfOk result (λ found. IfSome found (Spells bytes.now)) }
+    ensures none { IfOk result (λ found. found ≡ None → IsNoStory bytes.now) }
+{
+    let Some(tale) = tale_told(alloc, tables)? else {
+        return Ok(None);
+    };
+    if !spell(alloc, bytes, &tale)? {
+        return Ok(None);
+    }
+    Ok(Some(Story::new(tale)))
+}
+
+/// The story that the bytes spell. Hostile bytes take time and memory in proportion to what they hold
+/// and to what their objects are named.
 pub fn load(alloc: Global, bytes: &[u8]) -> Result<Story, LoadFault>
+    // What is loaded is the story that the bytes spell.
     ensures found { IfOk result (Spells bytes.now) }
+
+    // What spells a story is loaded, unless memory is refused.
+    ensures only { (tale : Tale) → Spells bytes.now tale → MatchResult result (λ story. story ≡ tale) (λ fault. fault ≡ Memory) }
+
+    // Each refusal says what stands in the bytes.
+    ensures refused { IfErr result (λ fault. IsRefused fault bytes.now) }
 {
     let tables = tables_read(alloc, bytes)?;
-    if let Some(tale) = tale_told(alloc, &tables)? {
-        if spell(alloc, bytes, &tale)? {
-            return Ok(Story::new(tale));
-        }
+    if !are_right(alloc, &tables)? {
+        return Err(LoadFault::BadTable);
     }
-    Err(if are_right(alloc, &tables)? {
-        LoadFault::BadCode
-    } else {
-        LoadFault::BadTable
-    })
+    match story_told(alloc, bytes, &tables)? {
+        Some(story) => Ok(story),
+        None => Err(LoadFault::BadCode),
+    }
 }

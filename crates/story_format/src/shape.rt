@@ -10,7 +10,7 @@ use crate::words::{DIRECTION, PERSON, words_of};
 use std::alloc::{AllocError, Global};
 use world_meaning::{Article, Direction, Exits, ObjNo, Object, Place, Rel, Tale, Way};
 
-fn is_room_number(count: usize, object: ObjNo) -> bool
+pub fn is_room_number(count: usize, object: ObjNo) -> bool
     ensures { result ≡ is_room_number count object }
 {
     13 <= object.get() && (object.get() as usize) < count
@@ -37,7 +37,7 @@ fn each_leads_to_room(count: usize, ways: &[Way]) -> bool
     ways.iter().all(|way| leads_to_room(count, way))
 }
 
-fn lead_to_rooms(count: usize, exits: &Exits) -> bool
+pub fn lead_to_rooms(count: usize, exits: &Exits) -> bool
     ensures { result ≡ lead_to_rooms count exits.now }
 {
     let ways = exits.ways.as_slice();

@@ -2,7 +2,7 @@
 ghost use Rattle.std.specs.Prelude.{◌≡◌, [], ◌∷◌, IfOk, OnOk, fold, filter, position};
 ghost use Rattle.std.specs.List.{flat_map};
 ghost use Rattle.story_format.specs.Mentions.{mention};
-ghost use Rattle.story_format.specs.Words.{is_blank, is_word, blank_words, lowered, more_words, object_words, player_words, short_word_of};
+ghost use Rattle.story_format.specs.Words.{is_blank, is_word, blank_words, lowered, more_words, words_for, object_words, player_words, short_word_of};
 
 use crate::strings::Strings;
 use std::alloc::{AllocError, Global};
@@ -81,24 +81,36 @@ fn mention_short_words(
 }
 
 #[tactic(auto, unfolding(crate::specs::Words::more_words))]
-fn mention_more_words(alloc: Global, words: &mut Strings, object: &Object) -> Result<(), AllocError>
-    ensures { OnOk result (words.new ≡ fold mention words.old (more_words object.now)) }
+fn mention_more_words(
+    alloc: Global,
+    words: &mut Strings,
+    kind: u8,
+    name: &[u8],
+) -> Result<(), AllocError>
+    ensures { OnOk result (words.new ≡ fold mention words.old (more_words kind name.now)) }
 {
-    match object.kind.get() {
+    match kind {
         PERSON => mention_player_words(alloc, words),
-        DIRECTION => mention_short_words(alloc, words, object.name.as_slice(), &Direction::ALL),
+        DIRECTION => mention_short_words(alloc, words, name, &Direction::ALL),
         _ => Ok(()),
     }
 }
 
-/// The object's words, each once.
-#[tactic(auto, unfolding(crate::specs::Words::object_words), using(crate::proofs::Folds::fold_both))]
+/// The words of an object of this kind and name, each once.
+#[tactic(auto, unfolding(crate::specs::Words::words_for), using(crate::proofs::Folds::fold_both))]
+pub fn words_for(alloc: Global, kind: u8, name: &[u8]) -> Result<Strings, AllocError>
+    ensures { IfOk result (λ words. words ≡ words_for kind name.now) }
+{
+    let small = lowered_text(alloc, name)?;
+    let mut words = Strings::new(alloc);
+    mention_words(alloc, &mut words, small.as_slice())?;
+    mention_more_words(alloc, &mut words, kind, name)?;
+    Ok(words)
+}
+
+/// The words of an object.
 pub fn words_of(alloc: Global, object: &Object) -> Result<Strings, AllocError>
     ensures { IfOk result (λ words. words ≡ object_words object.now) }
 {
-    let name = lowered_text(alloc, object.name.as_slice())?;
-    let mut words = Strings::new(alloc);
-    mention_words(alloc, &mut words, name.as_slice())?;
-    mention_more_words(alloc, &mut words, object)?;
-    Ok(words)
+    words_for(alloc, object.kind.get(), object.name.as_slice())
 }

@@ -1,0 +1,225 @@
+-- What is known of bytes whose tables were read, and of bytes that were refused.
+use Rattle.std.proofs.Common.{◌≡◌, ◌≢◌, ℕ, zero, suc, ◌+◌, ◌<◌, ◌≤◌, Bool, true, false, cond, ltb, eqb, List, [], ◌∷◌, ◌++◌, length, take, drop, Option, Some, None, Result, Ok, Err, refl, sym, ap, subst, ◌∙◌, append_assoc, arith, inl, inr, ◌⊎◌}
+use Rattle.std.specs.Str.{bytes_eq}
+use Rattle.std.specs.Int.{w16, to_be_bytes, from_be_bytes}
+use Rattle.std.proofs.Math.Dec.{eqb-suc-zero}
+use Rattle.std.proofs.lemmas.Bool.{ltb-true, lt-ltb, eqb-true, eqb-false, cases_lt}
+use Rattle.std.proofs.lemmas.List.{append-nil, nil_from_length, length-append, length-drop, length-take, take-append-drop, take_at, drop_at}
+use Rattle.std.proofs.lemmas.Slice.Eq.{bytes_eq-Decides}
+use Rattle.world_meaning.specs.declared.tale.Tale.{Tale}
+use Rattle.story_format.specs.declared.fault.LoadFault.{LoadFault}
+use Rattle.story_format.specs.declared.fault.LoadFault.TheVariants.{BadMagic, BadVersion, Truncated, TooLong, BadTable, BadCode, BadOrder, Memory}
+use Rattle.story_format.specs.declared.tables.Tables.{Tables}
+use Rattle.story_format.specs.Formats.{Format, IsFormat, Takes, IsBytes, number}
+use Rattle.story_format.specs.FormatLaws.{number16_lawful, IsBytes-drop}
+use Rattle.story_format.specs.Layout.{tables_format, tables_lawful}
+use Rattle.story_format.specs.Making.{magic, head, tables_of, spelling}
+use Rattle.story_format.specs.Telling.{tale_told}
+use Rattle.story_format.specs.Shape.{IsTale}
+use Rattle.story_format.specs.Checks.{are_right}
+use Rattle.story_format.specs.Spells.{Spells}
+use Rattle.story_format.specs.Reading.{whole, versioned, tables_read, FaultGiven, Gives}
+use Rattle.story_format.specs.Refusals.{Holds, IsNoStory, IsCut, IsRefused}
+use Rattle.story_format.proofs.RoundTrip.{tale_back}
+use Rattle.story_format.proofs.TableLemmas.{tables_right}
+
+-- ---- reading what was put
+
+read_whole : (t : Tables) (rest : List ℕ) → tables_format.fits t ≡ true → tables_read (head ++ (tables_format.put t ++ rest)) ≡ whole (Some (t, rest))
+unfolding tables_read
+read_whole t rest fits = ap versioned (number16_lawful.again 1 (tables_format.put t ++ rest) refl) ∙ ap whole (tables_lawful.again t rest fits)
+
+pub spelled_read : (bytes : List ℕ) (t : Tale) → Spells bytes t → tables_read bytes ≡ Ok (tables_of t)
+unfolding spelling
+spelled_read bytes t h =
+    ap tables_read (h.spelled ∙ ap (λ (body : List ℕ). head ++ body) (sym (append-nil (tables_format.put (tables_of t))))) ∙ read_whole (tables_of t) [] h.tale.fits
+
+ok_is : {A : Type 0} (x y : A) → (let left : Result A LoadFault = Ok x in let right : Result A LoadFault = Ok y in left ≡ right) → x ≡ y
+ok_is x y e = cc
+
+pub spelled_told : (bytes : List ℕ) (t : Tale) (tables : Tables) → Spells bytes t → tables_read bytes ≡ Ok tables → tale_told tables ≡ Some t
+spelled_told bytes t tables h e =
+    let same : tables_of t ≡ tables = ok_is (tables_of t) tables (sym (spelled_read bytes t h) ∙ e) in
+    ap tale_told (sym same) ∙ tale_back t h.tale
+
+pub some_is : {A : Type 0} (x y : A) → Some x ≡ Some y → x ≡ y
+some_is x y e = cc
+
+pub same_tale : (bytes : List ℕ) (t u : Tale) → Spells bytes t → Spells bytes u → t ≡ u
+same_tale bytes t u h k =
+    let e = spelled_told bytes t (tables_of u) h (spelled_read bytes u k) in
+    some_is t u (sym e ∙ tale_back u k.tale)
+
+pub only_memory : (bytes : List ℕ) (t : Tale) (fault : LoadFault) → Spells bytes t → FaultGiven fault (tables_read bytes) → fault ≡ Memory
+only_memory bytes t BadMagic h e = let k = sym (spelled_read bytes t h) ∙ e in absurd cc
+only_memory bytes t BadVersion h e = let k = sym (spelled_read bytes t h) ∙ e in absurd cc
+only_memory bytes t Truncated h e = let k = sym (spelled_read bytes t h) ∙ e in absurd cc
+only_memory bytes t TooLong h e = let k = sym (spelled_read bytes t h) ∙ e in absurd cc
+only_memory bytes t BadTable h e = let k = sym (spelled_read bytes t h) ∙ e in absurd cc
+only_memory bytes t BadCode h e = let k = sym (spelled_read bytes t h) ∙ e in absurd cc
+only_memory bytes t BadOrder h e = let k = sym (spelled_read bytes t h) ∙ e in absurd cc
+only_memory bytes t Memory h e = refl
+
+-- ---- what reading says of the bytes
+
+either : (b : Bool) → (b ≡ true) ⊎ (b ≡ false)
+either true = inl refl
+either false = inr refl
+
+magic_in_front : (bytes : List ℕ) → bytes_eq (take 4 bytes) magic ≡ true → bytes ≡ magic ++ drop 4 bytes
+magic_in_front bytes e = sym (take-append-drop 4 bytes) ∙ ap (λ (front : List ℕ). front ++ drop 4 bytes) ((bytes_eq-Decides (take 4 bytes) magic).0 e)
+
+-- how far reading came
+data Stage : List ℕ → Result Tables LoadFault → Type 0 where
+  no_magic : {bytes : List ℕ} → take 4 bytes ≢ magic → Stage bytes (Err BadMagic)
+  no_version : {bytes : List ℕ} → take 4 bytes ≡ magic → length bytes < 6 → Stage bytes (Err Truncated)
+  other_version : {bytes : List ℕ} (version : ℕ) (rest : List ℕ) → version ≢ 1 → version < 65536 → bytes ≡ magic ++ (to_be_bytes w16 version ++ rest) → Stage bytes (Err BadVersion)
+  cut : {bytes : List ℕ} (body : List ℕ) → bytes ≡ head ++ body → tables_format.get body ≡ None → Stage bytes (Err Truncated)
+  more : {bytes : List ℕ} (t : Tables) (rest : List ℕ) → rest ≢ [] → Holds bytes t rest → Stage bytes (Err TooLong)
+  all : {bytes : List ℕ} (t : Tables) → Holds bytes t [] → Stage bytes (Ok t)
+
+stage_of_tables : (bytes body : List ℕ) → IsBytes body → bytes ≡ head ++ body → (found : Option (Tables × List ℕ)) → tables_format.get body ≡ found → Stage bytes (whole found)
+stage_of_tables bytes body fits e None k = cut body e k
+stage_of_tables bytes body fits e (Some (t, [])) k =
+    let p = tables_lawful.takes body t [] fits k in
+    all t (p.1, e ∙ ap (λ (b : List ℕ). head ++ b) p.0.parts)
+stage_of_tables bytes body fits e (Some (t, x ∷ rest)) k =
+    let p = tables_lawful.takes body t (x ∷ rest) fits k in
+    let some : eqb (length (x ∷ rest)) 0 ≡ false = eqb-suc-zero (length rest) in
+    rw some (more t (x ∷ rest) (λ e. absurd cc) (p.1, e ∙ ap (λ (b : List ℕ). head ++ b) p.0.parts))
+
+some_found : {A : Type 0} (test : Bool) (x : A) → cond test None (Some x) ≡ None → test ≡ true
+some_found true x e = refl
+some_found false x e = absurd cc
+
+stage_of_version : (bytes : List ℕ) → IsBytes bytes → bytes_eq (take 4 bytes) magic ≡ true → (found : Option (ℕ × List ℕ)) → (number w16).get (drop 4 bytes) ≡ found → Stage bytes (versioned found)
+stage_of_version bytes fits e None k =
+    let short : ltb (length (drop 4 bytes)) 2 ≡ true = some_found (ltb (length (drop 4 bytes)) 2) (from_be_bytes w16 (take 2 (drop 4 bytes)), drop 2 (drop 4 bytes)) k in
+    let lt : length (drop 4 bytes) < 2 = ltb-true _ _ short in
+    no_version ((bytes_eq-Decides (take 4 bytes) magic).0 e) (omega (arith, lt, length-drop 4 bytes))
+stage_of_version bytes fits e (Some (version, body)) k =
+    let p = number16_lawful.takes (drop 4 bytes) version body (IsBytes-drop 4 bytes fits) k in
+    let lt : version < 65536 = ltb-true _ _ p.1 in
+    let parts : bytes ≡ magic ++ (to_be_bytes w16 version ++ body) = magic_in_front bytes e ∙ ap (λ (rest : List ℕ). magic ++ rest) p.0.parts in
+    elim (either (eqb version 1)) [
+      | inl is ↦
+          let one : version ≡ 1 = eqb-true version 1 is in
+          let front : bytes ≡ head ++ body = parts ∙ ap (λ v. magic ++ (to_be_bytes w16 v ++ body)) one in
+          rw is (stage_of_tables bytes body p.0.rest_fits front (tables_format.get body) refl)
+      | inr isnt ↦ rw isnt (other_version version body (eqb-false version 1 isnt) lt parts)
+    ]
+
+stage_of : (bytes : List ℕ) → IsBytes bytes → Stage bytes (tables_read bytes)
+unfolding tables_read
+stage_of bytes fits =
+    elim (either (bytes_eq (take 4 bytes) magic)) [
+      | inl is ↦ rw is (stage_of_version bytes fits is ((number w16).get (drop 4 bytes)) refl)
+      | inr isnt ↦ rw isnt (no_magic (λ e. let k : bytes_eq (take 4 bytes) magic ≡ true = (bytes_eq-Decides (take 4 bytes) magic).1 e in let z : false ≡ true = sym isnt ∙ k in absurd cc))
+    ]
+
+-- ---- what a fault says
+
+given_is : (fault other : LoadFault) → FaultGiven fault (Err other) → (other ≡ fault) ⊎ (Memory ≡ fault)
+given_is BadMagic other e = inl cc
+given_is BadVersion other e = inl cc
+given_is Truncated other e = inl cc
+given_is TooLong other e = inl cc
+given_is BadTable other e = inl cc
+given_is BadCode other e = inl cc
+given_is BadOrder other e = inl cc
+given_is Memory other e = inr refl
+
+given_ok : (fault : LoadFault) (t : Tables) → FaultGiven fault (Ok t) → Memory ≡ fault
+given_ok BadMagic t e = absurd cc
+given_ok BadVersion t e = absurd cc
+given_ok Truncated t e = absurd cc
+given_ok TooLong t e = absurd cc
+given_ok BadTable t e = absurd cc
+given_ok BadCode t e = absurd cc
+given_ok BadOrder t e = absurd cc
+given_ok Memory t e = refl
+
+refused_as : (bytes : List ℕ) (fault other : LoadFault) → FaultGiven fault (Err other) → IsRefused other bytes → IsRefused fault bytes
+refused_as bytes fault other e h =
+    elim (given_is fault other e) [
+      | inl same ↦ subst (λ (f : LoadFault). IsRefused f bytes) same h
+      | inr memory ↦ subst (λ (f : LoadFault). IsRefused f bytes) memory tt
+    ]
+
+none_stand : (bytes body : List ℕ) → bytes ≡ head ++ body → tables_format.get body ≡ None → (t : Tables) (rest : List ℕ) → Holds bytes t rest → ⊥
+none_stand bytes body e k t rest h =
+    let same : body ≡ tables_format.put t ++ rest = ap (drop 6) (sym e ∙ h.1) in
+    let z = sym k ∙ ap tables_format.get same ∙ tables_lawful.again t rest h.0 in absurd cc
+
+refused_at : (bytes : List ℕ) (read : Result Tables LoadFault) → Stage bytes read → (fault : LoadFault) → FaultGiven fault read → IsRefused fault bytes
+refused_at bytes read (no_magic isnt) fault e = refused_as bytes fault BadMagic e isnt
+refused_at bytes read (no_version front short) fault e = refused_as bytes fault Truncated e (front, inl short)
+refused_at bytes read (other_version version rest other lt parts) fault e = refused_as bytes fault BadVersion e (version, rest, other, lt, parts)
+refused_at bytes read (cut body parts k) fault e = refused_as bytes fault Truncated e (ap (take 4) parts, inr (ap (take 6) parts, none_stand bytes body parts k))
+refused_at bytes read (more t rest some holds) fault e = refused_as bytes fault TooLong e (t, rest, some, holds)
+refused_at bytes read (all t holds) fault e = subst (λ (f : LoadFault). IsRefused f bytes) (given_ok fault t e) tt
+
+pub refused : (bytes : List ℕ) (fault : LoadFault) → IsBytes bytes → FaultGiven fault (tables_read bytes) → IsRefused fault bytes
+refused bytes fault fits e = refused_at bytes (tables_read bytes) (stage_of bytes fits) fault e
+
+holds_at : (bytes : List ℕ) (read : Result Tables LoadFault) → Stage bytes read → (t : Tables) → read ≡ Ok t → Holds bytes t []
+holds_at bytes read (no_magic isnt) t e = absurd cc
+holds_at bytes read (no_version front short) t e = absurd cc
+holds_at bytes read (other_version version rest other lt parts) t e = absurd cc
+holds_at bytes read (cut body parts k) t e = absurd cc
+holds_at bytes read (more u rest some holds) t e = absurd cc
+holds_at bytes read (all u holds) t e = subst (λ (v : Tables). Holds bytes v []) (ok_is u t e) holds
+
+pub tables_stand : (bytes : List ℕ) (t : Tables) → IsBytes bytes → tables_read bytes ≡ Ok t → Holds bytes t []
+tables_stand bytes t fits e = holds_at bytes (tables_read bytes) (stage_of bytes fits) t e
+
+-- ---- the faults of tables
+
+pub right_if_spelled : (bytes : List ℕ) (tale : Tale) (t : Tables) → Spells bytes tale → tables_read bytes ≡ Ok t → are_right t ≡ true
+right_if_spelled bytes tale t h e = ap are_right (ok_is t (tables_of tale) (sym e ∙ spelled_read bytes tale h)) ∙ tables_right tale h.tale
+
+pub table_fault : (bytes : List ℕ) (t : Tables) → IsBytes bytes → tables_read bytes ≡ Ok t → are_right t ≡ false → IsRefused BadTable bytes
+table_fault bytes t fits e h = (t, tables_stand bytes t fits e, h)
+
+pub code_fault : (bytes : List ℕ) (t : Tables) → IsBytes bytes → tables_read bytes ≡ Ok t → are_right t ≡ true → IsNoStory bytes → IsRefused BadCode bytes
+code_fault bytes t fits e h none = (t, tables_stand bytes t fits e, h, none)
+
+-- ---- a story isn't refused
+
+abbrev body_of : Tale → List ℕ
+body_of t = tables_format.put (tables_of t)
+
+spelled_as : (bytes : List ℕ) (t : Tale) → Spells bytes t → bytes ≡ head ++ body_of t
+unfolding spelling
+spelled_as bytes t h = h.spelled
+
+same_tables : (t u : Tables) (rest : List ℕ) → tables_format.fits t ≡ true → tables_format.fits u ≡ true → tables_format.put t ≡ tables_format.put u ++ rest → rest ≡ []
+same_tables t u rest f g e =
+    let first : tables_format.get (tables_format.put t) ≡ Some (t, []) = ap tables_format.get (sym (append-nil (tables_format.put t))) ∙ tables_lawful.again t [] f in
+    let second = ap tables_format.get e ∙ tables_lawful.again u rest g in
+    sym (ap (λ (p : Tables × List ℕ). p.1) (some_is (t, []) (u, rest) (sym first ∙ second)))
+
+same_version : (version : ℕ) (rest body : List ℕ) → version < 65536 → to_be_bytes w16 version ++ rest ≡ to_be_bytes w16 1 ++ body → version ≡ 1
+same_version version rest body lt e =
+    let first = number16_lawful.again version rest (lt-ltb version 65536 lt) in
+    let second = ap (number w16).get e ∙ number16_lawful.again 1 body refl in
+    ap (λ (p : ℕ × List ℕ). p.0) (some_is (version, rest) (1, body) (sym first ∙ second))
+
+pub not_refused : (bytes : List ℕ) (t : Tale) (fault : LoadFault) → Spells bytes t → IsRefused fault bytes → fault ≡ Memory
+not_refused bytes t BadMagic h r = absurd (r (ap (take 4) (spelled_as bytes t h)))
+not_refused bytes t BadVersion h (version, rest, other, lt, parts) =
+    let same : to_be_bytes w16 version ++ rest ≡ to_be_bytes w16 1 ++ body_of t = ap (drop 4) (sym parts ∙ spelled_as bytes t h) in
+    absurd (other (same_version version rest (body_of t) lt same))
+not_refused bytes t Truncated h (front, inl short) =
+    let count : length bytes ≡ length (head ++ body_of t) = ap length (spelled_as bytes t h) in
+    let long : length (head ++ body_of t) ≡ 6 + length (body_of t) = length-append head (body_of t) in
+    absurd (omega (arith, count, long, short))
+not_refused bytes t Truncated h (front, inr no_tables) = absurd (no_tables.1 (tables_of t) [] (h.tale.fits, spelled_as bytes t h ∙ ap (λ (b : List ℕ). head ++ b) (sym (append-nil (body_of t)))))
+not_refused bytes t TooLong h (u, rest, some, holds) =
+    absurd (some (same_tables (tables_of t) u rest h.tale.fits holds.0 (ap (drop 6) (sym (spelled_as bytes t h) ∙ holds.1))))
+not_refused bytes t BadTable h (u, holds, wrong) =
+    let read : tables_read bytes ≡ Ok u = ap tables_read holds.1 ∙ read_whole u [] holds.0 in
+    let z : true ≡ false = sym (right_if_spelled bytes t u h read) ∙ wrong in absurd cc
+not_refused bytes t BadCode h (u, holds, right, none) = absurd (none t h)
+not_refused bytes t BadOrder h r = absurd r
+not_refused bytes t Memory h r = refl
