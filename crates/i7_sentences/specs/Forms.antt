@@ -1,5 +1,5 @@
 -- The sentence forms: pieces in order, and what it is for a form to fit words.
-use Rattle.std.specs.Prelude.{◌≡◌, ℕ, ◌+◌, ◌<◌, ◌⊎◌, Bool, true, false, is_some, List, [], ◌∷◌, ◌++◌, length, IsTrue}
+use Rattle.std.specs.Prelude.{◌≡◌, ℕ, ◌<◌, ◌⊎◌, nat_lt, if◌then◌else◌, Bool, true, false, is_some, List, [], ◌∷◌, ◌++◌, length}
 use Rattle.i7_lexer.specs.declared.token.Token.{Token}
 use Rattle.i7_sentences.specs.Words.{word_of, is_keyword, direction_named}
 use Rattle.i7_sentences.specs.Literals.{is_literal}
@@ -56,13 +56,45 @@ takes (piece.Word keyword) token = is_keyword keyword (word_of token)
 takes piece.Direction token = is_some (direction_named (word_of token))
 takes piece.Number token = is_literal (word_of token)
 
--- These pieces fit these words, the letters and the classes standing for these lists of words.
-pub data Fits : List Piece → List Token → List (List Token) → Type 0 where
-  nothing : Fits [] [] []
-  letter : {form : List Piece} {words rest : List Token} {letters : List (List Token)} → 0 < length words → Fits form rest letters → Fits (piece.Letter ∷ form) (words ++ rest) (words ∷ letters)
-  fixed : {keyword : Keyword} {form : List Piece} {word : Token} {rest : List Token} {letters : List (List Token)} → IsTrue (takes (piece.Word keyword) word) → Fits form rest letters → Fits (piece.Word keyword ∷ form) (word ∷ rest) letters
-  direction : {form : List Piece} {word : Token} {rest : List Token} {letters : List (List Token)} → IsTrue (takes piece.Direction word) → Fits form rest letters → Fits (piece.Direction ∷ form) (word ∷ rest) ((word ∷ []) ∷ letters)
-  number : {form : List Piece} {word : Token} {rest : List Token} {letters : List (List Token)} → IsTrue (takes piece.Number word) → Fits form rest letters → Fits (piece.Number ∷ form) (word ∷ rest) ((word ∷ []) ∷ letters)
+abbrev pub is_letter : Piece → Bool
+is_letter piece.Letter = true
+is_letter (piece.Word keyword) = false
+is_letter piece.Direction = false
+is_letter piece.Number = false
+
+-- what a piece takes is kept, unless it is a word of the form's own
+abbrev pub is_kept : Piece → Bool
+is_kept piece.Letter = true
+is_kept (piece.Word keyword) = false
+is_kept piece.Direction = true
+is_kept piece.Number = true
+
+abbrev pub suits_one : (Token → Bool) → List Token → Bool
+suits_one takes [] = false
+suits_one takes (word ∷ []) = takes word
+suits_one takes (word ∷ next ∷ more) = false
+
+-- one word or more suit a letter, and one word that it takes any other piece
+abbrev pub suits : Piece → List Token → Bool
+suits p words = if is_letter p then nat_lt 0 (length words) else suits_one (takes p) words
+
+abbrev pub with_kept : Piece → List Token → List (List Token) → List (List Token)
+with_kept p words letters = if is_kept p then words ∷ letters else letters
+
+-- A piece takes words in front that suit it, and the form goes on behind them.
+pub record TakesWords (p : Piece) (goes_on : List Token → List (List Token) → Type 0) (tokens : List Token) (letters : List (List Token)) : Type 0 where
+  pub words : List Token
+  pub rest : List Token
+  pub others : List (List Token)
+  pub parts : tokens ≡ words ++ rest
+  pub suits_it : suits p words ≡ true
+  pub keeps : letters ≡ with_kept p words others
+  pub behind : goes_on rest others
+
+-- These pieces fit these words, the kept ones standing for these lists of words.
+abbrev pub Fits : List Piece → List Token → List (List Token) → Type 0
+Fits [] tokens letters = (tokens ≡ []) × (letters ≡ [])
+Fits (p ∷ form) tokens letters = TakesWords p (Fits form) tokens letters
 
 -- The first list of words is shorter, or as long and the others are no longer either.
 abbrev pub IsNoLonger : List (List Token) → List (List Token) → Type 0

@@ -1,31 +1,14 @@
 -- Fitting a form to words from left to right: each letter ends where the fixed pieces behind it
 -- first stand, the last one where they stand at the end.
-use Rattle.std.specs.Prelude.{ℕ, ◌+◌, ◌-◌, Bool, true, false, ◌&&◌, nat_lt, List, [], ◌∷◌, ◌++◌, length, take, drop, map, Option, Some, None, option_map, if◌then◌else◌}
+use Rattle.std.specs.Prelude.{ℕ, ◌+◌, ◌-◌, Bool, true, false, not, ◌&&◌, nat_lt, List, [], ◌∷◌, ◌++◌, length, take, drop, map, Option, Some, None, option_map, if◌then◌else◌}
 use Rattle.std.specs.List.{list_all}
 use Rattle.i7_lexer.specs.declared.token.Token.{Token}
-use Rattle.i7_sentences.specs.Forms.{takes, all_forms, pieces_of}
-use Rattle.i7_sentences.specs.declared.form.Form.{Form}
+use Rattle.i7_sentences.specs.Forms.{takes, is_letter, is_kept}
 use Rattle.i7_sentences.specs.declared.form.Piece.{Piece}
 use Rattle.i7_sentences.specs.declared.form.Piece.TheVariants as piece
 
-abbrev pub is_letter : Piece → Bool
-is_letter piece.Letter = true
-is_letter (piece.Word keyword) = false
-is_letter piece.Direction = false
-is_letter piece.Number = false
-
 abbrev pub is_fixed : Piece → Bool
-is_fixed piece.Letter = false
-is_fixed (piece.Word keyword) = true
-is_fixed piece.Direction = true
-is_fixed piece.Number = true
-
--- what a piece takes is kept, unless it is a word of the form's own
-abbrev pub is_kept : Piece → Bool
-is_kept piece.Letter = true
-is_kept (piece.Word keyword) = false
-is_kept piece.Direction = true
-is_kept piece.Number = true
+is_fixed p = not (is_letter p)
 
 -- the tokens begin with the pieces up to the next letter
 abbrev pub stands : List Piece → List Token → Bool

@@ -1,7 +1,8 @@
 //! The matcher: the letters of a form in a sentence, each as short as it can be, tried once.
 ghost use Rattle.std.specs.Prelude.{◌≡◌, ◌≤◌, length, map, option_map, IfOk, IfSome};
 ghost use Rattle.std.specs.List.{list_all};
-ghost use Rattle.i7_sentences.specs.Matching.{first_fit, is_fixed, is_kept, is_letter, leftmost_from, letter_len, rightmost, stands, taken};
+ghost use Rattle.i7_sentences.specs.Forms.{is_kept, is_letter};
+ghost use Rattle.i7_sentences.specs.Matching.{first_fit, is_fixed, leftmost_from, letter_len, rightmost, stands, taken};
 
 use std::alloc::{AllocError, Global};
 
@@ -16,16 +17,6 @@ fn is_letter(piece: Piece) -> bool
     match piece {
         Piece::Letter => true,
         Piece::Word(_) | Piece::Direction | Piece::Number => false,
-    }
-}
-
-/// Whether the piece is no letter.
-fn is_fixed(piece: Piece) -> bool
-    ensures { result ≡ is_fixed piece }
-{
-    match piece {
-        Piece::Letter => false,
-        Piece::Word(_) | Piece::Direction | Piece::Number => true,
     }
 }
 
@@ -97,7 +88,7 @@ fn rightmost(form: &[Piece], tokens: &[Token]) -> Option<usize>
 fn are_fixed(form: &[Piece]) -> bool
     ensures { result ≡ list_all is_fixed form.now }
 {
-    form.iter().all(|piece| is_fixed(*piece))
+    form.iter().all(|piece| !is_letter(*piece))
 }
 
 /// The length of the letter in front of these pieces: the shortest with which they can fit.
