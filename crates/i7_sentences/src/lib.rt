@@ -7,6 +7,7 @@
 mod cut;
 mod form;
 mod keyword;
+mod laws;
 mod literal;
 mod matcher;
 mod name;
@@ -21,6 +22,7 @@ pub use part::{Part, PartKind};
 pub use reader::read;
 pub use form::{Form, Piece};
 pub use keyword::Keyword;
+pub use laws::first_fit_is_shortest;
 pub use name::{Name, NameArticle};
 
 pub use sentence::{Saying, Sentence, Way};

@@ -7,3 +7,4 @@ pub mod TellingLoop
 pub mod RoundTrip
 pub mod ReadingLemmas
 pub mod TableLemmas
+pub mod OrderLemmas

@@ -1,25 +1,24 @@
 -- What is known of bytes whose tables were read, and of bytes that were refused.
-use Rattle.std.proofs.Common.{◌≡◌, ◌≢◌, ℕ, zero, suc, ◌+◌, ◌<◌, ◌≤◌, Bool, true, false, cond, ltb, eqb, List, [], ◌∷◌, ◌++◌, length, take, drop, Option, Some, None, Result, Ok, Err, refl, sym, ap, subst, ◌∙◌, append_assoc, arith, inl, inr, ◌⊎◌}
+use Rattle.std.proofs.Common.{◌≡◌, ◌≢◌, ℕ, ◌+◌, ◌<◌, Bool, true, false, cond, ltb, eqb, List, [], ◌∷◌, ◌++◌, length, take, drop, Option, Some, None, Result, Ok, Err, refl, sym, ap, subst, ◌∙◌, arith, inl, inr, ◌⊎◌}
 use Rattle.std.specs.Str.{bytes_eq}
 use Rattle.std.specs.Int.{w16, to_be_bytes, from_be_bytes}
 use Rattle.std.proofs.Math.Dec.{eqb-suc-zero}
-use Rattle.std.proofs.lemmas.Bool.{ltb-true, lt-ltb, eqb-true, eqb-false, cases_lt}
-use Rattle.std.proofs.lemmas.List.{append-nil, nil_from_length, length-append, length-drop, length-take, take-append-drop, take_at, drop_at}
+use Rattle.std.proofs.lemmas.Bool.{ltb-true, lt-ltb, eqb-true, eqb-false}
+use Rattle.std.proofs.lemmas.List.{append-nil, length-append, length-drop, take-append-drop}
 use Rattle.std.proofs.lemmas.Slice.Eq.{bytes_eq-Decides}
 use Rattle.world_meaning.specs.declared.tale.Tale.{Tale}
 use Rattle.story_format.specs.declared.fault.LoadFault.{LoadFault}
 use Rattle.story_format.specs.declared.fault.LoadFault.TheVariants.{BadMagic, BadVersion, Truncated, TooLong, BadTable, BadCode, BadOrder, Memory}
 use Rattle.story_format.specs.declared.tables.Tables.{Tables}
-use Rattle.story_format.specs.Formats.{Format, IsFormat, Takes, IsBytes, number}
+use Rattle.story_format.specs.Formats.{IsBytes, number}
 use Rattle.story_format.specs.FormatLaws.{number16_lawful, IsBytes-drop}
 use Rattle.story_format.specs.Layout.{tables_format, tables_lawful}
 use Rattle.story_format.specs.Making.{magic, head, tables_of, spelling}
 use Rattle.story_format.specs.Telling.{tale_told}
-use Rattle.story_format.specs.Shape.{IsTale}
 use Rattle.story_format.specs.Checks.{are_right}
 use Rattle.story_format.specs.Spells.{Spells}
-use Rattle.story_format.specs.Reading.{whole, versioned, tables_read, FaultGiven, Gives}
-use Rattle.story_format.specs.Refusals.{Holds, IsNoStory, IsCut, IsRefused}
+use Rattle.story_format.specs.Reading.{whole, versioned, tables_read, FaultGiven}
+use Rattle.story_format.specs.Refusals.{Holds, IsNoStory, IsRefused}
 use Rattle.story_format.proofs.RoundTrip.{tale_back}
 use Rattle.story_format.proofs.TableLemmas.{tables_right}
 

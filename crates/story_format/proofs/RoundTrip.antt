@@ -1,12 +1,11 @@
 -- The tables of a tale tell the tale.
-use Rattle.std.proofs.Common.{◌≡◌, ℕ, zero, suc, ◌+◌, ◌<◌, ◌≤◌, ◌≢◌, Bool, true, false, cond, ◌&&◌, ◌||◌, not, ltb, leb, eqb, List, [], ◌∷◌, ◌++◌, length, map, take, drop, Option, Some, None, refl, sym, ap, subst, ◌∙◌, append_assoc, arith, inl, inr, ◌⊎◌}
-use Rattle.std.specs.Prelude.{slice_get, position, min, fold, is_none, codes}
-use Rattle.std.specs.List.{list_any, list_all, flat_map, position_or_len, prefix_len}
+use Rattle.std.proofs.Common.{◌≡◌, ℕ, zero, suc, ◌+◌, ◌<◌, ◌≤◌, Bool, true, false, ◌&&◌, ◌||◌, ltb, eqb, List, [], ◌∷◌, ◌++◌, length, map, take, drop, Option, Some, None, refl, sym, ap, ◌∙◌, append_assoc, arith, inl, inr, ◌⊎◌}
+use Rattle.std.specs.Prelude.{slice_get, min, fold, is_none, codes}
+use Rattle.std.specs.List.{list_any, list_all, flat_map, position_or_len}
 use Rattle.std.specs.Str.{bytes_eq}
-use Rattle.std.specs.Int.{w16, to_be_bytes, from_be_bytes}
-use Rattle.std.proofs.lemmas.Bool.{ltb-true, lt-ltb, ltb-false, ne_eqb, eqb-true}
+use Rattle.std.proofs.lemmas.Bool.{lt-ltb, ne_eqb, eqb-true}
 use Rattle.std.proofs.lemmas.Nat.{from_be_bytes-to_be_bytes_2}
-use Rattle.std.proofs.lemmas.List.{length-append, append-nil, take-append-drop}
+use Rattle.std.proofs.lemmas.List.{length-append, take-append-drop}
 use Rattle.std.proofs.lemmas.List.Folds.{list_any-append, list_all-append}
 use Rattle.std.proofs.lemmas.Slice.Eq.{bytes_eq-Decides}
 use Rattle.world_meaning.specs.declared.article.Article.{Article}
@@ -19,10 +18,10 @@ use Rattle.world_meaning.specs.declared.exits.Exits.{Exits}
 use Rattle.world_meaning.specs.declared.direction.Direction.{Direction}
 use Rattle.world_meaning.specs.declared.tale.Object.{Object}
 use Rattle.world_meaning.specs.declared.tale.Tale.{Tale}
-use Rattle.story_format.specs.Mentions.{mention, first_mentions, number_or_none, number_in}
-use Rattle.story_format.specs.Words.{object_words, all_directions}
+use Rattle.story_format.specs.Mentions.{mention, number_in}
+use Rattle.story_format.specs.Words.{all_directions}
 use Rattle.story_format.specs.Making.{texts_of, entry_strings, code_strings, strings_of, article_number, relation_number, place_relation, place_holder, code_number, entry_of, entries_of, code_of, codes_of, ways_of, tables_of}
-use Rattle.story_format.specs.Telling.{and_some, article_of, relation_of, held, place_of, said, some_text, description_of, object_told, no_way, no_exits, first_of, exits_taken, objects_told, tale_with, tale_told}
+use Rattle.story_format.specs.Telling.{article_of, relation_of, place_of, said, description_of, object_told, no_way, no_exits, exits_taken, objects_told, tale_told}
 use Rattle.story_format.specs.Shape.{is_closed, are_closed, is_player, is_direction, is_room, are_directions, has_shape, IsTale}
 use Rattle.story_format.proofs.StringLemmas.{length_mapped}
 use Rattle.story_format.proofs.StoryLemmas.{both, both_are, all_weaker, parts, player_parts, direction_parts, room_parts}

@@ -1,5 +1,5 @@
 -- The layout of a story's tables, field by field.
-use Rattle.std.specs.Prelude.{◌≡◌, ℕ, List, Option, refl}
+use Rattle.std.specs.Prelude.{refl}
 use Rattle.std.specs.Int.{w16, w32}
 use Rattle.world_meaning.specs.declared.exits.Way.{Way}
 use Rattle.world_meaning.specs.declared.exits.Exits.{Exits}

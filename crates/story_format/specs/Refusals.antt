@@ -1,4 +1,4 @@
--- Which bytes are refused, and why. Each refusal says what stands there, so that no two of them go together.
+-- Which bytes are refused, and why: each refusal says what stands in the bytes.
 use Rattle.std.specs.Prelude.{◌≡◌, ◌≢◌, ℕ, ◌<◌, ◌⊎◌, true, false, List, [], ◌++◌, length, take}
 use Rattle.std.specs.Int.{w16, to_be_bytes}
 use Rattle.world_meaning.specs.declared.tale.Tale.{Tale}

@@ -1,6 +1,6 @@
 -- The tales that a story file of this version can hold: the player, the directions and rooms.
-use Rattle.std.specs.Prelude.{◌≡◌, ℕ, ◌+◌, Bool, true, false, ◌&&◌, ◌==◌, nat_le, nat_lt, ◌<◌, List, [], ◌∷◌, length, take, drop, Option, Some, None, is_none, is_some, codes, not}
-use Rattle.std.specs.List.{list_all, zip}
+use Rattle.std.specs.Prelude.{◌≡◌, ℕ, ◌+◌, Bool, true, false, ◌&&◌, ◌==◌, nat_le, nat_lt, ◌<◌, List, [], ◌∷◌, length, take, drop, Option, Some, None, is_none, codes}
+use Rattle.std.specs.List.{list_all}
 use Rattle.std.specs.Str.{bytes_eq}
 use Rattle.world_meaning.specs.declared.article.Article.{Article}
 use Rattle.world_meaning.specs.declared.article.Article.TheVariants as articles

@@ -2,6 +2,7 @@
 ghost use Rattle.std.specs.Prelude.{◌≡◌};
 
 use crate::field::Field;
+use byteorder::{BigEndian, ByteOrder};
 use std::alloc::{AllocError, Global};
 
 impl Field for u8 {
@@ -46,7 +47,9 @@ impl Field for u16 {
     }
 
     fn write(&self, out: &mut Vec<u8>) -> Result<(), AllocError> {
-        out.extend_from_slice(&self.to_be_bytes())
+        let mut bytes = [0; 2];
+        BigEndian::write_u16(&mut bytes, *self);
+        out.extend_from_slice(&bytes)
     }
 
     fn fits(&self) -> bool {
@@ -76,7 +79,9 @@ impl Field for u32 {
     }
 
     fn write(&self, out: &mut Vec<u8>) -> Result<(), AllocError> {
-        out.extend_from_slice(&self.to_be_bytes())
+        let mut bytes = [0; 4];
+        BigEndian::write_u32(&mut bytes, *self);
+        out.extend_from_slice(&bytes)
     }
 
     fn fits(&self) -> bool {

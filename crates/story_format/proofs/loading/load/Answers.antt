@@ -1,9 +1,6 @@
-use Rattle.std.proofs.Common.{◌≡◌, Some, None, Ok, sym, ap, ◌∙◌, subst, arith, refl}
+use Rattle.std.proofs.Common.{sym, ◌∙◌, arith}
 use Rattle.std.proofs.lemmas.Result.{err_from_is_err_and}
-use Rattle.story_format.specs.declared.fault.LoadFault.{LoadFault}
 use Rattle.story_format.specs.Spells.{Spells}
-use Rattle.story_format.specs.Refusals.{IsRefused}
-use Rattle.story_format.specs.Checks.{are_right}
 use Rattle.story_format.proofs.ReadingLemmas.{only_memory, refused, same_tale, table_fault, code_fault, right_if_spelled}
 use Rattle.story_format.proofs.loading.load.Goals as goal
 

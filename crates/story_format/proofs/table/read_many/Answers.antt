@@ -1,6 +1,5 @@
-use Rattle.std.proofs.Common.{◌≡◌, ◌++◌, ◌∷◌, [], ℕ, List, Some, None, rules}
-use Rattle.story_format.specs.Formats.{get_many, seen}
-use Rattle.story_format.proofs.Loops.{with_front, goes_on, ends, is_done}
+use Rattle.story_format.specs.Formats.{get_many}
+use Rattle.story_format.proofs.Loops.{goes_on, ends, is_done}
 use Rattle.story_format.proofs.table.read_many.Goals as goal
 
 pub returns-in_default : goal.returns-in_default

@@ -1,7 +1,4 @@
-use Rattle.std.proofs.Common.{◌≡◌, ◌∙◌, ap, sym, Some, None, drop, List, ℕ, [], ◌∷◌}
-use Rattle.std.specs.Prelude.{fold, filter}
-use Rattle.story_format.specs.Mentions.{mention}
-use Rattle.story_format.specs.Words.{is_word, blank_words}
+use Rattle.std.proofs.Common.{◌∙◌}
 use Rattle.story_format.proofs.WordLemmas.{mentions_on, mentions_last}
 use Rattle.story_format.proofs.words.mention_words.Goals as goal
 

@@ -1,5 +1,3 @@
-use Rattle.std.proofs.Common.{◌≡◌, Some}
-use Rattle.story_format.specs.Formats.{Format, get_many}
 use Rattle.story_format.specs.Layout.{way_format}
 use Rattle.story_format.proofs.Loops.{many_length}
 use Rattle.story_format.proofs.place.ExitsField.read.Goals as goal

@@ -1,7 +1,6 @@
-use Rattle.std.proofs.Common.{◌≡◌, refl, ap, sym, ℕ, List, ◌∙◌}
+use Rattle.std.proofs.Common.{ap, sym, ℕ, List, ◌∙◌}
 use Rattle.std.specs.List.{list_any}
 use Rattle.std.specs.Str.{bytes_eq}
-use Rattle.story_format.specs.Mentions.{mention}
 use Rattle.story_format.proofs.StringLemmas.{added, was_there}
 use Rattle.story_format.proofs.strings.Strings.mention.Goals as goal
 

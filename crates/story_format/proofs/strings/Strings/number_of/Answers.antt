@@ -1,4 +1,4 @@
-use Rattle.std.proofs.Common.{◌≡◌, refl, sym, Some, None, ◌∙◌, arith}
+use Rattle.std.proofs.Common.{◌≡◌, refl, Some, None}
 use Rattle.story_format.specs.Mentions.{number_in, number_or_none}
 use Rattle.story_format.proofs.StringLemmas.{numbered, items_of}
 use Rattle.story_format.proofs.strings.Strings.number_of.Goals as goal

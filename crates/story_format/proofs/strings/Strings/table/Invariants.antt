@@ -1,4 +1,4 @@
-use Rattle.std.proofs.Common.{◌≡◌, take, map}
+use Rattle.std.proofs.Common.{◌≡◌, take}
 use Rattle.story_format.proofs.StringLemmas.{items_of}
 use Rattle.story_format.proofs.strings.Strings.table.Given as goal
 
