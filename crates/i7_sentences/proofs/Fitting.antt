@@ -5,7 +5,8 @@ use Rattle.std.specs.List.{list_all}
 use Rattle.std.proofs.lemmas.Grind.{common_steps}
 use Rattle.std.proofs.Math.Seq.{take-append_seam, drop-append_seam}
 use Rattle.std.proofs.Math.Nat.{eq-or-lt_of_le}
-use Rattle.std.proofs.lemmas.Bool.{lt-ltb}
+use Rattle.std.proofs.lemmas.Bool.{lt-ltb, ltb-true}
+use Rattle.std.proofs.lemmas.List.{length-append, drop-append-le}
 use Rattle.i7_lexer.specs.declared.token.Token.{Token}
 use Rattle.i7_sentences.specs.Forms.{Fits, TakesWords, IsNoLonger, IsShortestFit, takes, is_letter, is_kept, suits, suits_one, with_kept}
 use Rattle.i7_sentences.specs.Matching.{stands, leftmost_from, rightmost, letter_len, taken, with_taken, first_fit, is_fixed}
@@ -193,3 +194,107 @@ last_len form tokens last = rw last refl
 
 pub inner_len : (form : List Piece) (tokens : List Token) → list_all is_fixed form ≡ false → letter_len form tokens ≡ leftmost_from 1 form tokens
 inner_len form tokens inner = rw inner refl
+
+-- What the first piece takes, and the fit of the rest, against another fit of all.
+pub record Start (p : Piece) (form : List Piece) (tokens : List Token) (others : List (List Token)) : Type 0 where
+  pub count : ℕ
+  pub takes_so : taken p form tokens ≡ Some count
+  pub rest_letters : List (List Token)
+  pub rest_fits : Fits form (drop count tokens) rest_letters
+  pub no_longer : (letters : List (List Token)) → IsNoLonger letters rest_letters → IsNoLonger (with_kept p (take count tokens) letters) others
+
+pub start_fixed : (p : Piece) (form : List Piece) (tokens : List Token) (others : List (List Token)) → is_letter p ≡ false → Fits (p ∷ form) tokens others → Start p form tokens others
+start_fixed p form tokens others fixed fit =
+  let one = one_word p fit.words (sym (suits-fixed p fit.words fixed) ∙ fit.suits_it) in
+  let parts : tokens ≡ one.word ∷ fit.rest = fit.parts ∙ ap (λ ws. ws ++ fit.rest) one.is in
+  record {
+    count = 1;
+    takes_so = ap (λ ts. taken p form ts) parts ∙ taken_fixed p form one.word fit.rest fixed one.takes_it;
+    rest_letters = fit.others;
+    rest_fits = subst (λ ts. Fits form ts fit.others) (sym (ap (λ ts. drop 1 ts) parts)) fit.behind;
+    no_longer = λ letters next. subst (λ os. IsNoLonger (with_kept p (take 1 tokens) letters) os) (sym fit.keeps)
+      (no_longer_same p (take 1 tokens) fit.words letters fit.others (ap (λ ts. length (take 1 ts)) parts ∙ sym (ap (λ ws. length ws) one.is)) next)
+  }
+
+-- a letter that ends where another fit's does
+pub start_there : (p : Piece) (form : List Piece) (tokens : List Token) (others : List (List Token)) → is_letter p ≡ true → (fit : Fits (p ∷ form) tokens others) → taken p form tokens ≡ Some (length fit.words) → Start p form tokens others
+start_there p form tokens others letter fit count = record {
+  count = length fit.words;
+  takes_so = count;
+  rest_letters = fit.others;
+  rest_fits = subst (λ ts. Fits form ts fit.others) (sym (drop_words fit.words fit.rest tokens fit.parts)) fit.behind;
+  no_longer = λ letters next. subst (λ os. IsNoLonger (with_kept p (take (length fit.words) tokens) letters) os) (sym fit.keeps)
+    (no_longer_same p (take (length fit.words) tokens) fit.words letters fit.others (ap (λ ws. length ws) (take_words fit.words fit.rest tokens fit.parts)) next)
+}
+
+-- a letter that ends before another fit's does
+pub start_before : (p : Piece) (form : List Piece) (tokens : List Token) (others : List (List Token)) (n : ℕ) → is_letter p ≡ true → (fit : Fits (p ∷ form) tokens others) → taken p form tokens ≡ Some n → n < length fit.words → Fitted form (drop n tokens) → Start p form tokens others
+start_before p form tokens others n letter fit count fewer rest = record {
+  count = n;
+  takes_so = count;
+  rest_letters = rest.letters;
+  rest_fits = rest.fits;
+  no_longer = λ letters next. subst (λ os. IsNoLonger (with_kept p (take n tokens) letters) os) (sym fit.keeps)
+    (no_longer_letter p (take n tokens) fit.words letters fit.others letter
+      (let whole : length tokens ≡ length (fit.words ++ fit.rest) = ap (λ ts. length ts) fit.parts in grind (arith, common_steps, whole, fewer)))
+}
+
+pub some_words : (p : Piece) (words : List Token) → is_letter p ≡ true → suits p words ≡ true → 0 < length words
+some_words p words letter suits_it = ltb-true 0 (length words) (sym (suits-letter p words letter) ∙ suits_it)
+
+pub whole_length : (words rest tokens : List Token) → tokens ≡ words ++ rest → length tokens ≡ length words + length rest
+whole_length words rest tokens parts = ap (λ ts. length ts) parts ∙ length-append words rest
+
+-- the last letter of a form
+pub start_last : (p : Piece) (form : List Piece) (tokens : List Token) (others : List (List Token)) → is_letter p ≡ true → list_all is_fixed form ≡ true → Fits (p ∷ form) tokens others → Start p form tokens others
+start_last p form tokens others letter last fit =
+  let some = some_words p fit.words letter fit.suits_it in
+  let same = fits_length form fit.rest fit.others last fit.behind in
+  let whole = whole_length fit.words fit.rest tokens fit.parts in
+  let there : stands form (drop (length fit.words) tokens) ≡ true = ap (λ ts. stands form ts) (drop_words fit.words fit.rest tokens fit.parts) ∙ fits_stands form fit.rest fit.others fit.behind in
+  start_there p form tokens others letter fit
+    (taken_letter p form tokens letter (omega (arith, some, whole)) ∙ last_len form tokens last
+      ∙ rightmost_there form tokens (length fit.words) (omega (arith, whole, same)) some there)
+
+-- a letter that others follow
+pub start_inner : (p : Piece) (form : List Piece) (tokens : List Token) (others : List (List Token)) → is_letter p ≡ true → list_all is_fixed form ≡ false → Fits (p ∷ form) tokens others → Start p form tokens others
+start_inner p form tokens others letter inner fit =
+  let some = some_words p fit.words letter fit.suits_it in
+  let whole = whole_length fit.words fit.rest tokens fit.parts in
+  let same : suc (length fit.words - 1) ≡ length fit.words = omega (arith, some) in
+  let there : stands form (drop (suc (length fit.words - 1)) tokens) ≡ true = ap (λ n. stands form (drop n tokens)) same ∙ ap (λ ts. stands form ts) (drop_words fit.words fit.rest tokens fit.parts) ∙ fits_stands form fit.rest fit.others fit.behind in
+  let first = leftmost_there form tokens 1 (length fit.words - 1) (omega (arith, some, whole)) there in
+  let one_more : 1 + first.at ≡ suc first.at = omega arith in
+  let count : taken p form tokens ≡ Some (1 + first.at) = taken_letter p form tokens letter (omega (arith, some, whole)) ∙ inner_len form tokens inner ∙ first.is in
+  elim (eq-or-lt_of_le first.within) [
+    inl last ↦ start_there p form tokens others letter fit (count ∙ ap (λ n. Some n) (omega (arith, last, some)))
+  | inr fewer ↦
+      let parts : drop (1 + first.at) tokens ≡ drop (1 + first.at) fit.words ++ fit.rest = ap (λ ts. drop (1 + first.at) ts) fit.parts ∙ drop-append-le (1 + first.at) fit.words fit.rest (omega (arith, fewer)) in
+      let standing : stands form (drop (1 + first.at) fit.words ++ fit.rest) ≡ true = ap (λ ts. stands form ts) (sym parts) ∙ ap (λ n. stands form (drop n tokens)) one_more ∙ first.stands_there in
+      let near = nearer form (drop (1 + first.at) fit.words) fit.rest fit.others inner standing fit.behind in
+      start_before p form tokens others (1 + first.at) letter fit count (omega (arith, fewer)) (record { letters = near.letters; fits = subst (λ ts. Fits form ts near.letters) (sym parts) near.fits })
+  ]
+
+pub start_of : (p : Piece) (form : List Piece) (tokens : List Token) (others : List (List Token)) → Fits (p ∷ form) tokens others → Start p form tokens others
+start_of p form tokens others fit =
+  let ByKind : Bool → Type 0 = λ kind. is_letter p ≡ kind → Start p form tokens others in
+  let ByLast : Bool → Type 0 = λ last. list_all is_fixed form ≡ last → is_letter p ≡ true → Start p form tokens others in
+  elim (is_letter p) as ByKind [
+    true ↦ λ letter. elim (list_all is_fixed form) as ByLast [
+        true ↦ λ last letter'. start_last p form tokens others letter' last fit
+      | false ↦ λ inner letter'. start_inner p form tokens others letter' inner fit
+      ] refl letter
+  | false ↦ λ fixed. start_fixed p form tokens others fixed fit
+  ] refl
+
+-- what fits is found, with letters that are no longer
+pub found : (form : List Piece) (tokens : List Token) (others : List (List Token)) → Fits form tokens others → Found form tokens others
+found [] tokens others fit = record { letters = []; is = ap (λ ts. first_fit [] ts) fit.0; shortest = tt }
+found (p ∷ form) tokens others fit =
+  let start = start_of p form tokens others fit in
+  let rest = found form (drop start.count tokens) start.rest_letters start.rest_fits in
+  record {
+    letters = with_kept p (take start.count tokens) rest.letters;
+    is = fit_with p form tokens start.count rest.letters start.takes_so rest.is;
+    shortest = start.no_longer rest.letters rest.shortest
+  }

@@ -1,4 +1,5 @@
 pub mod Cutting
 pub mod Digits
 pub mod Fitting
+pub mod FittingBack
 pub mod Hearing
