@@ -1,7 +1,7 @@
 -- The words of a line, taken from its front.
-use Rattle.std.proofs.Common.{◌≡◌, ℕ, ◌+◌, ◌<◌, ◌≤◌, Bool, true, false, List, [], ◌∷◌, ◌++◌, length, take, drop, refl, ap, sym, ◌∙◌, arith, get_or, append_assoc}
-use Rattle.std.specs.Prelude.{filter, not}
-use Rattle.std.specs.List.{slice_split, onto_first, position_or_len}
+use Rattle.std.proofs.Common.{◌≡◌, ℕ, ◌<◌, ◌≤◌, Bool, true, false, List, [], ◌∷◌, ◌++◌, length, take, drop, refl, ap, sym, ◌∙◌, arith, get_or, append_assoc}
+use Rattle.std.specs.Prelude.{filter}
+use Rattle.std.specs.List.{slice_split, position_or_len}
 use Rattle.std.proofs.lemmas.Grind.{common_steps}
 use Rattle.world_meaning.specs.Reading.{is_blank, is_word, words_of}
 
@@ -21,7 +21,7 @@ after_stop p b bs stop = record {
   parts = slice_split p bs;
   first = rw stop refl;
   is_long = rw stop (λ h. absurd (omega (arith, h)));
-  others = rw stop (rw stop refl)
+  others = rw stop (rw stop refl);
 }
 
 pub after_more : (p : ℕ → Bool) (b : ℕ) (bs : List ℕ) → p b ≡ false → AfterFirst p bs → AfterFirst p (b ∷ bs)
@@ -29,20 +29,20 @@ after_more p b bs more h = record {
   parts = h.parts;
   first = rw (more, h.first) (grind (arith, common_steps));
   is_long = rw more (λ h. grind (arith, common_steps));
-  others = rw more (grind (arith, common_steps, h.others))
+  others = rw more (grind (arith, common_steps, h.others));
 }
 
 pub after_first_part : (p : ℕ → Bool) (bs : List ℕ) → AfterFirst p bs
 after_first_part p [] = record { parts = []; first = refl; is_long = λ h. absurd (omega (arith, h)); others = refl }
 after_first_part p (b ∷ bs) =
-  let Goal : Bool → Type 0 = λ v. p b ≡ v → AfterFirst p (b ∷ bs)
-  in elim (p b) as Goal [ true ↦ after_stop p b bs | false ↦ λ e. after_more p b bs e (after_first_part p bs) ] refl
+    let Goal : Bool → Type 0 = λ v. p b ≡ v → AfterFirst p (b ∷ bs)
+    in elim (p b) as Goal [ true ↦ after_stop p b bs | false ↦ λ e. after_more p b bs e (after_first_part p bs) ] refl
 
 -- a word in front is the first word
 pub words_of-word : (bs : List ℕ) → 0 < position_or_len is_blank bs → words_of bs ≡ take (position_or_len is_blank bs) bs ∷ words_of (drop (position_or_len is_blank bs) bs)
 words_of-word bs here =
-  let h = after_first_part is_blank bs
-  in ap (filter is_word) h.first ∙ rw (h.is_long here) (ap (λ words. take (position_or_len is_blank bs) bs ∷ words) h.others)
+    let h = after_first_part is_blank bs
+    in ap (filter is_word) h.first ∙ rw (h.is_long here) (ap (λ words. take (position_or_len is_blank bs) bs ∷ words) h.others)
 
 -- a line whose first byte is no blank begins with a word
 pub first_is_word : (bs : List ℕ) → 1 ≤ length bs → is_blank (get_or bs 0 0) ≡ false → 0 < position_or_len is_blank bs
@@ -52,6 +52,6 @@ first_is_word (b ∷ bs) h word = rw word (omega arith)
 -- one more word is taken from the front
 pub word_taken : (done : List (List ℕ)) (rest word behind line : List ℕ) (n : ℕ) → n ≡ position_or_len is_blank rest → 0 < position_or_len is_blank rest → word ≡ take n rest → behind ≡ drop n rest → done ++ words_of rest ≡ words_of line → (done ++ word ∷ []) ++ words_of behind ≡ words_of line
 word_taken done rest word behind line n place here front back so_far =
-  rw (front, back, place) (append_assoc done (take (position_or_len is_blank rest) rest ∷ []) (words_of (drop (position_or_len is_blank rest) rest)) ∙ ap (λ ws. done ++ ws) (sym (words_of-word rest here)) ∙ so_far)
+    rw (front, back, place) (append_assoc done (take (position_or_len is_blank rest) rest ∷ []) (words_of (drop (position_or_len is_blank rest) rest)) ∙ ap (λ ws. done ++ ws) (sym (words_of-word rest here)) ∙ so_far)
 
 pub ruleset word_steps = (words_of-blank, words_of-word)

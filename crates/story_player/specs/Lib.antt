@@ -1,3 +1,4 @@
+pub mod Breaks
 pub mod ReplyTexts
 pub mod Sessions
 pub mod Watches

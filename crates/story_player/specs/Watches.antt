@@ -1,5 +1,5 @@
 -- What contracts see of a watched reader or writer.
-use Rattle.std.specs.Prelude.{ℕ, Bool, true, false, ◌&&◌, ◌==◌, nat_lt, List, length, Result, Ok, Err}
+use Rattle.std.specs.Prelude.{ℕ, Bool, true, ◌&&◌, ◌==◌, nat_lt, List, length, Result, Ok, Err}
 use Rattle.story_player.specs.declared.watched.Watched.{Watched}
 
 abbrev pub watched_inner : {T : Type 0} → Watched T → T

@@ -1,13 +1,14 @@
 //! Playing a session over a reader and a writer.
-ghost use Rattle.std.specs.Prelude.{◌≡◌, ◌<◌, ◌≤◌, IsSome, OnOk};
-
-use std::io::{Read, Write};
-
-use thiserror::Error;
-use world_meaning::Ending;
+ghost use Rattle.std.specs.Prelude.{◌≡◌, ◌<◌, ◌≤◌, true, false, Some, IfErr, IfOk, OnOk};
+ghost use Rattle.story_player.specs.Breaks.{BrokeOff};
+ghost use Rattle.story_player.specs.Sessions.{state_of, tale_of};
+ghost use Rattle.story_player.specs.Watches.{watched_failed};
 
 use crate::typed::TypedLine;
 use crate::{Session, Watched};
+use std::io::{Read, Write};
+use thiserror::Error;
+use world_meaning::Ending;
 
 /// Why playing breaks off.
 #[derive(Clone, Copy, Debug, Drop, PartialEq, Eq, Error)]
@@ -39,7 +40,11 @@ enum LineEnd {
 }
 
 /// Writes all of the bytes.
-fn write_whole<W: Write>(writer: &mut Watched<W>, bytes: &[u8]) -> Result<(), RunFault> {
+fn write_whole<W: Write>(writer: &mut Watched<W>, bytes: &[u8]) -> Result<(), RunFault>
+    requires writer { watched_failed writer.old ≡ false }
+    ensures stands { OnOk result (watched_failed writer.new ≡ false) }
+    ensures broke { IfErr result (λ fault. (fault ≡ RunFault.Write) × (watched_failed writer.new ≡ true)) }
+{
     let mut rest = bytes;
     while !rest.is_empty() {
         match writer.write(rest) {
@@ -57,7 +62,11 @@ fn write_whole<W: Write>(writer: &mut Watched<W>, bytes: &[u8]) -> Result<(), Ru
 }
 
 /// The next byte of the input, or none at its end.
-fn next_byte<R: Read>(reader: &mut Watched<R>) -> Result<Option<u8>, RunFault> {
+fn next_byte<R: Read>(reader: &mut Watched<R>) -> Result<Option<u8>, RunFault>
+    requires { watched_failed reader.old ≡ false }
+    ensures stands { OnOk result (watched_failed reader.new ≡ false) }
+    ensures broke { IfErr result (λ fault. (fault ≡ RunFault.Read) × (watched_failed reader.new ≡ true)) }
+{
     let mut byte = [0u8; 1];
     match reader.read(&mut byte) {
         Err(_) => Err(RunFault::Read),
@@ -66,8 +75,16 @@ fn next_byte<R: Read>(reader: &mut Watched<R>) -> Result<Option<u8>, RunFault> {
 }
 
 /// Writes the bytes of a command, if commands are echoed.
-fn echo_bytes<W: Write>(writer: &mut Watched<W>, bytes: &[u8], echo: bool) -> Result<(), RunFault> {
-    if echo { write_whole(writer, bytes) } else { Ok(()) }
+fn echo_bytes<W: Write>(writer: &mut Watched<W>, bytes: &[u8], echo: bool) -> Result<(), RunFault>
+    requires writer { watched_failed writer.old ≡ false }
+    ensures stands { OnOk result (watched_failed writer.new ≡ false) }
+    ensures broke { IfErr result (λ fault. (fault ≡ RunFault.Write) × (watched_failed writer.new ≡ true)) }
+{
+    if echo {
+        write_whole(writer, bytes)
+    } else {
+        Ok(())
+    }
 }
 
 /// Keeps one more byte of the line; bytes that find no room any more are written before it.
@@ -76,7 +93,11 @@ fn keep_byte<W: Write>(
     line: &mut TypedLine,
     byte: u8,
     echo: bool,
-) -> Result<(), RunFault> {
+) -> Result<(), RunFault>
+    requires writer { watched_failed writer.old ≡ false }
+    ensures stands { OnOk result (watched_failed writer.new ≡ false) }
+    ensures broke { IfErr result (λ fault. (fault ≡ RunFault.Write) × (watched_failed writer.new ≡ true)) }
+{
     if line.is_full() {
         echo_bytes(writer, line.without_return(), echo)?;
         line.let_go();
@@ -93,6 +114,10 @@ fn type_line<R: Read, W: Write>(
     left: &mut u32,
     echo: bool,
 ) -> Result<LineEnd, RunFault>
+    requires reader { watched_failed reader.old ≡ false }
+    requires writer { watched_failed writer.old ≡ false }
+    ensures stand { OnOk result ((watched_failed reader.new ≡ false) × (watched_failed writer.new ≡ false)) }
+    ensures broke { IfErr result (λ fault. BrokeOff fault (watched_failed reader.new) (watched_failed writer.new)) }
     ensures fewer { left.new ≤ left.old }
     ensures read { result ≡ Ok LineEnd.Break → left.new < left.old }
 {
@@ -116,7 +141,12 @@ fn answer<W: Write>(
     session: &mut Session,
     line: &TypedLine,
     echo: bool,
-) -> Result<(), RunFault> {
+) -> Result<(), RunFault>
+    requires writer { watched_failed writer.old ≡ false }
+    ensures stands { OnOk result (watched_failed writer.new ≡ false) }
+    ensures broke { IfErr result (λ fault. (fault ≡ RunFault.Write) × (watched_failed writer.new ≡ true)) }
+    ensures tale { tale_of session.new ≡ tale_of session.old }
+{
     echo_bytes(writer, line.kept(), echo)?;
     echo_bytes(writer, b"\n", echo)?;
     let reply = line.answered_by(session);
@@ -129,7 +159,12 @@ fn answer_last<W: Write>(
     session: &mut Session,
     line: &TypedLine,
     echo: bool,
-) -> Result<(), RunFault> {
+) -> Result<(), RunFault>
+    requires writer { watched_failed writer.old ≡ false }
+    ensures stands { OnOk result (watched_failed writer.new ≡ false) }
+    ensures broke { IfErr result (λ fault. (fault ≡ RunFault.Write) × (watched_failed writer.new ≡ true)) }
+    ensures tale { tale_of session.new ≡ tale_of session.old }
+{
     if line.is_empty() {
         return Ok(());
     }
@@ -148,7 +183,14 @@ pub fn run<R: Read, W: Write>(
     writer: &mut Watched<W>,
     session: &mut Session,
     echo: bool,
-) -> Result<Ending, RunFault> {
+) -> Result<Ending, RunFault>
+    requires reader { watched_failed reader.old ≡ false }
+    requires writer { watched_failed writer.old ≡ false }
+    ensures stand { OnOk result ((watched_failed reader.new ≡ false) × (watched_failed writer.new ≡ false)) }
+    ensures broke { IfErr result (λ fault. BrokeOff fault (watched_failed reader.new) (watched_failed writer.new)) }
+    ensures ended { IfOk result (λ ending. (state_of session.new).ending ≡ Some ending) }
+    ensures tale { tale_of session.new ≡ tale_of session.old }
+{
     let mut left = MOST_INPUT;
     write_whole(writer, session.opening())?;
     while session.ending().is_none() {
@@ -158,10 +200,12 @@ pub fn run<R: Read, W: Write>(
             LineEnd::Break => answer(writer, session, &line, echo)?,
             LineEnd::Input => {
                 answer_last(writer, session, &line, echo)?;
-                session.end_input();
-                break;
+                let _ = session.end_input();
             }
         }
     }
-    Ok(session.ending().unwrap_or(Ending::EndOfInput))
+    match session.ending() {
+        Some(ending) => Ok(ending),
+        None => Ok(session.end_input()),
+    }
 }

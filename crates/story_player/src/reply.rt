@@ -2,7 +2,6 @@
 ghost use Rattle.std.specs.Prelude.{◌≡◌};
 
 use std::marker::Model;
-
 use world_meaning::{ReplyKind, TextBytes};
 
 /// A text that the player knows, or one that was made for the line.

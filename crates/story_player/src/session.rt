@@ -1,18 +1,15 @@
 //! A session: a story in play, line by line.
-ghost use Rattle.std.specs.Prelude.{◌≡◌, ◌<◌, ◌++◌, false, if◌then◌else◌, IfOk, OnOk};
+ghost use Rattle.std.specs.Prelude.{◌≡◌, ◌<◌, ◌++◌, false, Some, if◌then◌else◌, IfOk, OnOk};
 ghost use Rattle.std.specs.Bool.{MatchBool};
 ghost use Rattle.world_meaning.specs.Texts.{memory_text, said};
 ghost use Rattle.world_meaning.specs.Transcript.{ending_at_end};
 ghost use Rattle.world_meaning.specs.Session.{abandoned, answer_of, later, look_text, looked_in, most_turns, opening_text, read_answer, room_after, start_state};
 
+use crate::{Reply, World, read_line, texts};
 use std::alloc::{AllocError, Global};
-
 use story_format::Story;
 use thiserror::Error;
 use world_meaning::{Abandon, Action, Ending, ObjNo, Reading, ReplyKind, TextBytes};
-
-use crate::texts;
-use crate::{Reply, World, read_line};
 
 /// The highest turn count.
 const MOST_TURNS: u32 = 2_147_483_647;
@@ -132,7 +129,10 @@ impl Session {
         ensures tale { tale_of self.new ≡ tale_of self.old }
     {
         if self.world.turns() >= MOST_TURNS {
-            return Reply::fixed(texts::OUT_OF_RANGE, ReplyKind::Abandoned(Abandon::NumberOutOfRange));
+            return Reply::fixed(
+                texts::OUT_OF_RANGE,
+                ReplyKind::Abandoned(Abandon::NumberOutOfRange),
+            );
         }
         match self.room_after(action) {
             None => {
@@ -173,13 +173,18 @@ impl Session {
         }
     }
 
-    /// The commands have run out.
-    pub fn end_input(&mut self)
+    /// The commands have run out: answers how the session has ended.
+    pub fn end_input(&mut self) -> Ending
         ensures state { state_of self.new ≡ record (state_of self.old) { ending = ending_at_end (state_of self.old).ending } }
+        ensures ending { (state_of self.new).ending ≡ Some result }
         ensures tale { tale_of self.new ≡ tale_of self.old }
     {
-        if self.ending.is_none() {
-            self.ending = Some(Ending::EndOfInput);
+        match self.ending {
+            Some(ending) => ending,
+            None => {
+                self.ending = Some(Ending::EndOfInput);
+                Ending::EndOfInput
+            }
         }
     }
 }

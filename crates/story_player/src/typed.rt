@@ -1,7 +1,6 @@
 //! The line that is being typed: its bytes so far, of which only a part is kept where it is long.
-use arrayvec::ArrayVec;
-
 use crate::{Reply, Session};
+use arrayvec::ArrayVec;
 
 /// The bytes that are kept: a line that is no longer is kept whole.
 const MOST_KEPT: usize = 256;
@@ -26,6 +25,9 @@ fn is_word_byte(byte: &u8) -> bool {
 }
 
 impl TypedLine {
+    ghost use Rattle.std.specs.Prelude.{◌≡◌};
+    ghost use Rattle.story_player.specs.Sessions.{tale_of};
+
     /// No byte so far.
     pub fn new() -> TypedLine {
         TypedLine {
@@ -85,7 +87,9 @@ impl TypedLine {
     }
 
     /// What the session answers to the line.
-    pub fn answered_by(&self, session: &mut Session) -> Reply {
+    pub fn answered_by(&self, session: &mut Session) -> Reply
+        ensures tale { tale_of session.new ≡ tale_of session.old }
+    {
         if !self.is_long {
             return session.line(self.kept.as_slice());
         }

@@ -5,7 +5,6 @@ ghost use Rattle.world_meaning.specs.World.{start_world};
 
 use std::alloc::{AllocError, Global};
 use std::marker::Model;
-
 use story_format::Story;
 use world_meaning::ObjNo;
 

@@ -1,5 +1,5 @@
 -- What a typed line means: the grammar `look`, `l`, DIRECTION, `go` DIRECTION, and `quit`, `q`.
-use Rattle.std.specs.Prelude.{ℕ, ◌+◌, Bool, true, false, not, ◌&&◌, ◌||◌, ◌==◌, nat_lt, List, [], ◌∷◌, length, filter, find, Option, None, Some, codes, if◌then◌else◌}
+use Rattle.std.specs.Prelude.{ℕ, Bool, false, not, ◌&&◌, ◌||◌, ◌==◌, nat_lt, List, [], ◌∷◌, length, filter, find, Option, None, Some, codes, if◌then◌else◌}
 use Rattle.std.specs.List.{list_all, slice_split}
 use Rattle.world_meaning.specs.Spelling.{is_spelled}
 use Rattle.world_meaning.specs.Directions.{direction_name, short_word, all_directions}

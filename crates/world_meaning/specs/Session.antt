@@ -1,5 +1,5 @@
 -- A session: what each line does to the world, and the text that it gives.
-use Rattle.std.specs.Prelude.{ℕ, ◌+◌, Bool, true, false, nat_lt, List, [], ◌∷◌, ◌++◌, Option, None, Some, slice_set, if◌then◌else◌}
+use Rattle.std.specs.Prelude.{ℕ, ◌+◌, Bool, true, nat_lt, List, [], ◌++◌, Option, None, Some, slice_set, if◌then◌else◌}
 use Rattle.world_meaning.specs.Directions.{direction_number}
 use Rattle.world_meaning.specs.Reading.{reading_of}
 use Rattle.world_meaning.specs.Tale.{name_of, description_of, way_of, start_of}

@@ -1,9 +1,8 @@
 -- The transcript of a session: the opening, and a prompt, an echo and a text for each line.
 use Rattle.std.specs.Prelude.{◌≡◌, ℕ, Bool, true, false, List, [], ◌∷◌, ◌++◌, Option, None, Some}
 use Rattle.std.specs.Str.Lines.{lines}
-use Rattle.world_meaning.specs.Session.{State, Answer, answer_of, start_state, opening_text}
+use Rattle.world_meaning.specs.Session.{State, answer_of, start_state, opening_text}
 use Rattle.world_meaning.specs.Texts.{said, prompt}
-use Rattle.world_meaning.specs.World.{World}
 use Rattle.world_meaning.specs.declared.tale.Tale.{Tale}
 use Rattle.world_meaning.specs.declared.session.Ending.{Ending}
 use Rattle.world_meaning.specs.declared.session.Ending.TheVariants.{EndOfInput}

@@ -1,0 +1,51 @@
+#!/usr/bin/env bash
+# Sources of the greatest length that are hard on a reader: each is answered within a second.
+# Use: tests/hostile.sh PROGRAM
+set -u
+program=$(realpath "$1")
+scratch=$(mktemp -d)
+trap 'rm -rf "$scratch"' EXIT
+cd "$scratch" || exit 1
+python3 - <<'PY'
+import random
+longest = 262144
+def save(name, unit):
+    text = (unit * (longest // len(unit) + 1))[:longest]
+    open(name + ".i7", "wb").write(text if isinstance(text, bytes) else text.encode())
+save("brackets", "[")
+save("quotes", '"')
+save("blanks", " ")
+save("lines_and_tabs", "\n\t")
+save("one_word", "x")
+save("is", "is ")
+save("of", "of ")
+save("articles", "a ")
+save("ways", "x is north of ")
+save("rules", "rule is listed first in ")
+save("stops", ".")
+save("closed_texts", '"a." ')
+half = longest // 2
+open("nested.i7", "wb").write(b"[" * half + b"]" * half)
+open("random.i7", "wb").write(random.Random(7).randbytes(longest))
+rooms = "".join(f"Room{n} is north of Room{n - 1}. \"The walls of room {n} are bare and cold here.\"\n\n" for n in range(1, 980))
+open("rooms.i7", "w").write("Room0 is a room.\n\n" + rooms)
+words = "".join(f"Hall is a room.\n\n" for n in range(longest // 17))
+open("one_room.i7", "w").write(words[:longest])
+PY
+passed=0
+failed=0
+for source in *.i7; do
+  timeout 1 "$program" compile "$source" story 2>err </dev/null
+  status=$?
+  want=1
+  [ "$source" = rooms.i7 ] && want=0
+  [ "$source" = one_room.i7 ] && want=0
+  if [ $status = $want ] && { [ $want = 0 ] || grep -qE "^$source:[0-9]+: C[0-9]+ [A-Za-z]+\$" err; }; then
+    passed=$((passed + 1))
+  else
+    failed=$((failed + 1))
+    echo "hostile: $source: status $status, $(head -c 100 err)"
+  fi
+done
+echo "hostile: $passed passed, $failed failed"
+[ $failed = 0 ]
