@@ -16,6 +16,8 @@ mod reader;
 mod reading;
 mod sentence;
 mod shape;
+#[cfg(test)]
+mod tests;
 mod word;
 
 pub use part::{Part, PartKind};
