@@ -8,11 +8,11 @@ use Rattle.i7_sentences.specs.Pieces.{piece_len, more_len}
 -- what stands behind a first token, cut off where its piece ends
 pub cut_onto : (same : Token → Token → Bool) (token next : Token) (rest : List Token) (joined : Bool) → same token next ≡ joined → cut same (next ∷ rest) ≡ take (piece_len same (next ∷ rest)) (next ∷ rest) ∷ cut same (drop (piece_len same (next ∷ rest)) (next ∷ rest)) → cut same (token ∷ next ∷ rest) ≡ take (piece_len same (token ∷ next ∷ rest)) (token ∷ next ∷ rest) ∷ cut same (drop (piece_len same (token ∷ next ∷ rest)) (token ∷ next ∷ rest))
 cut_onto same token next rest true joined first =
-  let shape : cut same (next ∷ rest) ≡ (next ∷ take (more_len same next rest) rest) ∷ cut same (drop (piece_len same (next ∷ rest)) (next ∷ rest)) = first ∙ grind (arith, common_steps)
-  in rw (shape, joined) (grind (arith, common_steps))
+    let shape : cut same (next ∷ rest) ≡ (next ∷ take (more_len same next rest) rest) ∷ cut same (drop (piece_len same (next ∷ rest)) (next ∷ rest)) = first ∙ grind (arith, common_steps)
+    in rw (shape, joined) (grind (arith, common_steps))
 cut_onto same token next rest false joined first =
-  let shape : cut same (next ∷ rest) ≡ (next ∷ take (more_len same next rest) rest) ∷ cut same (drop (piece_len same (next ∷ rest)) (next ∷ rest)) = first ∙ grind (arith, common_steps)
-  in rw (shape, joined) (ap (λ pieces. (token ∷ []) ∷ pieces) (sym shape))
+    let shape : cut same (next ∷ rest) ≡ (next ∷ take (more_len same next rest) rest) ∷ cut same (drop (piece_len same (next ∷ rest)) (next ∷ rest)) = first ∙ grind (arith, common_steps)
+    in rw (shape, joined) (ap (λ pieces. (token ∷ []) ∷ pieces) (sym shape))
 
 pub cut_first : (same : Token → Token → Bool) (token : Token) (tokens : List Token) → cut same (token ∷ tokens) ≡ take (piece_len same (token ∷ tokens)) (token ∷ tokens) ∷ cut same (drop (piece_len same (token ∷ tokens)) (token ∷ tokens))
 cut_first same token [] = refl

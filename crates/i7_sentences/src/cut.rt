@@ -4,13 +4,11 @@ ghost use Rattle.std.specs.List.{list_all};
 ghost use Rattle.i7_sentences.specs.Cuts.{cut, ends_sentence_kind, has_final_end, is_capitalised, is_final, is_full_stop, is_heading, is_same_paragraph, is_same_sentence, is_stop_alone, is_text_kind, is_title, is_within_line, kind_of, may_begin_kind, opens_heading, parts_of, with_paragraph, with_sentence};
 ghost use Rattle.i7_sentences.specs.Pieces.{piece_len, pieces_of};
 
-use std::alloc::{AllocError, Global};
-
-use i7_lexer::{Start, Token, TokenKind};
-use world_meaning::is_spelled;
-
 use crate::part::{Part, PartKind};
 use crate::word::word_of;
+use i7_lexer::{Start, Token, TokenKind};
+use std::alloc::{AllocError, Global};
+use world_meaning::is_spelled;
 
 /// Whether the next token belongs to the same paragraph.
 fn is_same_paragraph(token: &Token, next: &Token) -> bool

@@ -10,5 +10,4 @@ ghost use Rattle.i7_sentences.specs.Matching.{first_fit};
 pub fn first_fit_is_shortest()
     ensures found { (form : List Piece) (words : List Token) (letters : List (List Token)) → first_fit form words ≡ Some letters → IsShortestFit form words letters }
     ensures none { (form : List Piece) (words : List Token) (letters : List (List Token)) → first_fit form words ≡ None → Fits form words letters → ⊥ }
-{
-}
+{}

@@ -20,11 +20,10 @@ mod shape;
 mod tests;
 mod word;
 
-pub use part::{Part, PartKind};
-pub use reader::read;
 pub use form::{Form, Piece};
 pub use keyword::Keyword;
 pub use laws::first_fit_is_shortest;
 pub use name::{Name, NameArticle};
-
+pub use part::{Part, PartKind};
+pub use reader::read;
 pub use sentence::{Saying, Sentence, Way};

@@ -20,13 +20,7 @@ fn digits_of(word: &[u8]) -> &[u8]
 {
     match word {
         [] => word,
-        [first, rest @ ..] => {
-            if *first == b'-' {
-                rest
-            } else {
-                word
-            }
-        }
+        [first, rest @ ..] => { if *first == b'-' { rest } else { word } }
     }
 }
 

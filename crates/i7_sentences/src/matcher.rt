@@ -4,11 +4,9 @@ ghost use Rattle.std.specs.List.{list_all};
 ghost use Rattle.i7_sentences.specs.Forms.{is_kept, is_letter};
 ghost use Rattle.i7_sentences.specs.Matching.{first_fit, is_fixed, leftmost_from, letter_len, rightmost, stands, taken};
 
-use std::alloc::{AllocError, Global};
-
-use i7_lexer::Token;
-
 use crate::Piece;
+use i7_lexer::Token;
+use std::alloc::{AllocError, Global};
 
 /// Whether the piece is a letter.
 fn is_letter(piece: Piece) -> bool

@@ -2,12 +2,10 @@
 ghost use Rattle.std.specs.Prelude.{◌≡◌, IfOk, OnOk};
 ghost use Rattle.i7_sentences.specs.Senses.{article_of, has_article, is_some_article, joined, name_of, name_words, rest_of, with_word};
 
-use std::alloc::{AllocError, Global};
-
-use i7_lexer::Token;
-use world_meaning::{TextBytes, is_spelled};
-
 use crate::word::{is_article, word_of};
+use i7_lexer::Token;
+use std::alloc::{AllocError, Global};
+use world_meaning::{TextBytes, is_spelled};
 
 /// The article that a sentence puts before a name.
 #[derive(Clone, Copy, Debug, PartialEq, Eq)]

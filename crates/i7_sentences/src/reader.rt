@@ -9,17 +9,15 @@ ghost use Rattle.i7_sentences.specs.Pieces.{piece_of, pieces_of};
 ghost use Rattle.i7_sentences.specs.Read.{has_bad_literal, heard_in, is_sentence, is_unread, line_heard, line_in, line_of, part_sense, read_of, reserves, sentence_of};
 ghost use Rattle.i7_sentences.specs.Senses.{saying_of};
 
-use std::alloc::{AllocError, AllocFailed, Global};
-
-use i7_lexer::{Lexed, Token};
-use world_meaning::{Fault, FaultCode, TextBytes};
-
 use crate::cut::parts_of;
 use crate::literal::is_out_of_range;
 use crate::name::name_of;
 use crate::reading::{HeardPart, Reading, has_reserved_name, understood};
 use crate::word::word_of;
 use crate::{Part, PartKind, Saying, Sentence, Way};
+use i7_lexer::{Lexed, Token};
+use std::alloc::{AllocError, AllocFailed, Global};
+use world_meaning::{Fault, FaultCode, TextBytes};
 
 /// The line of a part: that of its first token.
 fn line_of(part: &Part<'_>) -> u32

@@ -4,16 +4,14 @@ ghost use Rattle.std.specs.List.{list_all, list_any};
 ghost use Rattle.i7_sentences.specs.Heards.{sense_in};
 ghost use Rattle.i7_sentences.specs.Senses.{direction_in, first_sense, fixed_sense, form_sense, has_reserved_name, is_plain, is_reserved_name, is_room_form, is_word_kind, lone_sense, named_sense, named_way, room_sense, sense_of, shape_of, shape_sense, text_sense, way_between};
 
-use std::alloc::{AllocError, Global};
-
-use i7_lexer::{Token, TokenKind};
-use world_meaning::{Direction, TextBytes};
-
 use crate::Form;
 use crate::matcher::fit;
 use crate::name::name_words;
 use crate::shape::{Shape, is_room_form, shape_of};
 use crate::word::{direction_of, is_reserved, word_of};
+use i7_lexer::{Token, TokenKind};
+use std::alloc::{AllocError, Global};
+use world_meaning::{Direction, TextBytes};
 
 /// A sentence that is understood, its names still words of the source.
 #[derive(Clone, Copy, Debug)]
@@ -229,10 +227,7 @@ fn lone_reading(tokens: &[Token]) -> Option<Reading<'_>>
 }
 
 /// What the tokens of a sentence say, if they are understood.
-pub fn understood<'a>(
-    alloc: Global,
-    tokens: &'a [Token],
-) -> Result<Option<Reading<'a>>, AllocError>
+pub fn understood<'a>(alloc: Global, tokens: &'a [Token]) -> Result<Option<Reading<'a>>, AllocError>
     ensures { IfOk result (λ found. option_map sense_in found ≡ sense_of tokens.now) }
 {
     if are_words(tokens) {

@@ -1,7 +1,6 @@
 //! What a sentence says.
-use world_meaning::{Direction, TextBytes};
-
 use crate::Name;
+use world_meaning::{Direction, TextBytes};
 
 /// What one sentence says.
 #[derive(Debug, Drop)]

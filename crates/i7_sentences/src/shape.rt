@@ -2,9 +2,8 @@
 ghost use Rattle.std.specs.Prelude.{◌≡◌};
 ghost use Rattle.i7_sentences.specs.Senses.{is_room_form, shape_of};
 
-use world_meaning::Direction;
-
 use crate::Form;
+use world_meaning::Direction;
 
 /// Whether a form states a way, and how: its direction is fixed or named by a word of the sentence,
 /// and it mentions the room first or the subject.

@@ -1,10 +1,8 @@
 //! Sentences with their readings.
+use crate::{Name, Saying, Sentence, read};
+use i7_lexer::lex;
 use std::alloc::{AllocError, Global};
 use std::test::Fail;
-
-use i7_lexer::lex;
-
-use crate::{Name, Saying, Sentence, read};
 
 /// Adds a word and a space.
 fn add(text: &mut Vec<u8>, word: &[u8]) -> Result<(), AllocError> {
@@ -50,12 +48,27 @@ fn sentences_have_their_readings(rt: HostRuntime) -> Result<(), Fail> {
         ("The Hall is a room.", "room <Hall>"),
         ("hall ARE A room", "room <hall>"),
         ("Some  Grand\nHall is a room.", "room <Grand Hall>"),
-        ("The Garden is north of the Hall.", "<Garden> lies north of <Hall>"),
-        ("North of the Hall is the Garden.", "<Garden> lies north of <Hall>"),
+        (
+            "The Garden is north of the Hall.",
+            "<Garden> lies north of <Hall>",
+        ),
+        (
+            "North of the Hall is the Garden.",
+            "<Garden> lies north of <Hall>",
+        ),
         ("The Loft is above the Hall.", "<Loft> lies up of <Hall>"),
-        ("Below the Hall is a Cellar.", "<Cellar> lies down of <Hall>"),
-        ("Inside from the Hall is the Closet.", "<Closet> lies inside of <Hall>"),
-        ("Yard is outside from Hall.", "<Yard> lies outside of <Hall>"),
+        (
+            "Below the Hall is a Cellar.",
+            "<Cellar> lies down of <Hall>",
+        ),
+        (
+            "Inside from the Hall is the Closet.",
+            "<Closet> lies inside of <Hall>",
+        ),
+        (
+            "Yard is outside from Hall.",
+            "<Yard> lies outside of <Hall>",
+        ),
         ("The Den is up of the Hall.", "<Den> lies up of <Hall>"),
     ];
     for (source, want) in table {

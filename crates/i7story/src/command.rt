@@ -1,9 +1,8 @@
 //! The program's words.
-use std::alloc::{AllocError, Global};
-
 use clap::error::ErrorKind;
 use clap::{Arg, ArgAction, ArgMatches, Command, Error};
 use source_player::ProgramFault;
+use std::alloc::{AllocError, Global};
 
 /// What the program is told to do.
 #[derive(Clone, Copy, Debug, Drop)]

@@ -1,13 +1,11 @@
 //! What the program does with its files and streams.
+use crate::command::Order;
+use source_player::{ProgramFault, SourceRunFault, run_source};
 use std::alloc::Global;
 use std::fs;
 use std::io::{self, BufReader, Stdin};
-
-use source_player::{ProgramFault, SourceRunFault, run_source};
 use story_file::{LoadFault, compile, load};
 use story_player::{Session, Watched, run};
-
-use crate::command::Order;
 
 /// Reads a file whole.
 fn bytes_of<'a>(rt: &HostRuntime, path: &'a str) -> Result<Vec<u8>, ProgramFault<'a>> {
@@ -27,8 +25,9 @@ fn compile_file<'a>(
     story: &'a str,
 ) -> Result<(), ProgramFault<'a>> {
     let bytes = bytes_of(rt, source)?;
-    let compiled = compile(rt.alloc(), bytes.as_slice())
-        .map_err(|fault| ProgramFault::Source(source, fault))?;
+    let compiled = compile(rt.alloc(), bytes.as_slice()).map_err(|fault| ProgramFault::Source(
+        source, fault,
+    ))?;
     fs::write(rt, story, compiled.as_slice()).map_err(|_| ProgramFault::CannotWrite(story))
 }
 

@@ -1,6 +1,5 @@
 //! Telling what went wrong: a line and a status.
 use std::io::Write;
-
 use story_file::LoadFault;
 use story_player::RunFault;
 use thiserror::Error;
@@ -42,7 +41,8 @@ impl ProgramFault<'_> {
         match self {
             ProgramFault::Source(..) => 1,
             ProgramFault::Story(..) => 2,
-            ProgramFault::CannotRead(_) | ProgramFault::CannotWrite(_) | ProgramFault::Stream(_) => 3,
+            ProgramFault::CannotRead(_) | ProgramFault::CannotWrite(_) | ProgramFault::Stream(_) =>
+                3,
             ProgramFault::Memory => 4,
             ProgramFault::Words(_) => 5,
         }

@@ -1,7 +1,6 @@
 //! Compiling, loading, starting and playing a source.
 use std::alloc::Global;
 use std::io::{Read, Write};
-
 use story_file::{LoadFault, compile, load};
 use story_player::{RunFault, Session, StartFault, Watched, run};
 use thiserror::Error;

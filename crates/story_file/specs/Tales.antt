@@ -83,8 +83,13 @@ direction_object d = built_in 2 (direction_name d) None
 -- a room of the author's, by its number and its first mention
 abbrev pub room_of : List Statement → ℕ → NameAt → Object
 room_of statements o at = record {
-  kind = 1; name = at.name.text; article = article_of at.name.article at.name.text;
-  description = description_of (descriptions_of statements) o; place = None; exits = exits_of statements o }
+  kind = 1;
+  name = at.name.text;
+  article = article_of at.name.article at.name.text;
+  description = description_of (descriptions_of statements) o;
+  place = None;
+  exits = exits_of statements o;
+}
 
 abbrev pub rooms_from : List Statement → ℕ → List NameAt → List Object
 rooms_from statements o [] = []

@@ -1,12 +1,10 @@
 //! The compiler: from a source's bytes to a story's.
-use std::alloc::{AllocError, Global};
-
+use crate::tale_of;
 use i7_lexer::lex;
 use i7_sentences::read;
+use std::alloc::{AllocError, Global};
 use story_format::{is_writable, write};
 use world_meaning::{Fault, FaultCode};
-
-use crate::tale_of;
 
 /// Memory was refused.
 fn memory(_: AllocError) -> Fault {

@@ -3,11 +3,9 @@ ghost use Rattle.std.specs.Prelude.{◌≡◌};
 ghost use Rattle.story_file.specs.Demands.{subject_of};
 ghost use Rattle.story_file.specs.Views.{fact_of};
 
-use std::alloc::{AllocError, Global};
-
-use world_meaning::TextBytes;
-
 use crate::numbering::{FIRST_OF_AUTHOR, Fact, Statement};
+use std::alloc::{AllocError, Global};
+use world_meaning::TextBytes;
 
 /// A room, by its place among the author's objects, and a text that describes it.
 #[derive(Clone, Copy, Debug)]

@@ -1,10 +1,8 @@
 //! The limits of a tale: objects, words of a name, bytes of a name or a text.
-use std::alloc::{AllocError, Global};
-
-use indexmap::IndexSet;
-
 use crate::descriptions::Description;
 use crate::numbering::{FIRST_OF_AUTHOR, Mention};
+use indexmap::IndexSet;
+use std::alloc::{AllocError, Global};
 
 /// The most objects of a story, the player and the directions counted.
 const MOST_OBJECTS: usize = 1000;

@@ -1,8 +1,7 @@
 //! Numbering objects: 0 the player, 1 to 12 the directions, then names by first mention.
-use std::alloc::{AllocError, Global};
-
 use i7_sentences::{Name, Saying, Sentence};
 use indexmap::IndexSet;
+use std::alloc::{AllocError, Global};
 use world_meaning::{Direction, TextBytes};
 
 /// The first number of an object of the author's.
@@ -49,7 +48,10 @@ pub struct Numbering<'a> {
 
 /// The bytes with ASCII letters in lower case.
 fn lowered(alloc: Global, bytes: &[u8]) -> Result<Vec<u8>, AllocError> {
-    bytes.iter().map(|byte| byte.to_ascii_lowercase()).collect(alloc)
+    bytes
+        .iter()
+        .map(|byte| byte.to_ascii_lowercase())
+        .collect(alloc)
 }
 
 /// The key of a name: its bytes in lower case; the player's names have one key.

@@ -1,18 +1,16 @@
 //! The tale of a source's sentences, or the refusal that stands.
-use std::alloc::{AllocError, Global};
-
-use i7_sentences::{Name, NameArticle, Sentence};
-use world_meaning::{
-    Article, Direction, Exits, Fault, FaultCode, KindNo, ObjNo, Object, Objects, Place, Rel, Tale,
-    TextBytes, Way,
-};
-
 use crate::descriptions::{Description, descriptions_of, first_descriptions, second_description};
 use crate::kinds::wrong_kind;
 use crate::limits::{name_too_long, object_too_many, text_too_long};
 use crate::numbering::{FIRST_OF_AUTHOR, Mention, Numbering, numbering_of};
 use crate::reserved_names::taken_name;
 use crate::ways::{Exit, Targets, implied_targets, second_target, stated_targets, target_of};
+use i7_sentences::{Name, NameArticle, Sentence};
+use std::alloc::{AllocError, Global};
+use world_meaning::{
+    Article, Direction, Exits, Fault, FaultCode, KindNo, ObjNo, Object, Objects, Place, Rel, Tale,
+    TextBytes, Way,
+};
 
 /// The number of the kind room.
 const ROOM: u8 = 1;
@@ -165,12 +163,18 @@ fn check_frame(
 ) -> Result<(), Fault> {
     let mentions = numbering.mentions.as_slice();
     let statements = numbering.statements.as_slice();
-    let twice = earlier(taken_name(mentions), second_description(descriptions, firsts));
+    let twice = earlier(
+        taken_name(mentions),
+        second_description(descriptions, firsts),
+    );
     refuse(FaultCode::Twice, twice)?;
     refuse(FaultCode::WrongKind, wrong_kind(statements))?;
     refuse(FaultCode::TwoPlaces, second_target(stated, statements))?;
     refuse(FaultCode::TooMany, object_too_many(mentions))?;
-    refuse(FaultCode::NoRoom, if mentions.is_empty() { Some(1) } else { None })
+    refuse(
+        FaultCode::NoRoom,
+        if mentions.is_empty() { Some(1) } else { None },
+    )
 }
 
 /// The tale that the sentences mean, or the refusal that stands, each code being looked for in the
@@ -181,12 +185,19 @@ pub fn tale_of(alloc: Global, sentences: &[Sentence]) -> Result<Tale, Fault> {
     let mentions = numbering.mentions.as_slice();
     let statements = numbering.statements.as_slice();
     let descriptions = descriptions_of(alloc, statements).map_err(memory)?;
-    let firsts = first_descriptions(alloc, descriptions.as_slice(), mentions.len()).map_err(memory)?;
+    let firsts = first_descriptions(alloc, descriptions.as_slice(), mentions.len()).map_err(
+        memory,
+    )?;
     let ways = Ways {
         stated: stated_targets(alloc, statements).map_err(memory)?,
         implied: implied_targets(alloc, statements).map_err(memory)?,
     };
-    check_frame(&numbering, descriptions.as_slice(), firsts.as_slice(), &ways.stated)?;
+    check_frame(
+        &numbering,
+        descriptions.as_slice(),
+        firsts.as_slice(),
+        &ways.stated,
+    )?;
     let name = name_too_long(alloc, mentions).map_err(memory)?;
     let text = text_too_long(descriptions.as_slice());
     refuse(FaultCode::TooMany, earlier(name, text))?;

@@ -1,10 +1,8 @@
 //! Ways: those that sentences state, and the ways back that they imply.
-use std::alloc::{AllocError, Global};
-
-use indexmap::IndexMap;
-use world_meaning::Direction;
-
 use crate::numbering::{Fact, NumberedWay, Statement};
+use indexmap::IndexMap;
+use std::alloc::{AllocError, Global};
+use world_meaning::Direction;
 
 /// A direction out of an object, by the object's number.
 #[derive(Clone, Copy, Debug, Hash, PartialEq, Eq)]
@@ -41,10 +39,7 @@ fn lead(targets: &mut Targets, exit: Exit, target: usize) -> Result<(), AllocErr
 }
 
 /// The targets that sentences state.
-pub fn stated_targets(
-    alloc: Global,
-    statements: &[Statement<'_>],
-) -> Result<Targets, AllocError> {
+pub fn stated_targets(alloc: Global, statements: &[Statement<'_>]) -> Result<Targets, AllocError> {
     let mut targets = IndexMap::new(alloc);
     for statement in statements {
         if let Fact::Way(way) = statement.fact {
@@ -55,10 +50,7 @@ pub fn stated_targets(
 }
 
 /// The targets that sentences imply: each way leads back.
-pub fn implied_targets(
-    alloc: Global,
-    statements: &[Statement<'_>],
-) -> Result<Targets, AllocError> {
+pub fn implied_targets(alloc: Global, statements: &[Statement<'_>]) -> Result<Targets, AllocError> {
     let mut targets = IndexMap::new(alloc);
     for statement in statements {
         if let Fact::Way(way) = statement.fact {

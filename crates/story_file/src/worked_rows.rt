@@ -4,11 +4,9 @@ ghost use Rattle.story_file.specs.WorkedRows.{GivesTranscript, IsRefusedEmpty};
 /// By the definitions the two-room source has its transcript.
 pub fn two_rooms_are_played()
     ensures { GivesTranscript }
-{
-}
+{}
 
 /// By the definitions the empty source has no room.
 pub fn empty_source_is_refused()
     ensures { IsRefusedEmpty }
-{
-}
+{}
