@@ -174,7 +174,7 @@ impl Session {
     }
 
     /// The commands have run out: answers how the session has ended.
-    pub fn end_input(&mut self) -> Ending
+    pub(crate) fn end_input(&mut self) -> Ending
         ensures state { state_of self.new ≡ record (state_of self.old) { ending = ending_at_end (state_of self.old).ending } }
         ensures ending { (state_of self.new).ending ≡ Some result }
         ensures tale { tale_of self.new ≡ tale_of self.old }

@@ -26,7 +26,7 @@ impl Model for World {
 
 impl World {
     /// The world with which the story begins.
-    pub fn start(alloc: Global, story: &Story) -> Result<World, AllocError>
+    pub(crate) fn start(alloc: Global, story: &Story) -> Result<World, AllocError>
         ensures { IfOk result (λ world. world ≡ start_world story.now) }
     {
         Ok(World {
@@ -61,7 +61,7 @@ impl World {
     }
 
     /// The player looks round in the room, which is then visited.
-    pub fn look_in(&mut self, room: ObjNo)
+    pub(crate) fn look_in(&mut self, room: ObjNo)
         ensures { self.new ≡ looked_in room self.old }
     {
         self.location = room;
@@ -71,7 +71,7 @@ impl World {
     }
 
     /// The turn is over.
-    pub fn end_turn(&mut self)
+    pub(crate) fn end_turn(&mut self)
         requires { self.old.turns < most_turns }
         ensures { self.new ≡ later self.old }
     {
