@@ -1,0 +1,86 @@
+//! The two-room story, and readers and writers that fail where they are told.
+use std::alloc::Global;
+use std::io::{self, Error, ErrorKind, Read, Write};
+use std::test::Fail;
+use story_file::{compile, load};
+use story_player::Session;
+
+/// A Hall with a description, and a Garden north of it.
+pub const TWO_ROOMS: &[u8] =
+    b"The Hall is a room. \"A bare hall.\"\n\nThe Garden is north of the Hall.\n";
+
+/// The two-room story at its beginning.
+pub fn two_rooms(alloc: Global) -> Result<Session, Fail> {
+    let bytes = compile(alloc, TWO_ROOMS)?;
+    let story = load(alloc, bytes.as_slice())?;
+    Ok(Session::start(alloc, story)?)
+}
+
+/// Gives its bytes, at most so many at a call, and then ends or fails.
+#[derive(Drop)]
+pub struct Commands<'a> {
+    pub rest: &'a [u8],
+    pub most: usize,
+    pub fails: bool,
+}
+
+impl Read for Commands<'_> {
+    fn read(&mut self, buf: &mut [u8]) -> io::Result<usize> {
+        if self.rest.is_empty() && self.fails {
+            return Err(Error::from(ErrorKind::Other));
+        }
+        let count = self.rest.len().min(self.most).min(buf.len());
+        let (given, rest) = self.rest.split_at(count);
+        self.rest = rest;
+        buf[..count].copy_from_slice(given);
+        Ok(count)
+    }
+}
+
+/// Gives one byte so many times.
+#[derive(Drop)]
+pub struct Repeated {
+    pub byte: u8,
+    pub left: usize,
+}
+
+impl Read for Repeated {
+    fn read(&mut self, buf: &mut [u8]) -> io::Result<usize> {
+        let count = self.left.min(buf.len());
+        buf[..count].fill(self.byte);
+        self.left -= count;
+        Ok(count)
+    }
+}
+
+/// What a writer does when it has no room for more.
+#[derive(Clone, Copy, PartialEq, Eq)]
+pub enum WhenFull {
+    Fails,
+    TakesNone,
+}
+
+/// Takes at most so many bytes at a call, until its room is used up.
+#[derive(Drop)]
+pub struct Transcript<'a> {
+    pub taken: &'a mut Vec<u8>,
+    pub most: usize,
+    pub room: usize,
+    pub when_full: WhenFull,
+}
+
+impl Write for Transcript<'_> {
+    fn write(&mut self, buf: &[u8]) -> io::Result<usize> {
+        let count = buf.len().min(self.most).min(self.room);
+        if count == 0 && self.when_full == WhenFull::Fails {
+            return Err(Error::from(ErrorKind::Other));
+        }
+        self.taken.extend_from_slice(&buf[..count])?;
+        self.room -= count;
+        Ok(count)
+    }
+
+    fn flush(&mut self) -> io::Result<()> {
+        Ok(())
+    }
+}

@@ -1,0 +1,121 @@
+//! Sources with the refusals that they get, and such that are taken.
+use std::alloc::{AllocError, Global};
+use std::fmt::Write;
+use std::test::Fail;
+use story_file::compile;
+use world_meaning::{Fault, FaultCode};
+
+/// Sources, and the code and the line of each one's refusal.
+const REFUSED: &[(&str, FaultCode, u32)] = &[
+    ("The Hall is a room. \"A bare hall.", FaultCode::Unclosed, 1),
+    ("The Hall is a room. Hello.", FaultCode::NotUnderstood, 1),
+    (
+        "The Hall is a room.\n\nHello there.\n\nThe Yard is a room.\n",
+        FaultCode::NotUnderstood,
+        3,
+    ),
+    ("In the Hall is a room.", FaultCode::NotUnderstood, 1),
+    (
+        "The Hall is a room. \"A [bare] hall.\"",
+        FaultCode::NotUnderstood,
+        1,
+    ),
+    (
+        "The Hall is a room.\n\"A 'bare' hall.\"",
+        FaultCode::NotUnderstood,
+        2,
+    ),
+    ("The Hall of Mirrors is a room.", FaultCode::ReservedWord, 1),
+    ("The is a room.", FaultCode::ReservedWord, 1),
+    (
+        "The Hall and the Yard are a room.",
+        FaultCode::ReservedWord,
+        1,
+    ),
+    ("North is a room.", FaultCode::WrongKind, 1),
+    ("The player is a room.", FaultCode::WrongKind, 1),
+    (
+        "The Hall is a room. \"A bare hall.\"\n\"A bare hall.\"",
+        FaultCode::WrongKind,
+        2,
+    ),
+    ("Nothing is a room.", FaultCode::Twice, 1),
+    (
+        "The Hall is a room.\n\nThe container is a room.",
+        FaultCode::Twice,
+        3,
+    ),
+    (
+        "The Hall is a room. \"One.\"\n\nThe Hall is a room.\n\"Two.\"",
+        FaultCode::Twice,
+        4,
+    ),
+    (
+        "A1 is north of B1.\nC1 is north of B1.",
+        FaultCode::TwoPlaces,
+        2,
+    ),
+    ("", FaultCode::NoRoom, 1),
+    ("2147483648 is a room.", FaultCode::NumberOutOfRange, 1),
+];
+
+/// Sources that are taken.
+const TAKEN: &[&str] = &[
+    "the HALL IS A Room",
+    "Hall are a room.",
+    "007 is a room.",
+    "2147483647 is a room.",
+    "The Hall is a room. \"One.\"\n\nThe Hall is a room.\n\"One.\"",
+    "A1 is north of B1.\nA1 is north of B1.",
+    "A1 is north of B1.\nB1 is south of A1.",
+    "The Hall is a room. [Hello.]",
+];
+
+#[test]
+fn sources_are_refused(rt: HostRuntime) -> Result<(), Fail> {
+    let alloc = rt.alloc();
+    for (source, code, line) in REFUSED {
+        let fault = Fault {
+            code: *code,
+            line: *line,
+        };
+        assert_eq!(rt;
+            compile(alloc, source.as_bytes()).err(),
+            Some(fault),
+            "{source}"
+        );
+    }
+    Ok(())
+}
+
+#[test]
+fn sources_are_taken(rt: HostRuntime) -> Result<(), Fail> {
+    let alloc = rt.alloc();
+    for source in TAKEN {
+        assert_eq!(rt; compile(alloc, source.as_bytes()).err(), None, "{source}");
+    }
+    Ok(())
+}
+
+/// So many rooms, each on a line of its own.
+fn rooms(alloc: Global, count: u32) -> Result<String, AllocError> {
+    let mut source = String::new(alloc);
+    for room in 0..count {
+        writeln!(source, "R{room} is a room.")?;
+    }
+    Ok(source)
+}
+
+#[test]
+fn rooms_are_limited(rt: HostRuntime) -> Result<(), Fail> {
+    let alloc = rt.alloc();
+    let most = rooms(alloc, 987)?;
+    assert_eq!(rt; compile(alloc, most.as_bytes()).err(), None);
+    let more = rooms(alloc, 988)?;
+    let fault = Fault {
+        code: FaultCode::TooMany,
+        line: 988,
+    };
+    assert_eq!(rt; compile(alloc, more.as_bytes()).err(), Some(fault));
+    Ok(())
+}

@@ -1,0 +1,67 @@
+//! The program's lines and statuses for what goes wrong.
+use source_player::{ProgramFault, report};
+use std::str;
+use std::test::Fail;
+use story_file::LoadFault;
+use story_player::RunFault;
+use world_meaning::{Fault, FaultCode};
+
+/// A refusal at this line.
+fn refusal(code: FaultCode, line: u32) -> Fault {
+    Fault { code, line }
+}
+
+#[test]
+fn faults_have_a_line_and_a_status(rt: HostRuntime) -> Result<(), Fail> {
+    let alloc = rt.alloc();
+    let words = String::from_str(alloc, "usage: i7story\n")?;
+    let no_room = refusal(FaultCode::NoRoom, 13);
+    let memory = refusal(FaultCode::Memory, 13);
+    let reports = [
+        (ProgramFault::Words(words), 5u8, "usage: i7story\n"),
+        (
+            ProgramFault::CannotRead("x.i7"),
+            3,
+            "x.i7: cannot be read\n",
+        ),
+        (ProgramFault::CannotWrite("x"), 3, "x: cannot be written\n"),
+        (
+            ProgramFault::Source("x.i7", no_room),
+            1,
+            "x.i7:13: C13 NoRoom\n",
+        ),
+        (
+            ProgramFault::Source("x.i7", memory),
+            4,
+            "i7story: out of memory\n",
+        ),
+        (
+            ProgramFault::Story("x", LoadFault::Truncated),
+            2,
+            "x: L3 Truncated\n",
+        ),
+        (
+            ProgramFault::Story("x", LoadFault::Memory),
+            4,
+            "i7story: out of memory\n",
+        ),
+        (
+            ProgramFault::Stream(RunFault::Read),
+            3,
+            "i7story: V1 Read\n",
+        ),
+        (ProgramFault::Stream(RunFault::Write), 3, ""),
+        (
+            ProgramFault::Stream(RunFault::InputTooLong),
+            3,
+            "i7story: V3 InputTooLong\n",
+        ),
+        (ProgramFault::Memory, 4, "i7story: out of memory\n"),
+    ];
+    for (fault, status, line) in &reports {
+        let mut written = Vec::new(alloc);
+        assert_eq!(rt; report(fault, &mut written), *status, "{line}");
+        assert_eq!(rt; str::from_utf8(written.as_slice())?, *line);
+    }
+    Ok(())
+}
