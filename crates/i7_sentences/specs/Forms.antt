@@ -43,11 +43,12 @@ pieces_of form.Carries = Letter ∷ (piece.Word keyword.Carries) ∷ Letter ∷ 
 pieces_of form.Wears = Letter ∷ (piece.Word keyword.Wears) ∷ Letter ∷ []
 pieces_of form.InHolder = (piece.Word keyword.In) ∷ Letter ∷ (piece.Word keyword.Is) ∷ Letter ∷ []
 pieces_of form.OnHolder = (piece.Word keyword.On) ∷ Letter ∷ (piece.Word keyword.Is) ∷ Letter ∷ []
+pieces_of form.Rooms = Letter ∷ (piece.Word keyword.And) ∷ Letter ∷ (piece.Word keyword.Is) ∷ (piece.Word keyword.A) ∷ (piece.Word keyword.Room) ∷ []
 pieces_of form.Room = Letter ∷ (piece.Word keyword.Is) ∷ (piece.Word keyword.A) ∷ (piece.Word keyword.Room) ∷ []
 
 -- the forms, lowest first
 abbrev pub all_forms : List Form
-all_forms = form.SceneBegins ∷ form.SceneEnds ∷ form.ListedFirst ∷ form.ListedLast ∷ form.NotListed ∷ form.Action ∷ form.Rulebook ∷ form.Scene ∷ form.RecurringScene ∷ form.KindOfKind ∷ form.EitherOr ∷ form.NumberProperty ∷ form.Usually ∷ form.Variable ∷ form.PropertyIsNumber ∷ form.DoorWay ∷ form.WayFrom ∷ form.AboveFrom ∷ form.BelowFrom ∷ form.InsideFrom ∷ form.OutsideFrom ∷ form.WayTo ∷ form.AboveTo ∷ form.BelowTo ∷ form.InsideTo ∷ form.OutsideTo ∷ form.Carries ∷ form.Wears ∷ form.InHolder ∷ form.OnHolder ∷ form.Room ∷ []
+all_forms = form.SceneBegins ∷ form.SceneEnds ∷ form.ListedFirst ∷ form.ListedLast ∷ form.NotListed ∷ form.Action ∷ form.Rulebook ∷ form.Scene ∷ form.RecurringScene ∷ form.KindOfKind ∷ form.EitherOr ∷ form.NumberProperty ∷ form.Usually ∷ form.Variable ∷ form.PropertyIsNumber ∷ form.DoorWay ∷ form.WayFrom ∷ form.AboveFrom ∷ form.BelowFrom ∷ form.InsideFrom ∷ form.OutsideFrom ∷ form.WayTo ∷ form.AboveTo ∷ form.BelowTo ∷ form.InsideTo ∷ form.OutsideTo ∷ form.Carries ∷ form.Wears ∷ form.InHolder ∷ form.OnHolder ∷ form.Rooms ∷ form.Room ∷ []
 
 -- whether a piece that is no letter takes a word
 abbrev pub takes : Piece → Token → Bool

@@ -58,6 +58,7 @@ shape_of form.Carries = NoWay
 shape_of form.Wears = NoWay
 shape_of form.InHolder = NoWay
 shape_of form.OnHolder = NoWay
+shape_of form.Rooms = NoWay
 shape_of form.Room = NoWay
 
 abbrev pub is_room_form : Form → Bool
@@ -91,6 +92,7 @@ is_room_form form.Carries = false
 is_room_form form.Wears = false
 is_room_form form.InHolder = false
 is_room_form form.OnHolder = false
+is_room_form form.Rooms = false
 is_room_form form.Room = true
 
 -- the subject lies in the direction of the room; of two names the room's is the first or the second

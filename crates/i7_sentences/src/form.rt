@@ -70,12 +70,14 @@ pub enum Form {
     Wears,
     InHolder,
     OnHolder,
+    /// `the hall and the yard are a room`
+    Rooms,
     Room,
 }
 
 impl Form {
     /// The forms, lowest first.
-    pub const ALL: [Form; 31] = [
+    pub const ALL: [Form; 32] = [
         Form::SceneBegins,
         Form::SceneEnds,
         Form::ListedFirst,
@@ -106,6 +108,7 @@ impl Form {
         Form::Wears,
         Form::InHolder,
         Form::OnHolder,
+        Form::Rooms,
         Form::Room,
     ];
 }
@@ -320,6 +323,14 @@ impl Form {
                 Piece::Letter,
                 Piece::Word(Keyword::Is),
                 Piece::Letter,
+            ],
+            Form::Rooms => &[
+                Piece::Letter,
+                Piece::Word(Keyword::And),
+                Piece::Letter,
+                Piece::Word(Keyword::Is),
+                Piece::Word(Keyword::A),
+                Piece::Word(Keyword::Room),
             ],
             Form::Room => &[
                 Piece::Letter,

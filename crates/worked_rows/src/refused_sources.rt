@@ -29,7 +29,7 @@ const REFUSED: &[(&str, FaultCode, u32)] = &[
     ("The is a room.", FaultCode::ReservedWord, 1),
     (
         "The Hall and the Yard are a room.",
-        FaultCode::ReservedWord,
+        FaultCode::NotUnderstood,
         1,
     ),
     ("North is a room.", FaultCode::WrongKind, 1),
