@@ -1,8 +1,8 @@
 -- The first piece of a cut, and the rest of it.
-use Rattle.std.proofs.Common.{◌≡◌, ℕ, ◌+◌, ◌<◌, Bool, true, false, List, [], ◌∷◌, ◌++◌, length, take, drop, refl, ap, sym, ◌∙◌, arith}
+use Rattle.std.proofs.Common.{◌≡◌, ◌<◌, Bool, true, false, List, [], ◌∷◌, length, take, drop, refl, ap, sym, ◌∙◌, arith}
 use Rattle.std.proofs.lemmas.Grind.{common_steps}
 use Rattle.i7_lexer.specs.declared.token.Token.{Token}
-use Rattle.i7_sentences.specs.Cuts.{cut, onto_piece}
+use Rattle.i7_sentences.specs.Cuts.{cut}
 use Rattle.i7_sentences.specs.Pieces.{piece_len, more_len}
 
 -- what stands behind a first token, cut off where its piece ends

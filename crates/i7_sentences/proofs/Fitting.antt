@@ -1,6 +1,6 @@
 -- Fitting from left to right finds the fit with the shortest letters, if there is one.
-use Rattle.std.proofs.Common.{◌≡◌, ◌≢◌, ℕ, zero, suc, ◌+◌, ◌-◌, ◌<◌, ◌≤◌, ◌⊎◌, inl, inr, Bool, true, false, List, [], ◌∷◌, ◌++◌, length, take, drop, refl, ap, sym, ◌∙◌, subst, arith, append_assoc}
-use Rattle.std.specs.Prelude.{not, ◌&&◌, nat_lt, Option, Some, None, option_map, if◌then◌else◌}
+use Rattle.std.proofs.Common.{◌≡◌, ℕ, zero, suc, ◌+◌, ◌-◌, ◌<◌, ◌≤◌, inl, inr, Bool, true, false, List, [], ◌∷◌, ◌++◌, length, take, drop, refl, ap, sym, ◌∙◌, subst, arith, append_assoc}
+use Rattle.std.specs.Prelude.{◌&&◌, nat_lt, Some}
 use Rattle.std.specs.List.{list_all}
 use Rattle.std.proofs.lemmas.Grind.{common_steps}
 use Rattle.std.proofs.Math.Seq.{take-append_seam, drop-append_seam}
@@ -8,8 +8,8 @@ use Rattle.std.proofs.Math.Nat.{eq-or-lt_of_le}
 use Rattle.std.proofs.lemmas.Bool.{lt-ltb, ltb-true}
 use Rattle.std.proofs.lemmas.List.{length-append, drop-append-le}
 use Rattle.i7_lexer.specs.declared.token.Token.{Token}
-use Rattle.i7_sentences.specs.Forms.{Fits, TakesWords, IsNoLonger, IsShortestFit, takes, is_letter, is_kept, suits, suits_one, with_kept}
-use Rattle.i7_sentences.specs.Matching.{stands, leftmost_from, rightmost, letter_len, taken, with_taken, first_fit, is_fixed}
+use Rattle.i7_sentences.specs.Forms.{Fits, IsNoLonger, takes, is_letter, is_kept, suits, suits_one, with_kept}
+use Rattle.i7_sentences.specs.Matching.{stands, leftmost_from, rightmost, letter_len, taken, first_fit, is_fixed}
 use Rattle.i7_sentences.specs.declared.form.Piece.{Piece}
 use Rattle.i7_sentences.specs.declared.form.Piece.TheVariants as piece
 

@@ -1,15 +1,15 @@
 -- What is found from left to right fits.
-use Rattle.std.proofs.Common.{◌≡◌, ℕ, ◌+◌, ◌-◌, ◌<◌, ◌≤◌, Bool, true, false, List, [], ◌∷◌, ◌++◌, length, take, drop, refl, ap, sym, ◌∙◌, subst, arith}
-use Rattle.std.specs.Prelude.{◌&&◌, nat_lt, Option, Some, None, option_map, if◌then◌else◌}
+use Rattle.std.proofs.Common.{◌≡◌, ℕ, ◌+◌, ◌-◌, ◌<◌, ◌≤◌, Bool, true, false, List, [], ◌∷◌, length, take, drop, refl, sym, ◌∙◌, subst, arith}
+use Rattle.std.specs.Prelude.{◌&&◌, nat_lt, Option, Some, None, option_map}
 use Rattle.std.specs.List.{list_all}
 use Rattle.std.proofs.lemmas.Grind.{common_steps}
 use Rattle.std.proofs.lemmas.Bool.{lt-ltb, ltb-true}
 use Rattle.std.proofs.lemmas.List.{take-append-drop}
 use Rattle.i7_lexer.specs.declared.token.Token.{Token}
-use Rattle.i7_sentences.specs.Forms.{Fits, TakesWords, IsNoLonger, IsShortestFit, takes, is_letter, is_kept, suits, suits_one, with_kept}
-use Rattle.i7_sentences.specs.Matching.{stands, leftmost_from, rightmost, letter_len, taken, with_taken, first_fit, is_fixed}
+use Rattle.i7_sentences.specs.Forms.{Fits, IsNoLonger, IsShortestFit, takes, is_letter, is_kept, suits, with_kept}
+use Rattle.i7_sentences.specs.Matching.{stands, leftmost_from, rightmost, letter_len, taken, first_fit, is_fixed}
 use Rattle.i7_sentences.specs.declared.form.Piece.{Piece}
-use Rattle.i7_sentences.proofs.Fitting.{false-true, and_both, suits-fixed, suits-letter, last_len, inner_len, found}
+use Rattle.i7_sentences.proofs.Fitting.{and_both, suits-fixed, suits-letter, last_len, inner_len, found}
 
 pub same_some : {X : Type 0} (a b : X) → Some a ≡ Some b → a ≡ b
 same_some a b e = cc

@@ -1,8 +1,7 @@
 -- One more part is heard.
-use Rattle.std.proofs.Common.{◌≡◌, List, [], ◌∷◌, ◌++◌, Bool, false, refl, sym, ◌∙◌, ap, append_assoc}
-use Rattle.std.specs.Prelude.{Option, Some, find}
+use Rattle.std.proofs.Common.{◌≡◌, List, [], ◌∷◌, ◌++◌, false, refl, sym, ◌∙◌, ap, append_assoc}
+use Rattle.std.specs.Prelude.{Some, find}
 use Rattle.std.specs.List.{filter_map}
-use Rattle.std.proofs.lemmas.Grind.{common_steps}
 use Rattle.i7_sentences.specs.Cuts.{Piece}
 use Rattle.i7_sentences.specs.Read.{Heard, heard_in, is_unread}
 

@@ -1,5 +1,5 @@
 -- Readings of the program as contracts see them.
-use Rattle.std.specs.Prelude.{ℕ, List, map}
+use Rattle.std.specs.Prelude.{List, map}
 use Rattle.i7_sentences.specs.Senses.{Sense, Told, IsRoom, LeadsTo}
 use Rattle.i7_sentences.specs.Read.{Heard}
 use Rattle.i7_sentences.specs.declared.reading.Reading.{Reading}

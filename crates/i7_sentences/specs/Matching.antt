@@ -1,11 +1,10 @@
 -- Fitting a form to words from left to right: each letter ends where the fixed pieces behind it
 -- first stand, the last one where they stand at the end.
-use Rattle.std.specs.Prelude.{ℕ, ◌+◌, ◌-◌, Bool, true, false, not, ◌&&◌, nat_lt, List, [], ◌∷◌, ◌++◌, length, take, drop, map, Option, Some, None, option_map, if◌then◌else◌}
+use Rattle.std.specs.Prelude.{ℕ, ◌+◌, ◌-◌, Bool, true, not, ◌&&◌, nat_lt, List, [], ◌∷◌, length, take, drop, Option, Some, None, option_map, if◌then◌else◌}
 use Rattle.std.specs.List.{list_all}
 use Rattle.i7_lexer.specs.declared.token.Token.{Token}
 use Rattle.i7_sentences.specs.Forms.{takes, is_letter, is_kept}
 use Rattle.i7_sentences.specs.declared.form.Piece.{Piece}
-use Rattle.i7_sentences.specs.declared.form.Piece.TheVariants as piece
 
 abbrev pub is_fixed : Piece → Bool
 is_fixed p = not (is_letter p)

@@ -1,9 +1,8 @@
 -- What the sentences may not say together: each refusal's line is that of the first statement that
 -- shows it together with those before it.
-use Rattle.std.specs.Prelude.{ℕ, ◌-◌, Bool, true, false, not, ◌&&◌, ◌||◌, ◌==◌, nat_lt, List, [], ◌∷◌, ◌++◌, length, map, flat_map, fold, find, filter, Option, Some, None, is_none, option_map, codes, bytes_eq, min, if◌then◌else◌}
+use Rattle.std.specs.Prelude.{ℕ, Bool, false, not, ◌&&◌, ◌||◌, ◌==◌, nat_lt, List, [], ◌∷◌, ◌++◌, flat_map, find, Option, Some, None, is_none, option_map, codes, bytes_eq, if◌then◌else◌}
 use Rattle.std.specs.List.{list_any}
 use Rattle.world_meaning.specs.Spelling.{is_spelled}
-use Rattle.world_meaning.specs.declared.direction.Direction.{Direction}
 use Rattle.world_meaning.specs.Directions.{direction_number, opposite_of}
 use Rattle.story_file.specs.Statements.{Fact, Told, IsRoom, LeadsTo, Statement, NameAt}
 

@@ -1,6 +1,6 @@
 -- The tale that a source's sentences mean, or the refusal that stands.
-use Rattle.std.specs.Prelude.{ℕ, ◌+◌, ◌-◌, Bool, true, false, ◌&&◌, ◌||◌, ◌==◌, nat_lt, min, List, [], ◌∷◌, ◌++◌, length, map, fold, find, replicate, slice_get, Option, Some, None, option_map, codes, Result, Ok, Err, if◌then◌else◌}
-use Rattle.std.specs.List.{list_any, slice_split, enumerate_from}
+use Rattle.std.specs.Prelude.{ℕ, ◌+◌, ◌-◌, Bool, ◌||◌, ◌==◌, nat_lt, min, List, [], ◌∷◌, ◌++◌, length, map, fold, find, replicate, slice_get, Option, Some, None, option_map, codes, Result, Ok, Err, if◌then◌else◌}
+use Rattle.std.specs.List.{list_any, slice_split}
 use Rattle.std.specs.Str.{str_to_ascii_lowercase}
 use Rattle.world_meaning.specs.Directions.{all_directions, direction_name, direction_number}
 use Rattle.world_meaning.specs.declared.article.Article.{Article}

@@ -1,5 +1,5 @@
 -- The compiler's tables as contracts see them.
-use Rattle.std.specs.Prelude.{ℕ, List, map}
+use Rattle.std.specs.Prelude.{List, map}
 use Rattle.story_file.specs.Statements.{Fact as Stated, Told, IsRoom, LeadsTo, Statement as StatementSaid, NameAt}
 use Rattle.story_file.specs.declared.numbering.Fact.{Fact}
 use Rattle.story_file.specs.declared.numbering.Fact.TheVariants as fact

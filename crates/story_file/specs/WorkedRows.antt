@@ -1,9 +1,9 @@
 -- The definitions computed on the two-room source.
-use Rattle.std.specs.Prelude.{◌≡◌, ℕ, Bool, true, false, List, [], ◌∷◌, ◌++◌, Option, Some, None, codes, Result, Ok, Err}
+use Rattle.std.specs.Prelude.{◌≡◌, ℕ, true, false, List, [], ◌∷◌, ◌++◌, codes, Result, Ok, Err}
 use Rattle.std.specs.Str.Lines.{lines}
 use Rattle.world_meaning.specs.Session.{opening_text, start_state}
 use Rattle.world_meaning.specs.Transcript.{played}
-use Rattle.world_meaning.specs.declared.direction.Direction.TheVariants.{North, South}
+use Rattle.world_meaning.specs.declared.direction.Direction.TheVariants.{North}
 use Rattle.world_meaning.specs.declared.fault.Fault.{Fault}
 use Rattle.world_meaning.specs.declared.fault.FaultCode.TheVariants.{NoRoom}
 use Rattle.world_meaning.specs.declared.tale.Tale.{Tale}
