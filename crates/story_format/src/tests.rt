@@ -148,8 +148,6 @@ fn loads_the_story(rt: HostRuntime) -> Result<(), Fail> {
     assert_eq!(rt; story.name(garden), b"Garden".as_slice());
     assert_eq!(rt; story.description(hall), Some(b"A bare hall.".as_slice()));
     assert_eq!(rt; story.description(garden), None);
-    assert!(rt; story.is_room(hall));
-    assert!(rt; !story.is_room(ObjNo::new(12)));
     assert_eq!(rt; story.way(hall, Direction::North), Some(garden));
     assert_eq!(rt; story.way(garden, Direction::South), Some(hall));
     assert_eq!(rt; story.way(hall, Direction::South), None);
