@@ -1,4 +1,8 @@
 //! Compiling, loading, starting and playing a source.
+ghost use Rattle.std.specs.Prelude.{◌≡◌, false, IfErr, OnOk};
+ghost use Rattle.source_player.specs.SourceRuns.{FaultsWith};
+ghost use Rattle.story_player.specs.Watches.{watched_failed};
+
 use std::alloc::Global;
 use std::io::{Read, Write};
 use story_file::{LoadFault, compile, load};
@@ -27,9 +31,17 @@ pub fn run_source<R: Read, W: Write>(
     reader: &mut Watched<R>,
     writer: &mut Watched<W>,
     echo: bool,
-) -> Result<Ending, SourceRunFault> {
+) -> Result<Ending, SourceRunFault>
+    requires reader { watched_failed reader.old ≡ false }
+    requires writer { watched_failed writer.old ≡ false }
+    ensures stand { OnOk result ((watched_failed reader.new ≡ false) × (watched_failed writer.new ≡ false)) }
+    ensures broke { IfErr result (λ fault. FaultsWith fault (watched_failed reader.new) (watched_failed writer.new)) }
+{
     let bytes = compile(alloc, source).map_err(SourceRunFault::Source)?;
     let story = load(alloc, bytes.as_slice()).map_err(SourceRunFault::Story)?;
     let mut session = Session::start(alloc, story).map_err(SourceRunFault::Start)?;
-    run(reader, writer, &mut session, echo).map_err(SourceRunFault::Run)
+    match run(reader, writer, &mut session, echo) {
+        Ok(ending) => Ok(ending),
+        Err(fault) => Err(SourceRunFault::Run(fault)),
+    }
 }
