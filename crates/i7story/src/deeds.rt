@@ -1,4 +1,7 @@
 //! What the program does with its files and streams.
+ghost use Rattle.std.specs.Prelude.{◌≡◌, false, IfOk};
+ghost use Rattle.story_player.specs.Watches.{watched_failed};
+
 use crate::command::Order;
 use source_player::{ProgramFault, SourceRunFault, run_source};
 use std::alloc::Global;
@@ -41,7 +44,9 @@ fn begun<'a>(alloc: Global, path: &'a str, bytes: &[u8]) -> Result<Session, Prog
 }
 
 /// The commands: the standard input, read by the block.
-fn commands<'a>(rt: &HostRuntime) -> Result<Watched<BufReader<Stdin>>, ProgramFault<'a>> {
+fn commands<'a>(rt: &HostRuntime) -> Result<Watched<BufReader<Stdin>>, ProgramFault<'a>>
+    ensures { IfOk result (λ input. watched_failed input ≡ false) }
+{
     match BufReader::new(rt.alloc(), rt.stdin()) {
         Ok(input) => Ok(Watched::new(input)),
         Err(_) => Err(ProgramFault::Memory),
