@@ -1,1 +1,10 @@
+pub mod Fronts
+pub mod LineLemmas
+pub mod PlayedLines
+pub mod Readings
+pub mod RunLemmas
+pub mod Tellings
+pub mod Transcripts
+pub mod TypedLines
 pub mod Words
+pub mod Writes

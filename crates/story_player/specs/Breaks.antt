@@ -1,10 +1,10 @@
--- Which of a reader and a writer has failed where playing broke off.
+-- Which of a reader and a writer has failed where a run broke off.
 use Rattle.std.specs.Prelude.{◌≡◌, Bool, true, false}
 use Rattle.story_player.specs.declared.playing.RunFault.{RunFault}
 use Rattle.story_player.specs.declared.playing.RunFault.TheVariants.{Read, Write, InputTooLong}
 
 -- the reader's fault exactly where the reader has failed, the writer's exactly where the writer has
-abbrev pub BrokeOff : RunFault → Bool → Bool → Type 0
-BrokeOff Read reader writer = (reader ≡ true) × (writer ≡ false)
-BrokeOff Write reader writer = (reader ≡ false) × (writer ≡ true)
-BrokeOff InputTooLong reader writer = (reader ≡ false) × (writer ≡ false)
+abbrev pub Blames : RunFault → Bool → Bool → Type 0
+Blames Read reader writer = (reader ≡ true) × (writer ≡ false)
+Blames Write reader writer = (reader ≡ false) × (writer ≡ true)
+Blames InputTooLong reader writer = (reader ≡ false) × (writer ≡ false)

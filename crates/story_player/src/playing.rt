@@ -1,11 +1,18 @@
 //! Playing a session over a reader and a writer.
-ghost use Rattle.std.specs.Prelude.{◌≡◌, ◌<◌, ◌≤◌, true, false, Some, IfErr, IfOk, OnOk};
-ghost use Rattle.story_player.specs.Breaks.{BrokeOff};
+ghost use Rattle.std.specs.Prelude.{◌≡◌, ◌++◌, ◌∷◌, [], ℕ, List, Bool, false, true, None, Ok, Some, IfErr, IfOk, OnErr, OnOk};
+ghost use Rattle.std.specs.Io.KnownBytes.{Appends, Consumes, IsAtEnd};
+ghost use Rattle.world_meaning.specs.Session.{answer_to, opening_text};
+ghost use Rattle.world_meaning.specs.Texts.{prompt};
+ghost use Rattle.world_meaning.specs.Transcript.{unless_ended};
+ghost use Rattle.story_player.specs.Breaks.{Blames};
+ghost use Rattle.story_player.specs.Runs.{BrokeOff, Played, most_input};
 ghost use Rattle.story_player.specs.Sessions.{state_of, tale_of};
-ghost use Rattle.story_player.specs.Watches.{watched_failed};
+ghost use Rattle.story_player.specs.Steps.{Answered, BrokeAnswer, BrokeTyping, IsTyping, PlayedLast, PlayedLine, ReadsByte, WroteFront, last_part, last_state, shown, typed_part};
+ghost use Rattle.story_player.specs.Typed.{flushed, nothing_typed, typed_reading, typed_with};
+ghost use Rattle.story_player.specs.Watches.{watched_failed, watched_inner};
 
 use crate::typed::TypedLine;
-use crate::{Session, Watched};
+use crate::{Reply, Session, Watched};
 use std::io::{Read, Write};
 use thiserror::Error;
 use world_meaning::Ending;
@@ -40,10 +47,13 @@ enum LineEnd {
 }
 
 /// Writes all of the bytes.
+#[tactic(auto, using(crate::proofs::Writes::write_steps))]
 fn write_whole<W: Write>(writer: &mut Watched<W>, bytes: &[u8]) -> Result<(), RunFault>
     requires writer { watched_failed writer.old ≡ false }
     ensures stands { OnOk result (watched_failed writer.new ≡ false) }
     ensures broke { IfErr result (λ fault. (fault ≡ RunFault.Write) × (watched_failed writer.new ≡ true)) }
+    ensures wrote { OnOk result (Appends (W.contents (watched_inner writer.old)) (W.contents (watched_inner writer.new)) bytes.now) }
+    ensures front { OnErr result (WroteFront (W.contents (watched_inner writer.old)) (W.contents (watched_inner writer.new)) bytes.now) }
 {
     let mut rest = bytes;
     while !rest.is_empty() {
@@ -66,6 +76,8 @@ fn next_byte<R: Read>(reader: &mut Watched<R>) -> Result<Option<u8>, RunFault>
     requires { watched_failed reader.old ≡ false }
     ensures stands { OnOk result (watched_failed reader.new ≡ false) }
     ensures broke { IfErr result (λ fault. (fault ≡ RunFault.Read) × (watched_failed reader.new ≡ true)) }
+    ensures read { IfOk result (ReadsByte (R.remaining (watched_inner reader.old)) (R.remaining (watched_inner reader.new))) }
+    ensures kept { OnErr result (Consumes (R.remaining (watched_inner reader.old)) (R.remaining (watched_inner reader.new)) []) }
 {
     let mut byte = [0u8; 1];
     match reader.read(&mut byte) {
@@ -79,6 +91,8 @@ fn echo_bytes<W: Write>(writer: &mut Watched<W>, bytes: &[u8], echo: bool) -> Re
     requires writer { watched_failed writer.old ≡ false }
     ensures stands { OnOk result (watched_failed writer.new ≡ false) }
     ensures broke { IfErr result (λ fault. (fault ≡ RunFault.Write) × (watched_failed writer.new ≡ true)) }
+    ensures wrote { OnOk result (Appends (W.contents (watched_inner writer.old)) (W.contents (watched_inner writer.new)) (shown echo bytes.now)) }
+    ensures front { OnErr result (WroteFront (W.contents (watched_inner writer.old)) (W.contents (watched_inner writer.new)) (shown echo bytes.now)) }
 {
     if echo {
         write_whole(writer, bytes)
@@ -97,9 +111,12 @@ fn keep_byte<W: Write>(
     requires writer { watched_failed writer.old ≡ false }
     ensures stands { OnOk result (watched_failed writer.new ≡ false) }
     ensures broke { IfErr result (λ fault. (fault ≡ RunFault.Write) × (watched_failed writer.new ≡ true)) }
+    ensures kept { OnOk result (line.new ≡ typed_with line.old byte) }
+    ensures wrote { OnOk result (Appends (W.contents (watched_inner writer.old)) (W.contents (watched_inner writer.new)) (shown echo (flushed line.old))) }
+    ensures front { OnErr result (WroteFront (W.contents (watched_inner writer.old)) (W.contents (watched_inner writer.new)) (shown echo (flushed line.old))) }
 {
     if line.is_full() {
-        echo_bytes(writer, line.without_return(), echo)?;
+        echo_bytes(writer, line.kept(), echo)?;
         line.let_go();
     }
     line.push(byte);
@@ -116,10 +133,13 @@ fn type_line<R: Read, W: Write>(
 ) -> Result<LineEnd, RunFault>
     requires reader { watched_failed reader.old ≡ false }
     requires writer { watched_failed writer.old ≡ false }
+    requires fresh { line.old ≡ nothing_typed }
     ensures stand { OnOk result ((watched_failed reader.new ≡ false) × (watched_failed writer.new ≡ false)) }
-    ensures broke { IfErr result (λ fault. BrokeOff fault (watched_failed reader.new) (watched_failed writer.new)) }
-    ensures fewer { left.new ≤ left.old }
-    ensures read { result ≡ Ok LineEnd.Break → left.new < left.old }
+    ensures broke { IfErr result (λ fault. Blames fault (watched_failed reader.new) (watched_failed writer.new)) }
+    ensures whole { result ≡ Ok LineEnd.Break → IsTyping echo left.old left.new (R.remaining (watched_inner reader.old)) (R.remaining (watched_inner reader.new)) (W.contents (watched_inner writer.old)) (W.contents (watched_inner writer.new)) line.new (10 ∷ []) }
+    ensures last { result ≡ Ok LineEnd.Input → IsTyping echo left.old left.new (R.remaining (watched_inner reader.old)) (R.remaining (watched_inner reader.new)) (W.contents (watched_inner writer.old)) (W.contents (watched_inner writer.new)) line.new [] }
+    ensures ends { result ≡ Ok LineEnd.Input → IsAtEnd (R.remaining (watched_inner reader.new)) }
+    ensures cut { IfErr result (λ fault. BrokeTyping fault echo left.old (R.remaining (watched_inner reader.old)) (R.remaining (watched_inner reader.new)) (W.contents (watched_inner writer.old)) (W.contents (watched_inner writer.new))) }
 {
     while let Some(byte) = next_byte(reader)? {
         if *left == 0 {
@@ -127,12 +147,30 @@ fn type_line<R: Read, W: Write>(
         }
         *left -= 1;
         if byte == b'\n' {
-            line.drop_return();
             return Ok(LineEnd::Break);
         }
         keep_byte(writer, line, byte, echo)?;
     }
     Ok(LineEnd::Input)
+}
+
+/// Writes the rest of a line's echo, if commands are echoed, and the session's text.
+#[tactic(auto, using(crate::proofs::Writes::write_steps))]
+fn tell<W: Write>(
+    writer: &mut Watched<W>,
+    line: &TypedLine,
+    reply: &Reply,
+    echo: bool,
+) -> Result<(), RunFault>
+    requires writer { watched_failed writer.old ≡ false }
+    ensures stands { OnOk result (watched_failed writer.new ≡ false) }
+    ensures broke { IfErr result (λ fault. (fault ≡ RunFault.Write) × (watched_failed writer.new ≡ true)) }
+    ensures wrote { OnOk result (Appends (W.contents (watched_inner writer.old)) (W.contents (watched_inner writer.new)) (shown echo (line.now.kept ++ 10 ∷ []) ++ reply.now.text)) }
+    ensures front { OnErr result (WroteFront (W.contents (watched_inner writer.old)) (W.contents (watched_inner writer.new)) (shown echo (line.now.kept ++ 10 ∷ []) ++ reply.now.text)) }
+{
+    echo_bytes(writer, line.kept(), echo)?;
+    echo_bytes(writer, b"\n", echo)?;
+    write_whole(writer, reply.text())
 }
 
 /// Answers a line: its echo, if commands are echoed, and the session's text.
@@ -146,14 +184,30 @@ fn answer<W: Write>(
     ensures stands { OnOk result (watched_failed writer.new ≡ false) }
     ensures broke { IfErr result (λ fault. (fault ≡ RunFault.Write) × (watched_failed writer.new ≡ true)) }
     ensures tale { tale_of session.new ≡ tale_of session.old }
+    ensures answered { OnOk result (Answered (λ refused. typed_part (tale_of session.old) echo refused (state_of session.old) line.now) (λ refused. (answer_to (tale_of session.old) refused (state_of session.old) (typed_reading line.now)).state) (W.contents (watched_inner writer.old)) (W.contents (watched_inner writer.new)) (state_of session.new)) }
+    ensures front { OnErr result (BrokeAnswer (λ refused. typed_part (tale_of session.old) echo refused (state_of session.old) line.now) (λ refused. (answer_to (tale_of session.old) refused (state_of session.old) (typed_reading line.now)).state) (W.contents (watched_inner writer.old)) (W.contents (watched_inner writer.new)) (state_of session.new)) }
 {
-    echo_bytes(writer, line.kept(), echo)?;
-    echo_bytes(writer, b"\n", echo)?;
-    let reply = line.answered_by(session);
-    write_whole(writer, reply.text())
+    let reply = session.answer(line.reading());
+    tell(writer, line, &reply, echo)
+}
+
+/// Writes the prompt, unless the session is over.
+fn prompt<W: Write>(writer: &mut Watched<W>, session: &Session) -> Result<(), RunFault>
+    requires writer { watched_failed writer.old ≡ false }
+    ensures stands { OnOk result (watched_failed writer.new ≡ false) }
+    ensures broke { IfErr result (λ fault. (fault ≡ RunFault.Write) × (watched_failed writer.new ≡ true)) }
+    ensures wrote { OnOk result (Appends (W.contents (watched_inner writer.old)) (W.contents (watched_inner writer.new)) (unless_ended (state_of session.now).ending prompt)) }
+    ensures front { OnErr result (WroteFront (W.contents (watched_inner writer.old)) (W.contents (watched_inner writer.new)) (unless_ended (state_of session.now).ending prompt)) }
+{
+    if session.ending().is_none() {
+        write_whole(writer, PROMPT)
+    } else {
+        Ok(())
+    }
 }
 
 /// Answers the line that the input's end cut off, if there is one.
+#[tactic(auto, using(crate::proofs::Writes::write_steps))]
 fn answer_last<W: Write>(
     writer: &mut Watched<W>,
     session: &mut Session,
@@ -164,20 +218,50 @@ fn answer_last<W: Write>(
     ensures stands { OnOk result (watched_failed writer.new ≡ false) }
     ensures broke { IfErr result (λ fault. (fault ≡ RunFault.Write) × (watched_failed writer.new ≡ true)) }
     ensures tale { tale_of session.new ≡ tale_of session.old }
+    ensures answered { OnOk result (Answered (λ refused. last_part (tale_of session.old) echo refused (state_of session.old) line.now) (λ refused. last_state (tale_of session.old) refused (state_of session.old) line.now) (W.contents (watched_inner writer.old)) (W.contents (watched_inner writer.new)) (state_of session.new)) }
+    ensures front { OnErr result (BrokeAnswer (λ refused. last_part (tale_of session.old) echo refused (state_of session.old) line.now) (λ refused. last_state (tale_of session.old) refused (state_of session.old) line.now) (W.contents (watched_inner writer.old)) (W.contents (watched_inner writer.new)) (state_of session.new)) }
 {
     if line.is_empty() {
         return Ok(());
     }
     answer(writer, session, line, echo)?;
-    if session.ending().is_none() {
-        write_whole(writer, PROMPT)?;
+    prompt(writer, session)
+}
+
+/// Plays one line: a prompt, an echo if commands are echoed, and an answer.
+fn play_line<R: Read, W: Write>(
+    reader: &mut Watched<R>,
+    writer: &mut Watched<W>,
+    session: &mut Session,
+    left: &mut u32,
+    echo: bool,
+) -> Result<LineEnd, RunFault>
+    requires reader { watched_failed reader.old ≡ false }
+    requires writer { watched_failed writer.old ≡ false }
+    requires going { (state_of session.old).ending ≡ None }
+    ensures stand { OnOk result ((watched_failed reader.new ≡ false) × (watched_failed writer.new ≡ false)) }
+    ensures broke { IfErr result (λ fault. Blames fault (watched_failed reader.new) (watched_failed writer.new)) }
+    ensures tale { tale_of session.new ≡ tale_of session.old }
+    ensures whole { result ≡ Ok LineEnd.Break → PlayedLine (tale_of session.old) echo left.old left.new (R.remaining (watched_inner reader.old)) (R.remaining (watched_inner reader.new)) (W.contents (watched_inner writer.old)) (W.contents (watched_inner writer.new)) (state_of session.old) (state_of session.new) }
+    ensures last { result ≡ Ok LineEnd.Input → PlayedLast (tale_of session.old) echo left.old left.new (R.remaining (watched_inner reader.old)) (R.remaining (watched_inner reader.new)) (W.contents (watched_inner writer.old)) (W.contents (watched_inner writer.new)) (state_of session.old) (state_of session.new) }
+    ensures cut { IfErr result (λ fault. BrokeOff fault (tale_of session.old) echo [] left.old (R.remaining (watched_inner reader.old)) (R.remaining (watched_inner reader.new)) (W.contents (watched_inner writer.old)) (W.contents (watched_inner writer.new)) (state_of session.old) (state_of session.new)) }
+{
+    prompt(writer, session)?;
+    let mut line = TypedLine::new();
+    let end = type_line(reader, writer, &mut line, left, echo)?;
+    match end {
+        LineEnd::Break => {
+            line.drop_return();
+            answer(writer, session, &line, echo)?;
+        }
+        LineEnd::Input => answer_last(writer, session, &line, echo)?,
     }
-    Ok(())
+    Ok(end)
 }
 
 /// Plays the session: writes its opening, then a prompt, an echo (if asked) and an answer for each
 /// line that is read, until the session or the input ends. Each whole line is answered before more is
-/// read.
+/// read. Takes no memory but that of the session's lines.
 pub fn run<R: Read, W: Write>(
     reader: &mut Watched<R>,
     writer: &mut Watched<W>,
@@ -186,26 +270,27 @@ pub fn run<R: Read, W: Write>(
 ) -> Result<Ending, RunFault>
     requires reader { watched_failed reader.old ≡ false }
     requires writer { watched_failed writer.old ≡ false }
-    ensures stand { OnOk result ((watched_failed reader.new ≡ false) × (watched_failed writer.new ≡ false)) }
-    ensures broke { IfErr result (λ fault. BrokeOff fault (watched_failed reader.new) (watched_failed writer.new)) }
+
+    // A run that comes to its end has written the play of the reader's commands.
+    ensures played { OnOk result (Played (tale_of session.old) echo (R.remaining (watched_inner reader.old)) (R.remaining (watched_inner reader.new)) (W.contents (watched_inner writer.old)) (W.contents (watched_inner writer.new)) (state_of session.old) (state_of session.new)) }
     ensures ended { IfOk result (λ ending. (state_of session.new).ending ≡ Some ending) }
+
+    // A run that breaks off has written a front of it.
+    ensures cut { IfErr result (λ fault. BrokeOff fault (tale_of session.old) echo (opening_text (tale_of session.old)) most_input (R.remaining (watched_inner reader.old)) (R.remaining (watched_inner reader.new)) (W.contents (watched_inner writer.old)) (W.contents (watched_inner writer.new)) (state_of session.old) (state_of session.new)) }
+
+    // It breaks off with the reader's fault exactly where the reader has failed, with the writer's
+    // exactly where the writer has.
+    ensures stand { OnOk result ((watched_failed reader.new ≡ false) × (watched_failed writer.new ≡ false)) }
+    ensures broke { IfErr result (λ fault. Blames fault (watched_failed reader.new) (watched_failed writer.new)) }
     ensures tale { tale_of session.new ≡ tale_of session.old }
 {
     let mut left = MOST_INPUT;
     write_whole(writer, session.opening())?;
     while session.ending().is_none() {
-        write_whole(writer, PROMPT)?;
-        let mut line = TypedLine::new();
-        match type_line(reader, writer, &mut line, &mut left, echo)? {
-            LineEnd::Break => answer(writer, session, &line, echo)?,
-            LineEnd::Input => {
-                answer_last(writer, session, &line, echo)?;
-                let _ = session.end_input();
-            }
+        match play_line(reader, writer, session, &mut left, echo)? {
+            LineEnd::Break => {}
+            LineEnd::Input => return Ok(session.end_input()),
         }
     }
-    match session.ending() {
-        Some(ending) => Ok(ending),
-        None => Ok(session.end_input()),
-    }
+    Ok(session.end_input())
 }

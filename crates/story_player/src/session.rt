@@ -3,7 +3,7 @@ ghost use Rattle.std.specs.Prelude.{◌≡◌, ◌<◌, ◌++◌, false, Some, i
 ghost use Rattle.std.specs.Bool.{MatchBool};
 ghost use Rattle.world_meaning.specs.Texts.{memory_text, said};
 ghost use Rattle.world_meaning.specs.Transcript.{ending_at_end};
-ghost use Rattle.world_meaning.specs.Session.{abandoned, answer_of, later, look_text, looked_in, most_turns, opening_text, read_answer, room_after, start_state};
+ghost use Rattle.world_meaning.specs.Session.{abandoned, answer_of, answer_to, later, look_text, looked_in, most_turns, opening_text, read_answer, room_after, start_state};
 
 use crate::{Reply, World, read_line, texts};
 use std::alloc::{AllocError, Global};
@@ -153,16 +153,15 @@ impl Session {
         Reply::fixed(b"", ReplyKind::Ended)
     }
 
-    /// Answers a line. Where memory is refused in a turn, the answer says so and nothing has changed;
-    /// every other line is answered without memory.
-    pub fn line(&mut self, line: &[u8]) -> Reply
-        ensures answer { record { spoken = result; state = state_of self.new } ≡ answer_of (tale_of self.old) (is_refusal result.kind) (state_of self.old) line.now }
+    /// Answers what a line means.
+    pub(crate) fn answer(&mut self, reading: Reading) -> Reply
+        ensures answer { record { spoken = result; state = state_of self.new } ≡ answer_to (tale_of self.old) (is_refusal result.kind) (state_of self.old) reading }
         ensures tale { tale_of self.new ≡ tale_of self.old }
     {
         if self.ending.is_some() {
             return Reply::fixed(b"", ReplyKind::Over);
         }
-        match read_line(line) {
+        match reading {
             Reading::Act(action) => self.turn(action),
             Reading::Quit => self.quit(),
             Reading::Empty => Reply::fixed(texts::EMPTY, ReplyKind::Free),
@@ -171,6 +170,15 @@ impl Session {
             Reading::NotSeen => Reply::fixed(texts::NOT_SEEN, ReplyKind::Free),
             Reading::NotUnderstood => Reply::fixed(texts::NOT_UNDERSTOOD, ReplyKind::Free),
         }
+    }
+
+    /// Answers a line. Where memory is refused in a turn, the answer says so and nothing has changed;
+    /// every other line is answered without memory.
+    pub fn line(&mut self, line: &[u8]) -> Reply
+        ensures answer { record { spoken = result; state = state_of self.new } ≡ answer_of (tale_of self.old) (is_refusal result.kind) (state_of self.old) line.now }
+        ensures tale { tale_of self.new ≡ tale_of self.old }
+    {
+        self.answer(read_line(line))
     }
 
     /// The commands have run out: answers how the session has ended.

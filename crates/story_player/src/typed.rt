@@ -1,102 +1,127 @@
 //! The line that is being typed: its bytes so far, of which only a part is kept where it is long.
-use crate::{Reply, Session};
+use crate::read_line;
 use arrayvec::ArrayVec;
+use std::marker::Model;
+use world_meaning::Reading;
 
 /// The bytes that are kept: a line that is no longer is kept whole.
 const MOST_KEPT: usize = 256;
 
-/// What a long line that has a word is answered as.
-const LONG_LINE: &[u8; MOST_KEPT] = &[b'a'; MOST_KEPT];
+/// What is known of the bytes in front of those that are kept.
+#[derive(Clone, Copy, Debug, Drop, PartialEq, Eq)]
+pub enum Gone {
+    /// There are none.
+    Nothing,
+    /// Over 255 bytes, all of them blanks.
+    Blanks,
+    /// Over 255 bytes, with a word among them.
+    Words,
+}
 
 /// A line in front of its line break.
 #[derive(Drop)]
 pub struct TypedLine {
-    /// The bytes that weren't written yet.
+    gone: Gone,
     kept: ArrayVec<u8, MOST_KEPT>,
-    /// Whether bytes came before those that are kept.
-    is_long: bool,
-    /// Whether one of those was no blank.
-    has_word: bool,
 }
 
+impl Model for TypedLine {
+    ghost use Rattle.story_player.specs.Typed.{Typing};
+
+    ghost Value = { Typing };
+
+    ghost view = { λ line. record { gone = line.gone; kept = line.kept.items } };
+}
+
+ghost use Rattle.std.specs.Prelude.{◌≡◌, ◌<◌, ◌++◌, ◌∷◌, [], false, length};
+ghost use Rattle.std.specs.Str.Lines.{strip_carriage_return};
+ghost use Rattle.story_player.specs.Typed.{gone_with, has_word, is_full, is_untyped, is_word_byte, most_kept, nothing_typed, typed_reading};
+
 /// Whether the byte is no blank.
-fn is_word_byte(byte: &u8) -> bool {
+fn is_word_byte(byte: &u8) -> bool
+    ensures { result ≡ is_word_byte byte.now }
+{
     *byte != b' ' && *byte != b'\t'
 }
 
-impl TypedLine {
-    ghost use Rattle.std.specs.Prelude.{◌≡◌};
-    ghost use Rattle.story_player.specs.Sessions.{tale_of};
+fn has_word(bytes: &[u8]) -> bool
+    ensures { result ≡ has_word bytes.now }
+{
+    bytes.iter().any(is_word_byte)
+}
 
+impl TypedLine {
     /// No byte so far.
-    pub fn new() -> TypedLine {
+    pub fn new() -> TypedLine
+        ensures { result ≡ nothing_typed }
+    {
         TypedLine {
+            gone: Gone::Nothing,
             kept: ArrayVec::new(),
-            is_long: false,
-            has_word: false,
         }
     }
 
     /// Whether no byte was typed.
-    pub fn is_empty(&self) -> bool {
-        self.kept.is_empty() && !self.is_long
+    pub fn is_empty(&self) -> bool
+        ensures { result ≡ is_untyped self.now }
+    {
+        self.gone == Gone::Nothing && self.kept.is_empty()
     }
 
     /// Whether bytes must be let go before the next is kept.
-    pub fn is_full(&self) -> bool {
+    pub fn is_full(&self) -> bool
+        ensures full { result ≡ is_full self.now }
+        ensures room { result ≡ false → length self.now.kept < most_kept }
+    {
         self.kept.is_full()
     }
 
-    /// Keeps the next byte, if there is room.
-    pub fn push(&mut self, byte: u8) {
-        if !self.kept.is_full() {
-            self.kept.push(byte);
-        }
+    /// Keeps the next byte.
+    pub fn push(&mut self, byte: u8)
+        requires { length self.old.kept < most_kept }
+        ensures { self.new ≡ record { gone = self.old.gone; kept = self.old.kept ++ byte ∷ [] } }
+    {
+        self.kept.push(byte);
     }
 
     /// The bytes that are kept.
-    pub fn kept(&self) -> &[u8] {
+    pub fn kept(&self) -> &[u8]
+        ensures { result.now ≡ self.now.kept }
+    {
         self.kept.as_slice()
     }
 
-    /// Lets go of the bytes that are kept, but for a carriage return at their end, which may belong
-    /// to the line break.
-    pub fn let_go(&mut self) {
-        let ends_in_return = self.kept.last() == Some(&b'\r');
-        self.has_word = self.has_word || self.without_return().iter().any(is_word_byte);
-        self.is_long = true;
+    /// Lets go of the bytes that are kept.
+    pub fn let_go(&mut self)
+        ensures { self.new ≡ record { gone = gone_with self.old.gone self.old.kept; kept = [] } }
+    {
+        if self.gone != Gone::Words {
+            self.gone = if has_word(self.kept.as_slice()) {
+                Gone::Words
+            } else {
+                Gone::Blanks
+            };
+        }
         self.kept.clear();
-        if ends_in_return {
-            self.push(b'\r');
-        }
-    }
-
-    /// The bytes that are kept without a carriage return at their end.
-    pub fn without_return(&self) -> &[u8] {
-        match self.kept.as_slice() {
-            [front @ .., b'\r'] => front,
-            whole => whole,
-        }
     }
 
     /// Drops the carriage return in front of the line break.
-    pub fn drop_return(&mut self) {
+    pub fn drop_return(&mut self)
+        ensures { self.new ≡ record { gone = self.old.gone; kept = strip_carriage_return self.old.kept } }
+    {
         if self.kept.last() == Some(&b'\r') {
             let _ = self.kept.pop();
         }
     }
 
-    /// What the session answers to the line.
-    pub fn answered_by(&self, session: &mut Session) -> Reply
-        ensures tale { tale_of session.new ≡ tale_of session.old }
+    /// What the line means: one of over 255 bytes is too long, unless it is all blanks.
+    pub fn reading(&self) -> Reading
+        ensures { result ≡ typed_reading self.now }
     {
-        if !self.is_long {
-            return session.line(self.kept.as_slice());
-        }
-        if self.has_word || self.kept.iter().any(is_word_byte) {
-            session.line(LONG_LINE)
-        } else {
-            session.line(b"")
+        match self.gone {
+            Gone::Nothing => read_line(self.kept.as_slice()),
+            Gone::Blanks if !has_word(self.kept.as_slice()) => Reading::Empty,
+            Gone::Blanks | Gone::Words => Reading::TooLong,
         }
     }
 }

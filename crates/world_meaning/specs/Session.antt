@@ -96,13 +96,17 @@ read_answer tale refused state Quit =
 read_answer tale refused state (Act action) =
     if refused then abandoned state Memory memory_text else turn_of tale state action
 
--- what a line gives; after the end, nothing
-abbrev pub ended_answer : Tale → Bool → State → List ℕ → Option Ending → Answer
-ended_answer tale refused state line (Some ending) = record { spoken = record { text = []; kind = Over }; state = state }
-ended_answer tale refused state line None = read_answer tale refused state (reading_of line)
+-- what a reading gives; after the end, nothing
+abbrev pub ended_answer : Tale → Bool → State → Reading → Option Ending → Answer
+ended_answer tale refused state reading (Some ending) = record { spoken = record { text = []; kind = Over }; state = state }
+ended_answer tale refused state reading None = read_answer tale refused state reading
 
+abbrev pub answer_to : Tale → Bool → State → Reading → Answer
+answer_to tale refused state reading = ended_answer tale refused state reading state.ending
+
+-- what a line gives
 abbrev pub answer_of : Tale → Bool → State → List ℕ → Answer
-answer_of tale refused state line = ended_answer tale refused state line state.ending
+answer_of tale refused state line = answer_to tale refused state (reading_of line)
 
 -- the state in which a session begins: the player has looked round
 abbrev pub start_state : Tale → State

@@ -1,0 +1,267 @@
+-- A line that was played, from what was typed and what was answered.
+use Rattle.std.proofs.Common.{◌≡◌, ℕ, ◌<◌, Bool, true, false, List, [], ◌∷◌, ◌++◌, length, refl, ap, sym, ◌∙◌, subst, arith, append_assoc}
+use Rattle.std.specs.Prelude.{Option, None, if◌then◌else◌}
+use Rattle.std.specs.Io.KnownBytes.{Appends, Consumes, IsAtEnd}
+use Rattle.std.specs.Str.Lines.{lines, strip_carriage_return}
+use Rattle.std.proofs.lemmas.Bool.{eqb-true}
+use Rattle.std.proofs.lemmas.List.{length-append, append-nil}
+use Rattle.world_meaning.specs.Session.{State, answer_of, answer_to}
+use Rattle.world_meaning.specs.Texts.{prompt}
+use Rattle.world_meaning.specs.Transcript.{behind, echoed, played, unless_ended}
+use Rattle.world_meaning.specs.declared.tale.Tale.{Tale}
+use Rattle.story_player.specs.Runs.{BrokeOff, IsFront, has_break}
+use Rattle.story_player.specs.Steps.{Answered, BrokeAnswer, BrokeTyping, IsTyping, PlayedLast, PlayedLine, WroteFront, last_part, last_state, shown, typed_part}
+use Rattle.story_player.specs.Typed.{IsGone, Typing, is_untyped, typed_reading}
+use Rattle.story_player.specs.declared.playing.RunFault.{RunFault}
+use Rattle.story_player.specs.declared.playing.RunFault.TheVariants.{Write}
+use Rattle.story_player.specs.declared.typed.Gone.{Gone}
+use Rattle.story_player.specs.declared.typed.Gone.TheVariants.{Nothing, Blanks, Words}
+use Rattle.story_player.proofs.Fronts.{front-append, front-behind, front_first}
+use Rattle.story_player.proofs.LineLemmas.{lines-last, lines-line}
+use Rattle.story_player.proofs.Readings.{reading_typed}
+use Rattle.story_player.proofs.Tellings.{part_last, part_told, state_last, state_told}
+use Rattle.story_player.proofs.Transcripts.{played-line, played-none}
+use Rattle.story_player.proofs.TypedLines.{shown_nothing, strip_behind}
+use Rattle.story_player.proofs.Writes.{appends-more, front-more}
+
+-- what was shown of a line, and the rest of its echo
+pub echo_whole : (echo : Bool) (front kept : List ℕ) → shown echo front ++ shown echo (kept ++ 10 ∷ []) ≡ echoed echo (front ++ kept)
+echo_whole true front kept = sym (append_assoc front kept (10 ∷ []))
+echo_whole false front kept = refl
+
+-- what is written for a typed line is the line's part, whatever was let go
+pub record IsPart (tale : Tale) (echo refused : Bool) (state : State) (t : Typing) (front line : List ℕ) : Type 0 where
+  pub text : shown echo front ++ typed_part tale echo refused state t ≡ echoed echo line ++ (answer_of tale refused state line).spoken.text
+  pub next : (answer_to tale refused state (typed_reading t)).state ≡ (answer_of tale refused state line).state
+
+pub is_part : (tale : Tale) (echo refused : Bool) (state : State) (gone : Gone) (kept front : List ℕ) → IsGone gone front → IsPart tale echo refused state (record { gone = gone; kept = kept }) front (front ++ kept)
+is_part tale echo refused state gone kept front is =
+    let read = reading_typed gone front kept is in
+    record {
+      text = ap (λ r. shown echo front ++ (shown echo (kept ++ 10 ∷ []) ++ (answer_to tale refused state r).spoken.text)) read
+          ∙ sym (append_assoc (shown echo front) (shown echo (kept ++ 10 ∷ [])) (answer_of tale refused state (front ++ kept)).spoken.text)
+          ∙ ap (λ bs. bs ++ (answer_of tale refused state (front ++ kept)).spoken.text) (echo_whole echo front kept);
+      next = ap (λ r. (answer_to tale refused state r).state) read;
+    }
+
+-- the line in front of its line break
+pub is_stripped_part : (tale : Tale) (echo refused : Bool) (state : State) (gone : Gone) (kept front : List ℕ) → IsGone gone front → (0 < length front → 0 < length kept) → IsPart tale echo refused state (record { gone = gone; kept = strip_carriage_return kept }) front (strip_carriage_return (front ++ kept))
+is_stripped_part tale echo refused state gone kept front is keeps =
+    subst (λ line. IsPart tale echo refused state (record { gone = gone; kept = strip_carriage_return kept }) front line) (sym (strip_behind front kept keeps))
+    (is_part tale echo refused state gone (strip_carriage_return kept) front is)
+
+-- a whole line was answered
+pub played_line : (tale : Tale) (echo : Bool) (limit left : ℕ) (unread rest held a b now : Option (List ℕ)) (state to : State) (gone : Gone) (kept : List ℕ)
+    → Appends held a prompt → IsTyping echo limit left unread rest a b (record { gone = gone; kept = kept }) (10 ∷ [])
+    → Answered (part_told tale echo state (record { gone = gone; kept = strip_carriage_return kept })) (state_told tale state (record { gone = gone; kept = strip_carriage_return kept })) b now to
+    → PlayedLine tale echo limit left unread rest held now state to
+played_line tale echo limit left unread rest held a b now state to gone kept prompted typing told =
+    let part = is_stripped_part tale echo told.refused state gone kept typing.front typing.gone typing.keeps in
+    record {
+      line = typing.front ++ kept;
+      unbroken = typing.unbroken;
+      reads = typing.reads;
+      refused = told.refused;
+      writes = subst (λ bs. Appends held now (prompt ++ bs)) part.text
+          (appends-more held a now prompt (shown echo typing.front ++ part_told tale echo state (record { gone = gone; kept = strip_carriage_return kept }) told.refused) prompted
+          (appends-more a b now (shown echo typing.front) (part_told tale echo state (record { gone = gone; kept = strip_carriage_return kept }) told.refused) typing.writes told.writes));
+      behind = told.behind ∙ part.next;
+      counts = typing.counts;
+    }
+
+pub front_empty : (front kept : List ℕ) → front ++ kept ≡ [] → front ≡ []
+front_empty [] kept empty = refl
+front_empty (b ∷ bs) kept empty = absurd cc
+
+-- nothing was typed
+pub untyped_empty : (gone : Gone) (kept front : List ℕ) → IsGone gone front → is_untyped (record { gone = gone; kept = kept }) ≡ true → front ++ kept ≡ []
+untyped_empty Nothing [] front is none = append-nil front ∙ is
+untyped_empty Nothing (b ∷ bs) front is none = absurd (omega (arith, eqb-true (length (b ∷ bs)) 0 none))
+untyped_empty Blanks kept front is none = absurd cc
+untyped_empty Words kept front is none = absurd cc
+
+-- something was
+pub typed_some : (gone : Gone) (kept front : List ℕ) → IsGone gone front → is_untyped (record { gone = gone; kept = kept }) ≡ false → 0 < length (front ++ kept)
+typed_some Nothing [] front is some = absurd cc
+typed_some Nothing (b ∷ bs) front is some = omega (arith, length-append front (b ∷ bs))
+typed_some Blanks kept front is some = omega (arith, is.0, length-append front kept)
+typed_some Words kept front is some = omega (arith, is.0, length-append front kept)
+
+-- the play of the last line, whatever was let go
+pub record IsLast (tale : Tale) (echo refused : Bool) (state : State) (t : Typing) (front line : List ℕ) : Type 0 where
+  pub flags : List Bool
+  pub text : prompt ++ (shown echo front ++ last_part tale echo refused state t) ≡ played tale echo flags state (lines line)
+  pub next : last_state tale refused state t ≡ behind tale flags state (lines line)
+
+pub is_last_none : (tale : Tale) (echo refused : Bool) (state : State) (gone : Gone) (kept front : List ℕ) → state.ending ≡ None → IsGone gone front → is_untyped (record { gone = gone; kept = kept }) ≡ true → IsLast tale echo refused state (record { gone = gone; kept = kept }) front (front ++ kept)
+is_last_none tale echo refused state gone kept front going is none =
+    let empty = untyped_empty gone kept front is none in
+    let nothing : front ≡ [] = front_empty front kept empty in
+    record {
+      flags = [];
+      text = ap (λ v. prompt ++ (shown echo front ++ (if v then [] else (typed_part tale echo refused state (record { gone = gone; kept = kept }) ++ unless_ended (answer_to tale refused state (typed_reading (record { gone = gone; kept = kept }))).state.ending prompt)))) none
+          ∙ ap (λ bs. prompt ++ (shown echo bs ++ [])) nothing ∙ ap (λ bs. prompt ++ (bs ++ [])) (shown_nothing echo) ∙ append-nil prompt
+          ∙ sym (played-none tale echo [] state going) ∙ ap (λ bs. played tale echo [] state (lines bs)) (sym empty);
+      next = ap (λ v. if v then state else (answer_to tale refused state (typed_reading (record { gone = gone; kept = kept }))).state) none ∙ ap (λ bs. behind tale [] state (lines bs)) (sym empty);
+    }
+
+pub is_last_some : (tale : Tale) (echo refused : Bool) (state : State) (gone : Gone) (kept front : List ℕ) → state.ending ≡ None → IsGone gone front → has_break (front ++ kept) ≡ false → is_untyped (record { gone = gone; kept = kept }) ≡ false → IsLast tale echo refused state (record { gone = gone; kept = kept }) front (front ++ kept)
+is_last_some tale echo refused state gone kept front going is unbroken some =
+    let t : Typing = record { gone = gone; kept = kept } in
+    let line = front ++ kept in
+    let part = is_part tale echo refused state gone kept front is in
+    let last = unless_ended (answer_to tale refused state (typed_reading t)).state.ending prompt in
+    let one = lines-last line unbroken (typed_some gone kept front is some) in
+    record {
+      flags = refused ∷ [];
+      text = ap (λ v. prompt ++ (shown echo front ++ (if v then [] else (typed_part tale echo refused state t ++ last)))) some
+          ∙ ap (λ bs. prompt ++ bs) (sym (append_assoc (shown echo front) (typed_part tale echo refused state t) last))
+          ∙ ap (λ bs. prompt ++ (bs ++ last)) part.text
+          ∙ sym (append_assoc prompt (echoed echo line ++ (answer_of tale refused state line).spoken.text) last)
+          ∙ ap (λ s. (prompt ++ (echoed echo line ++ (answer_of tale refused state line).spoken.text)) ++ unless_ended s.ending prompt) part.next
+          ∙ sym (played-line tale echo refused state line going)
+          ∙ ap (λ ls. played tale echo (refused ∷ []) state ls) (sym one);
+      next = ap (λ v. if v then state else (answer_to tale refused state (typed_reading t)).state) some ∙ part.next ∙ ap (λ ls. behind tale (refused ∷ []) state ls) (sym one);
+    }
+
+pub is_last : (tale : Tale) (echo refused : Bool) (state : State) (gone : Gone) (kept front : List ℕ) → state.ending ≡ None → IsGone gone front → has_break (front ++ kept) ≡ false → IsLast tale echo refused state (record { gone = gone; kept = kept }) front (front ++ kept)
+is_last tale echo refused state gone kept front going is unbroken =
+    let t : Typing = record { gone = gone; kept = kept } in
+    let Goal : Bool → Type 0 = λ v. is_untyped t ≡ v → IsLast tale echo refused state t front (front ++ kept) in
+    elim (is_untyped t) as Goal [
+      | true ↦ λ none. is_last_none tale echo refused state gone kept front going is none
+      | false ↦ λ some. is_last_some tale echo refused state gone kept front going is unbroken some
+    ] refl
+
+-- the last line was answered, if there is one
+pub played_last : (tale : Tale) (echo : Bool) (limit left : ℕ) (unread rest held a b now : Option (List ℕ)) (state to : State) (gone : Gone) (kept : List ℕ)
+    → state.ending ≡ None → Appends held a prompt → IsTyping echo limit left unread rest a b (record { gone = gone; kept = kept }) [] → IsAtEnd rest
+    → Answered (part_last tale echo state (record { gone = gone; kept = kept })) (state_last tale state (record { gone = gone; kept = kept })) b now to
+    → PlayedLast tale echo limit left unread rest held now state to
+played_last tale echo limit left unread rest held a b now state to gone kept going prompted typing ends told =
+    let t : Typing = record { gone = gone; kept = kept } in
+    let line = typing.front ++ kept in
+    let last = is_last tale echo told.refused state gone kept typing.front going typing.gone typing.unbroken in
+    record {
+      line = line;
+      reads = subst (λ bs. Consumes unread rest bs) (append-nil line) typing.reads;
+      ends = ends;
+      flags = last.flags;
+      writes = subst (λ bs. Appends held now bs) last.text
+          (appends-more held a now prompt (shown echo typing.front ++ part_last tale echo state t told.refused) prompted
+          (appends-more a b now (shown echo typing.front) (part_last tale echo state t told.refused) typing.writes told.writes));
+      state_is = told.behind ∙ last.next;
+      counts = omega (arith, typing.counts, length-append line []);
+    }
+
+-- the prompt couldn't be written whole
+pub cut_at_prompt : (tale : Tale) (echo : Bool) (limit : ℕ) (unread held now : Option (List ℕ)) (state : State) → state.ending ≡ None → Consumes unread unread [] → WroteFront held now (unless_ended state.ending prompt) → BrokeOff Write tale echo [] limit unread unread held now state state
+cut_at_prompt tale echo limit unread held now state going none broke = record {
+  read = [];
+  reads = none;
+  whole = [];
+  typed = [];
+  past = [];
+  bytes = refl;
+  parts = refl;
+  unbroken = refl;
+  within = λ other. refl;
+  flags = [];
+  state = refl;
+  written = broke.written;
+  writes = broke.writes;
+  front = broke.front;
+  begins = λ other. absurd (other refl);
+  going = λ other. absurd (other refl);
+  full = λ wrong. absurd cc;
+}
+
+-- typing the line broke off
+pub cut_in_line : (fault : RunFault) (tale : Tale) (echo : Bool) (limit : ℕ) (unread rest held a now : Option (List ℕ)) (state : State) → state.ending ≡ None → Appends held a prompt → BrokeTyping fault echo limit unread rest a now → BrokeOff fault tale echo [] limit unread rest held now state state
+cut_in_line fault tale echo limit unread rest held a now state going prompted broke = record {
+  read = broke.typed ++ broke.past;
+  reads = broke.reads;
+  whole = [];
+  typed = broke.typed;
+  past = broke.past;
+  bytes = refl;
+  parts = refl;
+  unbroken = broke.unbroken;
+  within = broke.within;
+  flags = [];
+  state = refl;
+  written = prompt ++ broke.written;
+  writes = appends-more held a now prompt broke.written prompted broke.writes;
+  front = broke.front tale [] state going;
+  begins = λ other. subst (λ bs. IsFront bs (prompt ++ broke.written)) (sym (played-none tale echo [] state going)) (front_first prompt broke.written);
+  going = λ other. going;
+  full = broke.full;
+}
+
+-- what a line gives couldn't be written whole
+pub cut_in_answer : (tale : Tale) (echo : Bool) (limit left : ℕ) (unread rest held a b now : Option (List ℕ)) (state to : State) (gone : Gone) (kept : List ℕ)
+    → state.ending ≡ None → Appends held a prompt → IsTyping echo limit left unread rest a b (record { gone = gone; kept = kept }) (10 ∷ [])
+    → BrokeAnswer (part_told tale echo state (record { gone = gone; kept = strip_carriage_return kept })) (state_told tale state (record { gone = gone; kept = strip_carriage_return kept })) b now to
+    → BrokeOff Write tale echo [] limit unread rest held now state to
+cut_in_answer tale echo limit left unread rest held a b now state to gone kept going prompted typing told =
+    let line = typing.front ++ kept in
+    let t : Typing = record { gone = gone; kept = strip_carriage_return kept } in
+    let answered_line = strip_carriage_return line in
+    let part = is_stripped_part tale echo told.refused state gone kept typing.front typing.gone typing.keeps in
+    let one : lines (line ++ 10 ∷ []) ≡ answered_line ∷ [] = lines-line line [] typing.unbroken in
+    let wrote = front-more a b now (shown echo typing.front) (part_told tale echo state t told.refused) typing.writes told.writes in
+    let near : IsFront wrote.written (echoed echo answered_line ++ (answer_of tale told.refused state answered_line).spoken.text) =
+    subst (λ bs. IsFront wrote.written bs) part.text wrote.front in
+    record {
+      read = line ++ 10 ∷ [];
+      reads = typing.reads;
+      whole = line ++ 10 ∷ [];
+      typed = [];
+      past = [];
+      bytes = sym (append-nil (line ++ 10 ∷ []));
+      parts = sym (append-nil (lines (line ++ 10 ∷ [])));
+      unbroken = refl;
+      within = λ other. refl;
+      flags = told.refused ∷ [];
+      state = told.behind ∙ part.next ∙ ap (λ ls. behind tale (told.refused ∷ []) state ls) (sym one);
+      written = prompt ++ wrote.written;
+      writes = appends-more held a now prompt wrote.written prompted wrote.writes;
+      front = subst (λ bs. IsFront (prompt ++ wrote.written) bs) (sym (played-line tale echo told.refused state answered_line going) ∙ ap (λ ls. played tale echo (told.refused ∷ []) state ls) (sym one))
+          (front-append (prompt ++ wrote.written) (prompt ++ (echoed echo answered_line ++ (answer_of tale told.refused state answered_line).spoken.text)) (unless_ended (answer_of tale told.refused state answered_line).state.ending prompt)
+          (front-behind prompt wrote.written (echoed echo answered_line ++ (answer_of tale told.refused state answered_line).spoken.text) near));
+      begins = λ other. absurd (other refl);
+      going = λ other. absurd (other refl);
+      full = λ wrong. absurd cc;
+    }
+
+-- what the last line gives couldn't
+pub cut_in_last : (tale : Tale) (echo : Bool) (limit left : ℕ) (unread rest held a b now : Option (List ℕ)) (state to : State) (gone : Gone) (kept : List ℕ)
+    → state.ending ≡ None → Appends held a prompt → IsTyping echo limit left unread rest a b (record { gone = gone; kept = kept }) []
+    → BrokeAnswer (part_last tale echo state (record { gone = gone; kept = kept })) (state_last tale state (record { gone = gone; kept = kept })) b now to
+    → BrokeOff Write tale echo [] limit unread rest held now state to
+cut_in_last tale echo limit left unread rest held a b now state to gone kept going prompted typing told =
+    let line = typing.front ++ kept in
+    let t : Typing = record { gone = gone; kept = kept } in
+    let last = is_last tale echo told.refused state gone kept typing.front going typing.gone typing.unbroken in
+    let wrote = front-more a b now (shown echo typing.front) (part_last tale echo state t told.refused) typing.writes told.writes in
+    record {
+      read = line;
+      reads = subst (λ bs. Consumes unread rest bs) (append-nil line) typing.reads;
+      whole = line;
+      typed = [];
+      past = [];
+      bytes = sym (append-nil line);
+      parts = sym (append-nil (lines line));
+      unbroken = refl;
+      within = λ other. refl;
+      flags = last.flags;
+      state = told.behind ∙ last.next;
+      written = prompt ++ wrote.written;
+      writes = appends-more held a now prompt wrote.written prompted wrote.writes;
+      front = subst (λ bs. IsFront (prompt ++ wrote.written) bs) last.text (front-behind prompt wrote.written (shown echo typing.front ++ part_last tale echo state t told.refused) wrote.front);
+      begins = λ other. absurd (other refl);
+      going = λ other. absurd (other refl);
+      full = λ wrong. absurd cc;
+    }
+
+pub ruleset line_played_steps = (played_line, played_last, cut_at_prompt, cut_in_line, cut_in_answer, cut_in_last)
