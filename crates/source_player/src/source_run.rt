@@ -1,7 +1,7 @@
 //! Compiling, loading, starting and playing a source.
-ghost use Rattle.std.specs.Prelude.{◌≡◌, false, IfErr, OnOk};
-ghost use Rattle.source_player.specs.SourceRuns.{FaultsWith};
-ghost use Rattle.story_player.specs.Watches.{watched_failed};
+ghost use Rattle.std.specs.Prelude.{◌≡◌, false, IfErr, IfOk, OnOk};
+ghost use Rattle.source_player.specs.SourceRuns.{FaultsWith, Leaves, PlayedSource};
+ghost use Rattle.story_player.specs.Watches.{watched_failed, watched_inner};
 
 use std::alloc::Global;
 use std::io::{Read, Write};
@@ -34,6 +34,15 @@ pub fn run_source<R: Read, W: Write>(
 ) -> Result<Ending, SourceRunFault>
     requires reader { watched_failed reader.old ≡ false }
     requires writer { watched_failed writer.old ≡ false }
+
+    // The play of the reader's commands, in the story that the source is compiled to, was written.
+    ensures played { IfOk result (PlayedSource echo (R.remaining (watched_inner reader.old)) (R.remaining (watched_inner reader.new)) (W.contents (watched_inner writer.old)) (W.contents (watched_inner writer.new))) }
+
+    // A fault of a part before the run leaves reader and writer alone, and a fault of the run leaves
+    // what the run leaves.
+    ensures left { IfErr result (λ fault. Leaves fault echo (R.remaining (watched_inner reader.old)) (R.remaining (watched_inner reader.new)) (W.contents (watched_inner writer.old)) (W.contents (watched_inner writer.new))) }
+
+    // The run's fault is the reader's exactly where the reader has failed, and the writer's alike.
     ensures stand { OnOk result ((watched_failed reader.new ≡ false) × (watched_failed writer.new ≡ false)) }
     ensures broke { IfErr result (λ fault. FaultsWith fault (watched_failed reader.new) (watched_failed writer.new)) }
 {

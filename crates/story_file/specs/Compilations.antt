@@ -1,7 +1,6 @@
--- Which story file a source has.
-use Rattle.std.specs.Prelude.{◌≡◌, ℕ, List, Ok}
+-- What the compiler's bytes are.
+use Rattle.std.specs.Prelude.{ℕ, List}
 use Rattle.world_meaning.specs.declared.tale.Tale.{Tale}
-use Rattle.i7_lexer.specs.Readings.{HasTokens}
 use Rattle.story_format.specs.Spells.{Spells}
 
 -- These bytes are the story file of a tale.

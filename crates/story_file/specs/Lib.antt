@@ -1,3 +1,4 @@
+pub mod Compilations
 pub mod Demands
 pub mod Statements
 pub mod Tales
