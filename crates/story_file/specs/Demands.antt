@@ -4,6 +4,8 @@ use Rattle.std.specs.Prelude.{ℕ, Bool, false, not, ◌&&◌, ◌||◌, ◌==�
 use Rattle.std.specs.List.{list_any}
 use Rattle.world_meaning.specs.Spelling.{is_spelled}
 use Rattle.world_meaning.specs.Directions.{direction_number, opposite_of}
+use Rattle.world_meaning.specs.declared.direction.Direction.{Direction}
+use Rattle.story_file.specs.Firsts.{first_of}
 use Rattle.story_file.specs.Statements.{Fact, Told, IsRoom, LeadsTo, Statement, NameAt}
 
 -- the names of kinds and properties, and the words that stand for an object or a number
@@ -74,10 +76,6 @@ described_after before (statement ∷ statements) = described_by before statemen
 abbrev pub descriptions_of : List Statement → List Description
 descriptions_of statements = described_after None statements
 
-abbrev pub or_else : Option ℕ → Option ℕ → Option ℕ
-or_else None other = other
-or_else (Some n) other = Some n
-
 -- an object's description: the first text that describes it
 abbrev pub description_of : List Description → ℕ → Option (List ℕ)
 description_of descriptions o = option_map (λ d. d.text) (find (λ d. d.object == o) descriptions)
@@ -86,10 +84,15 @@ abbrev pub says : List ℕ → Option (List ℕ) → Bool
 says text None = false
 says text (Some first) = bytes_eq text first
 
+abbrev pub is_second : List Description → Description → Bool
+is_second descriptions d = not (says d.text (description_of descriptions d.object))
+
+abbrev pub line_of_description : Description → ℕ
+line_of_description d = d.line
+
 -- C9 of a text: the first that describes an object otherwise than its description
 abbrev pub second_description : List Description → Option ℕ
-second_description descriptions =
-    option_map (λ d. d.line) (find (λ d. not (says d.text (description_of descriptions d.object))) descriptions)
+second_description descriptions = option_map line_of_description (find (is_second descriptions) descriptions)
 
 -- an exit: a direction out of a room; and where a statement leads it
 pub record Lead : Type 0 where
@@ -98,41 +101,58 @@ pub record Lead : Type 0 where
   pub target : ℕ
   pub line : ℕ
 
--- the ways that statements state: the subject lies in the direction of the room
+-- the subject lies in the direction of the room
+abbrev pub lead_of : ℕ → Direction → ℕ → ℕ → Lead
+lead_of subject direction room line = record { room = room; direction = direction_number direction; target = subject; line = line }
+
+-- the ways that statements state
 abbrev pub stated_in : Fact → ℕ → List Lead
 stated_in (Told text) line = []
 stated_in (IsRoom o) line = []
-stated_in (LeadsTo subject direction room) line = record { room = room; direction = direction_number direction; target = subject; line = line } ∷ []
+stated_in (LeadsTo subject direction room) line = lead_of subject direction room line ∷ []
 
 -- the ways back that they imply
 abbrev pub implied_in : Fact → ℕ → List Lead
 implied_in (Told text) line = []
 implied_in (IsRoom o) line = []
-implied_in (LeadsTo subject direction room) line = record { room = subject; direction = direction_number (opposite_of direction); target = room; line = line } ∷ []
+implied_in (LeadsTo subject direction room) line = lead_of room (opposite_of direction) subject line ∷ []
+
+abbrev pub stated_by_one : Statement → List Lead
+stated_by_one statement = stated_in statement.fact statement.line
+
+abbrev pub implied_by_one : Statement → List Lead
+implied_by_one statement = implied_in statement.fact statement.line
 
 abbrev pub stated_leads : List Statement → List Lead
-stated_leads statements = flat_map (λ s. stated_in s.fact s.line) statements
+stated_leads statements = flat_map stated_by_one statements
 
 abbrev pub implied_leads : List Statement → List Lead
-implied_leads statements = flat_map (λ s. implied_in s.fact s.line) statements
+implied_leads statements = flat_map implied_by_one statements
 
 abbrev pub is_exit : ℕ → ℕ → Lead → Bool
 is_exit room direction lead = (lead.room == room) && (lead.direction == direction)
 
+abbrev pub target_led : Lead → ℕ
+target_led lead = lead.target
+
 -- where an exit is led first
 abbrev pub first_target : List Lead → ℕ → ℕ → Option ℕ
-first_target leads room direction = option_map (λ lead. lead.target) (find (is_exit room direction) leads)
+first_target leads room direction = option_map target_led (find (is_exit room direction) leads)
 
 -- where an exit leads: where a sentence says, else where the first that implies it does
 abbrev pub target_of : List Statement → ℕ → ℕ → Option ℕ
-target_of statements room direction = or_else (first_target (stated_leads statements) room direction) (first_target (implied_leads statements) room direction)
+target_of statements room direction = first_of (first_target (stated_leads statements) room direction) (first_target (implied_leads statements) room direction)
 
 abbrev pub leads_to : ℕ → Option ℕ → Bool
 leads_to target None = false
 leads_to target (Some first) = target == first
 
+abbrev pub is_elsewhere : List Lead → Lead → Bool
+is_elsewhere leads lead = not (leads_to lead.target (first_target leads lead.room lead.direction))
+
+abbrev pub line_of_lead : Lead → ℕ
+line_of_lead lead = lead.line
+
 -- C10: the first statement that leads an exit to a second target
 abbrev pub second_target : List Statement → Option ℕ
-second_target statements =
-    let leads = stated_leads statements
-    in option_map (λ lead. lead.line) (find (λ lead. not (leads_to lead.target (first_target leads lead.room lead.direction))) leads)
+second_target statements = option_map line_of_lead (find (is_elsewhere (stated_leads statements)) (stated_leads statements))

@@ -1,5 +1,8 @@
 pub mod Compilations
 pub mod Demands
+pub mod Described
+pub mod Firsts
+pub mod StatedWays
 pub mod Statements
 pub mod Tales
 pub mod WorkedRows

@@ -1,7 +1,7 @@
 -- What the sentences of a source state, objects by their numbers: 0 the player, 1 to 12 the
 -- directions, then the author's by first mention.
-use Rattle.std.specs.Prelude.{ℕ, Bool, List, [], ◌∷◌, ◌++◌, map, fold, codes, bytes_eq, if◌then◌else◌}
-use Rattle.std.specs.List.{list_any, position_or_len}
+use Rattle.std.specs.Prelude.{ℕ, Bool, List, [], ◌∷◌, ◌++◌, length, map, fold, position, Option, Some, None, codes, bytes_eq, if◌then◌else◌}
+use Rattle.std.specs.List.{list_any}
 use Rattle.std.specs.Str.{str_to_ascii_lowercase}
 use Rattle.world_meaning.specs.Spelling.{is_spelled}
 use Rattle.world_meaning.specs.Directions.{all_directions, direction_name}
@@ -40,9 +40,13 @@ has_key keys key = list_any (bytes_eq key) keys
 abbrev pub with_key : List (List ℕ) → List ℕ → List (List ℕ)
 with_key keys key = if has_key keys key then keys else keys ++ key ∷ []
 
+abbrev pub place_or : ℕ → Option ℕ → ℕ
+place_or other None = other
+place_or other (Some place) = place
+
 -- an object's number: the place of its key
 abbrev pub number_in : List (List ℕ) → List ℕ → ℕ
-number_in keys key = position_or_len (bytes_eq key) keys
+number_in keys key = place_or (length keys) (position (bytes_eq key) keys)
 
 -- the keys and the first mentions of the author's objects so far
 pub record Named : Type 0 where

@@ -1,7 +1,6 @@
 -- The tale that a source's sentences mean, or the refusal that stands.
 use Rattle.std.specs.Prelude.{ℕ, ◌+◌, ◌-◌, Bool, ◌||◌, ◌==◌, nat_lt, min, List, [], ◌∷◌, ◌++◌, length, map, fold, find, replicate, slice_get, Option, Some, None, option_map, codes, Result, Ok, Err, if◌then◌else◌}
-use Rattle.std.specs.List.{list_any, slice_split}
-use Rattle.std.specs.Str.{str_to_ascii_lowercase}
+use Rattle.std.specs.List.{list_any}
 use Rattle.world_meaning.specs.Directions.{all_directions, direction_name, direction_number}
 use Rattle.world_meaning.specs.declared.article.Article.{Article}
 use Rattle.world_meaning.specs.declared.article.Article.TheVariants as article
@@ -18,8 +17,9 @@ use Rattle.world_meaning.specs.declared.tale.Tale.{Tale}
 use Rattle.i7_sentences.specs.declared.name.NameArticle.{NameArticle}
 use Rattle.i7_sentences.specs.declared.name.NameArticle.TheVariants as written
 use Rattle.i7_sentences.specs.declared.sentence.Sentence.{Sentence}
-use Rattle.story_file.specs.Demands.{Description, taken_name, wrong_kind, descriptions_of, description_of, second_description, second_target, target_of, first_of_author, line_at}
-use Rattle.story_file.specs.Statements.{NameAt, Statement, with_key, named_by, stated_by}
+use Rattle.story_file.specs.Demands.{Description, taken_name, wrong_kind, descriptions_of, description_of, second_description, second_target, target_of, first_of_author, line_at, line_of_description}
+use Rattle.story_format.specs.Words.{words_for}
+use Rattle.story_file.specs.Statements.{NameAt, Statement, named_by, stated_by}
 
 -- the lower of two lines
 abbrev pub earlier : Option ℕ → Option ℕ → Option ℕ
@@ -31,20 +31,22 @@ earlier (Some a) (Some b) = Some (min a b)
 abbrev pub object_too_many : List NameAt → Option ℕ
 object_too_many mentions = option_map line_at (slice_get mentions (1000 - first_of_author))
 
--- the words of a name in small letters, each once
-abbrev pub words_of : List ℕ → List (List ℕ)
-words_of name = fold with_key [] (slice_split (λ b. b == 32) (str_to_ascii_lowercase name))
-
 -- C12: a name of over 65,535 bytes or 32 words, at its first mention
 abbrev pub is_too_long : List ℕ → Bool
-is_too_long name = nat_lt 65535 (length name) || nat_lt 32 (length (words_of name))
+is_too_long name = nat_lt 65535 (length name) || nat_lt 32 (length (words_for 1 name))
+
+abbrev pub has_long_name : NameAt → Bool
+has_long_name at = is_too_long at.name.text
 
 abbrev pub name_too_long : List NameAt → Option ℕ
-name_too_long mentions = option_map line_at (find (λ at. is_too_long at.name.text) mentions)
+name_too_long mentions = option_map line_at (find has_long_name mentions)
+
+abbrev pub has_long_text : Description → Bool
+has_long_text d = nat_lt 65535 (length d.text)
 
 -- C12: a description of over 65,535 bytes
 abbrev pub text_too_long : List Description → Option ℕ
-text_too_long descriptions = option_map (λ d. d.line) (find (λ d. nat_lt 65535 (length d.text)) descriptions)
+text_too_long descriptions = option_map line_of_description (find has_long_text descriptions)
 
 abbrev pub is_vowel : ℕ → Bool
 is_vowel b = list_any (λ vowel. b == vowel) (codes "aeiouAEIOU")

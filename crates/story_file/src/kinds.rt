@@ -4,7 +4,8 @@ ghost use Rattle.story_file.specs.Demands.{is_wrong, wrong_kind};
 ghost use Rattle.story_file.specs.Views.{fact_of, statements_of};
 
 use crate::descriptions::subject_of;
-use crate::numbering::{FIRST_OF_AUTHOR, Fact, Statement};
+use crate::names::FIRST_OF_AUTHOR;
+use crate::statements::{Fact, Statement};
 
 /// Whether a fact, behind a sentence about this object or none, makes a room of the player or of a
 /// direction, or describes nothing.

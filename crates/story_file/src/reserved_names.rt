@@ -5,7 +5,7 @@ ghost use Rattle.world_meaning.specs.Spelling.{is_spelled};
 ghost use Rattle.story_file.specs.Demands.{is_taken, taken_name};
 ghost use Rattle.story_file.specs.Views.{mentions_of};
 
-use crate::numbering::Mention;
+use crate::names::Mention;
 use world_meaning::is_spelled;
 
 /// The names of built-in kinds and properties, and the words that stand for an object or a number.

@@ -1,10 +1,11 @@
 //! The tale of a source's sentences, or the refusal that stands.
-use crate::descriptions::{Description, descriptions_of, first_descriptions, second_description};
+use crate::descriptions::Descriptions;
 use crate::kinds::wrong_kind;
 use crate::limits::{name_too_long, object_too_many, text_too_long};
-use crate::numbering::{FIRST_OF_AUTHOR, Mention, Numbering, numbering_of};
+use crate::names::{FIRST_OF_AUTHOR, Mention, Names, names_of};
+use crate::statements::{Statement, statements_in};
 use crate::reserved_names::taken_name;
-use crate::ways::{Exit, Targets, implied_targets, second_target, stated_targets, target_of};
+use crate::ways::Ways;
 use i7_sentences::{Name, NameArticle, Sentence};
 use std::alloc::{AllocError, Global};
 use world_meaning::{
@@ -27,13 +28,6 @@ const NOWHERE: Way = Way {
     room: None,
     door: None,
 };
-
-/// Where a source's ways lead.
-#[derive(Drop)]
-struct Ways {
-    stated: Targets,
-    implied: Targets,
-}
 
 /// Memory was refused.
 fn memory(_: AllocError) -> Fault {
@@ -101,12 +95,12 @@ fn object_no(number: usize) -> Option<ObjNo> {
 }
 
 /// The exits of the room of this number.
-fn exits_of(ways: &Ways, room: usize) -> Exits {
+fn exits_of(ways: &Ways<'_>, room: usize) -> Exits {
     let mut exits = Exits {
         ways: [NOWHERE; 12],
     };
     for (way, direction) in exits.ways.iter_mut().zip(Direction::ALL) {
-        let target = target_of(&ways.stated, &ways.implied, Exit { room, direction });
+        let target = ways.target_of(room, direction);
         way.room = target.and_then(object_no);
     }
     exits
@@ -137,8 +131,8 @@ fn room(
 fn objects_of(
     alloc: Global,
     mentions: &[Mention<'_>],
-    firsts: &[Option<&TextBytes>],
-    ways: &Ways,
+    descriptions: &Descriptions<'_>,
+    ways: &Ways<'_>,
 ) -> Result<Vec<Object>, AllocError> {
     let mut objects = Vec::new(alloc);
     objects.push(player(alloc)?)?;
@@ -146,8 +140,9 @@ fn objects_of(
         objects.push(built_in(alloc, DIRECTION, direction.name())?)?;
     }
     for (place, mention) in mentions.iter().enumerate() {
-        let description = firsts.get(place).copied().flatten();
-        let exits = exits_of(ways, place.wrapping_add(FIRST_OF_AUTHOR));
+        let number = place.wrapping_add(FIRST_OF_AUTHOR);
+        let description = descriptions.of(number);
+        let exits = exits_of(ways, number);
         objects.push(room(alloc, mention.name, description, exits)?)?;
     }
     Ok(objects)
@@ -156,20 +151,15 @@ fn objects_of(
 /// What the names and the texts show: a name or a description twice, a wrong kind, an exit of two
 /// targets, an object too many, no room; each is looked for in the whole source before the next.
 fn check_frame(
-    numbering: &Numbering<'_>,
-    descriptions: &[Description<'_>],
-    firsts: &[Option<&TextBytes>],
-    stated: &Targets,
+    mentions: &[Mention<'_>],
+    statements: &[Statement<'_>],
+    descriptions: &Descriptions<'_>,
+    ways: &Ways<'_>,
 ) -> Result<(), Fault> {
-    let mentions = numbering.mentions.as_slice();
-    let statements = numbering.statements.as_slice();
-    let twice = earlier(
-        taken_name(mentions),
-        second_description(descriptions, firsts),
-    );
+    let twice = earlier(taken_name(mentions), descriptions.second());
     refuse(FaultCode::Twice, twice)?;
     refuse(FaultCode::WrongKind, wrong_kind(statements))?;
-    refuse(FaultCode::TwoPlaces, second_target(stated, statements))?;
+    refuse(FaultCode::TwoPlaces, ways.second_target())?;
     refuse(FaultCode::TooMany, object_too_many(mentions))?;
     refuse(
         FaultCode::NoRoom,
@@ -181,27 +171,22 @@ fn check_frame(
 /// whole source before the next, the lowest line first: C9, C8, C10, C12 of objects, C13, then C12
 /// of names and texts. Memory is C14.
 pub fn tale_of(alloc: Global, sentences: &[Sentence]) -> Result<Tale, Fault> {
-    let numbering = numbering_of(alloc, sentences).map_err(memory)?;
-    let mentions = numbering.mentions.as_slice();
-    let statements = numbering.statements.as_slice();
-    let descriptions = descriptions_of(alloc, statements).map_err(memory)?;
-    let firsts = first_descriptions(alloc, descriptions.as_slice(), mentions.len()).map_err(
-        memory,
-    )?;
-    let ways = Ways {
-        stated: stated_targets(alloc, statements).map_err(memory)?,
-        implied: implied_targets(alloc, statements).map_err(memory)?,
-    };
+    let names = names_of(alloc, sentences).map_err(memory)?;
+    let mentions = names.mentions();
+    let statements = statements_in(alloc, &names, sentences).map_err(memory)?;
+    let statements = statements.as_slice();
+    let descriptions = Descriptions::new(alloc, statements).map_err(memory)?;
+    let ways = Ways::new(alloc, statements).map_err(memory)?;
     check_frame(
-        &numbering,
-        descriptions.as_slice(),
-        firsts.as_slice(),
-        &ways.stated,
+        mentions,
+        statements,
+        &descriptions,
+        &ways,
     )?;
     let name = name_too_long(alloc, mentions).map_err(memory)?;
-    let text = text_too_long(descriptions.as_slice());
+    let text = text_too_long(descriptions.all());
     refuse(FaultCode::TooMany, earlier(name, text))?;
-    let objects = objects_of(alloc, mentions, firsts.as_slice(), &ways).map_err(memory)?;
+    let objects = objects_of(alloc, mentions, &descriptions, &ways).map_err(memory)?;
     Ok(Tale {
         objects: Objects::new(objects),
     })

@@ -1,89 +1,161 @@
 //! Ways: those that sentences state, and the ways back that they imply.
-use crate::numbering::{Fact, NumberedWay, Statement};
+ghost use Rattle.std.specs.Prelude.{◌≡◌, ℕ, IfOk, OnOk};
+ghost use Rattle.story_file.specs.Demands.{first_target, implied_in, implied_leads, stated_in, stated_leads};
+ghost use Rattle.story_file.specs.Firsts.{first_of};
+ghost use Rattle.story_file.specs.Views.{fact_of, given_exit, statements_of, target_at};
+
+use crate::statements::{Fact, NumberedWay, Statement};
 use indexmap::IndexMap;
 use std::alloc::{AllocError, Global};
-use world_meaning::Direction;
+use world_meaning::{Direction, ObjNo};
 
-/// A direction out of an object, by the object's number.
+/// A direction out of an object, by the numbers of both.
 #[derive(Clone, Copy, Debug, Hash, PartialEq, Eq)]
 pub struct Exit {
-    pub room: usize,
-    pub direction: Direction,
+    room: usize,
+    direction: ObjNo,
 }
 
 /// Where exits lead: the first target of each.
-pub type Targets = IndexMap<Exit, usize>;
+type Targets = IndexMap<Exit, usize>;
 
-/// The exit that a way states.
-fn stated_exit(way: NumberedWay) -> Exit {
-    Exit {
-        room: way.room,
-        direction: way.direction,
-    }
-}
-
-/// The exit that leads a way back.
-fn exit_back(way: NumberedWay) -> Exit {
-    Exit {
-        room: way.subject,
-        direction: way.direction.opposite(),
-    }
+/// The ways of a source's statements.
+#[derive(Drop)]
+pub struct Ways<'a> {
+    statements: &'a [Statement<'a>],
+    stated: Targets,
+    implied: Targets,
+    ghost stated_first: { (room direction : ℕ) → target_at stated room direction ≡ first_target (stated_leads (statements_of statements.now)) room direction },
+    ghost implied_first: { (room direction : ℕ) → target_at implied room direction ≡ first_target (implied_leads (statements_of statements.now)) room direction },
 }
 
 /// Gives an exit its target, unless it has one.
-fn lead(targets: &mut Targets, exit: Exit, target: usize) -> Result<(), AllocError> {
+fn lead(targets: &mut Targets, exit: Exit, target: usize) -> Result<(), AllocError>
+    ensures { OnOk result ((room direction : ℕ) → target_at targets.new room direction ≡ first_of (target_at targets.old room direction) (given_exit exit target room direction)) }
+{
     if targets.get(&exit).is_none() {
         targets.insert(exit, target)?;
     }
     Ok(())
 }
 
-/// The targets that sentences state.
-pub fn stated_targets(alloc: Global, statements: &[Statement<'_>]) -> Result<Targets, AllocError> {
-    let mut targets = IndexMap::new(alloc);
-    for statement in statements {
-        if let Fact::Way(way) = statement.fact {
-            lead(&mut targets, stated_exit(way), way.subject)?;
+/// Leads where a statement says.
+fn lead_stated(targets: &mut Targets, statement: &Statement<'_>) -> Result<(), AllocError>
+    ensures { OnOk result ((room direction : ℕ) → target_at targets.new room direction ≡ first_of (target_at targets.old room direction) (first_target (stated_in (fact_of statement.now.fact) statement.now.line) room direction)) }
+{
+    match statement.fact {
+        Fact::Description(_) | Fact::Room(_) => Ok(()),
+        Fact::Way(way) => {
+            let exit = Exit {
+                room: way.room,
+                direction: way.direction.number(),
+            };
+            lead(targets, exit, way.subject)
         }
+    }
+}
+
+/// Leads the way back of the one that a statement says.
+fn lead_back(targets: &mut Targets, statement: &Statement<'_>) -> Result<(), AllocError>
+    ensures { OnOk result ((room direction : ℕ) → target_at targets.new room direction ≡ first_of (target_at targets.old room direction) (first_target (implied_in (fact_of statement.now.fact) statement.now.line) room direction)) }
+{
+    match statement.fact {
+        Fact::Description(_) | Fact::Room(_) => Ok(()),
+        Fact::Way(way) => {
+            let exit = Exit {
+                room: way.subject,
+                direction: way.direction.opposite().number(),
+            };
+            lead(targets, exit, way.room)
+        }
+    }
+}
+
+/// The targets that statements say.
+fn stated_targets(alloc: Global, statements: &[Statement<'_>]) -> Result<Targets, AllocError>
+    ensures { IfOk result (λ targets. (room direction : ℕ) → target_at targets room direction ≡ first_target (stated_leads (statements_of statements.now)) room direction) }
+{
+    let mut targets = IndexMap::new(alloc);
+    let mut rest = statements;
+    while let [statement, after @ ..] = rest {
+        lead_stated(&mut targets, statement)?;
+        rest = after;
     }
     Ok(targets)
 }
 
-/// The targets that sentences imply: each way leads back.
-pub fn implied_targets(alloc: Global, statements: &[Statement<'_>]) -> Result<Targets, AllocError> {
+/// The targets that statements imply.
+fn implied_targets(alloc: Global, statements: &[Statement<'_>]) -> Result<Targets, AllocError>
+    ensures { IfOk result (λ targets. (room direction : ℕ) → target_at targets room direction ≡ first_target (implied_leads (statements_of statements.now)) room direction) }
+{
     let mut targets = IndexMap::new(alloc);
-    for statement in statements {
-        if let Fact::Way(way) = statement.fact {
-            lead(&mut targets, exit_back(way), way.room)?;
-        }
+    let mut rest = statements;
+    while let [statement, after @ ..] = rest {
+        lead_back(&mut targets, statement)?;
+        rest = after;
     }
     Ok(targets)
 }
 
-/// Whether a statement leads an exit elsewhere than its first target.
-fn leads_elsewhere(stated: &Targets, fact: Fact<'_>) -> bool {
-    match fact {
-        Fact::Way(way) => stated
-            .get(&stated_exit(way))
-            .is_some_and(|target| *target != way.subject),
-        Fact::Description(_) | Fact::Room(_) => false,
-    }
-}
+impl<'a> Ways<'a> {
+    ghost use Rattle.world_meaning.specs.Directions.{direction_number};
+    ghost use Rattle.story_file.specs.Demands.{is_elsewhere, lead_of, second_target, target_of};
+    ghost use Rattle.story_file.specs.StatedWays.{stated};
 
-/// The line of the first sentence that leads an exit to a second target.
-pub fn second_target(stated: &Targets, statements: &[Statement<'_>]) -> Option<u32> {
-    for statement in statements {
-        if leads_elsewhere(stated, statement.fact) {
-            return Some(statement.line);
+    /// The ways of these statements.
+    pub fn new(alloc: Global, statements: &'a [Statement<'a>]) -> Result<Ways<'a>, AllocError>
+        ensures { IfOk result (λ ways. stated ways ≡ statements_of statements.now) }
+    {
+        let stated = stated_targets(alloc, statements)?;
+        let implied = implied_targets(alloc, statements)?;
+        Ok(Ways {
+            statements,
+            stated,
+            implied,
+        })
+    }
+
+    /// Whether a statement leads an exit elsewhere than its first target.
+    fn is_elsewhere(&self, way: NumberedWay, line: u32) -> bool
+        ensures { result ≡ is_elsewhere (stated_leads (stated self.now)) (lead_of way.subject way.direction way.room line) }
+    {
+        let exit = Exit {
+            room: way.room,
+            direction: way.direction.number(),
+        };
+        match self.stated.get(&exit) {
+            None => true,
+            Some(target) => way.subject != *target,
         }
     }
-    None
-}
 
-/// Where an exit leads: where a sentence says, else where the first that implies it does.
-pub fn target_of(stated: &Targets, implied: &Targets, exit: Exit) -> Option<usize> {
-    match stated.get(&exit) {
-        Some(target) => Some(*target),
-        None => implied.get(&exit).copied(),
+    /// The line of the first statement that leads an exit to a second target.
+    pub fn second_target(&self) -> Option<u32>
+        ensures { result ≡ second_target (stated self.now) }
+    {
+        let mut rest = self.statements;
+        while let [statement, after @ ..] = rest {
+            if let Fact::Way(way) = statement.fact {
+                if self.is_elsewhere(way, statement.line) {
+                    return Some(statement.line);
+                }
+            }
+            rest = after;
+        }
+        None
+    }
+
+    /// Where an exit leads: where a sentence says, else where the first that implies it does.
+    pub fn target_of(&self, room: usize, direction: Direction) -> Option<usize>
+        ensures { result ≡ target_of (stated self.now) room (direction_number direction) }
+    {
+        let exit = Exit {
+            room,
+            direction: direction.number(),
+        };
+        match self.stated.get(&exit) {
+            Some(target) => Some(*target),
+            None => self.implied.get(&exit).copied(),
+        }
     }
 }

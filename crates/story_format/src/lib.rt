@@ -25,6 +25,8 @@ pub use laws::{one_spelling, one_story, stories_stand, written_is_spelled};
 pub use loading::load;
 pub use shape::is_writable;
 pub use story::Story;
+pub use strings::Strings;
+pub use words::words_for;
 pub use writing::write;
 
 #[cfg(test)]

@@ -1,5 +1,7 @@
 //! Strings in the order in which they are first mentioned, each once.
-ghost use Rattle.std.specs.Prelude.{◌≡◌, [], IfOk, OnOk, map};
+ghost use Rattle.std.specs.Prelude.{◌≡◌, [], IfOk, OnOk, length, map, position};
+ghost use Rattle.std.specs.List.{list_any};
+ghost use Rattle.std.specs.Str.{bytes_eq};
 ghost use Rattle.story_format.specs.Mentions.{mention, number_in};
 
 use crate::place::NONE;
@@ -41,6 +43,28 @@ impl Strings {
             self.set.insert(Vec::from_slice(alloc, string)?)?;
         }
         Ok(())
+    }
+
+    /// How many they are.
+    #[tactic(auto, using(crate::proofs::StringLemmas::length_mapped))]
+    pub fn len(&self) -> usize
+        ensures { result ≡ length self.now }
+    {
+        self.as_slice().len()
+    }
+
+    /// Whether the string is among them.
+    pub fn contains(&self, string: &[u8]) -> bool
+        ensures { result ≡ list_any (bytes_eq string.now) self.now }
+    {
+        self.set.contains(string)
+    }
+
+    /// The string's place among them, counted from 0.
+    pub fn place_of(&self, string: &[u8]) -> Option<usize>
+        ensures { result ≡ position (bytes_eq string.now) self.now }
+    {
+        self.set.get_index_of(string)
     }
 
     /// The string's number: its place, counted from 0.
