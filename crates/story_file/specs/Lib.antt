@@ -1,3 +1,4 @@
+pub mod Bounds
 pub mod Compilations
 pub mod Demands
 pub mod Described

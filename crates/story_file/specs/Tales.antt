@@ -19,6 +19,7 @@ use Rattle.i7_sentences.specs.declared.name.NameArticle.TheVariants as written
 use Rattle.i7_sentences.specs.declared.sentence.Sentence.{Sentence}
 use Rattle.story_file.specs.Demands.{Description, taken_name, wrong_kind, descriptions_of, description_of, second_description, second_target, target_of, first_of_author, line_at, line_of_description}
 use Rattle.story_format.specs.Words.{words_for}
+use Rattle.story_file.specs.Firsts.{first_of}
 use Rattle.story_file.specs.Statements.{NameAt, Statement, named_by, stated_by}
 
 -- the lower of two lines
@@ -66,7 +67,7 @@ abbrev pub way_to : Option ℕ → Way
 way_to target = record { room = target; door = None }
 
 -- where a room's twelve directions lead
-abbrev pub exits_of : List Statement → ℕ → Exits
+unfoldable pub exits_of : List Statement → ℕ → Exits
 exits_of statements room = record { ways = map (λ d. way_to (target_of statements room (direction_number d))) all_directions }
 
 abbrev pub no_exits : Exits
@@ -83,7 +84,7 @@ abbrev pub direction_object : Direction → Object
 direction_object d = built_in 2 (direction_name d) None
 
 -- a room of the author's, by its number and its first mention
-abbrev pub room_of : List Statement → ℕ → NameAt → Object
+unfoldable pub room_of : List Statement → ℕ → NameAt → Object
 room_of statements o at = record {
   kind = 1;
   name = at.name.text;
@@ -98,28 +99,38 @@ rooms_from statements o [] = []
 rooms_from statements o (at ∷ mentions) = room_of statements o at ∷ rooms_from statements (o + 1) mentions
 
 -- the objects by number: the player, the directions, the author's rooms
-abbrev pub objects_of : List Statement → List NameAt → List Object
+unfoldable pub objects_of : List Statement → List NameAt → List Object
 objects_of statements mentions = player ∷ map direction_object all_directions ++ rooms_from statements first_of_author mentions
-
-abbrev pub or_refused : FaultCode → Option ℕ → Result Tale Fault → Result Tale Fault
-or_refused code None next = next
-or_refused code (Some line) next = Err (record { code = code; line = line })
 
 -- a source without a room is refused at line 1
 abbrev pub no_room : List NameAt → Option ℕ
 no_room [] = Some 1
 no_room (at ∷ mentions) = None
 
--- each code is looked for in all statements before the next
+abbrev pub refusal_at : FaultCode → Option ℕ → Option Fault
+refusal_at code None = None
+refusal_at code (Some line) = Some (record { code = code; line = line })
+
+-- what the statements may not say together: each code is looked for in all of them before the next
+unfoldable pub frame_refusal : List Statement → List NameAt → Option Fault
+frame_refusal statements mentions =
+    first_of (refusal_at Twice (earlier (taken_name mentions) (second_description (descriptions_of statements))))
+    (first_of (refusal_at WrongKind (wrong_kind statements))
+    (first_of (refusal_at TwoPlaces (second_target statements))
+    (first_of (refusal_at TooMany (object_too_many mentions))
+    (refusal_at NoRoom (no_room mentions)))))
+
+-- what is too long
+unfoldable pub limit_refusal : List Statement → List NameAt → Option Fault
+limit_refusal statements mentions = refusal_at TooMany (earlier (name_too_long mentions) (text_too_long (descriptions_of statements)))
+
+abbrev pub or_refused : Option Fault → Tale → Result Tale Fault
+or_refused None tale = Ok tale
+or_refused (Some fault) tale = Err fault
+
+-- the tale, unless a refusal stands
 abbrev pub judged : List Statement → List NameAt → Result Tale Fault
-judged statements mentions =
-    or_refused Twice (earlier (taken_name mentions) (second_description (descriptions_of statements)))
-    (or_refused WrongKind (wrong_kind statements)
-    (or_refused TwoPlaces (second_target statements)
-    (or_refused TooMany (object_too_many mentions)
-    (or_refused NoRoom (no_room mentions)
-    (or_refused TooMany (earlier (name_too_long mentions) (text_too_long (descriptions_of statements)))
-    (Ok (record { objects = objects_of statements mentions })))))))
+judged statements mentions = or_refused (first_of (frame_refusal statements mentions) (limit_refusal statements mentions)) (record { objects = objects_of statements mentions })
 
 -- the tale of a source's sentences, or the refusal that stands
 abbrev pub tale_said : List Sentence → Result Tale Fault

@@ -7,6 +7,7 @@ mod descriptions;
 mod kinds;
 mod limits;
 mod names;
+mod objects;
 mod reserved_names;
 mod statements;
 mod tale;
