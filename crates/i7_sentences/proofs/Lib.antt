@@ -1,5 +1,7 @@
+pub mod Choosing
 pub mod Cutting
 pub mod Digits
 pub mod Fitting
 pub mod FittingBack
 pub mod Hearing
+pub mod Listed

@@ -22,7 +22,7 @@ mod word;
 
 pub use form::{Form, Piece};
 pub use keyword::Keyword;
-pub use laws::first_fit_is_shortest;
+pub use laws::{choice_is_reading, first_fit_is_shortest, one_reading, read_or_unread};
 pub use name::{Name, NameArticle};
 pub use part::{Part, PartKind};
 pub use reader::read;
