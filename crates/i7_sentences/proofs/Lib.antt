@@ -5,3 +5,4 @@ pub mod Fitting
 pub mod FittingBack
 pub mod Hearing
 pub mod Listed
+pub mod Understanding
