@@ -119,6 +119,7 @@ unread_decides part = (unread, nothing)
   where
     unread : is_unread part ≡ true → SaysNothing part
     unread is sense says = false-true (sym (ap (λ said. is_none said) (part_says part sense says)) ∙ is)
+
     nothing : SaysNothing part → is_unread part ≡ true
     nothing says_none =
         let Goal : Option Sense → Type 0 = λ said. part_sense part ≡ said → is_unread part ≡ true
@@ -142,5 +143,6 @@ reserved_decides part = (there, reserving)
           | None ↦ λ none holds. absurd (false-true holds)
           | Some sense ↦ λ some holds. record { sense = sense; says = part_said part sense some; reserved = holds }
         ] refl is
+
     reserving : HasReservedName part → is_reserving (part_sense part) ≡ true
     reserving name = ap is_reserving (part_says part name.sense name.says) ∙ name.reserved

@@ -1,6 +1,6 @@
 -- What is read of tokens is what they spell, or the refusal that stands.
 use Rattle.std.proofs.Common.{◌≡◌, ◌≢◌, ◌⊎◌, inl, inr, ℕ, List, refl, ap, sym, ◌∙◌, subst}
-use Rattle.std.specs.Prelude.{Option, Some, None, Result, Ok, Err, find, map, option_map}
+use Rattle.std.specs.Prelude.{Option, Some, None, Result, Ok, Err, IfOk, IfErr, MatchResult, find, map, option_map}
 use Rattle.std.specs.List.{filter_map}
 use Rattle.world_meaning.specs.declared.fault.Fault.{Fault}
 use Rattle.world_meaning.specs.declared.fault.FaultCode.{FaultCode}
@@ -40,7 +40,7 @@ pub spelled_read : (tokens : List Token) (sentences : List Sentence) → HasSent
 spelled_read tokens sentences spells =
     let heard = are_heard (parts_of tokens) sentences spells.said in
     let free : option_map line_heard (find reserves (filter_map heard_in (parts_of tokens))) ≡ None =
-        reserved_line (parts_of tokens) heard.read ∙ ap (λ found. option_map line_of found) heard.free in
+    reserved_line (parts_of tokens) heard.read ∙ ap (λ found. option_map line_of found) heard.free in
     past_unread (parts_of tokens) spells.in_range heard.read
     ∙ passed ReservedWord (option_map line_heard (find reserves (filter_map heard_in (parts_of tokens)))) (Ok (map sentence_of (filter_map heard_in (parts_of tokens)))) free
     ∙ ap (λ ss. Ok ss) heard.heard
@@ -141,3 +141,13 @@ read_refused tokens fault is = by_verdict (verdict tokens)
     by_verdict : Verdict tokens → IsRefused tokens fault
     by_verdict (inl spells) = absurd (ok-err (read_of tokens) spells.0 fault (spelled_read tokens spells.0 spells.1) is)
     by_verdict (inr refused) = subst (λ f. IsRefused tokens f) (same_err (read_of tokens) refused.0 fault (refused_read tokens refused.0 refused.1 refused.2) is) refused.2
+
+refused_or_memory : (code : FaultCode) (line : ℕ) (parts : List Piece) → (code ≡ Memory → line ≡ 1) → (code ≢ Memory → Stands code line parts) → Stands code line parts
+refused_or_memory Memory line parts memory others = memory refl
+refused_or_memory _ line parts memory others = others (λ e. cc)
+
+-- an answer that reads as the definition does
+pub answered : {V : Type 0} (items : V → List Sentence) (tokens : List Token) (r : Result V Fault) → IfOk r (λ v. read_of tokens ≡ Ok (items v)) → IfErr r (λ fault. fault.code ≢ Memory → read_of tokens ≡ Err fault) → IfErr r (λ fault. fault.code ≡ Memory → fault.line ≡ 1) → MatchResult r (λ v. HasSentences tokens (items v)) (IsRefused tokens)
+answered items tokens (Ok v) read refused memory = read_spelled tokens (items v) read
+answered items tokens (Err fault) read refused memory =
+    refused_or_memory fault.code fault.line (parts_of tokens) memory (λ not_memory. read_refused tokens fault (refused not_memory))

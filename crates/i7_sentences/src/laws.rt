@@ -1,11 +1,15 @@
 //! Laws of the definitions that the reader is proved against.
-ghost use Rattle.std.specs.Prelude.{◌≡◌, ◌⊎◌, None, Some, List};
+ghost use Rattle.std.specs.Prelude.{◌≡◌, ◌≢◌, ◌⊎◌, None, Some, List};
 ghost use Rattle.i7_lexer.specs.declared.token.Token.{Token};
 ghost use Rattle.i7_sentences.specs.declared.form.Form.{Form};
 ghost use Rattle.i7_sentences.specs.declared.form.Piece.{Piece};
 ghost use Rattle.i7_sentences.specs.Forms.{all_forms, Fits, IsShortestFit};
 ghost use Rattle.i7_sentences.specs.Matching.{Choice, first_fit, lowest_fit};
 ghost use Rattle.i7_sentences.specs.Readings.{IsReading, IsUnread};
+ghost use Rattle.i7_sentences.specs.Sources.{HasSentences, IsRefused};
+ghost use Rattle.i7_sentences.specs.declared.sentence.Sentence.{Sentence};
+ghost use Rattle.world_meaning.specs.declared.fault.Fault.{Fault};
+ghost use Rattle.world_meaning.specs.declared.fault.FaultCode.TheVariants.{Memory};
 
 /// What is found from left to right is the fit with the shortest letters, and where nothing is found
 /// the form doesn't fit.
@@ -29,4 +33,20 @@ pub fn one_reading()
 pub fn read_or_unread()
     ensures one { (words : List Token) → ((form : Form) × (letters : List (List Token)) × IsReading words form letters) ⊎ IsUnread words }
     ensures never_both { (words : List Token) (form : Form) (letters : List (List Token)) → IsReading words form letters → IsUnread words → ⊥ }
+{}
+
+/// No tokens spell two lists of sentences.
+pub fn one_list_of_sentences()
+    ensures { (tokens : List Token) (v w : List Sentence) → HasSentences tokens v → HasSentences tokens w → v ≡ w }
+{}
+
+/// No tokens are refused in two ways, memory aside.
+pub fn one_refusal()
+    ensures { (tokens : List Token) (f g : Fault) → IsRefused tokens f → IsRefused tokens g → f.code ≢ Memory → g.code ≢ Memory → f ≡ g }
+{}
+
+/// All tokens spell sentences or are refused for another reason than memory, and none both.
+pub fn spelled_or_refused()
+    ensures one { (tokens : List Token) → ((sentences : List Sentence) × HasSentences tokens sentences) ⊎ ((fault : Fault) × (fault.code ≢ Memory) × IsRefused tokens fault) }
+    ensures never_both { (tokens : List Token) (sentences : List Sentence) (fault : Fault) → HasSentences tokens sentences → fault.code ≢ Memory → IsRefused tokens fault → ⊥ }
 {}

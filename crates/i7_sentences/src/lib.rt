@@ -22,7 +22,10 @@ mod word;
 
 pub use form::{Form, Piece};
 pub use keyword::Keyword;
-pub use laws::{choice_is_reading, first_fit_is_shortest, one_reading, read_or_unread};
+pub use laws::{
+    choice_is_reading, first_fit_is_shortest, one_list_of_sentences, one_reading, one_refusal,
+    read_or_unread, spelled_or_refused,
+};
 pub use name::{Name, NameArticle};
 pub use part::{Part, PartKind};
 pub use reader::read;
