@@ -1,6 +1,6 @@
 -- The first part that is bad, as a test finds it.
 use Rattle.std.proofs.Common.{◌≡◌, ℕ, Bool, true, false, List, [], ◌∷◌, ◌++◌, refl, ap, sym, ◌∙◌}
-use Rattle.std.specs.Prelude.{Option, Some, None, find, option_map}
+use Rattle.std.specs.Prelude.{Some, None, find, option_map}
 use Rattle.std.specs.Bool.{Decides}
 use Rattle.std.proofs.lemmas.List.Elements.{All-nil, All-cons, All-head, All-tail}
 use Rattle.i7_sentences.specs.Cuts.{Piece}

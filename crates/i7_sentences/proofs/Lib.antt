@@ -6,6 +6,7 @@ pub mod Fitting
 pub mod FittingBack
 pub mod Hearing
 pub mod Listed
+pub mod Seams
 pub mod Spelling
 pub mod Understanding
 pub mod Verdicts

@@ -1,5 +1,5 @@
 -- Each form stands in the list of forms.
-use Rattle.std.proofs.Common.{◌≡◌, ◌<◌, ℕ, length, refl, arith}
+use Rattle.std.proofs.Common.{refl, arith}
 use Rattle.std.specs.List.{Contains}
 use Rattle.i7_sentences.specs.Forms.{all_forms}
 use Rattle.i7_sentences.specs.declared.form.Form.{Form}

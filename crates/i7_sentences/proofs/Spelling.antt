@@ -1,5 +1,5 @@
 -- The parts' sentences, where each part says something and no name holds a reserved word.
-use Rattle.std.proofs.Common.{◌≡◌, ℕ, Bool, true, false, List, [], ◌∷◌, refl, ap, sym, ◌∙◌, subst}
+use Rattle.std.proofs.Common.{◌≡◌, Bool, true, false, List, [], ◌∷◌, refl, ap, sym, ◌∙◌, subst}
 use Rattle.std.specs.Prelude.{Option, Some, None, find, is_none, map, option_map}
 use Rattle.std.specs.List.{AllZip, filter_map}
 use Rattle.i7_sentences.specs.Cuts.{Piece}

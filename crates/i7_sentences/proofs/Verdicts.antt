@@ -1,5 +1,5 @@
 -- What is read of tokens is what they spell, or the refusal that stands.
-use Rattle.std.proofs.Common.{◌≡◌, ◌≢◌, ◌⊎◌, inl, inr, ℕ, List, refl, ap, sym, ◌∙◌, subst}
+use Rattle.std.proofs.Common.{◌≡◌, ◌≢◌, ◌⊎◌, inl, inr, ℕ, List, refl, ap, ◌∙◌, subst}
 use Rattle.std.specs.Prelude.{Option, Some, None, Result, Ok, Err, IfOk, IfErr, MatchResult, find, map, option_map}
 use Rattle.std.specs.List.{filter_map}
 use Rattle.world_meaning.specs.declared.fault.Fault.{Fault}

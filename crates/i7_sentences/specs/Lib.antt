@@ -7,6 +7,7 @@ pub mod Pieces
 pub mod Read
 pub mod Readings
 pub mod Sayings
+pub mod Seams
 pub mod Senses
 pub mod Sources
 pub mod Words

@@ -1,15 +1,24 @@
 //! Laws of the definitions that the reader is proved against.
-ghost use Rattle.std.specs.Prelude.{◌≡◌, ◌≢◌, ◌⊎◌, None, Some, List};
+ghost use Rattle.std.specs.Prelude.{◌≡◌, ◌≢◌, ◌⊎◌, None, Some, Bool, List};
 ghost use Rattle.i7_lexer.specs.declared.token.Token.{Token};
 ghost use Rattle.i7_sentences.specs.declared.form.Form.{Form};
 ghost use Rattle.i7_sentences.specs.declared.form.Piece.{Piece};
+ghost use Rattle.i7_sentences.specs.Cuts.{cut};
 ghost use Rattle.i7_sentences.specs.Forms.{all_forms, Fits, IsShortestFit};
 ghost use Rattle.i7_sentences.specs.Matching.{Choice, first_fit, lowest_fit};
 ghost use Rattle.i7_sentences.specs.Readings.{IsReading, IsUnread};
+ghost use Rattle.i7_sentences.specs.Seams.{IsCut};
 ghost use Rattle.i7_sentences.specs.Sources.{HasSentences, IsRefused};
 ghost use Rattle.i7_sentences.specs.declared.sentence.Sentence.{Sentence};
 ghost use Rattle.world_meaning.specs.declared.fault.Fault.{Fault};
 ghost use Rattle.world_meaning.specs.declared.fault.FaultCode.TheVariants.{Memory};
+
+/// The cut of tokens is made between two neighbours that don't belong to the same piece, and nowhere
+/// else, and there is no other such cut.
+pub fn cut_is_exact()
+    ensures made { (same : Token → Token → Bool) (tokens : List Token) → IsCut same tokens (cut same tokens) }
+    ensures alone { (same : Token → Token → Bool) (tokens : List Token) (pieces : List (List Token)) → IsCut same tokens pieces → pieces ≡ cut same tokens }
+{}
 
 /// What is found from left to right is the fit with the shortest letters, and where nothing is found
 /// the form doesn't fit.
