@@ -1,5 +1,12 @@
+pub mod Choosing
 pub mod Cutting
 pub mod Digits
+pub mod Firsts
 pub mod Fitting
 pub mod FittingBack
 pub mod Hearing
+pub mod Listed
+pub mod Seams
+pub mod Spelling
+pub mod Understanding
+pub mod Verdicts

@@ -5,5 +5,9 @@ pub mod Literals
 pub mod Matching
 pub mod Pieces
 pub mod Read
+pub mod Readings
+pub mod Sayings
+pub mod Seams
 pub mod Senses
+pub mod Sources
 pub mod Words

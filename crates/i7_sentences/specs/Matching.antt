@@ -1,9 +1,10 @@
 -- Fitting a form to words from left to right: each letter ends where the fixed pieces behind it
--- first stand, the last one where they stand at the end.
+-- first stand, the last one where they stand at the end. The forms are tried one by one.
 use Rattle.std.specs.Prelude.{ℕ, ◌+◌, ◌-◌, Bool, true, not, ◌&&◌, nat_lt, List, [], ◌∷◌, length, take, drop, Option, Some, None, option_map, if◌then◌else◌}
 use Rattle.std.specs.List.{list_all}
 use Rattle.i7_lexer.specs.declared.token.Token.{Token}
-use Rattle.i7_sentences.specs.Forms.{takes, is_letter, is_kept}
+use Rattle.i7_sentences.specs.Forms.{pieces_of, takes, is_letter, is_kept}
+use Rattle.i7_sentences.specs.declared.form.Form.{Form}
 use Rattle.i7_sentences.specs.declared.form.Piece.{Piece}
 
 abbrev pub is_fixed : Piece → Bool
@@ -47,3 +48,17 @@ abbrev pub first_fit : List Piece → List Token → Option (List (List Token))
 first_fit [] [] = Some []
 first_fit [] (token ∷ tokens) = None
 first_fit (p ∷ form) tokens = with_taken (is_kept p) tokens (taken p form tokens) (first_fit form)
+
+-- a form that fits, and the words for its letters and classes
+pub record Choice : Type 0 where
+  pub form : Form
+  pub letters : List (List Token)
+
+abbrev pub or_later : Form → Option (List (List Token)) → Option Choice → Option Choice
+or_later form None later = later
+or_later form (Some letters) later = Some (record { form = form; letters = letters })
+
+-- the first of these forms that fits
+abbrev pub lowest_fit : List Form → List Token → Option Choice
+lowest_fit [] words = None
+lowest_fit (form ∷ forms) words = or_later form (first_fit (pieces_of form) words) (lowest_fit forms words)

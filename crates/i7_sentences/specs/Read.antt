@@ -1,4 +1,4 @@
--- What a source's tokens say, or the refusal that stands: each code is looked for in all parts before
+-- Reading a source's tokens from the first to the last: each refusal is looked for in all parts before
 -- the next, and the first part that shows it gives the line.
 use Rattle.std.specs.Prelude.{ℕ, Bool, true, false, ◌&&◌, List, [], ◌∷◌, Option, Some, None, is_none, find, map, option_map, Result, Ok, Err}
 use Rattle.std.specs.List.{list_any, filter_map}

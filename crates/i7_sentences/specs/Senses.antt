@@ -6,8 +6,8 @@ use Rattle.world_meaning.specs.declared.direction.Direction.TheVariants.{Up, Dow
 use Rattle.i7_lexer.specs.declared.token.Token.{Token}
 use Rattle.i7_lexer.specs.declared.token.TokenKind.{TokenKind}
 use Rattle.i7_lexer.specs.declared.token.TokenKind.TheVariants.{Text, Word, Mark}
-use Rattle.i7_sentences.specs.Forms.{pieces_of, all_forms}
-use Rattle.i7_sentences.specs.Matching.{first_fit}
+use Rattle.i7_sentences.specs.Forms.{all_forms}
+use Rattle.i7_sentences.specs.Matching.{Choice, lowest_fit}
 use Rattle.i7_sentences.specs.Words.{word_of, direction_named, is_article, is_reserved}
 use Rattle.world_meaning.specs.Spelling.{is_spelled}
 use Rattle.i7_sentences.specs.declared.form.Form.{Form}
@@ -137,14 +137,10 @@ shape_sense (Fixed direction is_room_first) is_room letters = fixed_sense direct
 abbrev pub form_sense : Form → List (List Token) → Option Sense
 form_sense form letters = shape_sense (shape_of form) (is_room_form form) letters
 
-abbrev pub or_next : Form → Option (List (List Token)) → Option Sense → Option Sense
-or_next form None next = next
-or_next form (Some letters) next = form_sense form letters
-
 -- the lowest form that fits is the sentence's, whatever it says
-abbrev pub first_sense : List Form → List Token → Option Sense
-first_sense [] words = None
-first_sense (form ∷ forms) words = or_next form (first_fit (pieces_of form) words) (first_sense forms words)
+abbrev pub choice_sense : Option Choice → Option Sense
+choice_sense None = None
+choice_sense (Some choice) = form_sense choice.form choice.letters
 
 abbrev pub is_word_kind : TokenKind → Bool
 is_word_kind (Text text) = false
@@ -167,7 +163,7 @@ lone_sense (token ∷ next ∷ more) = None
 
 -- what a sentence says, if it is understood: words by their form, a text alone
 abbrev pub sense_of : List Token → Option Sense
-sense_of tokens = if list_all (λ token. is_word_kind token.kind) tokens then first_sense all_forms tokens else lone_sense tokens
+sense_of tokens = if list_all (λ token. is_word_kind token.kind) tokens then choice_sense (lowest_fit all_forms tokens) else lone_sense tokens
 
 -- a name without the one article in front, unless that is all there is
 abbrev pub has_article : List Token → Bool

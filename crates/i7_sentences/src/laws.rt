@@ -1,13 +1,61 @@
 //! Laws of the definitions that the reader is proved against.
-ghost use Rattle.std.specs.Prelude.{◌≡◌, None, Some, List};
+ghost use Rattle.std.specs.Prelude.{◌≡◌, ◌≢◌, ◌⊎◌, None, Some, Bool, List};
 ghost use Rattle.i7_lexer.specs.declared.token.Token.{Token};
+ghost use Rattle.i7_sentences.specs.declared.form.Form.{Form};
 ghost use Rattle.i7_sentences.specs.declared.form.Piece.{Piece};
-ghost use Rattle.i7_sentences.specs.Forms.{Fits, IsShortestFit};
-ghost use Rattle.i7_sentences.specs.Matching.{first_fit};
+ghost use Rattle.i7_sentences.specs.Cuts.{cut};
+ghost use Rattle.i7_sentences.specs.Forms.{all_forms, Fits, IsShortestFit};
+ghost use Rattle.i7_sentences.specs.Matching.{Choice, first_fit, lowest_fit};
+ghost use Rattle.i7_sentences.specs.Readings.{IsReading, IsUnread};
+ghost use Rattle.i7_sentences.specs.Seams.{IsCut};
+ghost use Rattle.i7_sentences.specs.Sources.{HasSentences, IsRefused};
+ghost use Rattle.i7_sentences.specs.declared.sentence.Sentence.{Sentence};
+ghost use Rattle.world_meaning.specs.declared.fault.Fault.{Fault};
+ghost use Rattle.world_meaning.specs.declared.fault.FaultCode.TheVariants.{Memory};
+
+/// The cut of tokens is made between two neighbours that don't belong to the same piece, and nowhere
+/// else, and there is no other such cut.
+pub fn cut_is_exact()
+    ensures made { (same : Token → Token → Bool) (tokens : List Token) → IsCut same tokens (cut same tokens) }
+    ensures alone { (same : Token → Token → Bool) (tokens : List Token) (pieces : List (List Token)) → IsCut same tokens pieces → pieces ≡ cut same tokens }
+{}
 
 /// What is found from left to right is the fit with the shortest letters, and where nothing is found
 /// the form doesn't fit.
 pub fn first_fit_is_shortest()
     ensures found { (form : List Piece) (words : List Token) (letters : List (List Token)) → first_fit form words ≡ Some letters → IsShortestFit form words letters }
     ensures none { (form : List Piece) (words : List Token) (letters : List (List Token)) → first_fit form words ≡ None → Fits form words letters → ⊥ }
+{}
+
+/// The form that is found one by one is the reading, and where none is found the words are unread.
+pub fn choice_is_reading()
+    ensures found { (words : List Token) (choice : Choice) → lowest_fit all_forms words ≡ Some choice → IsReading words choice.form choice.letters }
+    ensures none { (words : List Token) → lowest_fit all_forms words ≡ None → IsUnread words }
+{}
+
+/// No words have two readings.
+pub fn one_reading()
+    ensures { (words : List Token) (f g : Form) (a b : List (List Token)) → IsReading words f a → IsReading words g b → (f ≡ g) × (a ≡ b) }
+{}
+
+/// All words have a reading or are unread, and none both.
+pub fn read_or_unread()
+    ensures one { (words : List Token) → ((form : Form) × (letters : List (List Token)) × IsReading words form letters) ⊎ IsUnread words }
+    ensures never_both { (words : List Token) (form : Form) (letters : List (List Token)) → IsReading words form letters → IsUnread words → ⊥ }
+{}
+
+/// No tokens spell two lists of sentences.
+pub fn one_list_of_sentences()
+    ensures { (tokens : List Token) (v w : List Sentence) → HasSentences tokens v → HasSentences tokens w → v ≡ w }
+{}
+
+/// No tokens are refused in two ways, memory aside.
+pub fn one_refusal()
+    ensures { (tokens : List Token) (f g : Fault) → IsRefused tokens f → IsRefused tokens g → f.code ≢ Memory → g.code ≢ Memory → f ≡ g }
+{}
+
+/// All tokens spell sentences or are refused for another reason than memory, and none both.
+pub fn spelled_or_refused()
+    ensures one { (tokens : List Token) → ((sentences : List Sentence) × HasSentences tokens sentences) ⊎ ((fault : Fault) × (fault.code ≢ Memory) × IsRefused tokens fault) }
+    ensures never_both { (tokens : List Token) (sentences : List Sentence) (fault : Fault) → HasSentences tokens sentences → fault.code ≢ Memory → IsRefused tokens fault → ⊥ }
 {}

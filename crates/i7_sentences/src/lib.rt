@@ -22,7 +22,10 @@ mod word;
 
 pub use form::{Form, Piece};
 pub use keyword::Keyword;
-pub use laws::first_fit_is_shortest;
+pub use laws::{
+    choice_is_reading, cut_is_exact, first_fit_is_shortest, one_list_of_sentences, one_reading,
+    one_refusal, read_or_unread, spelled_or_refused,
+};
 pub use name::{Name, NameArticle};
 pub use part::{Part, PartKind};
 pub use reader::read;

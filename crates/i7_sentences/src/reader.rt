@@ -1,5 +1,5 @@
 //! Reading a source: cut it into sentences, understand each, test the names.
-ghost use Rattle.std.specs.Prelude.{◌≡◌, ◌≢◌, true, false, Some, None, Ok, Err, find, map, option_map, IfErr, IfOk, OnOk, MatchOption};
+ghost use Rattle.std.specs.Prelude.{◌≡◌, ◌≢◌, true, false, Some, None, Ok, Err, find, map, option_map, IfErr, IfOk, OnOk, MatchOption, MatchResult};
 ghost use Rattle.std.specs.List.{filter_map, list_any};
 ghost use Rattle.i7_sentences.specs.Literals.{is_out_of_range};
 ghost use Rattle.i7_sentences.specs.Words.{word_of};
@@ -8,6 +8,7 @@ ghost use Rattle.i7_sentences.specs.Heards.{heard_of, heards_of, sense_in};
 ghost use Rattle.i7_sentences.specs.Pieces.{piece_of, pieces_of};
 ghost use Rattle.i7_sentences.specs.Read.{has_bad_literal, heard_in, is_sentence, is_unread, line_heard, line_in, line_of, part_sense, read_of, reserves, sentence_of};
 ghost use Rattle.i7_sentences.specs.Senses.{saying_of};
+ghost use Rattle.i7_sentences.specs.Sources.{HasSentences, IsRefused};
 
 use crate::cut::parts_of;
 use crate::literal::is_out_of_range;
@@ -31,7 +32,7 @@ fn line_of(part: &Part<'_>) -> u32
 
 /// Memory was refused.
 fn memory(_: AllocError) -> Fault
-    ensures { result.code ≡ FaultCode.Memory }
+    ensures { result ≡ record { code = FaultCode.Memory; line = 1 } }
 {
     Fault {
         code: FaultCode::Memory,
@@ -41,7 +42,7 @@ fn memory(_: AllocError) -> Fault
 
 /// Memory was refused as something was kept.
 fn no_room<T: Drop>(_: AllocFailed<T>) -> Fault
-    ensures { result.code ≡ FaultCode.Memory }
+    ensures { result ≡ record { code = FaultCode.Memory; line = 1 } }
 {
     memory(AllocError)
 }
@@ -110,6 +111,7 @@ fn heard<'a>(alloc: Global, part: &Part<'a>) -> Result<HeardPart<'a>, Fault>
     ensures heard { IfOk result (λ heard. heard_in (piece_of part.now) ≡ Some (heard_of heard)) }
     ensures known { OnOk result (is_unread (piece_of part.now) ≡ false) }
     ensures unread { IfErr result (λ fault. fault.code ≢ FaultCode.Memory → (is_unread (piece_of part.now) ≡ true) × (fault ≡ record { code = FaultCode.NotUnderstood; line = line_of (piece_of part.now) })) }
+    ensures memory { IfErr result (λ fault. fault.code ≡ FaultCode.Memory → fault.line ≡ 1) }
 {
     match part_reading(alloc, part) {
         Ok(Some(reading)) => Ok(HeardPart {
@@ -127,6 +129,7 @@ fn heard_parts<'a>(alloc: Global, parts: &[Part<'a>]) -> Result<Vec<HeardPart<'a
     ensures heard { IfOk result (λ heard. heards_of heard.items ≡ filter_map heard_in (pieces_of parts.now)) }
     ensures read { OnOk result (find is_unread (pieces_of parts.now) ≡ None) }
     ensures unread { IfErr result (λ fault. fault.code ≢ FaultCode.Memory → (fault.code ≡ FaultCode.NotUnderstood) × (option_map line_of (find is_unread (pieces_of parts.now)) ≡ Some fault.line)) }
+    ensures memory { IfErr result (λ fault. fault.code ≡ FaultCode.Memory → fault.line ≡ 1) }
 {
     let mut heard_so_far = Vec::new(alloc);
     let mut rest = parts;
@@ -193,12 +196,12 @@ fn refuse(code: FaultCode, line: Option<u32>) -> Result<(), Fault>
     }
 }
 
-/// The sentences that the tokens spell, or the refusal that stands: a literal out of range (C15),
-/// a sentence that isn't understood (C5), a reserved word in a name (C6); each is looked for in the
-/// whole source before the next, and the lowest line is given. Memory is C14.
-pub fn read(alloc: Global, lexed: &Lexed) -> Result<Vec<Sentence>, Fault>
+/// What the tokens say, from the first to the last: each refusal is looked for in all parts before the
+/// next.
+fn read_through(alloc: Global, lexed: &Lexed) -> Result<Vec<Sentence>, Fault>
     ensures read { IfOk result (λ sentences. read_of lexed.now ≡ Ok sentences.items) }
     ensures refused { IfErr result (λ fault. fault.code ≢ FaultCode.Memory → read_of lexed.now ≡ Err fault) }
+    ensures memory { IfErr result (λ fault. fault.code ≡ FaultCode.Memory → fault.line ≡ 1) }
 {
     let parts = match parts_of(alloc, lexed.tokens()) {
         Ok(parts) => parts,
@@ -211,4 +214,14 @@ pub fn read(alloc: Global, lexed: &Lexed) -> Result<Vec<Sentence>, Fault>
         Ok(sentences) => Ok(sentences),
         Err(refused) => Err(memory(refused)),
     }
+}
+
+/// The sentences that the tokens spell, or the refusal that stands: a literal out of range (C15),
+/// a sentence that isn't understood (C5), a reserved word in a name (C6); each is looked for in the
+/// whole source before the next, and the lowest line is given. Memory, C14, is at line 1, and only
+/// where a growth was refused.
+pub fn read(alloc: Global, lexed: &Lexed) -> Result<Vec<Sentence>, Fault>
+    ensures { MatchResult result (λ sentences. HasSentences lexed.now sentences.items) (IsRefused lexed.now) }
+{
+    read_through(alloc, lexed)
 }

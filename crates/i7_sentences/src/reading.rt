@@ -2,7 +2,8 @@
 ghost use Rattle.std.specs.Prelude.{◌≡◌, map, option_map, IfOk};
 ghost use Rattle.std.specs.List.{list_all, list_any};
 ghost use Rattle.i7_sentences.specs.Heards.{sense_in};
-ghost use Rattle.i7_sentences.specs.Senses.{direction_in, first_sense, fixed_sense, form_sense, has_reserved_name, is_plain, is_reserved_name, is_room_form, is_word_kind, lone_sense, named_sense, named_way, room_sense, sense_of, shape_of, shape_sense, text_sense, way_between};
+ghost use Rattle.i7_sentences.specs.Matching.{lowest_fit};
+ghost use Rattle.i7_sentences.specs.Senses.{choice_sense, direction_in, fixed_sense, form_sense, has_reserved_name, is_plain, is_reserved_name, is_room_form, is_word_kind, lone_sense, named_sense, named_way, room_sense, sense_of, shape_of, shape_sense, text_sense, way_between};
 
 use crate::Form;
 use crate::matcher::fit;
@@ -187,7 +188,7 @@ fn first_reading<'a>(
     forms: &[Form],
     words: &'a [Token],
 ) -> Result<Option<Reading<'a>>, AllocError>
-    ensures { IfOk result (λ found. option_map sense_in found ≡ first_sense forms.now words.now) }
+    ensures { IfOk result (λ found. option_map sense_in found ≡ choice_sense (lowest_fit forms.now words.now)) }
 {
     let mut rest = forms;
     while let [form, after @ ..] = rest {

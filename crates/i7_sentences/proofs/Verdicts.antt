@@ -1,0 +1,153 @@
+-- What is read of tokens is what they spell, or the refusal that stands.
+use Rattle.std.proofs.Common.{◌≡◌, ◌≢◌, ◌⊎◌, inl, inr, ℕ, List, refl, ap, ◌∙◌, subst}
+use Rattle.std.specs.Prelude.{Option, Some, None, Result, Ok, Err, IfOk, IfErr, MatchResult, find, map, option_map}
+use Rattle.std.specs.List.{filter_map}
+use Rattle.world_meaning.specs.declared.fault.Fault.{Fault}
+use Rattle.world_meaning.specs.declared.fault.FaultCode.{FaultCode}
+use Rattle.world_meaning.specs.declared.fault.FaultCode.TheVariants.{NumberOutOfRange, NotUnderstood, ReservedWord, Memory}
+use Rattle.i7_lexer.specs.declared.token.Token.{Token}
+use Rattle.i7_sentences.specs.Cuts.{Piece, parts_of}
+use Rattle.i7_sentences.specs.Read.{has_bad_literal, heard_in, is_unread, line_heard, line_of, or_refused, read_of, read_parts, reserves, sentence_of, sentences_of}
+use Rattle.i7_sentences.specs.Sources.{HasBadLiteral, HasReservedName, HasSentences, IsFirst, IsNowhere, IsRefused, SaysNothing, Stands}
+use Rattle.i7_sentences.specs.declared.sentence.Sentence.{Sentence}
+use Rattle.i7_sentences.proofs.Firsts.{first_found, first_line, none_found, nowhere_none}
+use Rattle.i7_sentences.proofs.Spelling.{are_heard, is_reserved_in, reserved_line, spelled}
+use Rattle.i7_sentences.proofs.Understanding.{bad_literal_decides, reserved_decides, unread_decides}
+
+fault_at : FaultCode → ℕ → Fault
+fault_at code line = record { code = code; line = line }
+
+passed : (code : FaultCode) (line : Option ℕ) (next : Result (List Sentence) Fault) → line ≡ None → or_refused code line next ≡ next
+passed code line next none = rw none refl
+
+stopped : (code : FaultCode) (line : Option ℕ) (at : ℕ) (next : Result (List Sentence) Fault) → line ≡ Some at → or_refused code line next ≡ Err (fault_at code at)
+unfolding fault_at
+stopped code line at next some = rw some refl
+
+in_range : (parts : List Piece) → IsNowhere HasBadLiteral parts → option_map line_of (find has_bad_literal parts) ≡ None
+in_range parts nowhere = ap (λ found. option_map line_of found) (nowhere_none HasBadLiteral has_bad_literal bad_literal_decides parts nowhere)
+
+past_literals : (parts : List Piece) → IsNowhere HasBadLiteral parts → read_parts parts ≡ or_refused NotUnderstood (option_map line_of (find is_unread parts)) (sentences_of (filter_map heard_in parts))
+past_literals parts nowhere = passed NumberOutOfRange (option_map line_of (find has_bad_literal parts)) (or_refused NotUnderstood (option_map line_of (find is_unread parts)) (sentences_of (filter_map heard_in parts))) (in_range parts nowhere)
+
+past_unread : (parts : List Piece) → IsNowhere HasBadLiteral parts → find is_unread parts ≡ None → read_parts parts ≡ sentences_of (filter_map heard_in parts)
+past_unread parts nowhere is =
+    past_literals parts nowhere
+    ∙ passed NotUnderstood (option_map line_of (find is_unread parts)) (sentences_of (filter_map heard_in parts)) (ap (λ found. option_map line_of found) is)
+
+-- tokens that spell sentences are read as these
+pub spelled_read : (tokens : List Token) (sentences : List Sentence) → HasSentences tokens sentences → read_of tokens ≡ Ok sentences
+spelled_read tokens sentences spells =
+    let heard = are_heard (parts_of tokens) sentences spells.said in
+    let free : option_map line_heard (find reserves (filter_map heard_in (parts_of tokens))) ≡ None =
+    reserved_line (parts_of tokens) heard.read ∙ ap (λ found. option_map line_of found) heard.free in
+    past_unread (parts_of tokens) spells.in_range heard.read
+    ∙ passed ReservedWord (option_map line_heard (find reserves (filter_map heard_in (parts_of tokens)))) (Ok (map sentence_of (filter_map heard_in (parts_of tokens)))) free
+    ∙ ap (λ ss. Ok ss) heard.heard
+
+literal_read : (parts : List Piece) (line : ℕ) → IsFirst HasBadLiteral parts line → read_parts parts ≡ Err (fault_at NumberOutOfRange line)
+literal_read parts line is =
+    stopped NumberOutOfRange (option_map line_of (find has_bad_literal parts)) line (or_refused NotUnderstood (option_map line_of (find is_unread parts)) (sentences_of (filter_map heard_in parts)))
+    (first_line HasBadLiteral has_bad_literal bad_literal_decides parts line is)
+
+unread_read : (parts : List Piece) (line : ℕ) → IsNowhere HasBadLiteral parts → IsFirst SaysNothing parts line → read_parts parts ≡ Err (fault_at NotUnderstood line)
+unread_read parts line nowhere is =
+    past_literals parts nowhere
+    ∙ stopped NotUnderstood (option_map line_of (find is_unread parts)) line (sentences_of (filter_map heard_in parts)) (first_line SaysNothing is_unread unread_decides parts line is)
+
+reserved_read : (parts : List Piece) (line : ℕ) → IsNowhere HasBadLiteral parts → IsNowhere SaysNothing parts → IsFirst HasReservedName parts line → read_parts parts ≡ Err (fault_at ReservedWord line)
+reserved_read parts line nowhere none_unread is =
+    let read = nowhere_none SaysNothing is_unread unread_decides parts none_unread in
+    past_unread parts nowhere read
+    ∙ stopped ReservedWord (option_map line_heard (find reserves (filter_map heard_in parts))) line (Ok (map sentence_of (filter_map heard_in parts)))
+    (reserved_line parts read ∙ first_line HasReservedName is_reserved_in reserved_decides parts line is)
+
+stands_read : (code : FaultCode) (line : ℕ) (parts : List Piece) → code ≢ Memory → Stands code line parts → read_parts parts ≡ Err (fault_at code line)
+stands_read NumberOutOfRange line parts not_memory stands = literal_read parts line stands
+stands_read NotUnderstood line parts not_memory stands = unread_read parts line stands.0 stands.1
+stands_read ReservedWord line parts not_memory stands = reserved_read parts line stands.0 stands.1 stands.2
+stands_read Memory line parts not_memory stands = absurd (not_memory refl)
+stands_read _ line parts not_memory stands = absurd stands
+
+-- tokens for which a refusal stands are refused so
+pub refused_read : (tokens : List Token) (fault : Fault) → fault.code ≢ Memory → IsRefused tokens fault → read_of tokens ≡ Err fault
+unfolding fault_at
+refused_read tokens fault not_memory stands = stands_read fault.code fault.line (parts_of tokens) not_memory stands
+
+-- the sentences that tokens spell, or the refusal that stands
+abbrev pub Verdict : List Token → Type 0
+Verdict tokens = ((sentences : List Sentence) × HasSentences tokens sentences) ⊎ ((fault : Fault) × (fault.code ≢ Memory) × IsRefused tokens fault)
+
+refused_as : (tokens : List Token) (code : FaultCode) (line : ℕ) → code ≢ Memory → Stands code line (parts_of tokens) → Verdict tokens
+refused_as tokens code line not_memory stands = inr (record { code = code; line = line }, not_memory, stands)
+
+verdict_named : (tokens : List Token) → IsNowhere HasBadLiteral (parts_of tokens) → find is_unread (parts_of tokens) ≡ None → Verdict tokens
+verdict_named tokens nowhere read =
+    let Goal : Option Piece → Type 0 = λ found. find is_reserved_in (parts_of tokens) ≡ found → Verdict tokens
+    in elim (find is_reserved_in (parts_of tokens)) as Goal [
+      | None ↦ λ free. inl (map sentence_of (filter_map heard_in (parts_of tokens)), record { in_range = nowhere; said = spelled (parts_of tokens) read free })
+      | Some part ↦ λ found. refused_as tokens ReservedWord (line_of part) (λ e. cc)
+          (nowhere, none_found SaysNothing is_unread unread_decides (parts_of tokens) read, first_found HasReservedName is_reserved_in reserved_decides (parts_of tokens) part found)
+    ] refl
+
+verdict_in_range : (tokens : List Token) → IsNowhere HasBadLiteral (parts_of tokens) → Verdict tokens
+verdict_in_range tokens nowhere =
+    let Goal : Option Piece → Type 0 = λ found. find is_unread (parts_of tokens) ≡ found → Verdict tokens
+    in elim (find is_unread (parts_of tokens)) as Goal [
+      | None ↦ λ read. verdict_named tokens nowhere read
+      | Some part ↦ λ found. refused_as tokens NotUnderstood (line_of part) (λ e. cc)
+          (nowhere, first_found SaysNothing is_unread unread_decides (parts_of tokens) part found)
+    ] refl
+
+pub verdict : (tokens : List Token) → Verdict tokens
+verdict tokens =
+    let Goal : Option Piece → Type 0 = λ found. find has_bad_literal (parts_of tokens) ≡ found → Verdict tokens
+    in elim (find has_bad_literal (parts_of tokens)) as Goal [
+      | None ↦ λ none. verdict_in_range tokens (none_found HasBadLiteral has_bad_literal bad_literal_decides (parts_of tokens) none)
+      | Some part ↦ λ found. refused_as tokens NumberOutOfRange (line_of part) (λ e. cc)
+          (first_found HasBadLiteral has_bad_literal bad_literal_decides (parts_of tokens) part found)
+    ] refl
+
+ok-err : (read : Result (List Sentence) Fault) (sentences : List Sentence) (fault : Fault) → read ≡ Ok sentences → read ≡ Err fault → ⊥
+ok-err read sentences fault told refused = cc
+
+same_ok : (read : Result (List Sentence) Fault) (v w : List Sentence) → read ≡ Ok v → read ≡ Ok w → v ≡ w
+same_ok read v w told also = cc
+
+same_err : (read : Result (List Sentence) Fault) (f g : Fault) → read ≡ Err f → read ≡ Err g → f ≡ g
+same_err read f g refused also = cc
+
+pub sentences_same : (tokens : List Token) (v w : List Sentence) → HasSentences tokens v → HasSentences tokens w → v ≡ w
+sentences_same tokens v w p q = same_ok (read_of tokens) v w (spelled_read tokens v p) (spelled_read tokens w q)
+
+pub refusals_same : (tokens : List Token) (f g : Fault) → IsRefused tokens f → IsRefused tokens g → f.code ≢ Memory → g.code ≢ Memory → f ≡ g
+refusals_same tokens f g p q m n = same_err (read_of tokens) f g (refused_read tokens f m p) (refused_read tokens g n q)
+
+pub spelled_refused : (tokens : List Token) (sentences : List Sentence) (fault : Fault) → HasSentences tokens sentences → fault.code ≢ Memory → IsRefused tokens fault → ⊥
+spelled_refused tokens sentences fault p m q = ok-err (read_of tokens) sentences fault (spelled_read tokens sentences p) (refused_read tokens fault m q)
+
+-- what is read is what the tokens spell
+pub read_spelled : (tokens : List Token) (sentences : List Sentence) → read_of tokens ≡ Ok sentences → HasSentences tokens sentences
+read_spelled tokens sentences is = by_verdict (verdict tokens)
+  where
+    by_verdict : Verdict tokens → HasSentences tokens sentences
+    by_verdict (inl spells) = subst (λ ss. HasSentences tokens ss) (same_ok (read_of tokens) spells.0 sentences (spelled_read tokens spells.0 spells.1) is) spells.1
+    by_verdict (inr refused) = absurd (ok-err (read_of tokens) sentences refused.0 is (refused_read tokens refused.0 refused.1 refused.2))
+
+-- what is refused is refused as it stands
+pub read_refused : (tokens : List Token) (fault : Fault) → read_of tokens ≡ Err fault → IsRefused tokens fault
+read_refused tokens fault is = by_verdict (verdict tokens)
+  where
+    by_verdict : Verdict tokens → IsRefused tokens fault
+    by_verdict (inl spells) = absurd (ok-err (read_of tokens) spells.0 fault (spelled_read tokens spells.0 spells.1) is)
+    by_verdict (inr refused) = subst (λ f. IsRefused tokens f) (same_err (read_of tokens) refused.0 fault (refused_read tokens refused.0 refused.1 refused.2) is) refused.2
+
+refused_or_memory : (code : FaultCode) (line : ℕ) (parts : List Piece) → (code ≡ Memory → line ≡ 1) → (code ≢ Memory → Stands code line parts) → Stands code line parts
+refused_or_memory Memory line parts memory others = memory refl
+refused_or_memory _ line parts memory others = others (λ e. cc)
+
+-- an answer that reads as the definition does
+pub answered : {V : Type 0} (items : V → List Sentence) (tokens : List Token) (r : Result V Fault) → IfOk r (λ v. read_of tokens ≡ Ok (items v)) → IfErr r (λ fault. fault.code ≢ Memory → read_of tokens ≡ Err fault) → IfErr r (λ fault. fault.code ≡ Memory → fault.line ≡ 1) → MatchResult r (λ v. HasSentences tokens (items v)) (IsRefused tokens)
+answered items tokens (Ok v) read refused memory = read_spelled tokens (items v) read
+answered items tokens (Err fault) read refused memory =
+    refused_or_memory fault.code fault.line (parts_of tokens) memory (λ not_memory. read_refused tokens fault (refused not_memory))
