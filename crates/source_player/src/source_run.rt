@@ -36,11 +36,11 @@ pub fn run_source<R: Read, W: Write>(
     requires writer { watched_failed writer.old ≡ false }
 
     // The play of the reader's commands, in the story that the source is compiled to, was written.
-    ensures played { IfOk result (PlayedSource echo (R.remaining (watched_inner reader.old)) (R.remaining (watched_inner reader.new)) (W.contents (watched_inner writer.old)) (W.contents (watched_inner writer.new))) }
+    ensures played { IfOk result (PlayedSource source.now echo (R.remaining (watched_inner reader.old)) (R.remaining (watched_inner reader.new)) (W.contents (watched_inner writer.old)) (W.contents (watched_inner writer.new))) }
 
     // A fault of a part before the run leaves reader and writer alone, and a fault of the run leaves
     // what the run leaves.
-    ensures left { IfErr result (λ fault. Leaves fault echo (R.remaining (watched_inner reader.old)) (R.remaining (watched_inner reader.new)) (W.contents (watched_inner writer.old)) (W.contents (watched_inner writer.new))) }
+    ensures left { IfErr result (λ fault. Leaves fault source.now echo (R.remaining (watched_inner reader.old)) (R.remaining (watched_inner reader.new)) (W.contents (watched_inner writer.old)) (W.contents (watched_inner writer.new))) }
 
     // The run's fault is the reader's exactly where the reader has failed, and the writer's alike.
     ensures stand { OnOk result ((watched_failed reader.new ≡ false) × (watched_failed writer.new ≡ false)) }

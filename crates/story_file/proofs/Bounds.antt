@@ -1,10 +1,9 @@
 -- The numbers of a tale whose objects are few are small.
-use Rattle.std.proofs.Common.{◌≡◌, ℕ, zero, suc, ◌+◌, ◌-◌, ◌<◌, ◌≤◌, Bool, true, false, cond, List, [], ◌∷◌, ◌++◌, length, map, refl, ap, sym, ◌∙◌, subst, arith}
-use Rattle.std.specs.Prelude.{Option, Some, None, fold, find, position, slice_get, if◌then◌else◌}
+use Rattle.std.proofs.Common.{◌≡◌, ℕ, zero, suc, ◌+◌, ◌≤◌, Bool, true, false, cond, List, [], ◌∷◌, ◌++◌, length, map, refl, subst, arith}
+use Rattle.std.specs.Prelude.{Option, Some, None, fold, slice_get, if◌then◌else◌}
 use Rattle.std.specs.Option.{option_map}
-use Rattle.std.specs.List.{list_any, position_or_len}
+use Rattle.std.specs.List.{position_or_len}
 use Rattle.std.specs.Str.{bytes_eq}
-use Rattle.std.proofs.lemmas.Bool.{ltb-true}
 use Rattle.std.proofs.lemmas.List.{length-append}
 use Rattle.i7_sentences.specs.declared.sentence.Sentence.{Sentence}
 use Rattle.i7_sentences.specs.declared.sentence.Saying.{Saying}
@@ -13,10 +12,10 @@ use Rattle.world_meaning.specs.Directions.{opposite_of}
 use Rattle.world_meaning.specs.declared.fault.FaultCode.{FaultCode}
 use Rattle.world_meaning.specs.declared.fault.FaultCode.TheVariants.{NoRoom, TooMany, Twice, TwoPlaces, WrongKind}
 use Rattle.story_file.specs.Bounds.{AreWithin, IsSmall, IsWithin, LeadWithin}
-use Rattle.story_file.specs.Demands.{Lead, descriptions_of, first_target, line_at, second_description, second_target, taken_name, wrong_kind, implied_in, implied_leads, is_exit, lead_of, stated_in, stated_leads, target_led, target_of}
+use Rattle.story_file.specs.Demands.{Lead, descriptions_of, first_target, line_at, second_description, second_target, taken_name, wrong_kind, implied_in, implied_leads, is_exit, lead_of, stated_in, stated_leads}
 use Rattle.story_file.specs.Firsts.{first_of}
 use Rattle.story_file.specs.Tales.{earlier, frame_refusal, no_room, object_too_many, refusal_at}
-use Rattle.story_file.specs.Statements.{Fact, IsRoom, LeadsTo, NameAt, Named, Statement, Told, built_in_keys, fact_in, has_key, key_of, named_by, names_at, number_in, number_of, place_or, stated_by, statement_in, with_name, with_names_of}
+use Rattle.story_file.specs.Statements.{Fact, IsRoom, LeadsTo, NameAt, Named, Statement, Told, built_in_keys, fact_in, has_key, key_of, named_by, names_at, number_in, place_or, stated_by, statement_in, with_name, with_names_of}
 
 -- as many keys as objects
 abbrev pub IsCounted : Named → Type 0

@@ -1,9 +1,57 @@
--- What the compiler's bytes are.
-use Rattle.std.specs.Prelude.{ℕ, List}
+-- Which story file a source has, and which refusal.
+use Rattle.std.specs.Prelude.{◌≡◌, ℕ, List, Ok, Err}
+use Rattle.world_meaning.specs.declared.fault.Fault.{Fault}
+use Rattle.world_meaning.specs.declared.fault.FaultCode.TheVariants.{Memory, TooMany}
 use Rattle.world_meaning.specs.declared.tale.Tale.{Tale}
+use Rattle.i7_lexer.specs.Readings.{HasTokens}
+use Rattle.i7_lexer.specs.Refusals.{IsRefused as IsUnspelled}
+use Rattle.i7_lexer.specs.declared.token.Token.{Token}
+use Rattle.i7_sentences.specs.Sources.{HasSentences, IsRefused as IsUnread}
+use Rattle.i7_sentences.specs.declared.sentence.Sentence.{Sentence}
+use Rattle.story_format.specs.Shape.{IsTale}
 use Rattle.story_format.specs.Spells.{Spells}
+use Rattle.story_file.specs.Tales.{tale_said}
 
--- These bytes are the story file of a tale.
-pub record IsStory (bytes : List ℕ) : Type 0 where
+-- A source says these sentences: they are spelled by the tokens that it spells.
+pub record Says (source : List ℕ) (sentences : List Sentence) : Type 0 where
+  pub tokens : List Token
+  pub spells : HasTokens source tokens
+  pub reads : HasSentences tokens sentences
+
+-- A source's sentences mean this tale.
+pub record Means (source : List ℕ) (tale : Tale) : Type 0 where
+  pub sentences : List Sentence
+  pub says : Says source sentences
+  pub meant : tale_said sentences ≡ Ok tale
+
+-- A source has this story file: the spelling of the tale that its sentences mean.
+pub record IsCompiled (source bytes : List ℕ) : Type 0 where
   pub tale : Tale
+  pub means : Means source tale
   pub spells : Spells bytes tale
+
+-- A source's tokens are refused.
+pub record IsUnreadSource (source : List ℕ) (fault : Fault) : Type 0 where
+  pub tokens : List Token
+  pub spells : HasTokens source tokens
+  pub unread : IsUnread tokens fault
+
+-- What a source's sentences say is refused.
+pub record IsUnmeant (source : List ℕ) (fault : Fault) : Type 0 where
+  pub sentences : List Sentence
+  pub says : Says source sentences
+  pub refused : tale_said sentences ≡ Err fault
+
+-- A source's tale is none that a story file holds: it has more strings.
+pub record IsTooMuch (source : List ℕ) : Type 0 where
+  pub tale : Tale
+  pub means : Means source tale
+  pub unheld : IsTale tale → ⊥
+
+-- A source is refused: by its bytes, its tokens, its sentences or its tale; or memory was refused.
+pub data IsRefused : List ℕ → Fault → Type 0 where
+  unspelled : {source : List ℕ} {fault : Fault} → IsUnspelled source fault → IsRefused source fault
+  unread : {source : List ℕ} {fault : Fault} → IsUnreadSource source fault → IsRefused source fault
+  unmeant : {source : List ℕ} {fault : Fault} → IsUnmeant source fault → IsRefused source fault
+  too_much : {source : List ℕ} {fault : Fault} → IsTooMuch source → fault ≡ record { code = TooMany; line = 1 } → IsRefused source fault
+  memory : {source : List ℕ} {fault : Fault} → fault ≡ record { code = Memory; line = 1 } → IsRefused source fault

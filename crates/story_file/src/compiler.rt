@@ -1,36 +1,51 @@
 //! The compiler: from a source's bytes to a story's.
-ghost use Rattle.std.specs.Prelude.{IfOk};
-ghost use Rattle.story_file.specs.Compilations.{IsStory};
+ghost use Rattle.std.specs.Prelude.{IfErr, IfOk, MatchResult};
+ghost use Rattle.story_file.specs.Compilations.{IsCompiled, IsRefused, Means};
 
 use crate::tale_of;
 use i7_lexer::lex;
 use i7_sentences::read;
-use std::alloc::{AllocError, Global};
+use std::alloc::Global;
 use story_format::{is_writable, write};
-use world_meaning::{Fault, FaultCode};
+use world_meaning::{Fault, FaultCode, Tale};
 
 /// Memory was refused.
-fn memory(_: AllocError) -> Fault {
-    Fault {
-        code: FaultCode::Memory,
-        line: 1,
-    }
+const OUT_OF_MEMORY: Fault = Fault {
+    code: FaultCode::Memory,
+    line: 1,
+};
+
+/// The tale has more strings than a story file holds.
+const TOO_MANY_STRINGS: Fault = Fault {
+    code: FaultCode::TooMany,
+    line: 1,
+};
+
+/// The tale that the source's sentences mean.
+fn tale_meant(alloc: Global, source: &[u8]) -> Result<Tale, Fault>
+    ensures meant { IfOk result (Means source.now) }
+    ensures refused { IfErr result (IsRefused source.now) }
+{
+    let lexed = lex(alloc, source)?;
+    let sentences = read(alloc, &lexed)?;
+    let tale = tale_of(alloc, sentences.as_slice())?;
+    Ok(tale)
 }
 
 /// The story file of a source, or the refusal that stands: that of the first step that refuses, each
 /// step being the lexer, the reader of sentences and the tale, in this order. A tale of more strings
 /// than a story file holds is C12 at line 1.
 pub fn compile(alloc: Global, source: &[u8]) -> Result<Vec<u8>, Fault>
-    ensures { IfOk result (λ bytes. IsStory bytes.items) }
+    ensures { MatchResult result (λ bytes. IsCompiled source.now bytes.items) (IsRefused source.now) }
 {
-    let lexed = lex(alloc, source)?;
-    let sentences = read(alloc, &lexed)?;
-    let tale = tale_of(alloc, sentences.as_slice())?;
-    if !is_writable(alloc, &tale).map_err(memory)? {
-        return Err(Fault {
-            code: FaultCode::TooMany,
-            line: 1,
-        });
+    let tale = tale_meant(alloc, source)?;
+    match is_writable(alloc, &tale) {
+        Ok(true) => {}
+        Ok(false) => return Err(TOO_MANY_STRINGS),
+        Err(_) => return Err(OUT_OF_MEMORY),
     }
-    write(alloc, &tale).map_err(memory)
+    match write(alloc, &tale) {
+        Ok(bytes) => Ok(bytes),
+        Err(_) => Err(OUT_OF_MEMORY),
+    }
 }

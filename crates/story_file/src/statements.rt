@@ -31,11 +31,7 @@ pub struct Statement<'a> {
     pub line: u32,
 }
 
-fn fact_in<'a>(
-    alloc: Global,
-    names: &Names<'_>,
-    saying: &'a Saying,
-) -> Result<Fact<'a>, AllocError>
+fn fact_in<'a>(alloc: Global, names: &Names<'_>, saying: &'a Saying) -> Result<Fact<'a>, AllocError>
     ensures { IfOk result (λ fact. fact_of fact ≡ fact_in (names_of names.now) saying.now) }
 {
     match saying {

@@ -1,5 +1,5 @@
 //! The tale of a source's sentences, or the refusal that stands.
-ghost use Rattle.std.specs.Prelude.{◌≡◌, ◌≢◌, ◌+◌, length, None, Ok, Err, IfErr, IfOk};
+ghost use Rattle.std.specs.Prelude.{◌≡◌, ◌⊎◌, ◌+◌, length, None, Ok, Err, IfErr, IfOk};
 ghost use Rattle.story_file.specs.Bounds.{AreWithin};
 ghost use Rattle.story_file.specs.Demands.{descriptions_of};
 ghost use Rattle.story_file.specs.Described.{descriptions_in};
@@ -135,7 +135,7 @@ fn tale_said(alloc: Global, sentences: &[Sentence]) -> Result<Result<Tale, Fault
 /// of names and texts. Memory is C14, at line 1.
 pub fn tale_of(alloc: Global, sentences: &[Sentence]) -> Result<Tale, Fault>
     ensures told { IfOk result (λ tale. tale_said sentences.now ≡ Ok tale) }
-    ensures refused { IfErr result (λ fault. fault.code ≢ FaultCode.Memory → tale_said sentences.now ≡ Err fault) }
+    ensures refused { IfErr result (λ fault. (tale_said sentences.now ≡ Err fault) ⊎ (fault ≡ record { code = FaultCode.Memory; line = 1 })) }
 {
     match tale_said(alloc, sentences) {
         Ok(said) => said,

@@ -1,4 +1,4 @@
-use Rattle.std.proofs.Common.{◌≡◌, subst, sym, ◌∙◌}
+use Rattle.std.proofs.Common.{subst, sym, ◌∙◌}
 use Rattle.story_file.specs.Bounds.{LeadWithin}
 use Rattle.story_file.specs.Views.{mentions_of, statements_of}
 use Rattle.story_file.proofs.Bounds.{frame_within}

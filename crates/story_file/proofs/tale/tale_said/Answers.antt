@@ -1,4 +1,4 @@
-use Rattle.std.proofs.Common.{◌≡◌, ◌+◌, length, map, ap, subst, sym, ◌∙◌}
+use Rattle.std.proofs.Common.{◌+◌, length, map, ap, subst, sym, ◌∙◌}
 use Rattle.story_file.specs.Bounds.{AreWithin}
 use Rattle.story_file.specs.Statements.{named_by, statement_in}
 use Rattle.story_file.specs.Views.{statements_of}

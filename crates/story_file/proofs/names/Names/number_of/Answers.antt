@@ -1,4 +1,4 @@
-use Rattle.std.proofs.Common.{◌≡◌, ap, ◌∙◌}
+use Rattle.std.proofs.Common.{ap, ◌∙◌}
 use Rattle.story_file.specs.Statements.{key_of, number_in}
 use Rattle.story_file.proofs.names.Names.number_of.Goals as goal
 

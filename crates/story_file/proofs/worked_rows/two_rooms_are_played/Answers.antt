@@ -1,0 +1,8 @@
+use Rattle.std.proofs.Common.{refl}
+use Rattle.story_format.specs.Words.{more_words, words_for}
+use Rattle.story_file.specs.Tales.{exits_of, frame_refusal, limit_refusal, objects_of, room_of}
+use Rattle.story_file.proofs.worked_rows.two_rooms_are_played.Goals as goal
+
+pub returns : goal.returns
+unfolding exits_of frame_refusal limit_refusal more_words objects_of room_of words_for
+returns c = refl
