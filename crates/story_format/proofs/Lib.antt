@@ -6,5 +6,6 @@ pub mod WordLemmas
 pub mod TellingLoop
 pub mod RoundTrip
 pub mod ReadingLemmas
+pub mod FaultLemmas
 pub mod TableLemmas
 pub mod OrderLemmas

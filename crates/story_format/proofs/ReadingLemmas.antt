@@ -24,7 +24,7 @@ use Rattle.story_format.proofs.TableLemmas.{tables_right}
 
 -- ---- reading what was put
 
-read_whole : (t : Tables) (rest : List ℕ) → tables_format.fits t ≡ true → tables_read (head ++ (tables_format.put t ++ rest)) ≡ whole (Some (t, rest))
+pub read_whole : (t : Tables) (rest : List ℕ) → tables_format.fits t ≡ true → tables_read (head ++ (tables_format.put t ++ rest)) ≡ whole (Some (t, rest))
 unfolding tables_read
 read_whole t rest fits = ap versioned (number16_lawful.again 1 (tables_format.put t ++ rest) refl) ∙ ap whole (tables_lawful.again t rest fits)
 
@@ -61,7 +61,7 @@ only_memory bytes t Memory h e = refl
 
 -- ---- what reading says of the bytes
 
-either : (b : Bool) → (b ≡ true) ⊎ (b ≡ false)
+pub either : (b : Bool) → (b ≡ true) ⊎ (b ≡ false)
 either true = inl refl
 either false = inr refl
 
@@ -198,7 +198,7 @@ same_tables t u rest f g e =
     let second = ap tables_format.get e ∙ tables_lawful.again u rest g in
     sym (ap (λ (p : Tables × List ℕ). p.1) (some_is (t, []) (u, rest) (sym first ∙ second)))
 
-same_version : (version : ℕ) (rest body : List ℕ) → version < 65536 → to_be_bytes w16 version ++ rest ≡ to_be_bytes w16 1 ++ body → version ≡ 1
+pub same_version : (version : ℕ) (rest body : List ℕ) → version < 65536 → to_be_bytes w16 version ++ rest ≡ to_be_bytes w16 1 ++ body → version ≡ 1
 same_version version rest body lt e =
     let first = number16_lawful.again version rest (lt-ltb version 65536 lt) in
     let second = ap (number w16).get e ∙ number16_lawful.again 1 body refl in

@@ -1,5 +1,5 @@
 //! What holds of stories whatever the bytes are.
-ghost use Rattle.std.specs.Prelude.{◌≡◌, ℕ, List};
+ghost use Rattle.std.specs.Prelude.{◌≡◌, ◌≢◌, ℕ, List};
 ghost use Rattle.world_meaning.specs.declared.tale.Tale.{Tale};
 ghost use Rattle.story_format.specs.declared.fault.LoadFault.{LoadFault};
 ghost use Rattle.story_format.specs.declared.fault.LoadFault.TheVariants.{Memory};
@@ -26,4 +26,9 @@ pub fn written_is_spelled()
 /// The bytes of a story are not refused.
 pub fn stories_stand()
     ensures { (bytes : List ℕ) (tale : Tale) (fault : LoadFault) → Spells bytes tale → IsRefused fault bytes → fault ≡ Memory }
+{}
+
+/// No bytes stand for two faults.
+pub fn one_fault()
+    ensures { (bytes : List ℕ) (fault other : LoadFault) → IsRefused fault bytes → IsRefused other bytes → fault ≢ Memory → other ≢ Memory → fault ≡ other }
 {}

@@ -21,7 +21,7 @@ mod words;
 mod writing;
 
 pub use fault::LoadFault;
-pub use laws::{one_spelling, one_story, stories_stand, written_is_spelled};
+pub use laws::{one_fault, one_spelling, one_story, stories_stand, written_is_spelled};
 pub use loading::load;
 pub use shape::is_writable;
 pub use story::Story;
