@@ -9,3 +9,4 @@ pub mod ReadingLemmas
 pub mod FaultLemmas
 pub mod TableLemmas
 pub mod OrderLemmas
+pub mod NamingLemmas

@@ -20,10 +20,10 @@ either false = inr refl
 
 -- ---- no string twice
 
-mention_new : (seen : List (List ℕ)) (x : List ℕ) → list_any (bytes_eq x) seen ≡ false → mention seen x ≡ seen ++ x ∷ []
+pub mention_new : (seen : List (List ℕ)) (x : List ℕ) → list_any (bytes_eq x) seen ≡ false → mention seen x ≡ seen ++ x ∷ []
 mention_new seen x h = rw h refl
 
-mention_old : (seen : List (List ℕ)) (x : List ℕ) → list_any (bytes_eq x) seen ≡ true → mention seen x ≡ seen
+pub mention_old : (seen : List (List ℕ)) (x : List ℕ) → list_any (bytes_eq x) seen ≡ true → mention seen x ≡ seen
 mention_old seen x h = rw h refl
 
 rebuilt_step : (seen : List (List ℕ)) (x : List ℕ) → first_mentions seen ≡ seen → first_mentions (mention seen x) ≡ mention seen x
@@ -63,7 +63,7 @@ place_in_front (s ∷ ss) more x h =
 pub text_is_itself : (text : List ℕ) → bytes_eq text text ≡ true
 text_is_itself text = (bytes_eq-Decides text text).1 refl
 
-place_behind : (seen more : List (List ℕ)) (x : List ℕ) → list_any (bytes_eq x) seen ≡ false → position_or_len (bytes_eq x) (seen ++ x ∷ more) ≡ length seen
+pub place_behind : (seen more : List (List ℕ)) (x : List ℕ) → list_any (bytes_eq x) seen ≡ false → position_or_len (bytes_eq x) (seen ++ x ∷ more) ≡ length seen
 place_behind [] more x h = rw (text_is_itself x) refl
 place_behind (s ∷ ss) more x h =
     elim (either (bytes_eq x s)) [
@@ -71,7 +71,7 @@ place_behind (s ∷ ss) more x h =
       | inr isnt ↦ let later : list_any (bytes_eq x) ss ≡ false = rw isnt at h in rw (isnt, place_behind ss more x later) (omega arith)
     ]
 
-number_is_place : (strings : List (List ℕ)) (x : List ℕ) → position_or_len (bytes_eq x) strings < length strings → length strings < 65535 → number_in strings x ≡ position_or_len (bytes_eq x) strings
+pub number_is_place : (strings : List (List ℕ)) (x : List ℕ) → position_or_len (bytes_eq x) strings < length strings → length strings < 65535 → number_in strings x ≡ position_or_len (bytes_eq x) strings
 unfolding number_in
 number_is_place strings x lt few =
     let inside : ltb (position_or_len (bytes_eq x) strings) (length strings) ≡ true = lt-ltb _ _ lt in

@@ -9,4 +9,5 @@ pub mod Spells
 pub mod Telling
 pub mod Reading
 pub mod Checks
+pub mod Soundness
 pub mod Refusals

@@ -201,7 +201,7 @@ fn are_named_in_order(numbers: &[u16]) -> bool
 }
 
 /// The strings that the entries name, in order.
-fn strings_named(alloc: Global, entries: &[Entry]) -> Result<Vec<u16>, AllocError>
+pub fn strings_named(alloc: Global, entries: &[Entry]) -> Result<Vec<u16>, AllocError>
     ensures { IfOk result (λ numbers. numbers.items ≡ flat_map strings_named entries.now) }
 {
     let mut numbers = Vec::new(alloc);
@@ -213,7 +213,7 @@ fn strings_named(alloc: Global, entries: &[Entry]) -> Result<Vec<u16>, AllocErro
 }
 
 /// The codes that the entries name, in order.
-fn codes_named(alloc: Global, entries: &[Entry]) -> Result<Vec<u16>, AllocError>
+pub fn codes_named(alloc: Global, entries: &[Entry]) -> Result<Vec<u16>, AllocError>
     ensures { IfOk result (λ numbers. numbers.items ≡ codes_named entries.now) }
 {
     let mut numbers = Vec::new(alloc);

@@ -11,6 +11,7 @@ mod making;
 mod number;
 mod place;
 mod shape;
+mod soundness;
 mod story;
 mod strings;
 mod table;
