@@ -10,3 +10,4 @@ pub mod FaultLemmas
 pub mod TableLemmas
 pub mod OrderLemmas
 pub mod NamingLemmas
+pub mod TellingLemmas

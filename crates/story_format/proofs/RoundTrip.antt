@@ -184,7 +184,7 @@ unfolding place_of
 place_back None = refl
 place_back (Some place) = rw (relation_told place.relation, relation_back place.relation) refl
 
-get_behind : (front : List (List ℕ)) (x : List ℕ) (ys : List (List ℕ)) → slice_get (front ++ x ∷ ys) (length front) ≡ Some x
+pub get_behind : (front : List (List ℕ)) (x : List ℕ) (ys : List (List ℕ)) → slice_get (front ++ x ∷ ys) (length front) ≡ Some x
 get_behind [] x ys = refl
 get_behind (f ∷ fs) x ys = get_behind fs x ys
 

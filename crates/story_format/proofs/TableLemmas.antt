@@ -96,10 +96,10 @@ entry_kind : (strings : List (List ℕ)) (next : ℕ) (o : Object) → (entry_of
 unfolding entry_of
 entry_kind strings next o = refl
 
-counted_more : {A : Type 0} (p : A → Bool) (x : A) (xs : List A) → p x ≡ true → count_by p (x ∷ xs) ≡ suc (count_by p xs)
+pub counted_more : {A : Type 0} (p : A → Bool) (x : A) (xs : List A) → p x ≡ true → count_by p (x ∷ xs) ≡ suc (count_by p xs)
 counted_more p x xs h = sum_by-cons (λ x. cond (p x) 1 0) x xs ∙ rw h (omega arith)
 
-counted_same : {A : Type 0} (p : A → Bool) (x : A) (xs : List A) → p x ≡ false → count_by p (x ∷ xs) ≡ count_by p xs
+pub counted_same : {A : Type 0} (p : A → Bool) (x : A) (xs : List A) → p x ≡ false → count_by p (x ∷ xs) ≡ count_by p xs
 counted_same p x xs h = sum_by-cons (λ x. cond (p x) 1 0) x xs ∙ rw h (omega arith)
 
 rooms_counted : (strings : List (List ℕ)) (os : List Object) (next : ℕ) → length (flat_map ways_of os) ≡ count_by is_of_room (entries_of strings next os)
