@@ -11,3 +11,4 @@ pub mod TableLemmas
 pub mod OrderLemmas
 pub mod NamingLemmas
 pub mod TellingLemmas
+pub mod ShapeLemmas

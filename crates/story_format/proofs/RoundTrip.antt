@@ -172,7 +172,7 @@ relation_back relations.Carried = refl
 relation_back relations.Worn = refl
 relation_back relations.Part = refl
 
-relation_told : (r : Rel) → eqb (relation_number r) 255 ≡ false
+pub relation_told : (r : Rel) → eqb (relation_number r) 255 ≡ false
 relation_told relations.In = refl
 relation_told relations.On = refl
 relation_told relations.Carried = refl

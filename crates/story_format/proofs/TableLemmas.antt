@@ -37,7 +37,7 @@ article_small articles.A = refl
 article_small articles.An = refl
 article_small articles.Some = refl
 
-or_right : (a b : Bool) → b ≡ true → (a || b) ≡ true
+pub or_right : (a b : Bool) → b ≡ true → (a || b) ≡ true
 or_right true b e = refl
 or_right false b e = e
 
@@ -125,13 +125,13 @@ rooms_lead n (o ∷ os) h =
 
 -- ---- the entries are in place
 
-entries_taken : (strings : List (List ℕ)) (n next : ℕ) (os : List Object) → take n (entries_of strings next os) ≡ entries_of strings next (take n os)
+pub entries_taken : (strings : List (List ℕ)) (n next : ℕ) (os : List Object) → take n (entries_of strings next os) ≡ entries_of strings next (take n os)
 unfolding entries_of
 entries_taken strings zero next os = refl
 entries_taken strings (suc n) next [] = refl
 entries_taken strings (suc n) next (o ∷ os) = ap (λ (es : List Entry). entry_of strings next o ∷ es) (entries_taken strings n (next + length (code_strings o)) os)
 
-entries_dropped : (strings : List (List ℕ)) (n next : ℕ) (os : List Object) → (later : ℕ) × (drop n (entries_of strings next os) ≡ entries_of strings later (drop n os))
+pub entries_dropped : (strings : List (List ℕ)) (n next : ℕ) (os : List Object) → (later : ℕ) × (drop n (entries_of strings next os) ≡ entries_of strings later (drop n os))
 unfolding entries_of
 entries_dropped strings zero next os = (next, refl)
 entries_dropped strings (suc n) next [] = (next, refl)
@@ -207,7 +207,7 @@ room_entries strings next n (o ∷ os) h =
     let t = both_are (is_room n o) (list_all (is_room n) os) h in
     both (is_room_entry (entry_of strings next o)) (list_all is_room_entry (entries_of strings (next + length (code_strings o)) os)) (room_entry strings next n o t.0) (room_entries strings (next + length (code_strings o)) n os t.1)
 
-all_taken : {A : Type 0} (p : A → Bool) (n : ℕ) (xs : List A) → list_all p xs ≡ true → list_all p (take n xs) ≡ true
+pub all_taken : {A : Type 0} (p : A → Bool) (n : ℕ) (xs : List A) → list_all p xs ≡ true → list_all p (take n xs) ≡ true
 all_taken p zero xs h = refl
 all_taken p (suc n) [] h = refl
 all_taken p (suc n) (x ∷ xs) h = let t = both_are (p x) (list_all p xs) h in both (p x) (list_all p (take n xs)) t.0 (all_taken p n xs t.1)
