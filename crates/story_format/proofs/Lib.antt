@@ -12,3 +12,4 @@ pub mod OrderLemmas
 pub mod NamingLemmas
 pub mod TellingLemmas
 pub mod ShapeLemmas
+pub mod SoundLemmas

@@ -43,7 +43,7 @@ strings_distinct os = eq-eqb _ _ (ap length (rebuilt (flat_map entry_strings os 
 
 -- ---- strings are named in order
 
-grows : (strings seen : List (List ℕ)) → (more : List (List ℕ)) × (fold mention seen strings ≡ seen ++ more)
+pub grows : (strings seen : List (List ℕ)) → (more : List (List ℕ)) × (fold mention seen strings ≡ seen ++ more)
 grows [] seen = ([], sym (append-nil seen))
 grows (x ∷ strings) seen =
     let t = grows strings (mention seen x) in
@@ -52,7 +52,7 @@ grows (x ∷ strings) seen =
       | inr isnt ↦ (x ∷ t.0, t.1 ∙ ap (λ (s : List (List ℕ)). s ++ t.0) (mention_new seen x isnt) ∙ append_assoc seen (x ∷ []) t.0)
     ]
 
-place_in_front : (seen more : List (List ℕ)) (x : List ℕ) → list_any (bytes_eq x) seen ≡ true → position_or_len (bytes_eq x) (seen ++ more) ≡ position_or_len (bytes_eq x) seen
+pub place_in_front : (seen more : List (List ℕ)) (x : List ℕ) → list_any (bytes_eq x) seen ≡ true → position_or_len (bytes_eq x) (seen ++ more) ≡ position_or_len (bytes_eq x) seen
 place_in_front [] more x h = absurd cc
 place_in_front (s ∷ ss) more x h =
     elim (either (bytes_eq x s)) [
@@ -108,7 +108,7 @@ map_both : {A B : Type 0} (f : A → B) (xs ys : List A) → map f (xs ++ ys) �
 map_both f [] ys = refl
 map_both f (x ∷ xs) ys = ap (λ (zs : List _). f x ∷ zs) (map_both f xs ys)
 
-numbers_named : (strings : List (List ℕ)) (next : ℕ) (os : List Object) → flat_map strings_named (entries_of strings next os) ≡ map (number_in strings) (flat_map entry_strings os)
+pub numbers_named : (strings : List (List ℕ)) (next : ℕ) (os : List Object) → flat_map strings_named (entries_of strings next os) ≡ map (number_in strings) (flat_map entry_strings os)
 unfolding entries_of entry_of entry_strings
 numbers_named strings next [] = refl
 numbers_named strings next (o ∷ os) =
@@ -132,7 +132,7 @@ one_in_order next n (Some text) later lt h =
     let up : max next (next + 1) ≡ next + 1 = omega arith in
     rw (number, told, low, up) h
 
-entry_code : (strings : List (List ℕ)) (next : ℕ) (o : Object) → (entry_of strings next o).description ≡ code_number next o.description
+pub entry_code : (strings : List (List ℕ)) (next : ℕ) (o : Object) → (entry_of strings next o).description ≡ code_number next o.description
 unfolding entry_of
 entry_code strings next o = refl
 

@@ -266,7 +266,7 @@ directions_have (d ∷ ds) (o ∷ os) h =
 room_has : (n : ℕ) (o : Object) → is_room n o ≡ true → has_own_exits o ≡ true
 room_has n o h = rw (room_parts n o h).0 refl
 
-all_have : (os : List Object) → has_shape os ≡ true → (list_all has_own_exits os ≡ true) × (length os ≤ 1000)
+pub all_have : (os : List Object) → has_shape os ≡ true → (list_all has_own_exits os ≡ true) × (length os ≤ 1000)
 unfolding has_shape
 all_have [] h = absurd cc
 all_have (player ∷ others) h =

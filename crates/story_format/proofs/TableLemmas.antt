@@ -274,7 +274,7 @@ all_may (player ∷ others) h =
     let count : n ≡ length (player ∷ others) = omega arith in
     (ap (λ k. list_all (room_leads_on k) (player ∷ others)) (sym count) ∙ both (room_leads_on n player) (list_all (room_leads_on n) others) first rest, omega (arith, p.few))
 
-codes_few : (strings : List (List ℕ)) (os : List Object) → length (flat_map (codes_of strings) os) ≤ length os
+pub codes_few : (strings : List (List ℕ)) (os : List Object) → length (flat_map (codes_of strings) os) ≤ length os
 codes_few strings [] = omega arith
 codes_few strings (o ∷ os) =
     omega (arith, codes_few strings os, at_most_one o.description, length_mapped (code_of strings) (code_strings o), length-append (codes_of strings o) (flat_map (codes_of strings) os))

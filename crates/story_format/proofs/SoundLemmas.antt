@@ -1,0 +1,149 @@
+-- The codes of a tale are sound, and right tables with sound codes are those of a tale.
+use Rattle.std.proofs.Common.{◌≡◌, ℕ, ◌+◌, ◌^◌, ◌<◌, ◌≤◌, Bool, true, false, ◌&&◌, ltb, leb, eqb, List, [], ◌∷◌, ◌++◌, length, map, Option, Some, None, refl, sym, ap, subst, ◌∙◌, append_assoc, arith, inl, inr}
+use Rattle.std.specs.Prelude.{min, max, fold, filter, count_by}
+use Rattle.std.specs.List.{list_any, list_all, flat_map, position_or_len}
+use Rattle.std.specs.Str.{bytes_eq}
+use Rattle.std.specs.Int.{w16, from_be_bytes, to_be_bytes}
+use Rattle.std.proofs.lemmas.Bool.{lt-ltb, ltb-true, ne_eqb, eq-eqb, eqb-true, le-leb}
+use Rattle.std.proofs.lemmas.Nat.{from_be_bytes-to_be_bytes_2}
+use Rattle.std.proofs.lemmas.List.{length-append, append-nil, map-append}
+use Rattle.world_meaning.specs.declared.exits.Exits.{Exits}
+use Rattle.world_meaning.specs.declared.tale.Object.{Object}
+use Rattle.world_meaning.specs.declared.tale.Tale.{Tale}
+use Rattle.story_format.specs.declared.tables.Entry.{Entry}
+use Rattle.story_format.specs.declared.tables.WorldCounts.{WorldCounts}
+use Rattle.story_format.specs.declared.tables.RuleCounts.{RuleCounts}
+use Rattle.story_format.specs.declared.tables.Tables.{Tables}
+use Rattle.story_format.specs.Mentions.{mention, first_mentions, number_or_none, number_in}
+use Rattle.story_format.specs.Layout.{tables_format}
+use Rattle.story_format.specs.Making.{texts_of, entry_strings, code_strings, strings_of, code_number, entry_of, entries_of, code_of, codes_of, ways_of, tables_of}
+use Rattle.story_format.specs.Telling.{objects_told, tale_told}
+use Rattle.story_format.specs.Shape.{lead_to_rooms, IsTale}
+use Rattle.story_format.specs.Checks.{has_no_world, has_no_rules, are_distinct, has_words, is_plain, are_in_place, are_named_in_order, strings_named, codes_named, is_some_code, is_of_room, are_right}
+use Rattle.story_format.specs.Soundness.{saying, string_said, says_string, are_in_turn, are_all_named, strings_read, are_sound}
+use Rattle.story_format.proofs.StringLemmas.{length_mapped}
+use Rattle.story_format.proofs.StoryLemmas.{both, both_are, all_weaker}
+use Rattle.story_format.proofs.RoundTrip.{found_by_number, passes_at, is_known, has_own_exits, is_tellable, all_in_strings, all_have}
+use Rattle.story_format.proofs.OrderLemmas.{either, text_is_itself, mention_new, mention_old, grows, place_in_front, place_behind, number_is_place, numbers_named, entry_code, at_most_one}
+use Rattle.story_format.proofs.TableLemmas.{knows_name, entries_counted, codes_few}
+use Rattle.story_format.proofs.NamingLemmas.{text_at, all_mentioned}
+use Rattle.story_format.proofs.TellingLemmas.{AreTold, entries_told}
+use Rattle.story_format.proofs.ShapeLemmas.{entries_placed, shape_back, few_back}
+
+-- ---- the codes of a tale say strings
+
+number_small : (o : Option ℕ) → number_or_none o < 65536
+number_small None = omega arith
+number_small (Some place) = omega arith
+
+said_back : (strings : List (List ℕ)) (text : List ℕ) → string_said (code_of strings text) ≡ number_in strings text
+unfolding number_in
+said_back strings text = from_be_bytes-to_be_bytes_2 (number_in strings text) (number_small _)
+
+within : (strings : List (List ℕ)) (text : List ℕ) → is_known strings text ≡ true → length strings < 65535 → number_in strings text < length strings
+within strings text known few =
+    let t = passes_at strings text known in
+    let number = number_is_place strings text t.0 few in
+    omega (arith, number, t.0)
+
+code_says : (strings : List (List ℕ)) (text : List ℕ) → is_known strings text ≡ true → length strings < 65535 → says_string (length strings) (code_of strings text) ≡ true
+unfolding says_string
+code_says strings text known few =
+    let code = code_of strings text in
+    let same : bytes_eq code (saying (string_said code)) ≡ true = ap (λ n. bytes_eq code (saying n)) (said_back strings text) ∙ text_is_itself code in
+    let there : ltb (string_said code) (length strings) ≡ true = ap (λ n. ltb n (length strings)) (said_back strings text) ∙ lt-ltb _ _ (within strings text known few) in
+    both (bytes_eq code (saying (string_said code))) (ltb (string_said code) (length strings)) same there
+
+texts_say : (strings : List (List ℕ)) (d : Option (List ℕ)) (later : List (List ℕ)) → list_all (is_known strings) (texts_of d) ≡ true → length strings < 65535 → list_all (says_string (length strings)) later ≡ true → list_all (says_string (length strings)) (map (code_of strings) (texts_of d) ++ later) ≡ true
+texts_say strings None later known few h = h
+texts_say strings (Some text) later known few h =
+    both (says_string (length strings) (code_of strings text)) (list_all (says_string (length strings)) later) (code_says strings text (both_are (is_known strings text) true known).0 few) h
+
+codes_say : (strings : List (List ℕ)) (os : List Object) → list_all (is_tellable strings) os ≡ true → length strings < 65535 → list_all (says_string (length strings)) (flat_map (codes_of strings) os) ≡ true
+codes_say strings [] h few = refl
+codes_say strings (o ∷ os) h few =
+    let t = both_are (is_tellable strings o) (list_all (is_tellable strings) os) h in
+    let u = both_are (is_known strings o.name) (list_all (is_known strings) (code_strings o) && has_own_exits o) t.0 in
+    let v = both_are (list_all (is_known strings) (code_strings o)) (has_own_exits o) u.1 in
+    texts_say strings o.description (flat_map (codes_of strings) os) v.0 few (codes_say strings os t.1 few)
+
+-- ---- each code is named once
+
+one_in_turn : (count next n : ℕ) (d : Option (List ℕ)) (later : List ℕ) → next < 65535 → are_in_turn count (next + length (texts_of d)) (filter is_some_code later) ≡ true → are_in_turn count next (filter is_some_code (code_number next d ∷ later)) ≡ true
+unfolding are_in_turn
+one_in_turn count next n None later lt h = let same : next + 0 ≡ next = omega arith in ap (λ k. are_in_turn count k (filter is_some_code later)) (sym same) ∙ h
+one_in_turn count next n (Some text) later lt h =
+    let number : min next 65535 ≡ next = omega arith in
+    let told : eqb next 65535 ≡ false = ne_eqb _ _ (λ k. omega (arith, k, lt)) in
+    rw (number, told, eq-eqb next next refl) h
+
+codes_in_turn : (strings : List (List ℕ)) (os : List Object) (next count : ℕ) → next + length (flat_map (codes_of strings) os) ≡ count → next + length os < 65535 → are_in_turn count next (codes_named (entries_of strings next os)) ≡ true
+unfolding entries_of are_in_turn
+codes_in_turn strings [] next count e lt = eq-eqb next count (omega (arith, e))
+codes_in_turn strings (o ∷ os) next count e lt =
+    let bound = at_most_one o.description in
+    let one : length (codes_of strings o) ≡ length (code_strings o) = length_mapped (code_of strings) (code_strings o) in
+    let sum : length (codes_of strings o ++ flat_map (codes_of strings) os) ≡ length (codes_of strings o) + length (flat_map (codes_of strings) os) = length-append (codes_of strings o) (flat_map (codes_of strings) os) in
+    rw (entry_code strings next o) (one_in_turn count next 0 o.description (map (λ e. e.description) (entries_of strings (next + length (code_strings o)) os)) (omega (arith, lt))
+    (codes_in_turn strings os (next + length (code_strings o)) count (omega (arith, e, one, sum)) (omega (arith, bound, lt))))
+
+-- ---- each string is named
+
+all_ordered : (whole named seen : List (List ℕ)) → whole ≡ fold mention seen named → length whole < 65535 → are_all_named (length whole) (length seen) (map (number_in whole) named) ≡ true
+unfolding are_all_named
+all_ordered whole [] seen e few = eq-eqb (length seen) (length whole) (ap length (sym e))
+all_ordered whole (x ∷ named) seen e few =
+    let t = grows named (mention seen x) in
+    elim (either (list_any (bytes_eq x) seen)) [
+      | inl is ↦
+          let split : whole ≡ seen ++ t.0 = e ∙ t.1 ∙ ap (λ (s : List (List ℕ)). s ++ t.0) (mention_old seen x is) in
+          let inside = (passes_at seen x is).0 in
+          let place : position_or_len (bytes_eq x) whole ≡ position_or_len (bytes_eq x) seen = ap (position_or_len (bytes_eq x)) split ∙ place_in_front seen t.0 x is in
+          let count : length whole ≡ length seen + length t.0 = ap length split ∙ length-append seen t.0 in
+          let number : number_in whole x ≡ position_or_len (bytes_eq x) seen = number_is_place whole x (omega (arith, place, count, inside)) few ∙ place in
+          let low : leb (number_in whole x) (length seen) ≡ true = le-leb _ _ (omega (arith, number, inside)) in
+          let next : max (length seen) (number_in whole x + 1) ≡ length seen = omega (arith, number, inside) in
+          rw (low, next) (all_ordered whole named seen (e ∙ ap (λ (s : List (List ℕ)). fold mention s named) (mention_old seen x is)) few)
+      | inr isnt ↦
+          let split : whole ≡ seen ++ x ∷ t.0 = e ∙ t.1 ∙ ap (λ (s : List (List ℕ)). s ++ t.0) (mention_new seen x isnt) ∙ append_assoc seen (x ∷ []) t.0 in
+          let place : position_or_len (bytes_eq x) whole ≡ length seen = ap (position_or_len (bytes_eq x)) split ∙ place_behind seen t.0 x isnt in
+          let count : length whole ≡ length seen + length (x ∷ t.0) = ap length split ∙ length-append seen (x ∷ t.0) in
+          let number : number_in whole x ≡ length seen = number_is_place whole x (omega (arith, place, count)) few ∙ place in
+          let low : leb (number_in whole x) (length seen) ≡ true = le-leb _ _ (omega (arith, number)) in
+          let seen_count : length (seen ++ x ∷ []) ≡ length seen + 1 = length-append seen (x ∷ []) in
+          let next : max (length seen) (number_in whole x + 1) ≡ length (seen ++ x ∷ []) = omega (arith, number, seen_count) in
+          rw (low, next) (all_ordered whole named (seen ++ x ∷ []) (e ∙ ap (λ (s : List (List ℕ)). fold mention s named) (mention_new seen x isnt)) few)
+    ]
+
+texts_said : (strings texts : List (List ℕ)) → map string_said (map (code_of strings) texts) ≡ map (number_in strings) texts
+texts_said strings [] = refl
+texts_said strings (x ∷ texts) = ap (λ (n : ℕ). n ∷ map string_said (map (code_of strings) texts)) (said_back strings x) ∙ ap (λ (ns : List ℕ). number_in strings x ∷ ns) (texts_said strings texts)
+
+numbers_said : (strings : List (List ℕ)) (os : List Object) → map string_said (flat_map (codes_of strings) os) ≡ map (number_in strings) (flat_map code_strings os)
+numbers_said strings [] = refl
+numbers_said strings (o ∷ os) =
+    map-append string_said (codes_of strings o) (flat_map (codes_of strings) os)
+    ∙ ap (λ (ns : List ℕ). ns ++ map string_said (flat_map (codes_of strings) os)) (texts_said strings (code_strings o))
+    ∙ ap (λ (ns : List ℕ). map (number_in strings) (code_strings o) ++ ns) (numbers_said strings os)
+    ∙ sym (map-append (number_in strings) (code_strings o) (flat_map code_strings os))
+
+numbers_read : (strings : List (List ℕ)) (os : List Object) → flat_map strings_named (entries_of strings 0 os) ++ map string_said (flat_map (codes_of strings) os) ≡ map (number_in strings) (flat_map entry_strings os ++ flat_map code_strings os)
+numbers_read strings os =
+    ap (λ (ns : List ℕ). ns ++ map string_said (flat_map (codes_of strings) os)) (numbers_named strings 0 os)
+    ∙ ap (λ (ns : List ℕ). map (number_in strings) (flat_map entry_strings os) ++ ns) (numbers_said strings os)
+    ∙ sym (map-append (number_in strings) (flat_map entry_strings os) (flat_map code_strings os))
+
+strings_all_named : (os : List Object) → length (strings_of os) < 65535 → are_all_named (length (strings_of os)) 0 (map (number_in (strings_of os)) (flat_map entry_strings os ++ flat_map code_strings os)) ≡ true
+unfolding strings_of
+strings_all_named os few = all_ordered (strings_of os) (flat_map entry_strings os ++ flat_map code_strings os) [] refl few
+
+pub tables_sound : (t : Tale) → IsTale t → are_sound (tables_of t) ≡ true
+unfolding are_sound strings_read tables_of
+tables_sound t h =
+    let os = t.objects in
+    let strings = strings_of os in
+    let have = all_have os h.shape in
+    let say = codes_say strings os (all_in_strings os have.0) h.strings in
+    let turn = codes_in_turn strings os 0 (length (flat_map (codes_of strings) os)) (omega arith) (omega (arith, have.1)) in
+    let named : are_all_named (length strings) 0 (flat_map strings_named (entries_of strings 0 os) ++ map string_said (flat_map (codes_of strings) os)) ≡ true = ap (are_all_named (length strings) 0) (numbers_read strings os) ∙ strings_all_named os h.strings in
+    rw (say, turn) named
