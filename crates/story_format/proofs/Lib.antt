@@ -13,3 +13,4 @@ pub mod NamingLemmas
 pub mod TellingLemmas
 pub mod ShapeLemmas
 pub mod SoundLemmas
+pub mod TaleLemmas

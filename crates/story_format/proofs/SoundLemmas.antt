@@ -1,4 +1,4 @@
--- The codes of a tale are sound, and right tables with sound codes are those of a tale.
+-- The codes of a tale are sound, and each of its codes and strings is named.
 use Rattle.std.proofs.Common.{◌≡◌, ℕ, ◌+◌, ◌^◌, ◌<◌, ◌≤◌, Bool, true, false, ◌&&◌, ltb, leb, eqb, List, [], ◌∷◌, ◌++◌, length, map, Option, Some, None, refl, sym, ap, subst, ◌∙◌, append_assoc, arith, inl, inr}
 use Rattle.std.specs.Prelude.{min, max, fold, filter, count_by}
 use Rattle.std.specs.List.{list_any, list_all, flat_map, position_or_len}

@@ -60,7 +60,7 @@ says_text strings code d few h =
 
 -- ---- the fields of an entry
 
-four : (a b c d : Bool) → (a && b && c && d) ≡ true → (a ≡ true) × (b ≡ true) × (c ≡ true) × (d ≡ true)
+pub four : (a b c d : Bool) → (a && b && c && d) ≡ true → (a ≡ true) × (b ≡ true) × (c ≡ true) × (d ≡ true)
 four true true true true h = (refl, refl, refl, refl)
 four true true true false h = absurd cc
 four true true false d h = absurd cc
@@ -256,7 +256,7 @@ pub record AreTold (strings codes front rest : List (List ℕ)) (ways : List Exi
   pub names : flat_map entry_strings objects ≡ map (text_at strings) (flat_map strings_named es)
   pub texts : flat_map code_strings objects ≡ map (text_at strings) (map string_said rest)
 
-both_same : {A : Type 0} (a b c d : List A) → a ≡ c → b ≡ d → a ++ b ≡ c ++ d
+pub both_same : {A : Type 0} (a b c d : List A) → a ≡ c → b ≡ d → a ++ b ≡ c ++ d
 both_same a b c d e f = rw (e, f) refl
 
 pub entries_told : (strings codes front rest : List (List ℕ)) (ways : List Exits) (es : List Entry) → are_distinct strings ≡ true → length strings < 65535 → length codes < 65536 → list_all (says_string (length strings)) codes ≡ true → codes ≡ front ++ rest
