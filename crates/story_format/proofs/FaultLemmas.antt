@@ -48,7 +48,7 @@ told_or_cut bytes BadVersion (version, rest, is_other, lt, parts) other = inl (s
 told_or_cut bytes Truncated h other = inr (refl, h)
 told_or_cut bytes TooLong (t, rest, some, holds) other = inl (sym (ap fault_told (ap tables_read holds.1 ∙ read_whole t rest holds.0 ∙ more_is_long t rest some)))
 told_or_cut bytes BadTable (t, holds, wrong) other = inl (sym (ap fault_told (ap tables_read holds.1 ∙ read_whole t [] holds.0) ∙ ap (λ (b : Bool). cond b BadCode BadTable) wrong))
-told_or_cut bytes BadCode (t, holds, right, none) other = inl (sym (ap fault_told (ap tables_read holds.1 ∙ read_whole t [] holds.0) ∙ ap (λ (b : Bool). cond b BadCode BadTable) right))
+told_or_cut bytes BadCode (t, holds, right, unsound) other = inl (sym (ap fault_told (ap tables_read holds.1 ∙ read_whole t [] holds.0) ∙ ap (λ (b : Bool). cond b BadCode BadTable) right))
 told_or_cut bytes BadOrder h other = absurd h
 told_or_cut bytes Memory h other = absurd (other refl)
 
@@ -83,7 +83,7 @@ only_cut bytes BadVersion (front, inr none) (version, rest, is_other, lt, parts)
 only_cut bytes Truncated h k other = refl
 only_cut bytes TooLong h (t, rest, some, holds) other = absurd (no_tables bytes rest t h holds.0 holds.1)
 only_cut bytes BadTable h (t, holds, wrong) other = absurd (no_tables bytes [] t h holds.0 holds.1)
-only_cut bytes BadCode h (t, holds, right, none) other = absurd (no_tables bytes [] t h holds.0 holds.1)
+only_cut bytes BadCode h (t, holds, right, unsound) other = absurd (no_tables bytes [] t h holds.0 holds.1)
 only_cut bytes BadOrder h k other = absurd k
 only_cut bytes Memory h k other = absurd (other refl)
 

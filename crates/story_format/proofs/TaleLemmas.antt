@@ -1,5 +1,5 @@
 -- Right tables with sound codes are those of a tale.
-use Rattle.std.proofs.Common.{◌≡◌, ℕ, ◌+◌, ◌^◌, ◌<◌, ◌≤◌, Bool, true, false, ◌&&◌, ltb, eqb, List, [], ◌∷◌, ◌++◌, length, map, Option, Some, None, refl, sym, ap, ◌∙◌, arith}
+use Rattle.std.proofs.Common.{◌≡◌, ℕ, ◌+◌, ◌^◌, ◌<◌, ◌≤◌, Bool, true, false, ◌&&◌, ltb, eqb, List, [], ◌∷◌, ◌++◌, length, map, Option, Some, None, refl, sym, ap, subst, ◌∙◌, arith}
 use Rattle.std.specs.Prelude.{count_by}
 use Rattle.std.specs.List.{list_all, flat_map}
 use Rattle.std.proofs.lemmas.Bool.{ltb-true, eqb-true}
@@ -52,19 +52,19 @@ right_parts : (t : Tables) → are_right t ≡ true → AreRight t
 unfolding are_right
 right_parts t right =
     let p =
-        all_eleven
-          (has_no_world t.world)
-          (has_no_rules t.rules)
-          (ltb (length t.strings) 65535)
-          (are_distinct t.strings)
-          (list_all (is_plain (length t.codes)) t.objects)
-          (are_in_place t.strings t.objects)
-          (list_all (has_words t.strings) t.objects)
-          (are_named_in_order 0 (flat_map strings_named t.objects))
-          (are_named_in_order 0 (codes_named t.objects))
-          (eqb (length t.ways) (count_by is_of_room t.objects))
-          (list_all (lead_to_rooms (length t.objects)) t.ways)
-          right in
+    all_eleven
+    (has_no_world t.world)
+    (has_no_rules t.rules)
+    (ltb (length t.strings) 65535)
+    (are_distinct t.strings)
+    (list_all (is_plain (length t.codes)) t.objects)
+    (are_in_place t.strings t.objects)
+    (list_all (has_words t.strings) t.objects)
+    (are_named_in_order 0 (flat_map strings_named t.objects))
+    (are_named_in_order 0 (codes_named t.objects))
+    (eqb (length t.ways) (count_by is_of_room t.objects))
+    (list_all (lead_to_rooms (length t.objects)) t.ways)
+    right in
     record { no_world = p.0; no_rules = p.1; few = ltb-true _ _ p.2; distinct = p.3; plain = p.4; in_place = p.5; words = p.6; ways = eqb-true _ _ p.7; leads = p.8 }
 
 pub record AreSound (t : Tables) : Type 0 where
@@ -165,3 +165,14 @@ tale_there t right sound fits =
     let s = sound_parts t sound in
     let a = entries_told t.strings t.codes [] t.codes t.ways t.objects r.distinct r.few (codes_short t fits) s.say refl r.plain r.words (entries_placed t.strings t.objects r.in_place) r.ways s.turn in
     (tale_of_told t a, told_by t a, is_tale t r s fits a, tables_back t r s a)
+
+some_is : {A : Type 0} (x y : A) → Some x ≡ Some y → x ≡ y
+some_is x y e = cc
+
+pub told_is : (t : Tables) (tale : Tale) → are_right t ≡ true → are_sound t ≡ true → tables_format.fits t ≡ true → tale_told t ≡ Some tale → IsTale tale × (tables_of tale ≡ t)
+told_is t tale right sound fits e =
+    let there = tale_there t right sound fits in
+    subst (λ (u : Tale). IsTale u × (tables_of u ≡ t)) (some_is there.0 tale (sym there.1 ∙ e)) (there.2, there.3)
+
+pub not_untold : (t : Tables) → are_right t ≡ true → are_sound t ≡ true → tables_format.fits t ≡ true → tale_told t ≡ None → ⊥
+not_untold t right sound fits e = let there = tale_there t right sound fits in let z = sym there.1 ∙ e in absurd cc

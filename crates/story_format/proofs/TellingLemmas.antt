@@ -199,7 +199,7 @@ entry_told strings codes front rest given e later d few short sound parts plain 
       object = record { kind = e.kind; name = name.0; article = article.0; description = says.text; place = place.0; exits = given };
       told = told_as strings codes given e name.0 article.0 says.text place.0 name.1 article.1 says.told place.1;
       entry = entry_same e.kind (number_in strings name.0) (article_number article.0) (code_number (length front) says.text) (place_relation place.0) (place_holder place.0) e.kind e.name e.article e.description e.relation e.holder (map (number_in strings) (words_for e.kind name.0)) [] [] e.words e.properties e.numbers
-      refl (number_back strings e.name name.0 d few name.1) article.2 says.number numbers.0 place.2 place.3 (sym (empty e.properties (eqb-true _ _ t.2))) (sym (empty e.numbers (eqb-true _ _ t.3)));
+          refl (number_back strings e.name name.0 d few name.1) article.2 says.number numbers.0 place.2 place.3 (sym (empty e.properties (eqb-true _ _ t.2))) (sym (empty e.numbers (eqb-true _ _ t.3)));
       kind = refl;
       exits = refl;
       after = says.after;
@@ -290,7 +290,7 @@ entries_told strings codes front rest ways (e ∷ es) d few short sound parts pl
       closed = both (has_own_exits one.object) (list_all has_own_exits later.objects) own.1 later.closed;
       names = both_same (entry_strings one.object) (flat_map entry_strings later.objects) (map (text_at strings) (strings_named e)) (map (text_at strings) (flat_map strings_named es)) one.names later.names ∙ sym (map-append (text_at strings) (strings_named e) (flat_map strings_named es));
       texts = both_same (code_strings one.object) (flat_map code_strings later.objects) (map (text_at strings) (map string_said here)) (map (text_at strings) (map string_said one.after)) one.texts later.texts
-      ∙ sym (map-append (text_at strings) (map string_said here) (map string_said one.after))
-      ∙ ap (map (text_at strings)) (sym (map-append string_said here one.after))
-      ∙ ap (λ (r : List (List ℕ)). map (text_at strings) (map string_said r)) (sym one.parts);
+          ∙ sym (map-append (text_at strings) (map string_said here) (map string_said one.after))
+          ∙ ap (map (text_at strings)) (sym (map-append string_said here one.after))
+          ∙ ap (λ (r : List (List ℕ)). map (text_at strings) (map string_said r)) (sym one.parts);
     }

@@ -22,7 +22,10 @@ mod words;
 mod writing;
 
 pub use fault::LoadFault;
-pub use laws::{one_fault, one_spelling, one_story, stories_stand, written_is_spelled};
+pub use laws::{
+    one_fault, one_spelling, one_story, spelled_or_refused, stories_stand, tales_are_told,
+    told_as_they_are, written_is_spelled,
+};
 pub use loading::load;
 pub use shape::is_writable;
 pub use story::Story;

@@ -59,17 +59,17 @@ fn are_in_turn(count: usize, numbers: &[u16]) -> bool
 fn are_all_named(count: usize, numbers: &[u16]) -> bool
     ensures { result ≡ are_all_named count 0 numbers.now }
 {
-    let mut next = 0usize;
+    let mut named = 0usize;
     let mut rest = numbers;
     while let [number, after @ ..] = rest {
         let number = *number as usize;
-        if number > next {
+        if number > named {
             return false;
         }
-        next = next.max(number + 1);
+        named = named.max(number + 1);
         rest = after;
     }
-    next == count
+    named == count
 }
 
 /// The strings that the objects name, then those that the codes say.
