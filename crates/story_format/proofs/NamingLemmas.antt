@@ -9,13 +9,10 @@ use Rattle.std.proofs.lemmas.Option.{slice_get_within, get_or_from_slice_get}
 use Rattle.std.proofs.lemmas.Slice.Eq.{bytes_eq-Decides}
 use Rattle.story_format.specs.Mentions.{mention, first_mentions, number_in}
 use Rattle.story_format.specs.Checks.{are_distinct, is_text, is_named, are_named}
+use Rattle.story_format.specs.Keeping.{text_at}
 use Rattle.story_format.specs.Soundness.{are_all_named}
 use Rattle.story_format.proofs.StoryLemmas.{both_are}
 use Rattle.story_format.proofs.OrderLemmas.{either, text_is_itself, mention_new, mention_old, place_behind, number_is_place}
-
--- the string of a number
-abbrev pub text_at : List (List ℕ) → ℕ → List ℕ
-text_at strings n = get_or strings n []
 
 -- ---- no string twice
 

@@ -20,13 +20,14 @@ use Rattle.story_format.specs.Making.{texts_of, entry_strings, code_strings, str
 use Rattle.story_format.specs.Telling.{objects_told, tale_told}
 use Rattle.story_format.specs.Shape.{lead_to_rooms, IsTale}
 use Rattle.story_format.specs.Checks.{has_no_world, has_no_rules, are_distinct, has_words, is_plain, are_in_place, are_named_in_order, strings_named, codes_named, is_some_code, is_of_room, are_right}
+use Rattle.story_format.specs.Keeping.{text_at}
 use Rattle.story_format.specs.Soundness.{saying, string_said, says_string, are_in_turn, are_all_named, strings_read, are_sound}
 use Rattle.story_format.proofs.StringLemmas.{length_mapped}
 use Rattle.story_format.proofs.StoryLemmas.{both, both_are, all_weaker}
 use Rattle.story_format.proofs.RoundTrip.{found_by_number, passes_at, is_known, has_own_exits, is_tellable, all_in_strings, all_have}
 use Rattle.story_format.proofs.OrderLemmas.{either, text_is_itself, mention_new, mention_old, grows, place_in_front, place_behind, number_is_place, numbers_named, entry_code, at_most_one}
 use Rattle.story_format.proofs.TableLemmas.{knows_name, entries_counted, codes_few}
-use Rattle.story_format.proofs.NamingLemmas.{text_at, all_mentioned}
+use Rattle.story_format.proofs.NamingLemmas.{all_mentioned}
 use Rattle.story_format.proofs.TellingLemmas.{AreTold, entries_told}
 use Rattle.story_format.proofs.ShapeLemmas.{entries_placed, shape_back, few_back}
 

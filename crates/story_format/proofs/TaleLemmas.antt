@@ -19,11 +19,12 @@ use Rattle.story_format.specs.Making.{entry_strings, code_strings, strings_of, e
 use Rattle.story_format.specs.Telling.{objects_told, tale_told, tale_with, and_some}
 use Rattle.story_format.specs.Shape.{lead_to_rooms, has_few_words, has_shape, IsTale}
 use Rattle.story_format.specs.Checks.{has_no_world, has_no_rules, are_distinct, has_words, is_plain, are_in_place, are_named_in_order, strings_named, codes_named, is_of_room, are_right}
+use Rattle.story_format.specs.Keeping.{text_at}
 use Rattle.story_format.specs.Soundness.{string_said, says_string, are_in_turn, are_all_named, strings_read, are_sound}
 use Rattle.story_format.proofs.StoryLemmas.{both_are, all_weaker, three, last_of_five}
 use Rattle.story_format.proofs.RoundTrip.{is_known, has_own_exits, is_tellable, all_in_strings}
 use Rattle.story_format.proofs.TableLemmas.{knows_name, entries_counted}
-use Rattle.story_format.proofs.NamingLemmas.{text_at, all_mentioned}
+use Rattle.story_format.proofs.NamingLemmas.{all_mentioned}
 use Rattle.story_format.proofs.TellingLemmas.{four, both_same, AreTold, entries_told}
 use Rattle.story_format.proofs.ShapeLemmas.{entries_placed, shape_back, few_back}
 

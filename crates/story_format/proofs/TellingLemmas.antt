@@ -23,13 +23,14 @@ use Rattle.story_format.specs.Making.{texts_of, entry_strings, code_strings, art
 use Rattle.story_format.specs.Shape.{are_closed}
 use Rattle.story_format.specs.Telling.{article_of, place_of, said, description_of, object_told, no_exits, exits_taken, objects_told}
 use Rattle.story_format.specs.Checks.{are_distinct, are_named, words_are, has_words, is_plain, strings_named, codes_named, is_some_code, is_of_room}
+use Rattle.story_format.specs.Keeping.{text_at}
 use Rattle.story_format.specs.Soundness.{saying, string_said, says_string, are_in_turn}
 use Rattle.story_format.proofs.StringLemmas.{length_mapped}
 use Rattle.story_format.proofs.StoryLemmas.{both_are, both, all_at, get_within}
 use Rattle.story_format.proofs.RoundTrip.{has_own_exits, get_behind}
 use Rattle.story_format.proofs.OrderLemmas.{either}
 use Rattle.story_format.proofs.TableLemmas.{counted_more, counted_same}
-use Rattle.story_format.proofs.NamingLemmas.{text_at, number_back, named_back, empty, one_there}
+use Rattle.story_format.proofs.NamingLemmas.{number_back, named_back, empty, one_there}
 
 -- ---- a code that says a string
 
@@ -155,7 +156,8 @@ described strings codes front rest n later d few short sound e isnt there h =
 
 pub record IsTold (strings codes front rest : List (List ℕ)) (given : Exits) (e : Entry) (later : List ℕ) : Type 0 where
   pub object : Object
-  pub told : object_told strings codes given e ≡ Some object
+  pub placed : place_of e.relation e.holder ≡ Some object.place
+  pub told : object_told strings codes object.place given e ≡ Some object
   pub entry : entry_of strings (length front) object ≡ e
   pub kind : object.kind ≡ e.kind
   pub exits : object.exits ≡ given
@@ -170,10 +172,10 @@ entry_same : (kind name article description relation holder kind' name' article'
     → ◌≡◌ {A = Entry} (record { kind = kind; name = name; article = article; description = description; words = words; relation = relation; holder = holder; properties = properties; numbers = numbers }) (record { kind = kind'; name = name'; article = article'; description = description'; words = words'; relation = relation'; holder = holder'; properties = properties'; numbers = numbers' })
 entry_same kind name article description relation holder kind' name' article' description' relation' holder' words properties numbers words' properties' numbers' a b c d e f g h i = rw (a, b, c, d, e, f, g, h, i) refl
 
-told_as : (strings codes : List (List ℕ)) (given : Exits) (e : Entry) (name : List ℕ) (article : Article) (description : Option (List ℕ)) (place : Option Place) → slice_get strings e.name ≡ Some name → article_of e.article ≡ Some article → description_of strings codes e.description ≡ Some description → place_of e.relation e.holder ≡ Some place
-    → object_told strings codes given e ≡ Some (record { kind = e.kind; name = name; article = article; description = description; place = place; exits = given })
+told_as : (strings codes : List (List ℕ)) (given : Exits) (e : Entry) (name : List ℕ) (article : Article) (description : Option (List ℕ)) (place : Option Place) → slice_get strings e.name ≡ Some name → article_of e.article ≡ Some article → description_of strings codes e.description ≡ Some description
+    → object_told strings codes place given e ≡ Some (record { kind = e.kind; name = name; article = article; description = description; place = place; exits = given })
 unfolding object_told
-told_as strings codes given e name article description place a b c d = rw (a, b, c, d) refl
+told_as strings codes given e name article description place a b c = rw (a, b, c) refl
 
 description_there : (strings codes front rest : List (List ℕ)) (n : ℕ) (later : List ℕ) → are_distinct strings ≡ true → length strings < 65535 → length codes < 65536 → list_all (says_string (length strings)) codes ≡ true → codes ≡ front ++ rest
     → ((eqb n 65535) || (ltb n (length codes))) ≡ true → are_in_turn (length codes) (length front) (filter is_some_code (n ∷ later)) ≡ true → IsDescribed strings codes front rest n later
@@ -197,7 +199,8 @@ entry_told strings codes front rest given e later d few short sound parts plain 
     let first : get_or strings e.name [] ≡ name.0 = get_or_from_slice_get strings e.name name.0 [] name.1 in
     record {
       object = record { kind = e.kind; name = name.0; article = article.0; description = says.text; place = place.0; exits = given };
-      told = told_as strings codes given e name.0 article.0 says.text place.0 name.1 article.1 says.told place.1;
+      placed = place.1;
+      told = told_as strings codes given e name.0 article.0 says.text place.0 name.1 article.1 says.told;
       entry = entry_same e.kind (number_in strings name.0) (article_number article.0) (code_number (length front) says.text) (place_relation place.0) (place_holder place.0) e.kind e.name e.article e.description e.relation e.holder (map (number_in strings) (words_for e.kind name.0)) [] [] e.words e.properties e.numbers
           refl (number_back strings e.name name.0 d few name.1) article.2 says.number numbers.0 place.2 place.3 (sym (empty e.properties (eqb-true _ _ t.2))) (sym (empty e.numbers (eqb-true _ _ t.3)));
       kind = refl;
@@ -283,7 +286,7 @@ entries_told strings codes front rest ways (e ∷ es) d few short sound parts pl
     let entries : entries_of strings (length front + length (code_strings one.object)) later.objects ≡ es = ap (λ n. entries_of strings n later.objects) (sym next) ∙ later.entries in
     record {
       objects = one.object ∷ later.objects;
-      told = rw (taken.taken, one.told, later.told) refl;
+      told = rw (one.placed, taken.taken, one.told, later.told) refl;
       entries = ap (λ (first : Entry). first ∷ entries_of strings (length front + length (code_strings one.object)) later.objects) one.entry ∙ ap (λ (others : List Entry). e ∷ others) entries;
       ways_back = ap (λ (w : List Exits). ways_of one.object ++ w) later.ways_back ∙ own.0;
       codes_back = ap (λ (c : List (List ℕ)). here ++ c) later.codes_back ∙ sym one.parts;

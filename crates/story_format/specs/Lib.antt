@@ -6,6 +6,7 @@ pub mod Words
 pub mod Making
 pub mod Shape
 pub mod Spells
+pub mod Keeping
 pub mod Telling
 pub mod Reading
 pub mod Checks

@@ -5,6 +5,7 @@
 mod checks;
 mod fault;
 mod field;
+mod keeping;
 mod laws;
 mod loading;
 mod making;

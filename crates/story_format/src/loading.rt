@@ -51,14 +51,14 @@ fn tables_read(alloc: Global, bytes: &[u8]) -> Result<Tables, LoadFault>
 }
 
 /// The story of tables that are right and whose codes are sound.
-fn story_told(alloc: Global, tables: &Tables) -> Result<Story, AllocError>
-    requires right { are_right tables.now ≡ true }
-    requires sound { are_sound tables.now ≡ true }
-    requires fits { tables_format.fits tables.now ≡ true }
-    ensures { IfOk result (λ story. IsTale story × (tables_of story ≡ tables.now)) }
+fn story_told(alloc: Global, tables: Tables) -> Result<Story, AllocError>
+    requires right { are_right tables ≡ true }
+    requires sound { are_sound tables ≡ true }
+    requires fits { tables_format.fits tables ≡ true }
+    ensures { IfOk result (λ story. IsTale story × (tables_of story ≡ tables)) }
 {
-    match tale_told(alloc, tables)? {
-        Some(tale) => Ok(Story::new(tale)),
+    match tale_told(alloc, &tables)? {
+        Some(objects) => Ok(Story::new(tables.strings, objects)),
         None => unreachable!(),
     }
 }
@@ -82,5 +82,5 @@ pub fn load(alloc: Global, bytes: &[u8]) -> Result<Story, LoadFault>
     if !are_sound(alloc, &tables)? {
         return Err(LoadFault::BadCode);
     }
-    Ok(story_told(alloc, &tables)?)
+    Ok(story_told(alloc, tables)?)
 }
