@@ -1,35 +1,22 @@
 -- The codes of a tale are sound, and each of its codes and strings is named.
-use Rattle.std.proofs.Common.{◌≡◌, ℕ, ◌+◌, ◌^◌, ◌<◌, ◌≤◌, Bool, true, false, ◌&&◌, ltb, leb, eqb, List, [], ◌∷◌, ◌++◌, length, map, Option, Some, None, refl, sym, ap, subst, ◌∙◌, append_assoc, arith, inl, inr}
-use Rattle.std.specs.Prelude.{min, max, fold, filter, count_by}
+use Rattle.std.proofs.Common.{◌≡◌, ℕ, ◌+◌, ◌<◌, true, false, ◌&&◌, ltb, leb, eqb, List, [], ◌∷◌, ◌++◌, length, map, Option, Some, None, refl, sym, ap, ◌∙◌, append_assoc, arith, inl, inr}
+use Rattle.std.specs.Prelude.{min, max, fold, filter}
 use Rattle.std.specs.List.{list_any, list_all, flat_map, position_or_len}
 use Rattle.std.specs.Str.{bytes_eq}
-use Rattle.std.specs.Int.{w16, from_be_bytes, to_be_bytes}
-use Rattle.std.proofs.lemmas.Bool.{lt-ltb, ltb-true, ne_eqb, eq-eqb, eqb-true, le-leb}
+use Rattle.std.proofs.lemmas.Bool.{lt-ltb, ne_eqb, eq-eqb, le-leb}
 use Rattle.std.proofs.lemmas.Nat.{from_be_bytes-to_be_bytes_2}
-use Rattle.std.proofs.lemmas.List.{length-append, append-nil, map-append}
-use Rattle.world_meaning.specs.declared.exits.Exits.{Exits}
+use Rattle.std.proofs.lemmas.List.{length-append, map-append}
 use Rattle.world_meaning.specs.declared.tale.Object.{Object}
 use Rattle.world_meaning.specs.declared.tale.Tale.{Tale}
-use Rattle.story_format.specs.declared.tables.Entry.{Entry}
-use Rattle.story_format.specs.declared.tables.WorldCounts.{WorldCounts}
-use Rattle.story_format.specs.declared.tables.RuleCounts.{RuleCounts}
-use Rattle.story_format.specs.declared.tables.Tables.{Tables}
-use Rattle.story_format.specs.Mentions.{mention, first_mentions, number_or_none, number_in}
-use Rattle.story_format.specs.Layout.{tables_format}
-use Rattle.story_format.specs.Making.{texts_of, entry_strings, code_strings, strings_of, code_number, entry_of, entries_of, code_of, codes_of, ways_of, tables_of}
-use Rattle.story_format.specs.Telling.{objects_told, tale_told}
-use Rattle.story_format.specs.Shape.{lead_to_rooms, IsTale}
-use Rattle.story_format.specs.Checks.{has_no_world, has_no_rules, are_distinct, has_words, is_plain, are_in_place, are_named_in_order, strings_named, codes_named, is_some_code, is_of_room, are_right}
-use Rattle.story_format.specs.Keeping.{text_at}
+use Rattle.story_format.specs.Mentions.{mention, number_or_none, number_in}
+use Rattle.story_format.specs.Making.{texts_of, entry_strings, code_strings, strings_of, code_number, entries_of, code_of, codes_of, tables_of}
+use Rattle.story_format.specs.Shape.{IsTale}
+use Rattle.story_format.specs.Checks.{strings_named, codes_named, is_some_code}
 use Rattle.story_format.specs.Soundness.{saying, string_said, says_string, are_in_turn, are_all_named, strings_read, are_sound}
 use Rattle.story_format.proofs.StringLemmas.{length_mapped}
-use Rattle.story_format.proofs.StoryLemmas.{both, both_are, all_weaker}
-use Rattle.story_format.proofs.RoundTrip.{found_by_number, passes_at, is_known, has_own_exits, is_tellable, all_in_strings, all_have}
+use Rattle.story_format.proofs.StoryLemmas.{both, both_are}
+use Rattle.story_format.proofs.RoundTrip.{passes_at, is_known, has_own_exits, is_tellable, all_in_strings, all_have}
 use Rattle.story_format.proofs.OrderLemmas.{either, text_is_itself, mention_new, mention_old, grows, place_in_front, place_behind, number_is_place, numbers_named, entry_code, at_most_one}
-use Rattle.story_format.proofs.TableLemmas.{knows_name, entries_counted, codes_few}
-use Rattle.story_format.proofs.NamingLemmas.{all_mentioned}
-use Rattle.story_format.proofs.TellingLemmas.{AreTold, entries_told}
-use Rattle.story_format.proofs.ShapeLemmas.{entries_placed, shape_back, few_back}
 
 -- ---- the codes of a tale say strings
 

@@ -1,5 +1,5 @@
 -- Right tables with sound codes are those of a tale.
-use Rattle.std.proofs.Common.{◌≡◌, ℕ, ◌+◌, ◌^◌, ◌<◌, ◌≤◌, Bool, true, false, ◌&&◌, ltb, eqb, List, [], ◌∷◌, ◌++◌, length, map, Option, Some, None, refl, sym, ap, subst, ◌∙◌, arith}
+use Rattle.std.proofs.Common.{◌≡◌, ℕ, ◌<◌, Bool, true, ◌&&◌, ltb, eqb, List, [], ◌++◌, length, map, Option, Some, None, refl, sym, ap, subst, ◌∙◌, arith}
 use Rattle.std.specs.Prelude.{count_by}
 use Rattle.std.specs.List.{list_all, flat_map}
 use Rattle.std.proofs.lemmas.Bool.{ltb-true, eqb-true}
@@ -16,8 +16,8 @@ use Rattle.std.specs.Int.{w16}
 use Rattle.story_format.specs.Formats.{number, counted, text}
 use Rattle.story_format.specs.Layout.{entry_format, exits_format, world_counts_format, rule_counts_format, tables_format}
 use Rattle.story_format.specs.Making.{entry_strings, code_strings, strings_of, entries_of, codes_of, ways_of, tables_of}
-use Rattle.story_format.specs.Telling.{objects_told, tale_told, tale_with, and_some}
-use Rattle.story_format.specs.Shape.{lead_to_rooms, has_few_words, has_shape, IsTale}
+use Rattle.story_format.specs.Telling.{tale_told, tale_with, and_some}
+use Rattle.story_format.specs.Shape.{lead_to_rooms, has_shape, IsTale}
 use Rattle.story_format.specs.Checks.{has_no_world, has_no_rules, are_distinct, has_words, is_plain, are_in_place, are_named_in_order, strings_named, codes_named, is_of_room, are_right}
 use Rattle.story_format.specs.Keeping.{text_at}
 use Rattle.story_format.specs.Soundness.{string_said, says_string, are_in_turn, are_all_named, strings_read, are_sound}
