@@ -8,6 +8,7 @@ pub mod RoundTrip
 pub mod ReadingLemmas
 pub mod FaultLemmas
 pub mod TableLemmas
+pub mod AlikeLemmas
 pub mod OrderLemmas
 pub mod NamingLemmas
 pub mod TellingLemmas

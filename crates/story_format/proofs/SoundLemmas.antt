@@ -16,7 +16,7 @@ use Rattle.story_format.specs.Soundness.{saying, string_said, says_string, are_i
 use Rattle.story_format.proofs.StringLemmas.{length_mapped}
 use Rattle.story_format.proofs.StoryLemmas.{both, both_are}
 use Rattle.story_format.proofs.RoundTrip.{passes_at, is_known, has_own_exits, is_tellable, all_in_strings, all_have}
-use Rattle.story_format.proofs.OrderLemmas.{either, text_is_itself, mention_new, mention_old, grows, place_in_front, place_behind, number_is_place, numbers_named, entry_code, at_most_one}
+use Rattle.story_format.proofs.OrderLemmas.{either, text_is_itself, mention_new, mention_old, grows, place_in_front, place_behind, number_is_place, numbers_named, strings_all_named, codes_in_turn}
 
 -- ---- the codes of a tale say strings
 
@@ -55,53 +55,7 @@ codes_say strings (o ∷ os) h few =
     let v = both_are (list_all (is_known strings) (code_strings o)) (has_own_exits o) u.1 in
     texts_say strings o.description (flat_map (codes_of strings) os) v.0 few (codes_say strings os t.1 few)
 
--- ---- each code is named once
-
-one_in_turn : (count next n : ℕ) (d : Option (List ℕ)) (later : List ℕ) → next < 65535 → are_in_turn count (next + length (texts_of d)) (filter is_some_code later) ≡ true → are_in_turn count next (filter is_some_code (code_number next d ∷ later)) ≡ true
-unfolding are_in_turn
-one_in_turn count next n None later lt h = let same : next + 0 ≡ next = omega arith in ap (λ k. are_in_turn count k (filter is_some_code later)) (sym same) ∙ h
-one_in_turn count next n (Some text) later lt h =
-    let number : min next 65535 ≡ next = omega arith in
-    let told : eqb next 65535 ≡ false = ne_eqb _ _ (λ k. omega (arith, k, lt)) in
-    rw (number, told, eq-eqb next next refl) h
-
-codes_in_turn : (strings : List (List ℕ)) (os : List Object) (next count : ℕ) → next + length (flat_map (codes_of strings) os) ≡ count → next + length os < 65535 → are_in_turn count next (codes_named (entries_of strings next os)) ≡ true
-unfolding entries_of are_in_turn
-codes_in_turn strings [] next count e lt = eq-eqb next count (omega (arith, e))
-codes_in_turn strings (o ∷ os) next count e lt =
-    let bound = at_most_one o.description in
-    let one : length (codes_of strings o) ≡ length (code_strings o) = length_mapped (code_of strings) (code_strings o) in
-    let sum : length (codes_of strings o ++ flat_map (codes_of strings) os) ≡ length (codes_of strings o) + length (flat_map (codes_of strings) os) = length-append (codes_of strings o) (flat_map (codes_of strings) os) in
-    rw (entry_code strings next o) (one_in_turn count next 0 o.description (map (λ e. e.description) (entries_of strings (next + length (code_strings o)) os)) (omega (arith, lt))
-    (codes_in_turn strings os (next + length (code_strings o)) count (omega (arith, e, one, sum)) (omega (arith, bound, lt))))
-
--- ---- each string is named
-
-all_ordered : (whole named seen : List (List ℕ)) → whole ≡ fold mention seen named → length whole < 65535 → are_all_named (length whole) (length seen) (map (number_in whole) named) ≡ true
-unfolding are_all_named
-all_ordered whole [] seen e few = eq-eqb (length seen) (length whole) (ap length (sym e))
-all_ordered whole (x ∷ named) seen e few =
-    let t = grows named (mention seen x) in
-    elim (either (list_any (bytes_eq x) seen)) [
-      | inl is ↦
-          let split : whole ≡ seen ++ t.0 = e ∙ t.1 ∙ ap (λ (s : List (List ℕ)). s ++ t.0) (mention_old seen x is) in
-          let inside = (passes_at seen x is).0 in
-          let place : position_or_len (bytes_eq x) whole ≡ position_or_len (bytes_eq x) seen = ap (position_or_len (bytes_eq x)) split ∙ place_in_front seen t.0 x is in
-          let count : length whole ≡ length seen + length t.0 = ap length split ∙ length-append seen t.0 in
-          let number : number_in whole x ≡ position_or_len (bytes_eq x) seen = number_is_place whole x (omega (arith, place, count, inside)) few ∙ place in
-          let low : leb (number_in whole x) (length seen) ≡ true = le-leb _ _ (omega (arith, number, inside)) in
-          let next : max (length seen) (number_in whole x + 1) ≡ length seen = omega (arith, number, inside) in
-          rw (low, next) (all_ordered whole named seen (e ∙ ap (λ (s : List (List ℕ)). fold mention s named) (mention_old seen x is)) few)
-      | inr isnt ↦
-          let split : whole ≡ seen ++ x ∷ t.0 = e ∙ t.1 ∙ ap (λ (s : List (List ℕ)). s ++ t.0) (mention_new seen x isnt) ∙ append_assoc seen (x ∷ []) t.0 in
-          let place : position_or_len (bytes_eq x) whole ≡ length seen = ap (position_or_len (bytes_eq x)) split ∙ place_behind seen t.0 x isnt in
-          let count : length whole ≡ length seen + length (x ∷ t.0) = ap length split ∙ length-append seen (x ∷ t.0) in
-          let number : number_in whole x ≡ length seen = number_is_place whole x (omega (arith, place, count)) few ∙ place in
-          let low : leb (number_in whole x) (length seen) ≡ true = le-leb _ _ (omega (arith, number)) in
-          let seen_count : length (seen ++ x ∷ []) ≡ length seen + 1 = length-append seen (x ∷ []) in
-          let next : max (length seen) (number_in whole x + 1) ≡ length (seen ++ x ∷ []) = omega (arith, number, seen_count) in
-          rw (low, next) (all_ordered whole named (seen ++ x ∷ []) (e ∙ ap (λ (s : List (List ℕ)). fold mention s named) (mention_new seen x isnt)) few)
-    ]
+-- ---- the strings that codes say
 
 texts_said : (strings texts : List (List ℕ)) → map string_said (map (code_of strings) texts) ≡ map (number_in strings) texts
 texts_said strings [] = refl
@@ -120,10 +74,6 @@ numbers_read strings os =
     ap (λ (ns : List ℕ). ns ++ map string_said (flat_map (codes_of strings) os)) (numbers_named strings 0 os)
     ∙ ap (λ (ns : List ℕ). map (number_in strings) (flat_map entry_strings os) ++ ns) (numbers_said strings os)
     ∙ sym (map-append (number_in strings) (flat_map entry_strings os) (flat_map code_strings os))
-
-strings_all_named : (os : List Object) → length (strings_of os) < 65535 → are_all_named (length (strings_of os)) 0 (map (number_in (strings_of os)) (flat_map entry_strings os ++ flat_map code_strings os)) ≡ true
-unfolding strings_of
-strings_all_named os few = all_ordered (strings_of os) (flat_map entry_strings os ++ flat_map code_strings os) [] refl few
 
 pub tables_sound : (t : Tale) → IsTale t → are_sound (tables_of t) ≡ true
 unfolding are_sound strings_read tables_of

@@ -63,8 +63,8 @@ fn story_told(alloc: Global, tables: Tables) -> Result<Story, AllocError>
     }
 }
 
-/// The story that the bytes spell. Hostile bytes take time and memory in proportion to what they hold
-/// and to what their objects are named.
+/// The story that the bytes spell. Hostile bytes too take time and memory in proportion to their number:
+/// what many objects share, as a name, is tested and kept once.
 pub fn load(alloc: Global, bytes: &[u8]) -> Result<Story, LoadFault>
     // What is loaded is the story that the bytes spell.
     ensures found { IfOk result (Spells bytes.now) }
