@@ -21,7 +21,7 @@ string_said (a ∷ b ∷ c ∷ rest) = from_be_bytes w16 (b ∷ c ∷ [])
 unfoldable pub says_string : ℕ → List ℕ → Bool
 says_string count code = bytes_eq code (saying (string_said code)) && nat_lt (string_said code) count
 
--- the numbers are next, the one behind it, and so on up to count
+-- the numbers are next, the one behind it, and so on, until count would come
 unfoldable pub are_in_turn : ℕ → ℕ → List ℕ → Bool
 are_in_turn count next [] = next == count
 are_in_turn count next (n ∷ ns) = (n == next) && are_in_turn count (next + 1) ns

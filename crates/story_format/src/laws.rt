@@ -50,6 +50,6 @@ pub fn tales_are_told()
 {}
 
 /// The tables of a tale are right, its codes are sound, and they tell the tale.
-pub fn told_as_they_are()
+pub fn tales_pass_the_tests()
     ensures { (tale : Tale) → IsTale tale → (are_right (tables_of tale) ≡ true) × (are_sound (tables_of tale) ≡ true) × (tale_told (tables_of tale) ≡ Some tale) }
 {}

@@ -25,7 +25,7 @@ mod writing;
 pub use fault::LoadFault;
 pub use laws::{
     one_fault, one_spelling, one_story, spelled_or_refused, stories_stand, tales_are_told,
-    told_as_they_are, written_is_spelled,
+    tales_pass_the_tests, written_is_spelled,
 };
 pub use loading::load;
 pub use shape::is_writable;
