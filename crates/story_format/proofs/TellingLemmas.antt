@@ -132,23 +132,35 @@ described_as : (strings codes : List (List ℕ)) (n : ℕ) (code text : List ℕ
 unfolding description_of
 described_as strings codes n code text isnt e f = rw (isnt, e, f) refl
 
+described_by : (strings codes front rest after : List (List ℕ)) (n : ℕ) (later code : List ℕ) → SaysText strings code → eqb n 65535 ≡ false → slice_get codes n ≡ Some code → rest ≡ code ∷ after → min (length front) 65535 ≡ n
+    → are_in_turn (length codes) (length front + 1) (filter is_some_code later) ≡ true → IsDescribed strings codes front rest n later
+described_by strings codes front rest after n later code s isnt found parts number turn = record {
+  text = Some s.text;
+  told = described_as strings codes n code s.text isnt found s.told;
+  number = number;
+  after = after;
+  parts = parts ∙ ap (λ (c : List ℕ). c ∷ after) (sym s.spelled);
+  turn = turn;
+  named = ap (λ (x : List ℕ). x ∷ []) (sym (ap (λ (c : List ℕ). text_at strings (string_said c)) s.spelled ∙ s.named));
+}
+
+code_there : (codes front rest after : List (List ℕ)) (n : ℕ) (code : List ℕ) → codes ≡ front ++ rest → rest ≡ code ∷ after → n ≡ length front → slice_get codes n ≡ Some code
+code_there codes front rest after n code e parts place = ap (slice_get codes) place ∙ ap (λ (all : List (List ℕ)). slice_get all (length front)) (e ∙ ap (λ (r : List (List ℕ)). front ++ r) parts) ∙ get_behind front code after
+
 described : (strings codes front rest : List (List ℕ)) (n : ℕ) (later : List ℕ) → are_distinct strings ≡ true → length strings < 65535 → length codes < 65536 → list_all (says_string (length strings)) codes ≡ true → codes ≡ front ++ rest
     → eqb n 65535 ≡ false → ((eqb n 65535) || (ltb n (length codes))) ≡ true → are_in_turn (length codes) (length front) (filter is_some_code (n ∷ later)) ≡ true → IsDescribed strings codes front rest n later
-unfolding description_of are_in_turn
+unfolding are_in_turn
 described strings codes front rest n later d few short sound e isnt there h =
     let turn : are_in_turn (length codes) (length front) (n ∷ filter is_some_code later) ≡ true = rw isnt at h in
     let t = both_are (eqb n (length front)) (are_in_turn (length codes) (length front + 1) (filter is_some_code later)) turn in
     let place : n ≡ length front = eqb-true _ _ t.0 in
     let below : n < length codes = ltb-true _ _ (or_is (eqb n 65535) (ltb n (length codes)) isnt there) in
     let sum : length codes ≡ length front + length rest = ap length e ∙ length-append front rest in
-    let r = one_there rest (omega (arith, place, below, sum)) in
-    let parts : codes ≡ front ++ r.0 ∷ r.1 = e ∙ ap (λ (r : List (List ℕ)). front ++ r) r.2 in
-    let code : slice_get codes n ≡ Some r.0 = ap (slice_get codes) place ∙ ap (λ (all : List (List ℕ)). slice_get all (length front)) parts ∙ get_behind front r.0 r.1 in
-    let s = says_text strings r.0 d few (all_at (says_string (length strings)) codes n r.0 sound code) in
-    let told = described_as strings codes n r.0 s.text isnt code s.told in
     let number : min (length front) 65535 ≡ n = omega (arith, place, below, short) in
-    let named : s.text ∷ [] ≡ text_at strings (string_said (code_of strings s.text)) ∷ [] = ap (λ (x : List ℕ). x ∷ []) (sym (ap (λ (c : List ℕ). text_at strings (string_said c)) s.spelled ∙ s.named)) in
-    record { text = Some s.text; told = told; number = number; after = r.1; parts = r.2 ∙ ap (λ (c : List ℕ). c ∷ r.1) (sym s.spelled); turn = t.1; named = named }
+    let r = one_there rest (omega (arith, place, below, sum)) in
+    let found = code_there codes front rest r.1 n r.0 e r.2 place in
+    let s = says_text strings r.0 d few (all_at (says_string (length strings)) codes n r.0 sound found) in
+    described_by strings codes front rest r.1 n later r.0 s isnt found r.2 number t.1
 
 -- ---- an entry tells an object
 
@@ -260,6 +272,36 @@ pub record AreTold (strings codes front rest : List (List ℕ)) (ways : List Exi
 pub both_same : {A : Type 0} (a b c d : List A) → a ≡ c → b ≡ d → a ++ b ≡ c ++ d
 both_same a b c d e f = rw (e, f) refl
 
+regrouped : (codes front rest here after : List (List ℕ)) → codes ≡ front ++ rest → rest ≡ here ++ after → codes ≡ (front ++ here) ++ after
+regrouped codes front rest here after e f = e ∙ ap (λ (r : List (List ℕ)). front ++ r) f ∙ sym (append_assoc front here after)
+
+counted_behind : (strings front : List (List ℕ)) (o : Object) → length (front ++ codes_of strings o) ≡ length front + length (code_strings o)
+counted_behind strings front o = length-append front (codes_of strings o) ∙ ap (λ n. length front + n) (length_mapped (code_of strings) (code_strings o))
+
+texts_behind : (strings here after rest texts others : List (List ℕ)) → texts ≡ map (text_at strings) (map string_said here) → others ≡ map (text_at strings) (map string_said after) → rest ≡ here ++ after → texts ++ others ≡ map (text_at strings) (map string_said rest)
+texts_behind strings here after rest texts others e f parts =
+    both_same texts others (map (text_at strings) (map string_said here)) (map (text_at strings) (map string_said after)) e f
+    ∙ sym (map-append (text_at strings) (map string_said here) (map string_said after))
+    ∙ ap (map (text_at strings)) (sym (map-append string_said here after))
+    ∙ ap (λ (r : List (List ℕ)). map (text_at strings) (map string_said r)) (sym parts)
+
+one_more_told : (strings codes front rest : List (List ℕ)) (ways : List Exits) (e : Entry) (es : List Entry) (left : ℕ) (descriptions : List ℕ) (taken : AreTaken e.kind ways left) (one : IsTold strings codes front rest taken.given e descriptions)
+    → AreTold strings codes (front ++ codes_of strings one.object) one.after taken.after es → length (front ++ codes_of strings one.object) ≡ length front + length (code_strings one.object) → AreTold strings codes front rest ways (e ∷ es)
+unfolding objects_told entries_of
+one_more_told strings codes front rest ways e es left descriptions taken one later next =
+    let own = taken.own one.object one.kind one.exits in
+    let entries : entries_of strings (length front + length (code_strings one.object)) later.objects ≡ es = ap (λ n. entries_of strings n later.objects) (sym next) ∙ later.entries in
+    record {
+      objects = one.object ∷ later.objects;
+      told = rw (one.placed, taken.taken, one.told, later.told) refl;
+      entries = ap (λ (first : Entry). first ∷ entries_of strings (length front + length (code_strings one.object)) later.objects) one.entry ∙ ap (λ (others : List Entry). e ∷ others) entries;
+      ways_back = ap (λ (w : List Exits). ways_of one.object ++ w) later.ways_back ∙ own.0;
+      codes_back = ap (λ (c : List (List ℕ)). codes_of strings one.object ++ c) later.codes_back ∙ sym one.parts;
+      closed = both (has_own_exits one.object) (list_all has_own_exits later.objects) own.1 later.closed;
+      names = both_same (entry_strings one.object) (flat_map entry_strings later.objects) (map (text_at strings) (strings_named e)) (map (text_at strings) (flat_map strings_named es)) one.names later.names ∙ sym (map-append (text_at strings) (strings_named e) (flat_map strings_named es));
+      texts = texts_behind strings (codes_of strings one.object) one.after rest (code_strings one.object) (flat_map code_strings later.objects) one.texts later.texts one.parts;
+    }
+
 pub entries_told : (strings codes front rest : List (List ℕ)) (ways : List Exits) (es : List Entry) → are_distinct strings ≡ true → length strings < 65535 → length codes < 65536 → list_all (says_string (length strings)) codes ≡ true → codes ≡ front ++ rest
     → list_all (is_plain (length codes)) es ≡ true → list_all (has_words strings) es ≡ true → list_all is_placed es ≡ true → length ways ≡ count_by is_of_room es → are_in_turn (length codes) (length front) (codes_named es) ≡ true → AreTold strings codes front rest ways es
 unfolding objects_told entries_of are_in_turn
@@ -276,22 +318,7 @@ entries_told strings codes front rest ways (e ∷ es) d few short sound parts pl
     let taken = ways_taken e es ways count in
     let one = entry_told strings codes front rest taken.given e (map (λ e. e.description) es) d few short sound parts p.0 w.0 q.0 turn in
     let here = codes_of strings one.object in
-    let regrouped : codes ≡ (front ++ here) ++ one.after = parts ∙ ap (λ (r : List (List ℕ)). front ++ r) one.parts ∙ sym (append_assoc front here one.after) in
-    let next : length (front ++ here) ≡ length front + length (code_strings one.object) = length-append front here ∙ ap (λ n. length front + n) (length_mapped (code_of strings) (code_strings one.object)) in
+    let next : length (front ++ here) ≡ length front + length (code_strings one.object) = counted_behind strings front one.object in
     let turned : are_in_turn (length codes) (length (front ++ here)) (codes_named es) ≡ true = ap (λ n. are_in_turn (length codes) n (codes_named es)) next ∙ one.turn in
-    let later = entries_told strings codes (front ++ here) one.after taken.after es d few short sound regrouped p.1 w.1 q.1 taken.count turned in
-    let own = taken.own one.object one.kind one.exits in
-    let entries : entries_of strings (length front + length (code_strings one.object)) later.objects ≡ es = ap (λ n. entries_of strings n later.objects) (sym next) ∙ later.entries in
-    record {
-      objects = one.object ∷ later.objects;
-      told = rw (one.placed, taken.taken, one.told, later.told) refl;
-      entries = ap (λ (first : Entry). first ∷ entries_of strings (length front + length (code_strings one.object)) later.objects) one.entry ∙ ap (λ (others : List Entry). e ∷ others) entries;
-      ways_back = ap (λ (w : List Exits). ways_of one.object ++ w) later.ways_back ∙ own.0;
-      codes_back = ap (λ (c : List (List ℕ)). here ++ c) later.codes_back ∙ sym one.parts;
-      closed = both (has_own_exits one.object) (list_all has_own_exits later.objects) own.1 later.closed;
-      names = both_same (entry_strings one.object) (flat_map entry_strings later.objects) (map (text_at strings) (strings_named e)) (map (text_at strings) (flat_map strings_named es)) one.names later.names ∙ sym (map-append (text_at strings) (strings_named e) (flat_map strings_named es));
-      texts = both_same (code_strings one.object) (flat_map code_strings later.objects) (map (text_at strings) (map string_said here)) (map (text_at strings) (map string_said one.after)) one.texts later.texts
-          ∙ sym (map-append (text_at strings) (map string_said here) (map string_said one.after))
-          ∙ ap (map (text_at strings)) (sym (map-append string_said here one.after))
-          ∙ ap (λ (r : List (List ℕ)). map (text_at strings) (map string_said r)) (sym one.parts);
-    }
+    let later = entries_told strings codes (front ++ here) one.after taken.after es d few short sound (regrouped codes front rest here one.after parts one.parts) p.1 w.1 q.1 taken.count turned in
+    one_more_told strings codes front rest ways e es (count_by is_of_room es) (map (λ e. e.description) es) taken one later next
