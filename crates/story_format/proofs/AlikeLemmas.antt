@@ -1,5 +1,5 @@
 -- An entry that is like one that has its words has its words too.
-use Rattle.std.proofs.Common.{◌≡◌, ℕ, Bool, true, leb, List, length, Option, Some, None, refl, sym, ap, ◌∙◌}
+use Rattle.std.proofs.Common.{◌≡◌, ℕ, true, leb, List, length, Option, Some, None, refl, ap, ◌∙◌}
 use Rattle.std.specs.Prelude.{slice_get}
 use Rattle.std.specs.List.{list_all}
 use Rattle.story_format.specs.declared.tables.Entry.{Entry}

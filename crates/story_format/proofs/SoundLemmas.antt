@@ -1,22 +1,20 @@
 -- The codes of a tale are sound, and each of its codes and strings is named.
-use Rattle.std.proofs.Common.{◌≡◌, ℕ, ◌+◌, ◌<◌, true, false, ◌&&◌, ltb, leb, eqb, List, [], ◌∷◌, ◌++◌, length, map, Option, Some, None, refl, sym, ap, ◌∙◌, append_assoc, arith, inl, inr}
-use Rattle.std.specs.Prelude.{min, max, fold, filter}
-use Rattle.std.specs.List.{list_any, list_all, flat_map, position_or_len}
+use Rattle.std.proofs.Common.{◌≡◌, ℕ, ◌<◌, true, ◌&&◌, ltb, List, [], ◌∷◌, ◌++◌, length, map, Option, Some, None, refl, sym, ap, ◌∙◌, arith}
+use Rattle.std.specs.List.{list_all, flat_map}
 use Rattle.std.specs.Str.{bytes_eq}
-use Rattle.std.proofs.lemmas.Bool.{lt-ltb, ne_eqb, eq-eqb, le-leb}
+use Rattle.std.proofs.lemmas.Bool.{lt-ltb}
 use Rattle.std.proofs.lemmas.Nat.{from_be_bytes-to_be_bytes_2}
-use Rattle.std.proofs.lemmas.List.{length-append, map-append}
+use Rattle.std.proofs.lemmas.List.{map-append}
 use Rattle.world_meaning.specs.declared.tale.Object.{Object}
 use Rattle.world_meaning.specs.declared.tale.Tale.{Tale}
-use Rattle.story_format.specs.Mentions.{mention, number_or_none, number_in}
-use Rattle.story_format.specs.Making.{texts_of, entry_strings, code_strings, strings_of, code_number, entries_of, code_of, codes_of, tables_of}
+use Rattle.story_format.specs.Mentions.{number_or_none, number_in}
+use Rattle.story_format.specs.Making.{texts_of, entry_strings, code_strings, strings_of, entries_of, code_of, codes_of, tables_of}
 use Rattle.story_format.specs.Shape.{IsTale}
-use Rattle.story_format.specs.Checks.{strings_named, codes_named, is_some_code}
-use Rattle.story_format.specs.Soundness.{saying, string_said, says_string, are_in_turn, are_all_named, strings_read, are_sound}
-use Rattle.story_format.proofs.StringLemmas.{length_mapped}
+use Rattle.story_format.specs.Checks.{strings_named}
+use Rattle.story_format.specs.Soundness.{saying, string_said, says_string, are_all_named, strings_read, are_sound}
 use Rattle.story_format.proofs.StoryLemmas.{both, both_are}
 use Rattle.story_format.proofs.RoundTrip.{passes_at, is_known, has_own_exits, is_tellable, all_in_strings, all_have}
-use Rattle.story_format.proofs.OrderLemmas.{either, text_is_itself, mention_new, mention_old, grows, place_in_front, place_behind, number_is_place, numbers_named, strings_all_named, codes_in_turn}
+use Rattle.story_format.proofs.OrderLemmas.{text_is_itself, number_is_place, numbers_named, strings_all_named, codes_in_turn}
 
 -- ---- the codes of a tale say strings
 
