@@ -6,5 +6,12 @@ pub mod WordLemmas
 pub mod TellingLoop
 pub mod RoundTrip
 pub mod ReadingLemmas
+pub mod FaultLemmas
 pub mod TableLemmas
+pub mod AlikeLemmas
 pub mod OrderLemmas
+pub mod NamingLemmas
+pub mod TellingLemmas
+pub mod ShapeLemmas
+pub mod SoundLemmas
+pub mod TaleLemmas

@@ -1,16 +1,19 @@
--- The strings of a tale stand once and in order, and so do its codes.
+-- The strings of a tale stand once and in order, all of them named, and so do its codes.
 use Rattle.std.proofs.Common.{◌≡◌, ℕ, ◌+◌, ◌<◌, ◌≤◌, Bool, true, false, ltb, leb, eqb, List, [], ◌∷◌, ◌++◌, length, map, Option, Some, None, refl, sym, ap, ◌∙◌, append_assoc, arith, inl, inr, ◌⊎◌}
 use Rattle.std.specs.Prelude.{min, max, fold, filter}
 use Rattle.std.specs.List.{list_any, flat_map, position_or_len}
 use Rattle.std.specs.Str.{bytes_eq}
-use Rattle.std.proofs.lemmas.Bool.{lt-ltb, ne_eqb, eq-eqb, le-leb}
+use Rattle.std.proofs.lemmas.Bool.{lt-ltb, ne_eqb, eq-eqb, eqb-true, le-leb}
 use Rattle.std.proofs.lemmas.List.{length-append, append-nil}
 use Rattle.std.proofs.lemmas.Slice.Eq.{bytes_eq-Decides}
 use Rattle.world_meaning.specs.declared.tale.Object.{Object}
 use Rattle.story_format.specs.Mentions.{mention, first_mentions, number_in}
 use Rattle.story_format.specs.Words.{object_words}
-use Rattle.story_format.specs.Making.{texts_of, entry_strings, code_strings, strings_of, code_number, entry_of, entries_of}
+use Rattle.story_format.specs.Making.{texts_of, entry_strings, code_strings, strings_of, code_number, entry_of, entries_of, codes_of, code_of}
 use Rattle.story_format.specs.Checks.{are_distinct, are_named_in_order, strings_named, codes_named, is_some_code}
+use Rattle.story_format.specs.Soundness.{are_in_turn, are_all_named}
+use Rattle.story_format.proofs.StringLemmas.{length_mapped}
+use Rattle.story_format.proofs.StoryLemmas.{both, both_are}
 use Rattle.story_format.proofs.Folds.{fold_both}
 use Rattle.story_format.proofs.RoundTrip.{passes_at}
 
@@ -20,10 +23,10 @@ either false = inr refl
 
 -- ---- no string twice
 
-mention_new : (seen : List (List ℕ)) (x : List ℕ) → list_any (bytes_eq x) seen ≡ false → mention seen x ≡ seen ++ x ∷ []
+pub mention_new : (seen : List (List ℕ)) (x : List ℕ) → list_any (bytes_eq x) seen ≡ false → mention seen x ≡ seen ++ x ∷ []
 mention_new seen x h = rw h refl
 
-mention_old : (seen : List (List ℕ)) (x : List ℕ) → list_any (bytes_eq x) seen ≡ true → mention seen x ≡ seen
+pub mention_old : (seen : List (List ℕ)) (x : List ℕ) → list_any (bytes_eq x) seen ≡ true → mention seen x ≡ seen
 mention_old seen x h = rw h refl
 
 rebuilt_step : (seen : List (List ℕ)) (x : List ℕ) → first_mentions seen ≡ seen → first_mentions (mention seen x) ≡ mention seen x
@@ -43,7 +46,7 @@ strings_distinct os = eq-eqb _ _ (ap length (rebuilt (flat_map entry_strings os 
 
 -- ---- strings are named in order
 
-grows : (strings seen : List (List ℕ)) → (more : List (List ℕ)) × (fold mention seen strings ≡ seen ++ more)
+pub grows : (strings seen : List (List ℕ)) → (more : List (List ℕ)) × (fold mention seen strings ≡ seen ++ more)
 grows [] seen = ([], sym (append-nil seen))
 grows (x ∷ strings) seen =
     let t = grows strings (mention seen x) in
@@ -52,7 +55,7 @@ grows (x ∷ strings) seen =
       | inr isnt ↦ (x ∷ t.0, t.1 ∙ ap (λ (s : List (List ℕ)). s ++ t.0) (mention_new seen x isnt) ∙ append_assoc seen (x ∷ []) t.0)
     ]
 
-place_in_front : (seen more : List (List ℕ)) (x : List ℕ) → list_any (bytes_eq x) seen ≡ true → position_or_len (bytes_eq x) (seen ++ more) ≡ position_or_len (bytes_eq x) seen
+pub place_in_front : (seen more : List (List ℕ)) (x : List ℕ) → list_any (bytes_eq x) seen ≡ true → position_or_len (bytes_eq x) (seen ++ more) ≡ position_or_len (bytes_eq x) seen
 place_in_front [] more x h = absurd cc
 place_in_front (s ∷ ss) more x h =
     elim (either (bytes_eq x s)) [
@@ -63,7 +66,7 @@ place_in_front (s ∷ ss) more x h =
 pub text_is_itself : (text : List ℕ) → bytes_eq text text ≡ true
 text_is_itself text = (bytes_eq-Decides text text).1 refl
 
-place_behind : (seen more : List (List ℕ)) (x : List ℕ) → list_any (bytes_eq x) seen ≡ false → position_or_len (bytes_eq x) (seen ++ x ∷ more) ≡ length seen
+pub place_behind : (seen more : List (List ℕ)) (x : List ℕ) → list_any (bytes_eq x) seen ≡ false → position_or_len (bytes_eq x) (seen ++ x ∷ more) ≡ length seen
 place_behind [] more x h = rw (text_is_itself x) refl
 place_behind (s ∷ ss) more x h =
     elim (either (bytes_eq x s)) [
@@ -71,18 +74,18 @@ place_behind (s ∷ ss) more x h =
       | inr isnt ↦ let later : list_any (bytes_eq x) ss ≡ false = rw isnt at h in rw (isnt, place_behind ss more x later) (omega arith)
     ]
 
-number_is_place : (strings : List (List ℕ)) (x : List ℕ) → position_or_len (bytes_eq x) strings < length strings → length strings < 65535 → number_in strings x ≡ position_or_len (bytes_eq x) strings
+pub number_is_place : (strings : List (List ℕ)) (x : List ℕ) → position_or_len (bytes_eq x) strings < length strings → length strings < 65535 → number_in strings x ≡ position_or_len (bytes_eq x) strings
 unfolding number_in
 number_is_place strings x lt few =
     let inside : ltb (position_or_len (bytes_eq x) strings) (length strings) ≡ true = lt-ltb _ _ lt in
     let small : min (position_or_len (bytes_eq x) strings) 65535 ≡ position_or_len (bytes_eq x) strings = omega (arith, lt, few) in
     rw (inside, small) refl
 
-ordered : (whole named seen rest : List (List ℕ)) → whole ≡ fold mention seen (named ++ rest) → length whole < 65535 → are_named_in_order (length seen) (map (number_in whole) named) ≡ true
-unfolding are_named_in_order
-ordered whole [] seen rest e few = refl
-ordered whole (x ∷ named) seen rest e few =
-    let t = grows (named ++ rest) (mention seen x) in
+all_ordered : (whole named seen : List (List ℕ)) → whole ≡ fold mention seen named → length whole < 65535 → are_all_named (length whole) (length seen) (map (number_in whole) named) ≡ true
+unfolding are_all_named
+all_ordered whole [] seen e few = eq-eqb (length seen) (length whole) (ap length (sym e))
+all_ordered whole (x ∷ named) seen e few =
+    let t = grows named (mention seen x) in
     elim (either (list_any (bytes_eq x) seen)) [
       | inl is ↦
           let split : whole ≡ seen ++ t.0 = e ∙ t.1 ∙ ap (λ (s : List (List ℕ)). s ++ t.0) (mention_old seen x is) in
@@ -92,7 +95,7 @@ ordered whole (x ∷ named) seen rest e few =
           let number : number_in whole x ≡ position_or_len (bytes_eq x) seen = number_is_place whole x (omega (arith, place, count, inside)) few ∙ place in
           let low : leb (number_in whole x) (length seen) ≡ true = le-leb _ _ (omega (arith, number, inside)) in
           let next : max (length seen) (number_in whole x + 1) ≡ length seen = omega (arith, number, inside) in
-          rw (low, next) (ordered whole named seen rest (e ∙ ap (λ (s : List (List ℕ)). fold mention s (named ++ rest)) (mention_old seen x is)) few)
+          rw (low, next) (all_ordered whole named seen (e ∙ ap (λ (s : List (List ℕ)). fold mention s named) (mention_old seen x is)) few)
       | inr isnt ↦
           let split : whole ≡ seen ++ x ∷ t.0 = e ∙ t.1 ∙ ap (λ (s : List (List ℕ)). s ++ t.0) (mention_new seen x isnt) ∙ append_assoc seen (x ∷ []) t.0 in
           let place : position_or_len (bytes_eq x) whole ≡ length seen = ap (position_or_len (bytes_eq x)) split ∙ place_behind seen t.0 x isnt in
@@ -101,38 +104,42 @@ ordered whole (x ∷ named) seen rest e few =
           let low : leb (number_in whole x) (length seen) ≡ true = le-leb _ _ (omega (arith, number)) in
           let seen_count : length (seen ++ x ∷ []) ≡ length seen + 1 = length-append seen (x ∷ []) in
           let next : max (length seen) (number_in whole x + 1) ≡ length (seen ++ x ∷ []) = omega (arith, number, seen_count) in
-          rw (low, next) (ordered whole named (seen ++ x ∷ []) rest (e ∙ ap (λ (s : List (List ℕ)). fold mention s (named ++ rest)) (mention_new seen x isnt)) few)
+          rw (low, next) (all_ordered whole named (seen ++ x ∷ []) (e ∙ ap (λ (s : List (List ℕ)). fold mention s named) (mention_new seen x isnt)) few)
     ]
 
 map_both : {A B : Type 0} (f : A → B) (xs ys : List A) → map f (xs ++ ys) ≡ map f xs ++ map f ys
 map_both f [] ys = refl
 map_both f (x ∷ xs) ys = ap (λ (zs : List _). f x ∷ zs) (map_both f xs ys)
 
-numbers_named : (strings : List (List ℕ)) (next : ℕ) (os : List Object) → flat_map strings_named (entries_of strings next os) ≡ map (number_in strings) (flat_map entry_strings os)
+pub numbers_named : (strings : List (List ℕ)) (next : ℕ) (os : List Object) → flat_map strings_named (entries_of strings next os) ≡ map (number_in strings) (flat_map entry_strings os)
 unfolding entries_of entry_of entry_strings
 numbers_named strings next [] = refl
 numbers_named strings next (o ∷ os) =
     ap (λ (later : List ℕ). number_in strings o.name ∷ (map (number_in strings) (object_words o) ++ later)) (numbers_named strings (next + length (code_strings o)) os)
     ∙ ap (λ (later : List ℕ). number_in strings o.name ∷ later) (sym (map_both (number_in strings) (object_words o) (flat_map entry_strings os)))
 
-pub strings_in_order : (os : List Object) → length (strings_of os) < 65535 → are_named_in_order 0 (flat_map strings_named (entries_of (strings_of os) 0 os)) ≡ true
+pub strings_all_named : (os : List Object) → length (strings_of os) < 65535 → are_all_named (length (strings_of os)) 0 (map (number_in (strings_of os)) (flat_map entry_strings os ++ flat_map code_strings os)) ≡ true
 unfolding strings_of
+strings_all_named os few = all_ordered (strings_of os) (flat_map entry_strings os ++ flat_map code_strings os) [] refl few
+
+-- where all are named in order, those in front are
+in_order_in_front : (ns ms : List ℕ) (count next : ℕ) → are_all_named count next (ns ++ ms) ≡ true → are_named_in_order next ns ≡ true
+unfolding are_named_in_order are_all_named
+in_order_in_front [] ms count next h = refl
+in_order_in_front (n ∷ ns) ms count next h =
+    let t = both_are (leb n next) (are_all_named count (max next (n + 1)) (ns ++ ms)) h in
+    both (leb n next) (are_named_in_order (max next (n + 1)) ns) t.0 (in_order_in_front ns ms count (max next (n + 1)) t.1)
+
+pub strings_in_order : (os : List Object) → length (strings_of os) < 65535 → are_named_in_order 0 (flat_map strings_named (entries_of (strings_of os) 0 os)) ≡ true
 strings_in_order os few =
-    ap (are_named_in_order 0) (numbers_named (strings_of os) 0 os) ∙ ordered (strings_of os) (flat_map entry_strings os) [] (flat_map code_strings os) refl few
+    let strings = strings_of os in
+    let parts = map_both (number_in strings) (flat_map entry_strings os) (flat_map code_strings os) in
+    ap (are_named_in_order 0) (numbers_named strings 0 os)
+    ∙ in_order_in_front (map (number_in strings) (flat_map entry_strings os)) (map (number_in strings) (flat_map code_strings os)) (length strings) 0 (sym (ap (are_all_named (length strings) 0) parts) ∙ strings_all_named os few)
 
 -- ---- codes are named in order
 
-one_in_order : (next n : ℕ) (d : Option (List ℕ)) (later : List ℕ) → next < 65535 → are_named_in_order (next + length (texts_of d)) (filter is_some_code later) ≡ true → are_named_in_order next (filter is_some_code (code_number next d ∷ later)) ≡ true
-unfolding are_named_in_order
-one_in_order next n None later lt h = let same : next + 0 ≡ next = omega arith in ap (λ k. are_named_in_order k (filter is_some_code later)) (sym same) ∙ h
-one_in_order next n (Some text) later lt h =
-    let number : min next 65535 ≡ next = omega arith in
-    let told : eqb next 65535 ≡ false = ne_eqb _ _ (λ k. omega (arith, k, lt)) in
-    let low : leb next next ≡ true = le-leb _ _ (omega arith) in
-    let up : max next (next + 1) ≡ next + 1 = omega arith in
-    rw (number, told, low, up) h
-
-entry_code : (strings : List (List ℕ)) (next : ℕ) (o : Object) → (entry_of strings next o).description ≡ code_number next o.description
+pub entry_code : (strings : List (List ℕ)) (next : ℕ) (o : Object) → (entry_of strings next o).description ≡ code_number next o.description
 unfolding entry_of
 entry_code strings next o = refl
 
@@ -140,13 +147,35 @@ pub at_most_one : (d : Option (List ℕ)) → length (texts_of d) ≤ 1
 at_most_one None = omega arith
 at_most_one (Some text) = omega arith
 
-codes_in_order_from : (strings : List (List ℕ)) (os : List Object) (next : ℕ) → next + length os < 65535 → are_named_in_order next (codes_named (entries_of strings next os)) ≡ true
-unfolding entries_of are_named_in_order
-codes_in_order_from strings [] next lt = refl
-codes_in_order_from strings (o ∷ os) next lt =
+one_in_turn : (count next n : ℕ) (d : Option (List ℕ)) (later : List ℕ) → next < 65535 → are_in_turn count (next + length (texts_of d)) (filter is_some_code later) ≡ true → are_in_turn count next (filter is_some_code (code_number next d ∷ later)) ≡ true
+unfolding are_in_turn
+one_in_turn count next n None later lt h = let same : next + 0 ≡ next = omega arith in ap (λ k. are_in_turn count k (filter is_some_code later)) (sym same) ∙ h
+one_in_turn count next n (Some text) later lt h =
+    let number : min next 65535 ≡ next = omega arith in
+    let told : eqb next 65535 ≡ false = ne_eqb _ _ (λ k. omega (arith, k, lt)) in
+    rw (number, told, eq-eqb next next refl) h
+
+pub codes_in_turn : (strings : List (List ℕ)) (os : List Object) (next count : ℕ) → next + length (flat_map (codes_of strings) os) ≡ count → next + length os < 65535 → are_in_turn count next (codes_named (entries_of strings next os)) ≡ true
+unfolding entries_of are_in_turn
+codes_in_turn strings [] next count e lt = eq-eqb next count (omega (arith, e))
+codes_in_turn strings (o ∷ os) next count e lt =
     let bound = at_most_one o.description in
-    rw (entry_code strings next o) (one_in_order next 0 o.description (map (λ e. e.description) (entries_of strings (next + length (code_strings o)) os)) (omega arith)
-    (codes_in_order_from strings os (next + length (code_strings o)) (omega (arith, bound, lt))))
+    let one : length (codes_of strings o) ≡ length (code_strings o) = length_mapped (code_of strings) (code_strings o) in
+    let sum : length (codes_of strings o ++ flat_map (codes_of strings) os) ≡ length (codes_of strings o) + length (flat_map (codes_of strings) os) = length-append (codes_of strings o) (flat_map (codes_of strings) os) in
+    rw (entry_code strings next o) (one_in_turn count next 0 o.description (map (λ e. e.description) (entries_of strings (next + length (code_strings o)) os)) (omega (arith, lt))
+    (codes_in_turn strings os (next + length (code_strings o)) count (omega (arith, e, one, sum)) (omega (arith, bound, lt))))
+
+in_turn_in_order : (ns : List ℕ) (count next : ℕ) → are_in_turn count next ns ≡ true → are_named_in_order next ns ≡ true
+unfolding are_named_in_order are_in_turn
+in_turn_in_order [] count next h = refl
+in_turn_in_order (n ∷ ns) count next h =
+    let t = both_are (eqb n next) (are_in_turn count (next + 1) ns) h in
+    let here : n ≡ next = eqb-true n next t.0 in
+    let low : leb n next ≡ true = le-leb _ _ (omega (arith, here)) in
+    let up : max next (n + 1) ≡ next + 1 = omega (arith, here) in
+    both (leb n next) (are_named_in_order (max next (n + 1)) ns) low (ap (λ k. are_named_in_order k ns) up ∙ in_turn_in_order ns count (next + 1) t.1)
 
 pub codes_in_order : (os : List Object) → length os < 65535 → are_named_in_order 0 (codes_named (entries_of (strings_of os) 0 os)) ≡ true
-codes_in_order os lt = codes_in_order_from (strings_of os) os 0 (omega arith)
+codes_in_order os lt =
+    let count = length (flat_map (codes_of (strings_of os)) os) in
+    in_turn_in_order (codes_named (entries_of (strings_of os) 0 os)) count 0 (codes_in_turn (strings_of os) os 0 count (omega arith) (omega arith))

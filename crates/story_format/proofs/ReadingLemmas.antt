@@ -16,15 +16,19 @@ use Rattle.story_format.specs.Layout.{tables_format, tables_lawful}
 use Rattle.story_format.specs.Making.{magic, head, tables_of, spelling}
 use Rattle.story_format.specs.Telling.{tale_told}
 use Rattle.story_format.specs.Checks.{are_right}
+use Rattle.story_format.specs.Soundness.{are_sound}
+use Rattle.story_format.specs.Shape.{IsTale}
 use Rattle.story_format.specs.Spells.{Spells}
 use Rattle.story_format.specs.Reading.{whole, versioned, tables_read, FaultGiven}
-use Rattle.story_format.specs.Refusals.{Holds, IsNoStory, IsRefused}
+use Rattle.story_format.specs.Refusals.{Holds, IsRefused}
 use Rattle.story_format.proofs.RoundTrip.{tale_back}
 use Rattle.story_format.proofs.TableLemmas.{tables_right}
+use Rattle.story_format.proofs.SoundLemmas.{tables_sound}
+use Rattle.story_format.proofs.TaleLemmas.{tale_there}
 
 -- ---- reading what was put
 
-read_whole : (t : Tables) (rest : List ℕ) → tables_format.fits t ≡ true → tables_read (head ++ (tables_format.put t ++ rest)) ≡ whole (Some (t, rest))
+pub read_whole : (t : Tables) (rest : List ℕ) → tables_format.fits t ≡ true → tables_read (head ++ (tables_format.put t ++ rest)) ≡ whole (Some (t, rest))
 unfolding tables_read
 read_whole t rest fits = ap versioned (number16_lawful.again 1 (tables_format.put t ++ rest) refl) ∙ ap whole (tables_lawful.again t rest fits)
 
@@ -61,7 +65,7 @@ only_memory bytes t Memory h e = refl
 
 -- ---- what reading says of the bytes
 
-either : (b : Bool) → (b ≡ true) ⊎ (b ≡ false)
+pub either : (b : Bool) → (b ≡ true) ⊎ (b ≡ false)
 either true = inl refl
 either false = inr refl
 
@@ -180,8 +184,44 @@ right_if_spelled bytes tale t h e = ap are_right (ok_is t (tables_of tale) (sym 
 pub table_fault : (bytes : List ℕ) (t : Tables) → IsBytes bytes → tables_read bytes ≡ Ok t → are_right t ≡ false → IsRefused BadTable bytes
 table_fault bytes t fits e h = (t, tables_stand bytes t fits e, h)
 
-pub code_fault : (bytes : List ℕ) (t : Tables) → IsBytes bytes → tables_read bytes ≡ Ok t → are_right t ≡ true → IsNoStory bytes → IsRefused BadCode bytes
-code_fault bytes t fits e h none = (t, tables_stand bytes t fits e, h, none)
+pub code_fault : (bytes : List ℕ) (t : Tables) → IsBytes bytes → tables_read bytes ≡ Ok t → are_right t ≡ true → are_sound t ≡ false → IsRefused BadCode bytes
+code_fault bytes t fits e right unsound = (t, tables_stand bytes t fits e, right, unsound)
+
+pub sound_if_spelled : (bytes : List ℕ) (tale : Tale) (t : Tables) → Spells bytes tale → tables_read bytes ≡ Ok t → are_sound t ≡ true
+sound_if_spelled bytes tale t h e = ap are_sound (ok_is t (tables_of tale) (sym e ∙ spelled_read bytes tale h)) ∙ tables_sound tale h.tale
+
+pub spelled_by : (bytes : List ℕ) (tale : Tale) (t : Tables) → IsBytes bytes → tables_read bytes ≡ Ok t → IsTale tale → tables_of tale ≡ t → Spells bytes tale
+unfolding spelling
+spelled_by bytes tale t fits e h same =
+    let holds = tables_stand bytes t fits e in
+    record { tale = h; spelled = holds.1 ∙ ap (λ (body : List ℕ). head ++ body) (append-nil (tables_format.put t)) ∙ ap (λ (t : Tables). head ++ tables_format.put t) (sym same) }
+
+-- ---- a story, or a fault
+
+story_or_fault : (bytes : List ℕ) (t : Tables) → IsBytes bytes → tables_read bytes ≡ Ok t → ((tale : Tale) × Spells bytes tale) ⊎ ((fault : LoadFault) × (fault ≢ Memory) × IsRefused fault bytes)
+story_or_fault bytes t fits e =
+    elim (either (are_right t)) [
+      | inl right ↦
+          elim (either (are_sound t)) [
+            | inl sound ↦
+                let there = tale_there t right sound (tables_stand bytes t fits e).0 in
+                inl (there.0, spelled_by bytes there.0 t fits e there.2 there.3)
+            | inr unsound ↦ inr (BadCode, λ e. absurd cc, code_fault bytes t fits e right unsound)
+          ]
+      | inr wrong ↦ inr (BadTable, λ e. absurd cc, table_fault bytes t fits e wrong)
+    ]
+
+refused_or_read : (bytes : List ℕ) (read : Result Tables LoadFault) → IsBytes bytes → Stage bytes read → ((t : Tables) → tables_read bytes ≡ Ok t → ((tale : Tale) × Spells bytes tale) ⊎ ((fault : LoadFault) × (fault ≢ Memory) × IsRefused fault bytes))
+    → ((tale : Tale) × Spells bytes tale) ⊎ ((fault : LoadFault) × (fault ≢ Memory) × IsRefused fault bytes)
+refused_or_read bytes read fits (no_magic isnt) f = inr (BadMagic, λ e. absurd cc, isnt)
+refused_or_read bytes read fits (no_version front short) f = inr (Truncated, λ e. absurd cc, (front, inl short))
+refused_or_read bytes read fits (other_version version rest other lt parts) f = inr (BadVersion, λ e. absurd cc, (version, rest, other, lt, parts))
+refused_or_read bytes read fits (cut body parts k) f = inr (Truncated, λ e. absurd cc, (ap (take 4) parts, inr (ap (take 6) parts, none_stand bytes body parts k)))
+refused_or_read bytes read fits (more t rest some holds) f = inr (TooLong, λ e. absurd cc, (t, rest, some, holds))
+refused_or_read bytes read fits (all t holds) f = f t (ap tables_read holds.1 ∙ read_whole t [] holds.0)
+
+pub story_or_refused : (bytes : List ℕ) → IsBytes bytes → ((tale : Tale) × Spells bytes tale) ⊎ ((fault : LoadFault) × (fault ≢ Memory) × IsRefused fault bytes)
+story_or_refused bytes fits = refused_or_read bytes (tables_read bytes) fits (stage_of bytes fits) (λ t. story_or_fault bytes t fits)
 
 -- ---- a story isn't refused
 
@@ -198,7 +238,7 @@ same_tables t u rest f g e =
     let second = ap tables_format.get e ∙ tables_lawful.again u rest g in
     sym (ap (λ (p : Tables × List ℕ). p.1) (some_is (t, []) (u, rest) (sym first ∙ second)))
 
-same_version : (version : ℕ) (rest body : List ℕ) → version < 65536 → to_be_bytes w16 version ++ rest ≡ to_be_bytes w16 1 ++ body → version ≡ 1
+pub same_version : (version : ℕ) (rest body : List ℕ) → version < 65536 → to_be_bytes w16 version ++ rest ≡ to_be_bytes w16 1 ++ body → version ≡ 1
 same_version version rest body lt e =
     let first = number16_lawful.again version rest (lt-ltb version 65536 lt) in
     let second = ap (number w16).get e ∙ number16_lawful.again 1 body refl in
@@ -219,6 +259,8 @@ not_refused bytes t TooLong h (u, rest, some, holds) =
 not_refused bytes t BadTable h (u, holds, wrong) =
     let read : tables_read bytes ≡ Ok u = ap tables_read holds.1 ∙ read_whole u [] holds.0 in
     let z : true ≡ false = sym (right_if_spelled bytes t u h read) ∙ wrong in absurd cc
-not_refused bytes t BadCode h (u, holds, right, none) = absurd (none t h)
+not_refused bytes t BadCode h (u, holds, right, unsound) =
+    let read : tables_read bytes ≡ Ok u = ap tables_read holds.1 ∙ read_whole u [] holds.0 in
+    let z : true ≡ false = sym (sound_if_spelled bytes t u h read) ∙ unsound in absurd cc
 not_refused bytes t BadOrder h r = absurd r
 not_refused bytes t Memory h r = refl

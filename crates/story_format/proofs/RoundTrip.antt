@@ -172,7 +172,7 @@ relation_back relations.Carried = refl
 relation_back relations.Worn = refl
 relation_back relations.Part = refl
 
-relation_told : (r : Rel) → eqb (relation_number r) 255 ≡ false
+pub relation_told : (r : Rel) → eqb (relation_number r) 255 ≡ false
 relation_told relations.In = refl
 relation_told relations.On = refl
 relation_told relations.Carried = refl
@@ -184,7 +184,7 @@ unfolding place_of
 place_back None = refl
 place_back (Some place) = rw (relation_told place.relation, relation_back place.relation) refl
 
-get_behind : (front : List (List ℕ)) (x : List ℕ) (ys : List (List ℕ)) → slice_get (front ++ x ∷ ys) (length front) ≡ Some x
+pub get_behind : (front : List (List ℕ)) (x : List ℕ) (ys : List (List ℕ)) → slice_get (front ++ x ∷ ys) (length front) ≡ Some x
 get_behind [] x ys = refl
 get_behind (f ∷ fs) x ys = get_behind fs x ys
 
@@ -211,10 +211,10 @@ object_of_parts : (kind : ℕ) (name : List ℕ) (article : Article) (descriptio
 object_of_parts kind name article description place exits given e = rw e refl
 
 told_back : (strings codes front rest : List (List ℕ)) (o : Object) (given : Exits) → length strings < 65535 → length front < 65535 → is_known strings o.name ≡ true → list_all (is_known strings) (code_strings o) ≡ true
-    → codes ≡ front ++ (codes_of strings o ++ rest) → given ≡ o.exits → object_told strings codes given (entry_of strings (length front) o) ≡ Some o
+    → codes ≡ front ++ (codes_of strings o ++ rest) → given ≡ o.exits → object_told strings codes o.place given (entry_of strings (length front) o) ≡ Some o
 unfolding object_told entry_of
 told_back strings codes front rest o given few short named known e same =
-    rw ((found_by_number strings o.name named few).1, article_back o.article, description_back strings codes front rest o.description few short known e, place_back o.place)
+    rw ((found_by_number strings o.name named few).1, article_back o.article, description_back strings codes front rest o.description few short known e)
     (ap (λ (object : Object). Some object) (object_of_parts o.kind o.name o.article o.description o.place o.exits given same))
 
 exits_back : (o : Object) (ways : List Exits) → has_own_exits o ≡ true → (given : Exits) × (exits_taken o.kind (ways_of o ++ ways) ≡ Some (given, ways)) × (given ≡ o.exits)
@@ -247,7 +247,7 @@ objects_back strings codes front (o ∷ os) few short h e =
     let at_most : length (code_strings o) ≤ 1 = one_text o.description in
     let later = objects_back strings codes (front ++ codes_of strings o) os few (omega (arith, count, at_most, short)) t.1 regrouped in
     let later_too : objects_told strings codes (flat_map ways_of os) (entries_of strings (length front + length (code_strings o)) os) ≡ Some os = ap (λ n. objects_told strings codes (flat_map ways_of os) (entries_of strings n os)) (sym count) ∙ later in
-    rw (entry_kind strings (length front) o, x.1, first, later_too) refl
+    rw (place_back o.place, entry_kind strings (length front) o, x.1, first, later_too) refl
 
 -- ---- the objects of a tale that a story file can hold
 
@@ -266,7 +266,7 @@ directions_have (d ∷ ds) (o ∷ os) h =
 room_has : (n : ℕ) (o : Object) → is_room n o ≡ true → has_own_exits o ≡ true
 room_has n o h = rw (room_parts n o h).0 refl
 
-all_have : (os : List Object) → has_shape os ≡ true → (list_all has_own_exits os ≡ true) × (length os ≤ 1000)
+pub all_have : (os : List Object) → has_shape os ≡ true → (list_all has_own_exits os ≡ true) × (length os ≤ 1000)
 unfolding has_shape
 all_have [] h = absurd cc
 all_have (player ∷ others) h =

@@ -64,7 +64,7 @@ closed_leads n w h =
 closed_leads_on : (n : ℕ) (o : Object) → are_closed o.exits ≡ true → leads_on n o ≡ true
 closed_leads_on n o h = all_weaker is_closed (leads_to_room n) (closed_leads n) o.exits.ways (both_are (eqb (length o.exits.ways) 12) (list_all is_closed o.exits.ways) h).1
 
-last_of_five : (a b c d e : Bool) → (a && b && c && d && e) ≡ true → (a ≡ true) × (b ≡ true) × (c ≡ true) × (d ≡ true) × (e ≡ true)
+pub last_of_five : (a b c d e : Bool) → (a && b && c && d && e) ≡ true → (a ≡ true) × (b ≡ true) × (c ≡ true) × (d ≡ true) × (e ≡ true)
 last_of_five true true true true true h = (refl, refl, refl, refl, refl)
 last_of_five true true true true false h = absurd cc
 last_of_five true true true false e h = absurd cc
@@ -80,7 +80,7 @@ pub direction_parts : (d : Direction) (o : Object) → is_direction d o ≡ true
 unfolding is_direction
 direction_parts d o h = last_of_five (eqb o.kind 2) (bytes_eq o.name (direction_name d)) (has_no_article o.article) (is_none o.place) (are_closed o.exits) h
 
-three : (a b c : Bool) → (a && b && c) ≡ true → (a ≡ true) × (b ≡ true) × (c ≡ true)
+pub three : (a b c : Bool) → (a && b && c) ≡ true → (a ≡ true) × (b ≡ true) × (c ≡ true)
 three true true true h = (refl, refl, refl)
 three true true false h = absurd cc
 three true false c h = absurd cc

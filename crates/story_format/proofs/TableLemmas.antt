@@ -37,7 +37,7 @@ article_small articles.A = refl
 article_small articles.An = refl
 article_small articles.Some = refl
 
-or_right : (a b : Bool) → b ≡ true → (a || b) ≡ true
+pub or_right : (a b : Bool) → b ≡ true → (a || b) ≡ true
 or_right true b e = refl
 or_right false b e = e
 
@@ -96,10 +96,10 @@ entry_kind : (strings : List (List ℕ)) (next : ℕ) (o : Object) → (entry_of
 unfolding entry_of
 entry_kind strings next o = refl
 
-counted_more : {A : Type 0} (p : A → Bool) (x : A) (xs : List A) → p x ≡ true → count_by p (x ∷ xs) ≡ suc (count_by p xs)
+pub counted_more : {A : Type 0} (p : A → Bool) (x : A) (xs : List A) → p x ≡ true → count_by p (x ∷ xs) ≡ suc (count_by p xs)
 counted_more p x xs h = sum_by-cons (λ x. cond (p x) 1 0) x xs ∙ rw h (omega arith)
 
-counted_same : {A : Type 0} (p : A → Bool) (x : A) (xs : List A) → p x ≡ false → count_by p (x ∷ xs) ≡ count_by p xs
+pub counted_same : {A : Type 0} (p : A → Bool) (x : A) (xs : List A) → p x ≡ false → count_by p (x ∷ xs) ≡ count_by p xs
 counted_same p x xs h = sum_by-cons (λ x. cond (p x) 1 0) x xs ∙ rw h (omega arith)
 
 rooms_counted : (strings : List (List ℕ)) (os : List Object) (next : ℕ) → length (flat_map ways_of os) ≡ count_by is_of_room (entries_of strings next os)
@@ -125,13 +125,13 @@ rooms_lead n (o ∷ os) h =
 
 -- ---- the entries are in place
 
-entries_taken : (strings : List (List ℕ)) (n next : ℕ) (os : List Object) → take n (entries_of strings next os) ≡ entries_of strings next (take n os)
+pub entries_taken : (strings : List (List ℕ)) (n next : ℕ) (os : List Object) → take n (entries_of strings next os) ≡ entries_of strings next (take n os)
 unfolding entries_of
 entries_taken strings zero next os = refl
 entries_taken strings (suc n) next [] = refl
 entries_taken strings (suc n) next (o ∷ os) = ap (λ (es : List Entry). entry_of strings next o ∷ es) (entries_taken strings n (next + length (code_strings o)) os)
 
-entries_dropped : (strings : List (List ℕ)) (n next : ℕ) (os : List Object) → (later : ℕ) × (drop n (entries_of strings next os) ≡ entries_of strings later (drop n os))
+pub entries_dropped : (strings : List (List ℕ)) (n next : ℕ) (os : List Object) → (later : ℕ) × (drop n (entries_of strings next os) ≡ entries_of strings later (drop n os))
 unfolding entries_of
 entries_dropped strings zero next os = (next, refl)
 entries_dropped strings (suc n) next [] = (next, refl)
@@ -207,7 +207,7 @@ room_entries strings next n (o ∷ os) h =
     let t = both_are (is_room n o) (list_all (is_room n) os) h in
     both (is_room_entry (entry_of strings next o)) (list_all is_room_entry (entries_of strings (next + length (code_strings o)) os)) (room_entry strings next n o t.0) (room_entries strings (next + length (code_strings o)) n os t.1)
 
-all_taken : {A : Type 0} (p : A → Bool) (n : ℕ) (xs : List A) → list_all p xs ≡ true → list_all p (take n xs) ≡ true
+pub all_taken : {A : Type 0} (p : A → Bool) (n : ℕ) (xs : List A) → list_all p xs ≡ true → list_all p (take n xs) ≡ true
 all_taken p zero xs h = refl
 all_taken p (suc n) [] h = refl
 all_taken p (suc n) (x ∷ xs) h = let t = both_are (p x) (list_all p xs) h in both (p x) (list_all p (take n xs)) t.0 (all_taken p n xs t.1)
@@ -274,7 +274,7 @@ all_may (player ∷ others) h =
     let count : n ≡ length (player ∷ others) = omega arith in
     (ap (λ k. list_all (room_leads_on k) (player ∷ others)) (sym count) ∙ both (room_leads_on n player) (list_all (room_leads_on n) others) first rest, omega (arith, p.few))
 
-codes_few : (strings : List (List ℕ)) (os : List Object) → length (flat_map (codes_of strings) os) ≤ length os
+pub codes_few : (strings : List (List ℕ)) (os : List Object) → length (flat_map (codes_of strings) os) ≤ length os
 codes_few strings [] = omega arith
 codes_few strings (o ∷ os) =
     omega (arith, codes_few strings os, at_most_one o.description, length_mapped (code_of strings) (code_strings o), length-append (codes_of strings o) (flat_map (codes_of strings) os))

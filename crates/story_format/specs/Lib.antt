@@ -6,7 +6,9 @@ pub mod Words
 pub mod Making
 pub mod Shape
 pub mod Spells
+pub mod Keeping
 pub mod Telling
 pub mod Reading
 pub mod Checks
+pub mod Soundness
 pub mod Refusals

@@ -1,21 +1,17 @@
 -- Which bytes are refused, and why: each refusal says what stands in the bytes.
 use Rattle.std.specs.Prelude.{◌≡◌, ◌≢◌, ℕ, ◌<◌, ◌⊎◌, true, false, List, [], ◌++◌, length, take}
 use Rattle.std.specs.Int.{w16, to_be_bytes}
-use Rattle.world_meaning.specs.declared.tale.Tale.{Tale}
 use Rattle.story_format.specs.declared.fault.LoadFault.{LoadFault}
 use Rattle.story_format.specs.declared.fault.LoadFault.TheVariants.{BadMagic, BadVersion, Truncated, TooLong, BadTable, BadCode, BadOrder, Memory}
 use Rattle.story_format.specs.declared.tables.Tables.{Tables}
 use Rattle.story_format.specs.Layout.{tables_format}
 use Rattle.story_format.specs.Making.{magic, head}
 use Rattle.story_format.specs.Checks.{are_right}
-use Rattle.story_format.specs.Spells.{Spells}
+use Rattle.story_format.specs.Soundness.{are_sound}
 
 -- the tables stand behind the version, and rest behind them
 abbrev pub Holds : List ℕ → Tables → List ℕ → Type 0
 Holds bytes t rest = (tables_format.fits t ≡ true) × (bytes ≡ head ++ (tables_format.put t ++ rest))
-
-abbrev pub IsNoStory : List ℕ → Type 0
-IsNoStory bytes = (tale : Tale) → Spells bytes tale → ⊥
 
 -- the version, or a table, is cut
 abbrev pub IsCut : List ℕ → Type 0
@@ -27,6 +23,6 @@ IsRefused BadVersion bytes = (version : ℕ) × (rest : List ℕ) × (version �
 IsRefused Truncated bytes = (take 4 bytes ≡ magic) × IsCut bytes
 IsRefused TooLong bytes = (t : Tables) × (rest : List ℕ) × (rest ≢ []) × Holds bytes t rest
 IsRefused BadTable bytes = (t : Tables) × Holds bytes t [] × (are_right t ≡ false)
-IsRefused BadCode bytes = (t : Tables) × Holds bytes t [] × (are_right t ≡ true) × IsNoStory bytes
+IsRefused BadCode bytes = (t : Tables) × Holds bytes t [] × (are_right t ≡ true) × (are_sound t ≡ false)
 IsRefused BadOrder bytes = ⊥
 IsRefused Memory bytes = Unit {0}

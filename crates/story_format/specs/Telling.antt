@@ -1,7 +1,6 @@
 -- The tale that tables tell, read from the first object to the last.
 use Rattle.std.specs.Prelude.{ℕ, ◌&&◌, ◌==◌, List, [], ◌∷◌, slice_get, Option, Some, None, if◌then◌else◌}
 use Rattle.std.specs.Option.{option_map}
-use Rattle.std.specs.Global.{Vec}
 use Rattle.std.specs.Borrow.{Bor}
 use Rattle.std.specs.Int.{w16, from_be_bytes}
 use Rattle.world_meaning.specs.declared.article.Article.{Article}
@@ -48,10 +47,11 @@ some_text text = Some (Some text)
 unfoldable pub description_of : List (List ℕ) → List (List ℕ) → ℕ → Option (Option (List ℕ))
 description_of strings codes n = if n == 65535 then Some None else and_some (slice_get codes n) (λ code. and_some (said strings code) some_text)
 
-unfoldable pub object_told : List (List ℕ) → List (List ℕ) → Exits → Entry → Option Object
-object_told strings codes exits entry =
+-- the object of an entry, with this place and these exits
+unfoldable pub object_told : List (List ℕ) → List (List ℕ) → Option Place → Exits → Entry → Option Object
+object_told strings codes place exits entry =
     and_some (slice_get strings entry.name) (λ name. and_some (article_of entry.article) (λ article. and_some (description_of strings codes entry.description) (λ description.
-    and_some (place_of entry.relation entry.holder) (λ place. Some (record { kind = entry.kind; name = name; article = article; description = description; place = place; exits = exits })))))
+    Some (record { kind = entry.kind; name = name; article = article; description = description; place = place; exits = exits }))))
 
 abbrev pub no_way : Way
 no_way = record { room = None; door = None }
@@ -70,16 +70,14 @@ exits_taken kind ways = if kind == 1 then first_of ways else Some (no_exits, way
 unfoldable pub objects_told : List (List ℕ) → List (List ℕ) → List Exits → List Entry → Option (List Object)
 objects_told strings codes ways [] = Some []
 objects_told strings codes ways (e ∷ es) =
-    and_some (exits_taken e.kind ways) (λ taken. and_some (object_told strings codes taken.0 e) (λ object. and_some (objects_told strings codes taken.1 es) (λ objects. Some (object ∷ objects))))
+    and_some (place_of e.relation e.holder) (λ place. and_some (exits_taken e.kind ways) (λ taken. and_some (object_told strings codes place taken.0 e) (λ object.
+    and_some (objects_told strings codes taken.1 es) (λ objects. Some (object ∷ objects)))))
 
 abbrev pub tale_with : List Object → Option Tale
 tale_with objects = Some (record { objects = objects })
 
 unfoldable pub tale_told : Tables → Option Tale
 tale_told t = and_some (objects_told t.strings t.codes t.ways t.objects) tale_with
-
-abbrev pub items_found : Option (Vec Object) → Option (List Object)
-items_found found = option_map (λ v. v.items) found
 
 abbrev pub ways_seen : Option (Exits × Bor (List Exits)) → Option (Exits × List Exits)
 ways_seen found = option_map (λ p. (p.0, p.1.now)) found

@@ -1,5 +1,5 @@
 //! What tables 1 to 12 say, whatever the codes are: each test is named after what it asks.
-ghost use Rattle.std.specs.Prelude.{◌≡◌, IfOk, length, count_by, map, filter};
+ghost use Rattle.std.specs.Prelude.{◌≡◌, IfOk, true, length, count_by, map, filter};
 ghost use Rattle.std.specs.List.{list_all, flat_map};
 ghost use Rattle.story_format.specs.Shape.{lead_to_rooms};
 ghost use Rattle.story_format.specs.Checks.{has_no_world, has_no_rules, are_distinct, is_named, are_named, has_words, is_plain, is_player_entry, is_direction_entry, is_room_entry, are_direction_entries, are_in_place, are_named_in_order, strings_named, codes_named, is_of_room, are_right};
@@ -83,13 +83,50 @@ fn has_words(alloc: Global, strings: &[TextBytes], entry: &Entry) -> Result<bool
     Ok(are_named(strings, numbers, words.as_slice()))
 }
 
+/// Whether two entries have the same kind, name and words.
+fn are_alike(entry: &Entry, other: &Entry) -> bool
+    ensures { result ≡ true → (entry.now.kind ≡ other.now.kind) × (entry.now.name ≡ other.now.name) × (entry.now.words ≡ other.now.words) }
+{
+    entry.kind == other.kind
+        && entry.name == other.name
+        && entry.words.as_slice() == other.words.as_slice()
+}
+
+/// Whether an entry has its words, where those before it do. If one of them, in this place, is like it,
+/// no words are made.
+fn has_words_like(
+    alloc: Global,
+    strings: &[TextBytes],
+    before: &[Entry],
+    place: usize,
+    entry: &Entry,
+) -> Result<bool, AllocError>
+    requires { list_all (has_words strings.now) before.now ≡ true }
+    ensures { IfOk result (λ has. has ≡ has_words strings.now entry.now) }
+{
+    match before.get(place) {
+        Some(other) if are_alike(entry, other) => Ok(true),
+        _ => has_words(alloc, strings, entry),
+    }
+}
+
+/// Whether each entry has its words. Those of a name are made once, however many entries have it.
 fn have_words(alloc: Global, strings: &[TextBytes], entries: &[Entry]) -> Result<bool, AllocError>
     ensures { IfOk result (λ have. have ≡ list_all (has_words strings.now) entries.now) }
 {
+    let mut places = vec![in alloc; 0usize; strings.len()]?;
+    let mut index = 0usize;
     for entry in entries {
-        if !has_words(alloc, strings, entry)? {
+        let name = entry.name as usize;
+        let (before, _) = entries.split_at(index);
+        let place = places.get(name).copied().unwrap_or(0);
+        if !has_words_like(alloc, strings, before, place, entry)? {
             return Ok(false);
         }
+        if name < places.len() {
+            places[name] = index;
+        }
+        index += 1;
     }
     Ok(true)
 }
@@ -201,7 +238,7 @@ fn are_named_in_order(numbers: &[u16]) -> bool
 }
 
 /// The strings that the entries name, in order.
-fn strings_named(alloc: Global, entries: &[Entry]) -> Result<Vec<u16>, AllocError>
+pub fn strings_named(alloc: Global, entries: &[Entry]) -> Result<Vec<u16>, AllocError>
     ensures { IfOk result (λ numbers. numbers.items ≡ flat_map strings_named entries.now) }
 {
     let mut numbers = Vec::new(alloc);
@@ -213,7 +250,7 @@ fn strings_named(alloc: Global, entries: &[Entry]) -> Result<Vec<u16>, AllocErro
 }
 
 /// The codes that the entries name, in order.
-fn codes_named(alloc: Global, entries: &[Entry]) -> Result<Vec<u16>, AllocError>
+pub fn codes_named(alloc: Global, entries: &[Entry]) -> Result<Vec<u16>, AllocError>
     ensures { IfOk result (λ numbers. numbers.items ≡ codes_named entries.now) }
 {
     let mut numbers = Vec::new(alloc);

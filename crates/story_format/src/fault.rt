@@ -24,7 +24,8 @@ pub enum LoadFault {
     /// A table says what no story says.
     #[error("L5 BadTable")]
     BadTable,
-    /// A code isn't sound, or isn't named exactly once, or a string is named by none.
+    /// A code isn't sound, or isn't named exactly once, or a string that only codes name is out of order, or
+    /// a string is named by none.
     #[error("L6 BadCode")]
     BadCode,
     /// A book's rules are out of order; not yet told, since this version has no rules.

@@ -5,12 +5,14 @@
 mod checks;
 mod fault;
 mod field;
+mod keeping;
 mod laws;
 mod loading;
 mod making;
 mod number;
 mod place;
 mod shape;
+mod soundness;
 mod story;
 mod strings;
 mod table;
@@ -21,7 +23,10 @@ mod words;
 mod writing;
 
 pub use fault::LoadFault;
-pub use laws::{one_spelling, one_story, stories_stand, written_is_spelled};
+pub use laws::{
+    one_fault, one_spelling, one_story, spelled_or_refused, stories_stand, tales_are_told,
+    tales_pass_the_tests, written_is_spelled,
+};
 pub use loading::load;
 pub use shape::is_writable;
 pub use story::Story;

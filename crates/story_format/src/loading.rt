@@ -1,24 +1,27 @@
-//! Loading a story: its tables are read, the tale that they tell is looked at, and its own spelling is
-//! compared with the bytes, so that no story has two spellings.
-ghost use Rattle.std.specs.Prelude.{◌≡◌, ◌↔◌, IfOk, IsTrue, Ok, None, IfErr, IfSome};
+//! Loading a story: its tables are read, tested, and told as a tale. Tables that pass the tests are those
+//! of a tale, so that no story has two spellings.
+ghost use Rattle.std.specs.Prelude.{◌≡◌, IfOk, IfErr, true};
 ghost use Rattle.std.specs.Result.{MatchResult};
-ghost use Rattle.story_format.specs.Making.{magic, spelling};
+ghost use Rattle.story_format.specs.Layout.{tables_format};
+ghost use Rattle.story_format.specs.Making.{tables_of};
+ghost use Rattle.story_format.specs.Shape.{IsTale};
+ghost use Rattle.story_format.specs.Checks.{are_right};
+ghost use Rattle.story_format.specs.Soundness.{are_sound};
 ghost use Rattle.story_format.specs.Reading.{Gives, tables_read};
 ghost use Rattle.story_format.specs.Spells.{Spells};
-ghost use Rattle.story_format.specs.Refusals.{IsNoStory, IsRefused};
+ghost use Rattle.story_format.specs.Refusals.{IsRefused};
 ghost use Rattle.story_format.specs.declared.fault.LoadFault.TheVariants.{Memory};
 ghost use Rattle.world_meaning.specs.declared.tale.Tale.{Tale};
 
 use crate::checks::are_right;
 use crate::fault::LoadFault;
 use crate::field::Field;
-use crate::shape::is_writable;
+use crate::soundness::are_sound;
 use crate::story::Story;
 use crate::tables::Tables;
 use crate::telling::tale_told;
-use crate::writing::{MAGIC, VERSION, write};
+use crate::writing::{MAGIC, VERSION};
 use std::alloc::{AllocError, Global};
-use world_meaning::Tale;
 
 /// The tables of a story's bytes.
 #[tactic(auto, unfolding(crate::specs::Reading::tables_read))]
@@ -47,34 +50,21 @@ fn tables_read(alloc: Global, bytes: &[u8]) -> Result<Tables, LoadFault>
     Ok(tables)
 }
 
-/// Whether these are the bytes of the tale's story.
-fn spell(alloc: Global, bytes: &[u8], tale: &Tale) -> Result<bool, AllocError>
-    ensures { IfOk result (λ same. IsTrue same ↔ Spells bytes.now tale.now) }
+/// The story of tables that are right and whose codes are sound.
+fn story_told(alloc: Global, tables: Tables) -> Result<Story, AllocError>
+    requires right { are_right tables ≡ true }
+    requires sound { are_sound tables ≡ true }
+    requires fits { tables_format.fits tables ≡ true }
+    ensures { IfOk result (λ story. IsTale story × (tables_of story ≡ tables)) }
 {
-    if !is_writable(alloc, tale)? {
-        return Ok(false);
+    match tale_told(alloc, &tables)? {
+        Some(objects) => Ok(Story::new(tables.strings, objects)),
+        None => unreachable!(),
     }
-    let spelling = write(alloc, tale)?;
-    Ok(spelling.as_slice() == bytes)
 }
 
-/// The story of bytes whose tables were read, if they are a story's.
-fn story_told(alloc: Global, bytes: &[u8], tables: &Tables) -> Result<Option<Story>, AllocError>
-    requires { tables_read bytes.now ≡ Ok tables.now }
-    ensures found { IfOk result (λ found. IfSome found (Spells bytes.now)) }
-    ensures none { IfOk result (λ found. found ≡ None → IsNoStory bytes.now) }
-{
-    let Some(tale) = tale_told(alloc, tables)? else {
-        return Ok(None);
-    };
-    if !spell(alloc, bytes, &tale)? {
-        return Ok(None);
-    }
-    Ok(Some(Story::new(tale)))
-}
-
-/// The story that the bytes spell. Hostile bytes take time and memory in proportion to what they hold
-/// and to what their objects are named.
+/// The story that the bytes spell. Hostile bytes too take time and memory in proportion to their number:
+/// what many objects share, as a name, is tested and kept once.
 pub fn load(alloc: Global, bytes: &[u8]) -> Result<Story, LoadFault>
     // What is loaded is the story that the bytes spell.
     ensures found { IfOk result (Spells bytes.now) }
@@ -89,8 +79,8 @@ pub fn load(alloc: Global, bytes: &[u8]) -> Result<Story, LoadFault>
     if !are_right(alloc, &tables)? {
         return Err(LoadFault::BadTable);
     }
-    match story_told(alloc, bytes, &tables)? {
-        Some(story) => Ok(story),
-        None => Err(LoadFault::BadCode),
+    if !are_sound(alloc, &tables)? {
+        return Err(LoadFault::BadCode);
     }
+    Ok(story_told(alloc, tables)?)
 }

@@ -3,51 +3,57 @@ ghost use Rattle.std.specs.Prelude.{◌≡◌, length};
 ghost use Rattle.std.specs.Option.{option_map};
 ghost use Rattle.world_meaning.specs.Tale.{description_of, name_of, start_of, way_of};
 
+use crate::keeping::{KeptObject, text_at};
+use crate::table::Table;
 use std::marker::Model;
-use world_meaning::{Direction, ObjNo, Tale};
+use world_meaning::{Direction, ObjNo, TextBytes};
 
-/// A story: the tale that it tells, which is one that a story file can hold.
+/// A story: the tale that it tells, which is one that a story file can hold. Each string is kept once,
+/// whoever has it.
 #[derive(Debug, Drop)]
 pub struct Story {
-    tale: Tale,
+    strings: Table<TextBytes>,
+    objects: Vec<KeptObject>,
 }
 
 impl Model for Story {
     ghost use Rattle.world_meaning.specs.declared.tale.Tale.{Tale};
     ghost use Rattle.story_format.specs.Shape.{IsTale};
+    ghost use Rattle.story_format.specs.Keeping.{tale_kept};
 
     ghost Value = { Tale };
 
-    ghost view = { λ story. story.tale };
+    ghost view = { λ story. tale_kept story.strings story.objects.items };
 
-    ghost invariant = { λ story. IsTale story.tale };
+    ghost invariant = { λ story. IsTale (tale_kept story.strings story.objects.items) };
 }
 
 impl Story {
     ghost use Rattle.story_format.specs.Shape.{IsTale};
+    ghost use Rattle.story_format.specs.Keeping.{tale_kept};
     ghost use Rattle.world_meaning.specs.Directions.{direction_number};
 
-    /// The story of a tale.
-    pub(crate) fn new(tale: Tale) -> Story
-        requires { IsTale tale }
-        ensures { result ≡ tale }
+    /// The story of a tale of which these objects are kept.
+    pub(crate) fn new(strings: Table<TextBytes>, objects: Vec<KeptObject>) -> Story
+        requires { IsTale (tale_kept strings objects.items) }
+        ensures { result ≡ tale_kept strings objects.items }
     {
-        Story { tale }
+        Story { strings, objects }
     }
 
     /// How many objects there are: the player, the directions and the rooms.
     pub fn object_count(&self) -> usize
         ensures { result ≡ length self.now.objects }
     {
-        self.tale.objects.as_slice().len()
+        self.objects.len()
     }
 
     /// The object's name, as it is printed; no bytes where there is no such object.
     pub fn name(&self, object: ObjNo) -> &[u8]
         ensures { result.now ≡ name_of self.now object }
     {
-        match self.tale.objects.as_slice().get(object.get() as usize) {
-            Some(object) => object.name.as_slice(),
+        match self.objects.get(object.get() as usize) {
+            Some(object) => text_at(self.strings.as_slice(), object.name),
             None => &[],
         }
     }
@@ -56,20 +62,15 @@ impl Story {
     pub fn description(&self, object: ObjNo) -> Option<&[u8]>
         ensures { option_map (λ text. text.now) result ≡ description_of self.now object }
     {
-        match self.tale.objects.as_slice().get(object.get() as usize) {
-            Some(object) => match &object.description {
-                Some(text) => Some(text.as_slice()),
-                None => None,
-            },
-            None => None,
-        }
+        let text = self.objects.get(object.get() as usize)?.description?;
+        Some(text_at(self.strings.as_slice(), text))
     }
 
     /// The room beyond the way in that direction.
     pub fn way(&self, room: ObjNo, direction: Direction) -> Option<ObjNo>
         ensures { result ≡ way_of self.now room (direction_number direction) }
     {
-        let object = self.tale.objects.as_slice().get(room.get() as usize)?;
+        let object = self.objects.get(room.get() as usize)?;
         let number = direction.number().get();
         if number == 0 {
             return None;
@@ -82,7 +83,7 @@ impl Story {
     pub fn start(&self) -> ObjNo
         ensures { result ≡ start_of self.now }
     {
-        match self.tale.objects.as_slice().get(0) {
+        match self.objects.get(0) {
             Some(player) => match player.place {
                 Some(place) => place.holder,
                 None => ObjNo::new(0),

@@ -8,7 +8,7 @@ use std::alloc::{AllocError, Global};
 use std::marker::Model;
 
 /// The entries of a table, in order.
-#[derive(Drop)]
+#[derive(Debug, Drop)]
 pub struct Table<F> {
     all: Vec<F>,
 }

@@ -1,12 +1,15 @@
 //! The tale that tables tell.
-ghost use Rattle.std.specs.Prelude.{◌≡◌, IfOk, slice_get, option_copied};
-ghost use Rattle.story_format.specs.Telling.{article_of, relation_of, place_of, said, description_of, object_told, exits_taken, ways_seen, objects_told, items_found, tale_told};
+ghost use Rattle.std.specs.Prelude.{◌≡◌, IfOk};
+ghost use Rattle.std.specs.Option.{option_map};
+ghost use Rattle.story_format.specs.Keeping.{text_at, object_kept, objects_found, tale_found};
+ghost use Rattle.story_format.specs.Telling.{article_of, relation_of, place_of, said, description_of, object_told, exits_taken, ways_seen, objects_told, tale_told};
 
+use crate::keeping::KeptObject;
 use crate::making::{DONE, ROOM, SAY};
 use crate::place::{NO_WAY, NONE};
 use crate::tables::{Entry, Tables};
 use std::alloc::{AllocError, Global};
-use world_meaning::{Article, Exits, KindNo, ObjNo, Object, Objects, Place, Rel, Tale, TextBytes};
+use world_meaning::{Article, Exits, KindNo, ObjNo, Place, Rel, TextBytes};
 
 /// The ways of an object that is no room.
 const NO_EXITS: Exits = Exits { ways: [NO_WAY; 12] };
@@ -52,15 +55,16 @@ fn place_of(relation: u8, holder: u16) -> Option<Option<Place>>
     }
 }
 
-/// The string that a code says.
+/// The number of the string that a code says.
 #[tactic(auto, unfolding(crate::specs::Telling::said))]
-fn said<'a>(strings: &'a [TextBytes], code: &[u8]) -> Option<&'a TextBytes>
-    ensures { option_copied result ≡ said strings.now code.now }
+fn said(strings: &[TextBytes], code: &[u8]) -> Option<u16>
+    ensures { option_map (text_at strings.now) result ≡ said strings.now code.now }
 {
     match code {
         [a, b, c, d] => {
-            if *a == SAY && *d == DONE {
-                strings.get(u16::from_be_bytes([*b, *c]) as usize)
+            let number = u16::from_be_bytes([*b, *c]);
+            if *a == SAY && *d == DONE && (number as usize) < strings.len() {
+                Some(number)
             } else {
                 None
             }
@@ -69,61 +73,41 @@ fn said<'a>(strings: &'a [TextBytes], code: &[u8]) -> Option<&'a TextBytes>
     }
 }
 
-/// The description of this code, where a number stands for one.
+/// The string of the description of this code, where a number stands for one.
 #[tactic(auto, unfolding(crate::specs::Telling::description_of))]
-fn description_of(
-    alloc: Global,
-    strings: &[TextBytes],
-    codes: &[TextBytes],
-    number: u16,
-) -> Result<Option<Option<TextBytes>>, AllocError>
-    ensures { IfOk result (λ found. found ≡ description_of strings.now codes.now number) }
+fn description_of(strings: &[TextBytes], codes: &[TextBytes], number: u16) -> Option<Option<u16>>
+    ensures { option_map (option_map (text_at strings.now)) result ≡ description_of strings.now codes.now number }
 {
     if number == NONE {
-        return Ok(Some(None));
+        return Some(None);
     }
-    let Some(code) = codes.get(number as usize) else {
-        return Ok(None);
-    };
-    let Some(text) = said(strings, code.as_slice()) else {
-        return Ok(None);
-    };
-    Ok(Some(Some(TextBytes::copied(alloc, text.as_slice())?)))
+    let code = codes.get(number as usize)?;
+    let text = said(strings, code.as_slice())?;
+    Some(Some(text))
 }
 
-/// The object of an entry.
+/// The object of an entry, with this place and these exits.
 #[tactic(auto, unfolding(crate::specs::Telling::object_told))]
 fn object_told(
-    alloc: Global,
     strings: &[TextBytes],
     codes: &[TextBytes],
+    place: Option<Place>,
     exits: Exits,
     entry: &Entry,
-) -> Result<Option<Object>, AllocError>
-    ensures { IfOk result (λ found. found ≡ object_told strings.now codes.now exits entry.now) }
+) -> Option<KeptObject>
+    ensures { option_map (object_kept strings.now) result ≡ object_told strings.now codes.now place exits entry.now }
 {
-    let Some(name) = strings.get(entry.name as usize) else {
-        return Ok(None);
-    };
-    let Some(article) = article_of(entry.article) else {
-        return Ok(None);
-    };
-    let Some(description) = description_of(alloc, strings, codes, entry.description)? else {
-        return Ok(None);
-    };
-    let Some(place) = place_of(entry.relation, entry.holder) else {
-        return Ok(None);
-    };
-    let name = TextBytes::copied(alloc, name.as_slice())?;
-    let kind = KindNo::new(entry.kind);
-    Ok(Some(Object {
-        kind,
-        name,
+    strings.get(entry.name as usize)?;
+    let article = article_of(entry.article)?;
+    let description = description_of(strings, codes, entry.description)?;
+    Some(KeptObject {
+        kind: KindNo::new(entry.kind),
+        name: entry.name,
         article,
         description,
         place,
         exits,
-    }))
+    })
 }
 
 /// The exits of an object of this kind, and the ways behind them.
@@ -147,17 +131,20 @@ fn objects_told(
     codes: &[TextBytes],
     ways: &[Exits],
     entries: &[Entry],
-) -> Result<Option<Vec<Object>>, AllocError>
-    ensures { IfOk result (λ found. items_found found ≡ objects_told strings.now codes.now ways.now entries.now) }
+) -> Result<Option<Vec<KeptObject>>, AllocError>
+    ensures { IfOk result (λ found. objects_found strings.now found ≡ objects_told strings.now codes.now ways.now entries.now) }
 {
     let mut objects = Vec::new(alloc);
     let mut ways = ways;
     let mut entries = entries;
     while let [entry, others @ ..] = entries {
+        let Some(place) = place_of(entry.relation, entry.holder) else {
+            return Ok(None);
+        };
         let Some((exits, after)) = exits_taken(entry.kind, ways) else {
             return Ok(None);
         };
-        let Some(object) = object_told(alloc, strings, codes, exits, entry)? else {
+        let Some(object) = object_told(strings, codes, place, exits, entry) else {
             return Ok(None);
         };
         objects.push(object)?;
@@ -167,23 +154,16 @@ fn objects_told(
     Ok(Some(objects))
 }
 
-/// The tale of the tables, if they tell one.
+/// The objects of the tale of the tables, if they tell one.
 #[tactic(auto, unfolding(crate::specs::Telling::tale_told))]
-pub fn tale_told(alloc: Global, tables: &Tables) -> Result<Option<Tale>, AllocError>
-    ensures { IfOk result (λ found. found ≡ tale_told tables.now) }
+pub fn tale_told(alloc: Global, tables: &Tables) -> Result<Option<Vec<KeptObject>>, AllocError>
+    ensures { IfOk result (λ found. tale_found tables.now.strings found ≡ tale_told tables.now) }
 {
-    let strings = tables.strings.as_slice();
-    let codes = tables.codes.as_slice();
-    let Some(all) = objects_told(
+    objects_told(
         alloc,
-        strings,
-        codes,
+        tables.strings.as_slice(),
+        tables.codes.as_slice(),
         tables.ways.as_slice(),
         tables.objects.as_slice(),
-    )?
-    else {
-        return Ok(None);
-    };
-    let objects = Objects::new(all);
-    Ok(Some(Tale { objects }))
+    )
 }

@@ -127,6 +127,15 @@ fn changed(alloc: Global, place: usize, byte: u8) -> Result<Vec<u8>, AllocError>
     Ok(bytes)
 }
 
+/// The story with another number of two bytes, each of them this one.
+fn renumbered(alloc: Global, place: usize, byte: u8) -> Result<Vec<u8>, AllocError> {
+    let mut bytes = changed(alloc, place, byte)?;
+    if place < bytes.len() && bytes.len() - place > 1 {
+        bytes[place + 1] = byte;
+    }
+    Ok(bytes)
+}
+
 #[test]
 fn writes_the_bytes(rt: HostRuntime) -> Result<(), Fail> {
     let alloc = rt.alloc();
@@ -233,6 +242,23 @@ fn refuses_bad_tables_and_codes(rt: HostRuntime) -> Result<(), Fail> {
             fault_of(alloc, changed(alloc, *place, *byte)?.as_slice()),
             Some(LoadFault::BadCode),
             "byte {place}"
+        );
+    }
+    Ok(())
+}
+
+#[test]
+fn refuses_codes_named_twice_or_never(rt: HostRuntime) -> Result<(), Fail> {
+    let alloc = rt.alloc();
+    let codes = [
+        (444usize, 255u8), // no description of the Hall
+        (458, 0), // the Hall's description is the Garden's too
+    ];
+    for (place, byte) in &codes {
+        assert_eq!(rt;
+            fault_of(alloc, renumbered(alloc, *place, *byte)?.as_slice()),
+            Some(LoadFault::BadCode),
+            "bytes {place}"
         );
     }
     Ok(())

@@ -1,17 +1,13 @@
-use Rattle.std.proofs.Common.{sym, ◌∙◌, subst}
-use Rattle.world_meaning.specs.declared.tale.Tale.{Tale}
-use Rattle.story_format.specs.Spells.{Spells}
-use Rattle.story_format.proofs.ReadingLemmas.{spelled_told, some_is}
+use Rattle.std.proofs.Common.{sym, ap, ◌∙◌}
+use Rattle.story_format.specs.Keeping.{tale_kept, tale_found}
+use Rattle.story_format.proofs.TaleLemmas.{told_is, not_untold}
 use Rattle.story_format.proofs.loading.story_told.Goals as goal
 
-pub returns-in_default-clause-none : goal.returns-in_default-clause-none
-returns-in_default-clause-none c = λ e tale spells.
-    let told = spelled_told c.args.bytes.now tale c.args.tables.now spells c.requires in
-    let z = sym c.in_default.is ∙ c.in_ok-tale.ensures ∙ told in absurd cc
+pub new-requires : goal.new-requires
+new-requires c = (told_is c.args.tables (tale_kept c.args.tables.strings c.in-Some.objects.items) c.requires.right c.requires.sound c.requires.fits (sym c.in_ok-objects.ensures ∙ ap (tale_found c.args.tables.strings) c.in-Some.is)).0
 
-pub returns-then-not-branch-clause-none : goal.returns-then-not-branch-clause-none
-returns-then-not-branch-clause-none c = λ e tale spells.
-    let told = spelled_told c.args.bytes.now tale c.args.tables.now spells c.requires in
-    let same = some_is c.in-Some.tale tale (sym c.in-Some.is ∙ c.in_ok-tale.ensures ∙ told) in
-    let yes_it_does = c.in_ok-spell.ensures.1 (subst (λ (t : Tale). Spells c.args.bytes.now t) (sym same) spells) in
-    let z = rw c.if-not-branch.true at yes_it_does in absurd cc
+pub unreachable-requires : goal.unreachable-requires
+unreachable-requires c = not_untold c.args.tables c.requires.right c.requires.sound c.requires.fits (sym c.in_ok-objects.ensures ∙ ap (tale_found c.args.tables.strings) c.in-None.is)
+
+pub returns : goal.returns
+returns c = rw c.new.ensures (told_is c.args.tables (tale_kept c.args.tables.strings c.in-Some.objects.items) c.requires.right c.requires.sound c.requires.fits (sym c.in_ok-objects.ensures ∙ ap (tale_found c.args.tables.strings) c.in-Some.is))
