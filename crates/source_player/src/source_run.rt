@@ -1,6 +1,7 @@
 //! Compiling, loading, starting and playing a source.
 ghost use Rattle.std.specs.Prelude.{◌≡◌, false, IfErr, IfOk, OnOk};
-ghost use Rattle.source_player.specs.SourceRuns.{FaultsWith, Leaves, PlayedSource};
+ghost use Rattle.source_player.specs.SourceRuns.{FaultsWith, IsBegun, Leaves, NotBegun, PlayedSource};
+ghost use Rattle.story_player.specs.Sessions.{state_of, tale_of};
 ghost use Rattle.story_player.specs.Watches.{watched_failed, watched_inner};
 
 use std::alloc::Global;
@@ -21,6 +22,25 @@ pub enum SourceRunFault {
     Start(StartFault),
     #[error("{0}")]
     Run(RunFault),
+}
+
+/// Compiles the source, loads the story and begins it.
+fn begin(alloc: Global, source: &[u8]) -> Result<Session, SourceRunFault>
+    ensures begun { IfOk result (λ session. IsBegun source.now (tale_of session) (state_of session)) }
+    ensures refused { IfErr result (λ fault. NotBegun fault source.now) }
+{
+    let bytes = match compile(alloc, source) {
+        Ok(bytes) => bytes,
+        Err(fault) => return Err(SourceRunFault::Source(fault)),
+    };
+    let story = match load(alloc, bytes.as_slice()) {
+        Ok(story) => story,
+        Err(fault) => return Err(SourceRunFault::Story(fault)),
+    };
+    match Session::start(alloc, story) {
+        Ok(session) => Ok(session),
+        Err(fault) => Err(SourceRunFault::Start(fault)),
+    }
 }
 
 /// Compiles the source, loads the story, begins it and plays it over the reader and the writer, each
@@ -46,9 +66,7 @@ pub fn run_source<R: Read, W: Write>(
     ensures stand { OnOk result ((watched_failed reader.new ≡ false) × (watched_failed writer.new ≡ false)) }
     ensures broke { IfErr result (λ fault. FaultsWith fault (watched_failed reader.new) (watched_failed writer.new)) }
 {
-    let bytes = compile(alloc, source).map_err(SourceRunFault::Source)?;
-    let story = load(alloc, bytes.as_slice()).map_err(SourceRunFault::Story)?;
-    let mut session = Session::start(alloc, story).map_err(SourceRunFault::Start)?;
+    let mut session = begin(alloc, source)?;
     match run(reader, writer, &mut session, echo) {
         Ok(ending) => Ok(ending),
         Err(fault) => Err(SourceRunFault::Run(fault)),
