@@ -12,7 +12,7 @@ use Rattle.i7_lexer.specs.Bytes.{newlines}
 use Rattle.i7_lexer.specs.Lexemes.{IsNext, IsCut, spelled}
 use Rattle.i7_lexer.specs.Places.{at_front, after, after_all, placed_from, breaks_of}
 use Rattle.i7_lexer.specs.Scans.{next_of}
-use Rattle.i7_lexer.specs.Cuts.{IsPlaced, IsUnclosedIn}
+use Rattle.i7_lexer.specs.Cuts.{IsUnclosedIn}
 use Rattle.i7_lexer.proofs.Scanning.{next_is, unclosed_is}
 
 pub newlines-le-length : (bytes : List ℕ) → newlines bytes ≤ length bytes
@@ -42,9 +42,6 @@ pub record SoFar (text rest : List ℕ) (at : Cursor) (placed : List Placed) : T
   pub cut : IsCut lexemes text rest
   pub at_is : at ≡ after_all at_front lexemes
   pub placed_is : placed ≡ placed_from at_front lexemes
-
-pub so_far-start : (text : List ℕ) → SoFar text text at_front []
-so_far-start text = record { lexemes = []; cut = refl; at_is = refl; placed_is = refl }
 
 cut-push : (ls : List Lexeme) (l : Lexeme) (text rest behind : List ℕ) → IsCut ls text rest → IsNext l rest behind → IsCut (ls ++ l ∷ []) text behind
 cut-push [] l text rest behind cut next = (behind, (rw cut next, refl))
@@ -94,10 +91,6 @@ pub next-within : (rest : List ℕ) (l : Lexeme) (behind : List ℕ) → next_of
 next-within rest l behind found =
     let next = next_is rest l behind found in
     (sym (ap length next.spells ∙ length-append (spelled l) behind), breaks_of-le l, next-shorter l rest behind next)
-
-pub so_far-end : (text rest : List ℕ) (at : Cursor) (placed : List Placed) → SoFar text rest at placed → length rest ≡ 0 → IsPlaced text placed
-so_far-end text [] at placed before h = record { lexemes = before.lexemes; cut = before.cut; placed_is = before.placed_is }
-so_far-end text (b ∷ bytes) at placed before h = absurd (omega arith)
 
 pub so_far-unclosed : (text rest : List ℕ) (at : Cursor) (placed : List Placed) → SoFar text rest at placed → 0 < length rest → next_of rest ≡ None → IsUnclosedIn text at.line
 so_far-unclosed text [] at placed before h none = absurd (omega arith)

@@ -8,7 +8,7 @@ use Rattle.i7_lexer.specs.declared.lexeme.Lexeme.TheVariants.{Kept, Space, Comme
 use Rattle.i7_lexer.specs.declared.lexeme.Piece.TheVariants.{Word, Text, Mark}
 use Rattle.i7_lexer.specs.Bytes.{is_letter, is_blank, class_of}
 use Rattle.i7_lexer.specs.Lexemes.{IsNext, IsCut, IsUnclosed, IsInside, begins_with}
-use Rattle.i7_lexer.specs.Scans.{next_of, next_by, word_of, space_of, text_from, comment_from}
+use Rattle.i7_lexer.specs.Scans.{next_of, word_of, space_of, text_from, comment_from}
 use Rattle.i7_lexer.proofs.Runs.{prefix_len_at, and_left}
 use Rattle.i7_lexer.proofs.Classes.{class-letter, class-blank, class_34, class_91}
 use Rattle.i7_lexer.proofs.Quotes.{front_of_is, no_quote, behind_quote_at, behind_quote_none}
@@ -34,9 +34,6 @@ comment_from_at : (inner rest : List ℕ) → IsInside inner → comment_from ((
 unfolding comment_from
 comment_from_at inner rest inside =
     rw (append_assoc inner (93 ∷ []) rest, closing_at inner rest inside) (ap (λ t. Some (Comment t, rest)) (front_of_is inner 93 rest))
-
-next_by_class : (b : ℕ) (bytes : List ℕ) (l : Lexeme) (rest : List ℕ) → next_by (class_of b) b bytes ≡ Some (l, rest) → next_of (b ∷ bytes) ≡ Some (l, rest)
-next_by_class b bytes l rest h = h
 
 -- the first lexeme is what is read
 pub next_from : (l : Lexeme) (bytes rest : List ℕ) → IsNext l bytes rest → next_of bytes ≡ Some (l, rest)

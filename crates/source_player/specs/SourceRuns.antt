@@ -1,5 +1,5 @@
 -- What playing a source does to its reader and its writer.
-use Rattle.std.specs.Prelude.{◌≡◌, ℕ, Bool, true, false, List, Option, Some}
+use Rattle.std.specs.Prelude.{◌≡◌, ℕ, Bool, false, List, Option, Some}
 use Rattle.world_meaning.specs.Session.{State, opening_text, start_state}
 use Rattle.world_meaning.specs.declared.session.Ending.{Ending}
 use Rattle.world_meaning.specs.declared.tale.Tale.{Tale}

@@ -75,10 +75,6 @@ pub small-first : (a b : Option ℕ) → IsSmall a → IsSmall b → IsSmall (fi
 small-first None b first second = second
 small-first (Some n) b first second = first
 
-pub small-led : (target : ℕ) → target ≤ 1000 → (here : Bool) (rest : Option ℕ) → IsSmall rest → IsSmall (cond here (Some target) rest)
-small-led target small true rest others = small
-small-led target small false rest others = others
-
 -- a lead in front of others
 pub small-lead : (lead : Lead) (leads : List Lead) (room direction : ℕ) → lead.target ≤ 1000 → IsSmall (first_target leads room direction) → IsSmall (first_target (lead ∷ leads) room direction)
 small-lead lead leads room direction small others =
@@ -144,5 +140,3 @@ frame_few statements mentions none =
 -- so a source without refusal leads within a story
 pub frame_within : (statements : List Statement) (mentions : List NameAt) → AreWithin (13 + length mentions) statements → frame_refusal statements mentions ≡ None → LeadWithin statements
 frame_within statements mentions within none = lead-within (13 + length mentions) statements (frame_few statements mentions none) within
-
-pub ruleset bound_steps = (source-within, frame_within)

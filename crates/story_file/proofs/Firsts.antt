@@ -7,10 +7,6 @@ pub first_none : {X : Type 0} (x : Option X) → first_of x None ≡ x
 first_none None = refl
 first_none (Some x) = refl
 
-pub first_assoc : {X : Type 0} (a b c : Option X) → first_of (first_of a b) c ≡ first_of a (first_of b c)
-first_assoc None b c = refl
-first_assoc (Some a) b c = refl
-
 -- a new key is put
 pub first_put : {K X Y : Type 0} (eq : K → K → Bool) (sound : (a b : K) → eq a b ≡ true → a ≡ b) (seen : Option X → Option Y) (keeps : seen None ≡ None) (old new : K → Option X) (key : K) (value : X) (shown : Y) → seen (Some value) ≡ Some shown
     → ((q : K) → new q ≡ cond (eq key q) (Some value) (old q)) → old key ≡ None → (k : K) → seen (new k) ≡ first_of (seen (old k)) (given eq key shown k)
@@ -21,13 +17,3 @@ first_put {K} {X} {Y} eq sound seen keeps old new key value shown is put none k 
       | false ↦ λ other. sym (first_none (seen (old k)))
     ] in
     ap seen (put k) ∙ same (eq key k) refl
-
--- a key that is there keeps what it has
-pub first_kept : {K Y : Type 0} (eq : K → K → Bool) (sound : (a b : K) → eq a b ≡ true → a ≡ b) (old : K → Option Y) (key : K) (value had : Y) → old key ≡ Some had → (k : K) → old k ≡ first_of (old k) (given eq key value k)
-first_kept {K} {Y} eq sound old key value had some k =
-    let Goal : Bool → Type 0 = λ v. eq key k ≡ v → old k ≡ first_of (old k) (cond v (Some value) None) in
-    let same : (v : Bool) → eq key k ≡ v → old k ≡ first_of (old k) (cond v (Some value) None) = λ v. elim v as Goal [
-      | true ↦ λ here. let is = ap old (sym (sound key k here)) ∙ some in is ∙ sym (ap (λ x. first_of x (Some value)) is)
-      | false ↦ λ other. sym (first_none (old k))
-    ] in
-    same (eq key k) refl

@@ -36,10 +36,6 @@ built_in_keys = codes "yourself" ∷ map direction_name all_directions
 abbrev pub has_key : List (List ℕ) → List ℕ → Bool
 has_key keys key = list_any (bytes_eq key) keys
 
--- the keys so far and one more, if it is new
-abbrev pub with_key : List (List ℕ) → List ℕ → List (List ℕ)
-with_key keys key = if has_key keys key then keys else keys ++ key ∷ []
-
 abbrev pub place_or : ℕ → Option ℕ → ℕ
 place_or other None = other
 place_or other (Some place) = place

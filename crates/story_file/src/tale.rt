@@ -98,7 +98,6 @@ fn limit_refusal(
 }
 
 /// The tale of these statements, or the refusal that stands.
-#[tactic(auto, using(crate::proofs::Bounds::bound_steps))]
 fn judged(
     alloc: Global,
     mentions: &[Mention<'_>],
@@ -120,7 +119,6 @@ fn judged(
 }
 
 /// What the sentences mean: a tale or a refusal.
-#[tactic(auto, using(crate::proofs::Bounds::bound_steps))]
 fn tale_said(alloc: Global, sentences: &[Sentence]) -> Result<Result<Tale, Fault>, AllocError>
     ensures { IfOk result (λ said. said ≡ tale_said sentences.now) }
 {

@@ -14,10 +14,8 @@ use Rattle.world_meaning.specs.declared.place.Rel.TheVariants as relations
 use Rattle.world_meaning.specs.declared.direction.Direction.{Direction}
 use Rattle.world_meaning.specs.Directions.{direction_name}
 use Rattle.world_meaning.specs.declared.tale.Object.{Object}
-use Rattle.world_meaning.specs.declared.tale.Tale.{Tale}
 use Rattle.story_format.specs.Words.{all_directions}
-use Rattle.story_format.specs.Shape.{is_room_number, is_room_or_none, leads_to_room, lead_to_rooms, is_closed, are_closed, is_in, stands_in_room, is_player, is_direction, is_room, are_directions, has_shape, has_no_article, IsTale}
-use Rattle.story_format.specs.Spells.{IsRoom, StartsIn}
+use Rattle.story_format.specs.Shape.{is_room_number, is_room_or_none, leads_to_room, lead_to_rooms, is_closed, are_closed, is_in, stands_in_room, is_player, is_direction, is_room, are_directions, has_shape, has_no_article}
 
 pub both_are : (a b : Bool) → (a && b) ≡ true → (a ≡ true) × (b ≡ true)
 both_are true true e = (refl, refl)
@@ -146,9 +144,6 @@ unfolding has_shape
 bound [] h = absurd cc
 bound (player ∷ others) h = let p = parts player others h in (omega arith, omega (arith, p.few))
 
-pub count_bound : (t : Tale) → IsTale t → (0 < length t.objects) × (length t.objects < 65536)
-count_bound t h = bound t.objects h.shape
-
 room_of : (n : ℕ) (w : Way) (r : ℕ) → leads_to_room n w ≡ true → w.room ≡ Some r → is_room_number n r ≡ true
 room_of n w r h e = let t = both_are (is_none w.door) (is_room_or_none n w.room) h in sym (ap (is_room_or_none n) e) ∙ t.1
 
@@ -165,9 +160,6 @@ way_in (player ∷ others) o object i way r h e f g =
 each : {P : ℕ → Type 0} (o : Option ℕ) → ((r : ℕ) → o ≡ Some r → P r) → IfSome o P
 each None f = tt
 each (Some r) f = f r refl
-
-pub way_leads : (t : Tale) (o : ℕ) (object : Object) (i : ℕ) (way : Way) → IsTale t → slice_get t.objects o ≡ Some object → slice_get object.exits.ways i ≡ Some way → IfSome way.room (IsRoom t)
-way_leads t o object i way h e f = each way.room (λ r g. way_in t.objects o object i way r h.shape e f g)
 
 only_in : (relation : Rel) → is_in relation ≡ true → relation ≡ relations.In
 only_in relations.In e = refl
@@ -187,21 +179,3 @@ stands (first ∷ others) player h e =
     let p = parts first others h in
     let count : length others + 1 ≡ length (first ∷ others) = omega arith in
     rw (← same, ← count) (player_parts (length others + 1) first p.player).3
-
-pub starts : (t : Tale) (player : Object) (place : Place) → IsTale t → slice_get t.objects 0 ≡ Some player → player.place ≡ Some place → StartsIn t place.holder
-starts t player place h e f =
-    let s = place_in (length t.objects) place (sym (ap (stands_in_room (length t.objects)) f) ∙ stands t.objects player h.shape e) in
-    some_and (λ player. player.place ≡ Some (record { relation = relations.In; holder = place.holder })) (slice_get t.objects 0) player e (f ∙ ap (λ (r : Rel). Some (record { relation = r; holder = place.holder })) s.0)
-
-numbered_room : (objects : List Object) (r : ℕ) → has_shape objects ≡ true → is_room_number (length objects) r ≡ true → IsSomeAnd (slice_get objects r) (λ object. object.kind ≡ 1)
-unfolding has_shape
-numbered_room [] r h e = absurd cc
-numbered_room (player ∷ others) r h e = let count : length (player ∷ others) ≡ length others + 1 = omega arith in room_there player others r (parts player others h) (sym (ap (λ n. is_room_number n r) count) ∙ e)
-
-pub starts_in_room : (t : Tale) (player : Object) (place : Place) → IsTale t → slice_get t.objects 0 ≡ Some player → player.place ≡ Some place → IsRoom t place.holder
-starts_in_room t player place h e f =
-    let s = place_in (length t.objects) place (sym (ap (stands_in_room (length t.objects)) f) ∙ stands t.objects player h.shape e) in
-    numbered_room t.objects place.holder h.shape s.1
-
-pub not_nowhere : (t : Tale) (player : Object) → IsTale t → slice_get t.objects 0 ≡ Some player → player.place ≡ None → ⊥
-not_nowhere t player h e f = let s : false ≡ true = sym (ap (stands_in_room (length t.objects)) f) ∙ stands t.objects player h.shape e in absurd cc

@@ -1,11 +1,8 @@
 -- What a story's bytes are, and what a story tells.
-use Rattle.std.specs.Prelude.{◌≡◌, ℕ, ◌-◌, Option, Some, None, List, slice_get}
+use Rattle.std.specs.Prelude.{◌≡◌, ℕ, Option, Some, None, List, slice_get}
 use Rattle.std.specs.Option.{IsSomeAnd}
 use Rattle.world_meaning.specs.declared.exits.Way.{Way}
-use Rattle.world_meaning.specs.declared.direction.Direction.{Direction}
-use Rattle.world_meaning.specs.Directions.{direction_number}
 use Rattle.world_meaning.specs.declared.place.Rel.TheVariants.{In}
-use Rattle.world_meaning.specs.declared.tale.Object.{Object}
 use Rattle.world_meaning.specs.declared.tale.Tale.{Tale}
 use Rattle.story_format.specs.Making.{spelling}
 use Rattle.story_format.specs.Shape.{IsTale}
@@ -23,10 +20,6 @@ IsRoom t o = IsSomeAnd (slice_get t.objects o) (λ object. object.kind ≡ 1)
 abbrev pub room_beyond : Option Way → Option ℕ
 room_beyond None = None
 room_beyond (Some way) = way.room
-
--- the room in that direction of an object
-abbrev pub room_towards : Object → Direction → Option ℕ
-room_towards object d = room_beyond (slice_get object.exits.ways (direction_number d - 1))
 
 -- the player stands in this room as the story begins
 abbrev pub StartsIn : Tale → ℕ → Type 0

@@ -20,5 +20,3 @@ front_trans a b c first second = (first.0 ++ second.0, second.1 ∙ ap (λ bs. b
 
 pub front_first : (a b : List ℕ) → IsFront a (a ++ b)
 front_first a b = (b, refl)
-
-pub ruleset front_steps = (front_self, front_nothing, front-append, front-behind, front_trans)

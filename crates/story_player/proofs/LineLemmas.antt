@@ -36,10 +36,6 @@ pub lines-line : (line ahead : List ℕ) → has_break line ≡ false → lines 
 lines-line line ahead unbroken =
     ap lines_of_parts (split-line line ahead unbroken) ∙ parts-more line (slice_split is_break ahead) (omega (arith, length-slice_split is_break ahead))
 
--- no line at all
-pub lines-none : lines [] ≡ []
-lines-none = refl
-
 -- a last line without a break
 pub lines-last : (line : List ℕ) → has_break line ≡ false → 0 < length line → lines line ≡ line ∷ []
 lines-last [] unbroken some = absurd (omega (arith, some))
@@ -56,5 +52,3 @@ break-append (x ∷ xs) b first second =
 pub strip-front : (front kept : List ℕ) → 0 < length kept → strip_carriage_return (front ++ kept) ≡ front ++ strip_carriage_return kept
 strip-front [] kept some = refl
 strip-front (b ∷ bs) kept some = grind (arith, common_steps, strip-front bs kept some)
-
-pub ruleset line_steps = (lines-line, lines-last, strip-front)

@@ -263,5 +263,3 @@ cut_in_last tale echo limit left unread rest held a b now state to gone kept goi
       going = λ other. absurd (other refl);
       full = λ wrong. absurd cc;
     }
-
-pub ruleset line_played_steps = (played_line, played_last, cut_at_prompt, cut_in_line, cut_in_answer, cut_in_last)

@@ -17,10 +17,6 @@ pub not_false : (a : Bool) → not a ≡ false → a ≡ true
 not_false true e = refl
 not_false false e = absurd cc
 
-pub not_true : (a : Bool) → not a ≡ true → a ≡ false
-not_true true e = absurd cc
-not_true false e = refl
-
 -- blanks hold no word
 pub words_of-blanks : (bytes : List ℕ) → has_word bytes ≡ false → words_of bytes ≡ []
 words_of-blanks [] blank = refl
@@ -92,5 +88,3 @@ gone-more Nothing front kept long is =
       | true ↦ λ word. rw word (long, word)
       | false ↦ λ blank. rw blank (long, blank)
     ] refl)
-
-pub ruleset reading_steps = (reading_typed, gone-more)

@@ -252,5 +252,3 @@ none_from (Some ending) none = absurd cc
 pub some_from : (ending : Option Ending) → is_none ending ≡ false → (e : Ending) × (ending ≡ Some e)
 some_from None some = absurd cc
 some_from (Some ending) some = (ending, refl)
-
-pub ruleset run_steps = (run_begins, run_more, cut_in_opening, cut_so_far, run_ends, run_is_over)

@@ -63,5 +63,3 @@ last_prompt tale echo state to t held a now typed told broke = record {
       (subst (λ s. WroteFront a now (unless_ended s.ending prompt)) told.behind broke));
   behind = told.behind ∙ sym (last_state-typed tale told.refused state t typed);
 }
-
-pub ruleset tell_steps = (tell_break, tell_text, last_broke, last_prompt)

@@ -85,5 +85,3 @@ played-line tale echo refused state line going =
 
 pub played-none : (tale : Tale) (echo : Bool) (flags : List Bool) (state : State) → state.ending ≡ None → played tale echo flags state [] ≡ prompt
 played-none tale echo flags state going = ap (λ e. unless_ended e prompt) going
-
-pub ruleset transcript_steps = (told-append, played-line, prompt_first, front_shown, behind-over, told-over)

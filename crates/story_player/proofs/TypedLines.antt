@@ -11,7 +11,7 @@ use Rattle.world_meaning.specs.Transcript.{played}
 use Rattle.world_meaning.specs.declared.tale.Tale.{Tale}
 use Rattle.story_player.specs.Runs.{IsFront, has_break}
 use Rattle.story_player.specs.Steps.{BrokeTyping, IsTyping, WroteFront, shown}
-use Rattle.story_player.specs.Typed.{Typing, flushed, gone_with, is_full, nothing_typed, typed_with}
+use Rattle.story_player.specs.Typed.{Typing, flushed, gone_with, is_full, typed_with}
 use Rattle.story_player.specs.declared.playing.RunFault.TheVariants.{Read, Write, InputTooLong}
 use Rattle.story_player.proofs.Fronts.{front-append, front-behind, front_first, front_nothing, front_self, front_trans}
 use Rattle.story_player.proofs.LineLemmas.{break-append, lines-last, lines-line, strip-front}
@@ -45,9 +45,6 @@ shows_nothing echo bytes = record {
       (subst (λ bs. IsFront bs (played tale echo flags state (lines bytes))) (sym (append-nil prompt)) (prompt_first tale echo flags state (lines bytes) going));
 }
 
-pub some_behind : (front kept : List ℕ) → 0 < length kept → 0 < length (front ++ kept)
-some_behind front kept some = omega (arith, some, length-append front kept)
-
 -- the line may be the last
 pub shows_last : (echo : Bool) (front kept : List ℕ) → (0 < length front → 0 < length kept) → has_break (front ++ kept) ≡ false → ShowsFront echo front (front ++ kept)
 shows_last echo [] kept keeps unbroken = shows_nothing echo kept
@@ -76,18 +73,6 @@ shows_more echo front kept byte keeps unbroken =
           (lines-last ((front ++ kept) ++ byte ∷ []) (break-append (front ++ kept) (byte ∷ []) unbroken (rw other refl)) (one_more (front ++ kept) byte))
           (front-append front (front ++ kept) (byte ∷ []) (front_first front kept))
     ] refl
-
--- nothing was typed so far
-pub typing_begins : (echo : Bool) (limit : ℕ) (unread held : Option (List ℕ)) → Consumes unread unread [] → Appends held held [] → IsTyping echo limit limit unread unread held held nothing_typed []
-typing_begins echo limit unread held reads writes = record {
-  front = [];
-  gone = refl;
-  keeps = λ some. absurd (omega (arith, some));
-  unbroken = refl;
-  reads = reads;
-  writes = subst (λ bs. Appends held held bs) (sym (shown_nothing echo)) writes;
-  counts = omega arith;
-}
 
 -- a read failed
 pub cut_by_reader : (echo : Bool) (limit left : ℕ) (unread mid rest held now : Option (List ℕ)) (t : Typing) → IsTyping echo limit left unread mid held now t [] → Consumes mid rest [] → BrokeTyping Read echo limit unread rest held now
@@ -149,9 +134,6 @@ cut_by_writer echo limit left byte unread mid rest held a now t typing other one
       full = λ wrong. absurd cc;
     }
 
-pub keeps_kept : (front kept : List ℕ) (byte : ℕ) → 0 < length front → 0 < length (kept ++ byte ∷ [])
-keeps_kept front kept byte some = one_more kept byte
-
 -- one more byte, where bytes must be let go
 pub typed_full : (echo : Bool) (limit left byte : ℕ) (unread mid rest held a now : Option (List ℕ)) (t : Typing) → is_full t ≡ true → IsTyping echo limit (left + 1) unread mid held a t [] → byte ≢ 10 → Consumes mid rest (byte ∷ []) → Appends a now (shown echo (flushed t)) → IsTyping echo limit left unread rest held now (record { gone = gone_with t.gone t.kept; kept = byte ∷ [] }) []
 typed_full echo limit left byte unread mid rest held a now t full typing other one wrote =
@@ -192,5 +174,3 @@ typed_more echo limit left byte unread mid rest held a now t typing other one wr
       | true ↦ λ full. subst Typed (sym full) (typed_full echo limit left byte unread mid rest held a now t full typing other one wrote)
       | false ↦ λ room. subst Typed (sym room) (typed_room echo limit left byte unread mid rest held a now t room typing other one wrote)
     ] refl
-
-pub ruleset typing_steps = (typing_begins, cut_by_reader, cut_by_limit, cut_by_writer, typed_more)

@@ -30,11 +30,6 @@ pub consumes-nothing : (unread : Option (List ℕ)) → Consumes unread unread [
 consumes-nothing None = tt
 consumes-nothing (Some xs) = refl
 
-pub keeps_consumes : (a b : Option (List ℕ)) → Keeps a b → Consumes a b []
-keeps_consumes None b keeps = tt
-keeps_consumes (Some xs) None keeps = keeps
-keeps_consumes (Some xs) (Some ys) keeps = sym keeps
-
 pub consumes-more : (a b c : Option (List ℕ)) (x y : List ℕ) → Consumes a b x → Consumes b c y → Consumes a c (x ++ y)
 consumes-more None b c x y first second = tt
 consumes-more (Some xs) None c x y first second = absurd first
@@ -79,5 +74,3 @@ front-of_first held now first second some = record {
 }
 
 pub ruleset write_steps = (appends-nothing, keeps_appends, appends-more, wrote_none, wrote_more, wrote_all, wrote_front, front-more, front-of_first)
-
-pub ruleset read_steps = (consumes-nothing, keeps_consumes, consumes-more)

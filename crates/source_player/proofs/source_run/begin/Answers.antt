@@ -1,4 +1,4 @@
-use Rattle.std.proofs.Common.{◌≡◌, ap, subst, sym, ◌∙◌}
+use Rattle.std.proofs.Common.{ap, subst, sym, ◌∙◌}
 use Rattle.world_meaning.specs.Session.{start_state}
 use Rattle.story_format.specs.Spells.{Spells}
 use Rattle.source_player.proofs.source_run.begin.Goals as goal
