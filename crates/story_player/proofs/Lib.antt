@@ -1,3 +1,4 @@
+pub mod Deeds
 pub mod Fronts
 pub mod LineLemmas
 pub mod PlayedLines

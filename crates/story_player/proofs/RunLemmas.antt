@@ -1,86 +1,103 @@
 -- A run so far, line by line, and how it ends.
-use Rattle.std.proofs.Common.{◌≡◌, ℕ, ◌+◌, Bool, true, false, inl, inr, List, [], ◌∷◌, ◌++◌, length, refl, ap, sym, ◌∙◌, subst, arith, append_assoc}
+use Rattle.std.proofs.Common.{◌≡◌, ◌⊎◌, ℕ, ◌+◌, Bool, true, false, inl, inr, List, [], ◌∷◌, ◌++◌, length, refl, ap, sym, ◌∙◌, subst, arith, append_assoc}
 use Rattle.std.specs.Prelude.{Option, Some, None, is_none, is_some, not}
 use Rattle.std.specs.Io.KnownBytes.{Appends, Consumes, IsAtEnd}
 use Rattle.std.specs.Str.Lines.{lines, strip_carriage_return}
 use Rattle.std.proofs.lemmas.List.{length-append, append-nil}
-use Rattle.world_meaning.specs.Session.{State, answer_of}
+use Rattle.world_meaning.specs.Session.{State, answer_of, opened}
 use Rattle.world_meaning.specs.Texts.{prompt}
-use Rattle.world_meaning.specs.Transcript.{behind, echoed, ending_at_end, played, told, unless_ended}
-use Rattle.world_meaning.specs.Session.{opening_text}
+use Rattle.world_meaning.specs.Transcript.{behind, behind_lines, ended_at_end, exchanges, played, told, told_out, while_going}
 use Rattle.world_meaning.specs.declared.session.Ending.{Ending}
-use Rattle.world_meaning.specs.declared.tale.Tale.{Tale}
-use Rattle.story_player.specs.Runs.{AreKnown, BrokeOff, IsFront, Played, most_input}
+use Rattle.world_meaning.specs.Games.{Game}
+use Rattle.story_player.specs.Runs.{AreAnswered, AreKnown, AreWholeLines, BrokeOff, IsFront, Played, most_input}
 use Rattle.story_player.specs.Steps.{PlayedLast, PlayedLine, WroteFront}
 use Rattle.story_player.specs.declared.playing.RunFault.{RunFault}
 use Rattle.story_player.specs.declared.playing.RunFault.TheVariants.{Write}
 use Rattle.story_player.proofs.Fronts.{front-append, front-behind}
 use Rattle.story_player.proofs.LineLemmas.{lines-line}
-use Rattle.story_player.proofs.Transcripts.{behind-append, behind-over, played-append, told-append, told-over}
+use Rattle.story_player.proofs.Transcripts.{behind-append, behind_lines-append, exchange, exchanges-append, exchanges-line, exchanges-over, line_part, played-append, told-append}
 use Rattle.story_player.proofs.Writes.{appends-more, consumes-more}
 
 -- The lines that were read are answered, and their parts are written behind the opening.
-pub record RunSoFar (tale : Tale) (echo : Bool) (opening : List ℕ) (limit left : ℕ) (unread rest held now : Option (List ℕ)) (from to : State) : Type 0 where
-  pub flags : List Bool
+pub record RunSoFar (g : Game) (echo : Bool) (opening : List ℕ) (limit left : ℕ) (unread rest held now : Option (List ℕ)) (from to : State) : Type 0 where
+  pub refusals : List (Option ℕ)
   pub answered : List (List ℕ)
-  pub flagged : length flags ≡ length answered
+  pub told_of : length refusals ≡ length answered
   pub read : List ℕ
   pub reads : Consumes unread rest read
+  pub whole : AreWholeLines read
   pub splits : (ahead : List ℕ) → lines (read ++ ahead) ≡ answered ++ lines ahead
-  pub writes : Appends held now (opening ++ told tale echo flags from answered)
-  pub state : to ≡ behind tale flags from answered
+  pub writes : Appends held now (opening ++ told echo (exchanges g refusals from answered))
+  pub answers : AreAnswered g refusals from answered
+  pub state : to ≡ behind_lines g refusals from answered
   pub counts : length read + left ≡ limit
 
-pub run_begins : (tale : Tale) (echo : Bool) (opening : List ℕ) (limit : ℕ) (unread held now : Option (List ℕ)) (from : State) → Consumes unread unread [] → Appends held now opening → RunSoFar tale echo opening limit limit unread unread held now from from
-run_begins tale echo opening limit unread held now from none opened = record {
-  flags = [];
+pub run_begins : (g : Game) (echo : Bool) (opening : List ℕ) (limit : ℕ) (unread held now : Option (List ℕ)) (from : State) → Consumes unread unread [] → Appends held now opening → RunSoFar g echo opening limit limit unread unread held now from from
+run_begins g echo opening limit unread held now from none opened = record {
+  refusals = [];
   answered = [];
-  flagged = refl;
+  told_of = refl;
   read = [];
   reads = none;
+  whole = inl refl;
   splits = λ ahead. refl;
   writes = subst (λ bs. Appends held now bs) (sym (append-nil opening)) opened;
+  answers = refl;
   state = refl;
   counts = omega arith;
 }
 
 -- what the run writes stands behind the opening
-pub behind_opening : (tale : Tale) (echo : Bool) (opening : List ℕ) (limit left : ℕ) (unread rest held a now : Option (List ℕ)) (from to : State) → Appends held a opening → RunSoFar tale echo [] limit left unread rest a now from to → RunSoFar tale echo opening limit left unread rest held now from to
-behind_opening tale echo opening limit left unread rest held a now from to opened sofar = record {
-  flags = sofar.flags;
+pub behind_opening : (g : Game) (echo : Bool) (opening : List ℕ) (limit left : ℕ) (unread rest held a now : Option (List ℕ)) (from to : State) → Appends held a opening → RunSoFar g echo [] limit left unread rest a now from to → RunSoFar g echo opening limit left unread rest held now from to
+behind_opening g echo opening limit left unread rest held a now from to opened sofar = record {
+  refusals = sofar.refusals;
   answered = sofar.answered;
-  flagged = sofar.flagged;
+  told_of = sofar.told_of;
   read = sofar.read;
   reads = sofar.reads;
+  whole = sofar.whole;
   splits = sofar.splits;
-  writes = appends-more held a now opening (told tale echo sofar.flags from sofar.answered) opened sofar.writes;
+  writes = appends-more held a now opening (told echo (exchanges g sofar.refusals from sofar.answered)) opened sofar.writes;
+  answers = sofar.answers;
   state = sofar.state;
   counts = sofar.counts;
 }
 
--- a line that was told as the first from the state behind the others
-pub one_told : (tale : Tale) (echo refused : Bool) (state : State) (line : List ℕ) → state.ending ≡ None → told tale echo (refused ∷ []) state (line ∷ []) ≡ prompt ++ (echoed echo line ++ (answer_of tale refused state line).spoken.text)
-one_told tale echo refused state line going =
-    let text = prompt ++ (echoed echo line ++ (answer_of tale refused state line).spoken.text) in
-    ap (λ e. unless_ended e text ++ []) going ∙ append-nil text
+-- whole lines behind whole lines
+pub whole-append : (a b : List ℕ) → AreWholeLines a → AreWholeLines b → AreWholeLines (a ++ b)
+whole-append a b first (inl none) = subst AreWholeLines (sym (append-nil a) ∙ ap (λ bs. a ++ bs) (sym none)) first
+whole-append a b first (inr broken) = inr (a ++ broken.0, ap (λ bs. a ++ bs) broken.1 ∙ sym (append_assoc a broken.0 (10 ∷ [])))
+
+-- answered lines behind answered lines
+pub answered-append : (g : Game) (refusals more : List (Option ℕ)) (from to : State) (lines others : List (List ℕ)) → length refusals ≡ length lines → to ≡ behind_lines g refusals from lines → AreAnswered g refusals from lines → AreAnswered g more to others → AreAnswered g (refusals ++ more) from (lines ++ others)
+answered-append g refusals more from to lines others same behind first second =
+    let xs = exchanges g refusals from lines in
+    let ys = exchanges g more to others in
+    ap length (exchanges-append g refusals more from lines others same) ∙ ap (λ s. length (xs ++ exchanges g more s others)) (sym behind)
+    ∙ length-append xs ys ∙ ap (λ n. n + length ys) first ∙ ap (λ n. length lines + n) second ∙ sym (length-append lines others)
 
 -- one more line
-pub run_more : (tale : Tale) (echo : Bool) (opening : List ℕ) (limit mid left : ℕ) (unread a rest held b now : Option (List ℕ)) (from state to : State) → RunSoFar tale echo opening limit mid unread a held b from state → state.ending ≡ None → PlayedLine tale echo mid left a rest b now state to → RunSoFar tale echo opening limit left unread rest held now from to
-run_more tale echo opening limit mid left unread a rest held b now from state to sofar going line =
+pub run_more : (g : Game) (echo : Bool) (opening : List ℕ) (limit mid left : ℕ) (unread a rest held b now : Option (List ℕ)) (from state to : State) → RunSoFar g echo opening limit mid unread a held b from state → state.ending ≡ None → PlayedLine g echo mid left a rest b now state to → RunSoFar g echo opening limit left unread rest held now from to
+run_more g echo opening limit mid left unread a rest held b now from state to sofar going line =
     let stripped = strip_carriage_return line.line in
     let bytes = line.line ++ 10 ∷ [] in
-    let part = prompt ++ (echoed echo stripped ++ (answer_of tale line.refused state stripped).spoken.text) in
-    let before = told tale echo sofar.flags from sofar.answered in
-    let grown : told tale echo (sofar.flags ++ line.refused ∷ []) from (sofar.answered ++ stripped ∷ []) ≡ before ++ part =
-    told-append tale echo sofar.flags (line.refused ∷ []) from sofar.answered (stripped ∷ []) sofar.flagged
-    ∙ ap (λ s. before ++ told tale echo (line.refused ∷ []) s (stripped ∷ [])) (sym sofar.state)
-    ∙ ap (λ text. before ++ text) (one_told tale echo line.refused state stripped going) in
+    let part = prompt ++ line_part g echo line.refused state stripped in
+    let xs = exchanges g sofar.refusals from sofar.answered in
+    let one = exchange g line.refused state stripped ∷ [] in
+    let before = told echo xs in
+    let more : exchanges g (sofar.refusals ++ line.refused ∷ []) from (sofar.answered ++ stripped ∷ []) ≡ xs ++ one =
+    exchanges-append g sofar.refusals (line.refused ∷ []) from sofar.answered (stripped ∷ []) sofar.told_of
+    ∙ ap (λ s. xs ++ exchanges g (line.refused ∷ []) s (stripped ∷ [])) (sym sofar.state)
+    ∙ ap (λ ys. xs ++ ys) (exchanges-line g line.refused state stripped going) in
+    let grown : told echo (exchanges g (sofar.refusals ++ line.refused ∷ []) from (sofar.answered ++ stripped ∷ [])) ≡ before ++ part =
+    ap (λ ys. told echo ys) more ∙ told-append echo xs one ∙ ap (λ text. before ++ text) (append-nil part) in
     record {
-      flags = sofar.flags ++ line.refused ∷ [];
+      refusals = sofar.refusals ++ line.refused ∷ [];
       answered = sofar.answered ++ stripped ∷ [];
-      flagged = omega (arith, sofar.flagged, length-append sofar.flags (line.refused ∷ []), length-append sofar.answered (stripped ∷ []));
+      told_of = omega (arith, sofar.told_of, length-append sofar.refusals (line.refused ∷ []), length-append sofar.answered (stripped ∷ []));
       read = sofar.read ++ bytes;
       reads = consumes-more unread a rest sofar.read bytes sofar.reads line.reads;
+      whole = whole-append sofar.read bytes sofar.whole (inr (line.line, refl));
       splits = λ ahead.
           ap lines (append_assoc sofar.read bytes ahead)
           ∙ sofar.splits (bytes ++ ahead)
@@ -89,13 +106,14 @@ run_more tale echo opening limit mid left unread a rest held b now from state to
           ∙ sym (append_assoc sofar.answered (stripped ∷ []) (lines ahead));
       writes = subst (λ bs. Appends held now bs) (append_assoc opening before part ∙ ap (λ bs. opening ++ bs) (sym grown))
           (appends-more held b now (opening ++ before) part sofar.writes line.writes);
-      state = line.behind ∙ ap (λ s. (answer_of tale line.refused s stripped).state) sofar.state ∙ sym (behind-append tale sofar.flags (line.refused ∷ []) from sofar.answered (stripped ∷ []) sofar.flagged);
+      answers = answered-append g sofar.refusals (line.refused ∷ []) from state sofar.answered (stripped ∷ []) sofar.told_of sofar.state sofar.answers (ap length (exchanges-line g line.refused state stripped going));
+      state = line.behind ∙ sym (ap (λ ys. behind from ys) more ∙ behind-append from xs one ∙ ap (λ s. behind s one) (sym sofar.state));
       counts = omega (arith, sofar.counts, line.counts, length-append sofar.read bytes);
     }
 
 -- the opening couldn't be written whole
-pub cut_in_opening : (tale : Tale) (echo : Bool) (opening : List ℕ) (limit : ℕ) (unread held now : Option (List ℕ)) (from : State) → Consumes unread unread [] → WroteFront held now opening → BrokeOff Write tale echo opening limit unread unread held now from from
-cut_in_opening tale echo opening limit unread held now from none broke = record {
+pub cut_in_opening : (g : Game) (echo : Bool) (opening : List ℕ) (limit : ℕ) (unread held now : Option (List ℕ)) (from : State) → Consumes unread unread [] → WroteFront held now opening → BrokeOff Write g echo opening limit unread unread held now from from
+cut_in_opening g echo opening limit unread held now from none broke = record {
   read = [];
   reads = none;
   whole = [];
@@ -103,27 +121,36 @@ cut_in_opening tale echo opening limit unread held now from none broke = record 
   past = [];
   bytes = refl;
   parts = refl;
+  ends = inl (inl refl);
   unbroken = refl;
   within = λ other. refl;
-  flags = [];
+  few = λ other. omega arith;
+  refusals = [];
+  answered = refl;
   state = refl;
   written = broke.written;
   writes = broke.writes;
-  front = front-append broke.written opening (played tale echo [] from []) broke.front;
+  front = front-append broke.written opening (played g echo [] from []) broke.front;
   begins = λ other. absurd (other refl);
   going = λ other. absurd (other refl);
+  typing = λ some. absurd (omega (arith, some));
   full = λ wrong. absurd cc;
 }
 
+-- whole lines, or the last line of an input that has ended, behind whole lines
+pub ends-append : (fault : RunFault) (rest : Option (List ℕ)) (a b : List ℕ) → AreWholeLines a → AreWholeLines b ⊎ ((fault ≡ Write) × IsAtEnd rest) → AreWholeLines (a ++ b) ⊎ ((fault ≡ Write) × IsAtEnd rest)
+ends-append fault rest a b first (inl whole) = inl (whole-append a b first whole)
+ends-append fault rest a b first (inr last) = inr last
+
 -- a line broke off
-pub cut_so_far : (fault : RunFault) (tale : Tale) (echo : Bool) (opening : List ℕ) (limit left : ℕ) (unread a rest held b now : Option (List ℕ)) (from state to : State) → RunSoFar tale echo opening limit left unread a held b from state → BrokeOff fault tale echo [] left a rest b now state to → BrokeOff fault tale echo opening limit unread rest held now from to
-cut_so_far fault tale echo opening limit left unread a rest held b now from state to sofar broke =
-    let before = told tale echo sofar.flags from sofar.answered in
+pub cut_so_far : (fault : RunFault) (g : Game) (echo : Bool) (opening : List ℕ) (limit left : ℕ) (unread a rest held b now : Option (List ℕ)) (from state to : State) → RunSoFar g echo opening limit left unread a held b from state → BrokeOff fault g echo [] left a rest b now state to → BrokeOff fault g echo opening limit unread rest held now from to
+cut_so_far fault g echo opening limit left unread a rest held b now from state to sofar broke =
+    let before = told echo (exchanges g sofar.refusals from sofar.answered) in
     let all : lines (sofar.read ++ broke.read) ≡ sofar.answered ++ lines broke.read = sofar.splits broke.read in
-    let plays : (ls : List (List ℕ)) → opening ++ played tale echo (sofar.flags ++ broke.flags) from (sofar.answered ++ ls) ≡ (opening ++ before) ++ played tale echo broke.flags state ls =
-    λ ls. ap (λ bs. opening ++ bs) (played-append tale echo sofar.flags broke.flags from sofar.answered ls sofar.flagged)
-    ∙ ap (λ s. opening ++ (before ++ played tale echo broke.flags s ls)) (sym sofar.state)
-    ∙ sym (append_assoc opening before (played tale echo broke.flags state ls)) in
+    let plays : (ls : List (List ℕ)) → opening ++ played g echo (sofar.refusals ++ broke.refusals) from (sofar.answered ++ ls) ≡ (opening ++ before) ++ played g echo broke.refusals state ls =
+    λ ls. ap (λ bs. opening ++ bs) (played-append g echo sofar.refusals broke.refusals from sofar.answered ls sofar.told_of)
+    ∙ ap (λ s. opening ++ (before ++ played g echo broke.refusals s ls)) (sym sofar.state)
+    ∙ sym (append_assoc opening before (played g echo broke.refusals state ls)) in
     record {
       read = sofar.read ++ broke.read;
       reads = consumes-more unread a rest sofar.read broke.read sofar.reads broke.reads;
@@ -133,24 +160,29 @@ cut_so_far fault tale echo opening limit left unread a rest held b now from stat
       bytes = ap (λ bs. sofar.read ++ bs) broke.bytes ∙ sym (append_assoc sofar.read broke.whole (broke.typed ++ broke.past));
       parts = all ∙ ap (λ ls. sofar.answered ++ ls) broke.parts ∙ sym (append_assoc sofar.answered (lines broke.whole) (lines (broke.typed ++ broke.past)))
           ∙ ap (λ ls. ls ++ lines (broke.typed ++ broke.past)) (sym (sofar.splits broke.whole));
+      ends = ends-append fault rest sofar.read broke.whole sofar.whole broke.ends;
       unbroken = broke.unbroken;
       within = broke.within;
-      flags = sofar.flags ++ broke.flags;
-      state = broke.state ∙ ap (λ s. behind tale broke.flags s (lines broke.whole)) sofar.state ∙ sym (behind-append tale sofar.flags broke.flags from sofar.answered (lines broke.whole) sofar.flagged)
-          ∙ ap (λ ls. behind tale (sofar.flags ++ broke.flags) from ls) (sym (sofar.splits broke.whole));
+      few = λ other. omega (arith, broke.few other, sofar.counts, length-append sofar.read broke.read);
+      refusals = sofar.refusals ++ broke.refusals;
+      answered = subst (λ ls. AreAnswered g (sofar.refusals ++ broke.refusals) from ls) (sym (sofar.splits broke.whole))
+          (answered-append g sofar.refusals broke.refusals from state sofar.answered (lines broke.whole) sofar.told_of sofar.state sofar.answers broke.answered);
+      state = broke.state ∙ ap (λ s. behind_lines g broke.refusals s (lines broke.whole)) sofar.state ∙ sym (behind_lines-append g sofar.refusals broke.refusals from sofar.answered (lines broke.whole) sofar.told_of)
+          ∙ ap (λ ls. behind_lines g (sofar.refusals ++ broke.refusals) from ls) (sym (sofar.splits broke.whole));
       written = (opening ++ before) ++ broke.written;
       writes = appends-more held b now (opening ++ before) broke.written sofar.writes broke.writes;
       front = subst (λ bs. IsFront ((opening ++ before) ++ broke.written) bs)
-          (sym (plays (lines broke.read)) ∙ ap (λ ls. opening ++ played tale echo (sofar.flags ++ broke.flags) from ls) (sym all))
-          (front-behind (opening ++ before) broke.written (played tale echo broke.flags state (lines broke.read)) broke.front);
-      begins = λ other. subst (λ bs. IsFront bs ((opening ++ before) ++ broke.written)) (sym (plays (lines broke.whole)) ∙ ap (λ ls. opening ++ played tale echo (sofar.flags ++ broke.flags) from ls) (sym (sofar.splits broke.whole)))
-          (front-behind (opening ++ before) (played tale echo broke.flags state (lines broke.whole)) broke.written (broke.begins other));
+          (sym (plays (lines broke.read)) ∙ ap (λ ls. opening ++ played g echo (sofar.refusals ++ broke.refusals) from ls) (sym all))
+          (front-behind (opening ++ before) broke.written (played g echo broke.refusals state (lines broke.read)) broke.front);
+      begins = λ other. subst (λ bs. IsFront bs ((opening ++ before) ++ broke.written)) (sym (plays (lines broke.whole)) ∙ ap (λ ls. opening ++ played g echo (sofar.refusals ++ broke.refusals) from ls) (sym (sofar.splits broke.whole)))
+          (front-behind (opening ++ before) (played g echo broke.refusals state (lines broke.whole)) broke.written (broke.begins other));
       going = broke.going;
+      typing = broke.typing;
       full = λ same. ((broke.full same).0, omega (arith, (broke.full same).1, sofar.counts, length-append sofar.read broke.read));
     }
 
-pub lines_read : (tale : Tale) (echo : Bool) (opening : List ℕ) (limit left : ℕ) (unread rest held now : Option (List ℕ)) (from to : State) (sofar : RunSoFar tale echo opening limit left unread rest held now from to) → lines sofar.read ≡ sofar.answered
-lines_read tale echo opening limit left unread rest held now from to sofar = ap lines (sym (append-nil sofar.read)) ∙ sofar.splits [] ∙ append-nil sofar.answered
+pub lines_read : (g : Game) (echo : Bool) (opening : List ℕ) (limit left : ℕ) (unread rest held now : Option (List ℕ)) (from to : State) (sofar : RunSoFar g echo opening limit left unread rest held now from to) → lines sofar.read ≡ sofar.answered
+lines_read g echo opening limit left unread rest held now from to sofar = ap lines (sym (append-nil sofar.read)) ∙ sofar.splits [] ∙ append-nil sofar.answered
 
 -- the reader's bytes, as far as they are known
 pub record Commands (unread rest : Option (List ℕ)) (read : List ℕ) : Type 0 where
@@ -164,79 +196,79 @@ commands_of (Some xs) None read reads = absurd reads
 commands_of (Some xs) (Some ys) read reads = record { ahead = ys; known = reads; none_at_end = λ ends. ends }
 
 -- the input has ended, and its last line is answered
-pub run_ends : (tale : Tale) (echo : Bool) (mid left : ℕ) (unread a rest held b now : Option (List ℕ)) (from state to last : State) → RunSoFar tale echo (opening_text tale) most_input mid unread a held b from state → PlayedLast tale echo mid left a rest b now state to → last ≡ record { world = to.world; ending = ending_at_end to.ending } → Played tale echo unread rest held now from last
-run_ends tale echo mid left unread a rest held b now from state to last sofar line ended =
-    let opening = opening_text tale in
-    let before = told tale echo sofar.flags from sofar.answered in
-    let flags = sofar.flags ++ line.flags in
+pub run_ends : (g : Game) (echo : Bool) (mid left : ℕ) (unread a rest held b now : Option (List ℕ)) (from state to last : State) → RunSoFar g echo (opened g).spoken.text most_input mid unread a held b from state → PlayedLast g echo mid left a rest b now state to → last ≡ ended_at_end to → Played g echo unread rest held now from last
+run_ends g echo mid left unread a rest held b now from state to last sofar line ended =
+    let opening = (opened g).spoken.text in
+    let before = told echo (exchanges g sofar.refusals from sofar.answered) in
+    let refusals = sofar.refusals ++ line.refusals in
     let read = sofar.read ++ line.line in
     let reads = consumes-more unread a rest sofar.read line.line sofar.reads line.reads in
     let commands = commands_of unread rest read reads in
     let whole : read ++ commands.ahead ≡ read = ap (λ bs. read ++ bs) (commands.none_at_end line.ends) ∙ append-nil read in
     let all : lines (read ++ commands.ahead) ≡ sofar.answered ++ lines line.line = ap lines whole ∙ sofar.splits line.line in
-    let text : opening ++ played tale echo flags from (lines (read ++ commands.ahead)) ≡ (opening ++ before) ++ played tale echo line.flags state (lines line.line) =
-    ap (λ ls. opening ++ played tale echo flags from ls) all
-    ∙ ap (λ bs. opening ++ bs) (played-append tale echo sofar.flags line.flags from sofar.answered (lines line.line) sofar.flagged)
-    ∙ ap (λ s. opening ++ (before ++ played tale echo line.flags s (lines line.line))) (sym sofar.state)
-    ∙ sym (append_assoc opening before (played tale echo line.flags state (lines line.line))) in
-    let last_behind : to ≡ behind tale flags from (lines (read ++ commands.ahead)) =
-    line.state_is ∙ ap (λ s. behind tale line.flags s (lines line.line)) sofar.state
-    ∙ sym (behind-append tale sofar.flags line.flags from sofar.answered (lines line.line) sofar.flagged)
-    ∙ ap (λ ls. behind tale flags from ls) (sym all) in
+    let text : opening ++ played g echo refusals from (lines (read ++ commands.ahead)) ≡ (opening ++ before) ++ played g echo line.refusals state (lines line.line) =
+    ap (λ ls. opening ++ played g echo refusals from ls) all
+    ∙ ap (λ bs. opening ++ bs) (played-append g echo sofar.refusals line.refusals from sofar.answered (lines line.line) sofar.told_of)
+    ∙ ap (λ s. opening ++ (before ++ played g echo line.refusals s (lines line.line))) (sym sofar.state)
+    ∙ sym (append_assoc opening before (played g echo line.refusals state (lines line.line))) in
+    let last_behind : to ≡ behind_lines g refusals from (lines (read ++ commands.ahead)) =
+    line.state_is ∙ ap (λ s. behind_lines g line.refusals s (lines line.line)) sofar.state
+    ∙ sym (behind_lines-append g sofar.refusals line.refusals from sofar.answered (lines line.line) sofar.told_of)
+    ∙ ap (λ ls. behind_lines g refusals from ls) (sym all) in
     record {
       commands = read ++ commands.ahead;
       are_commands = commands.known;
-      transcript = (opening ++ before) ++ played tale echo line.flags state (lines line.line);
-      writes = appends-more held b now (opening ++ before) (played tale echo line.flags state (lines line.line)) sofar.writes line.writes;
+      transcript = (opening ++ before) ++ played g echo line.refusals state (lines line.line);
+      writes = appends-more held b now (opening ++ before) (played g echo line.refusals state (lines line.line)) sofar.writes line.writes;
       play = record {
-        flags = flags;
+        refusals = refusals;
         transcript_is = sym text;
-        last_is = ended ∙ ap (λ s. record { world = s.world; ending = ending_at_end s.ending }) last_behind;
+        last_is = ended ∙ ap ended_at_end last_behind;
       };
       read = read;
       reads = reads;
       front = (commands.ahead, refl);
       few = omega (arith, sofar.counts, line.counts, length-append sofar.read line.line);
-      all_or_over = inl whole;
+      answered = subst (λ ls. AreAnswered g refusals from ls) (sym (sofar.splits line.line))
+          (answered-append g sofar.refusals line.refusals from state sofar.answered (lines line.line) sofar.told_of sofar.state sofar.answers line.answered);
+      stops = inl whole;
     }
 
 -- the session is over
-pub run_is_over : (tale : Tale) (echo : Bool) (left : ℕ) (unread rest held now : Option (List ℕ)) (from to last : State) (ending : Ending) → RunSoFar tale echo (opening_text tale) most_input left unread rest held now from to → to.ending ≡ Some ending → last ≡ record { world = to.world; ending = ending_at_end to.ending } → Played tale echo unread rest held now from last
-run_is_over tale echo left unread rest held now from to last ending sofar over ended =
-    let opening = opening_text tale in
-    let before = told tale echo sofar.flags from sofar.answered in
+pub run_is_over : (g : Game) (echo : Bool) (left : ℕ) (unread rest held now : Option (List ℕ)) (from to last : State) (ending : Ending) → RunSoFar g echo (opened g).spoken.text most_input left unread rest held now from to → to.ending ≡ Some ending → last ≡ ended_at_end to → Played g echo unread rest held now from last
+run_is_over g echo left unread rest held now from to last ending sofar over ended =
+    let opening = (opened g).spoken.text in
+    let answered = exchanges g sofar.refusals from sofar.answered in
+    let before = told echo answered in
     let commands = commands_of unread rest sofar.read sofar.reads in
     let others = lines commands.ahead in
     let all : lines (sofar.read ++ commands.ahead) ≡ sofar.answered ++ others = sofar.splits commands.ahead in
-    let stays : behind tale sofar.flags from (sofar.answered ++ others) ≡ to =
-    ap (λ flags. behind tale flags from (sofar.answered ++ others)) (sym (append-nil sofar.flags))
-    ∙ behind-append tale sofar.flags [] from sofar.answered others sofar.flagged
-    ∙ ap (λ s. behind tale [] s others) (sym sofar.state) ∙ behind-over tale [] to others ending over in
-    let silent : told tale echo sofar.flags from (sofar.answered ++ others) ≡ before =
-    ap (λ flags. told tale echo flags from (sofar.answered ++ others)) (sym (append-nil sofar.flags))
-    ∙ told-append tale echo sofar.flags [] from sofar.answered others sofar.flagged
-    ∙ ap (λ s. before ++ told tale echo [] s others) (sym sofar.state)
-    ∙ ap (λ bs. before ++ bs) (told-over tale echo [] to others ending over) ∙ append-nil before in
-    let text : opening ++ played tale echo sofar.flags from (lines (sofar.read ++ commands.ahead)) ≡ opening ++ before =
-    ap (λ ls. opening ++ played tale echo sofar.flags from ls) all
-    ∙ ap (λ bs. opening ++ (bs ++ unless_ended (behind tale sofar.flags from (sofar.answered ++ others)).ending prompt)) silent
-    ∙ ap (λ s. opening ++ (before ++ unless_ended s.ending prompt)) stays
-    ∙ ap (λ e. opening ++ (before ++ unless_ended e prompt)) over ∙ ap (λ bs. opening ++ bs) (append-nil before) in
+    let no_more : exchanges g sofar.refusals from (sofar.answered ++ others) ≡ answered =
+    ap (λ rs. exchanges g rs from (sofar.answered ++ others)) (sym (append-nil sofar.refusals))
+    ∙ exchanges-append g sofar.refusals [] from sofar.answered others sofar.told_of
+    ∙ ap (λ s. answered ++ exchanges g [] s others) (sym sofar.state)
+    ∙ ap (λ xs. answered ++ xs) (exchanges-over g [] to others ending over) ∙ append-nil answered in
+    let text : opening ++ played g echo sofar.refusals from (lines (sofar.read ++ commands.ahead)) ≡ opening ++ before =
+    ap (λ ls. opening ++ played g echo sofar.refusals from ls) all
+    ∙ ap (λ xs. opening ++ told_out echo from xs) no_more
+    ∙ ap (λ s. opening ++ (before ++ while_going s.ending prompt)) (sym sofar.state)
+    ∙ ap (λ e. opening ++ (before ++ while_going e prompt)) over ∙ ap (λ bs. opening ++ bs) (append-nil before) in
     record {
       commands = sofar.read ++ commands.ahead;
       are_commands = commands.known;
       transcript = opening ++ before;
       writes = sofar.writes;
       play = record {
-        flags = sofar.flags;
+        refusals = sofar.refusals;
         transcript_is = sym text;
-        last_is = ended ∙ ap (λ s. record { world = s.world; ending = ending_at_end s.ending }) (sym stays ∙ ap (λ ls. behind tale sofar.flags from ls) (sym all));
+        last_is = ended ∙ ap ended_at_end (sofar.state ∙ ap (λ xs. behind from xs) (sym no_more) ∙ ap (λ ls. behind_lines g sofar.refusals from ls) (sym all));
       };
       read = sofar.read;
       reads = sofar.reads;
       front = (commands.ahead, refl);
       few = omega (arith, sofar.counts);
-      all_or_over = inr (ap is_some (ap (λ s. s.ending) (ap (λ ls. behind tale sofar.flags from ls) (lines_read tale echo (opening_text tale) most_input left unread rest held now from to sofar) ∙ sym sofar.state) ∙ over));
+      answered = subst (λ ls. AreAnswered g sofar.refusals from ls) (sym (lines_read g echo opening most_input left unread rest held now from to sofar)) sofar.answers;
+      stops = inr (sofar.whole, ap is_some (ap (λ s. s.ending) (ap (λ ls. behind_lines g sofar.refusals from ls) (lines_read g echo opening most_input left unread rest held now from to sofar) ∙ sym sofar.state) ∙ over));
     }
 
 pub not_some : (ending : Option Ending) (none value : Bool) → is_some ending ≡ not none → none ≡ value → is_none ending ≡ value

@@ -8,7 +8,7 @@ use Rattle.std.proofs.lemmas.List.{length-append, append-nil}
 use Rattle.world_meaning.specs.Session.{State}
 use Rattle.world_meaning.specs.Texts.{prompt}
 use Rattle.world_meaning.specs.Transcript.{played}
-use Rattle.world_meaning.specs.declared.tale.Tale.{Tale}
+use Rattle.world_meaning.specs.Games.{Game}
 use Rattle.story_player.specs.Runs.{IsFront, has_break}
 use Rattle.story_player.specs.Steps.{BrokeTyping, IsTyping, WroteFront, shown}
 use Rattle.story_player.specs.Typed.{Typing, flushed, gone_with, is_full, typed_with}
@@ -27,11 +27,11 @@ strip_behind (b ∷ bs) kept keeps = strip-front (b ∷ bs) kept (keeps (omega a
 
 -- the play of a line that goes on so shows its front behind the prompt
 pub record ShowsFront (echo : Bool) (front bytes : List ℕ) : Type 0 where
-  pub shows : (tale : Tale) (flags : List Bool) (state : State) → state.ending ≡ None → IsFront (prompt ++ shown echo front) (played tale echo flags state (lines bytes))
+  pub shows : (g : Game) (refusals : List (Option ℕ)) (state : State) → state.ending ≡ None → IsFront (prompt ++ shown echo front) (played g echo refusals state (lines bytes))
 
 pub shows_by : (echo : Bool) (front line bytes : List ℕ) (others : List (List ℕ)) → lines bytes ≡ line ∷ others → IsFront front line → ShowsFront echo front bytes
 shows_by echo front line bytes others first begins = record {
-  shows = λ tale flags state going. subst (λ ls. IsFront (prompt ++ shown echo front) (played tale echo flags state ls)) (sym first) (front_shown tale echo flags state front line others going begins);
+  shows = λ g refusals state going. subst (λ ls. IsFront (prompt ++ shown echo front) (played g echo refusals state ls)) (sym first) (front_shown g echo refusals state front line others going begins);
 }
 
 pub shown_nothing : (echo : Bool) → shown echo [] ≡ []
@@ -40,9 +40,9 @@ shown_nothing false = refl
 
 pub shows_nothing : (echo : Bool) (bytes : List ℕ) → ShowsFront echo [] bytes
 shows_nothing echo bytes = record {
-  shows = λ tale flags state going.
-      subst (λ bs. IsFront (prompt ++ bs) (played tale echo flags state (lines bytes))) (sym (shown_nothing echo))
-      (subst (λ bs. IsFront bs (played tale echo flags state (lines bytes))) (sym (append-nil prompt)) (prompt_first tale echo flags state (lines bytes) going));
+  shows = λ g refusals state going.
+      subst (λ bs. IsFront (prompt ++ bs) (played g echo refusals state (lines bytes))) (sym (shown_nothing echo))
+      (subst (λ bs. IsFront bs (played g echo refusals state (lines bytes))) (sym (append-nil prompt)) (prompt_first g echo refusals state (lines bytes) going));
 }
 
 -- the line may be the last
@@ -82,10 +82,11 @@ cut_by_reader echo limit left unread mid rest held now t typing none = record {
   reads = subst (λ bs. Consumes unread rest bs) (append-nil ((typing.front ++ t.kept) ++ [])) (consumes-more unread mid rest ((typing.front ++ t.kept) ++ []) [] typing.reads none);
   unbroken = typing.unbroken;
   within = λ other. refl;
+  few = λ other. omega (arith, typing.counts, length-append (typing.front ++ t.kept) []);
   full = λ wrong. absurd cc;
   written = shown echo typing.front;
   writes = typing.writes;
-  front = λ tale flags state going. subst (λ bs. IsFront (prompt ++ shown echo typing.front) (played tale echo flags state (lines bs))) (sym (append-nil (typing.front ++ t.kept))) ((shows_last echo typing.front t.kept typing.keeps typing.unbroken).shows tale flags state going);
+  front = λ g refusals state going. subst (λ bs. IsFront (prompt ++ shown echo typing.front) (played g echo refusals state (lines bs))) (sym (append-nil (typing.front ++ t.kept))) ((shows_last echo typing.front t.kept typing.keeps typing.unbroken).shows g refusals state going);
 }
 
 -- there is too much input
@@ -96,6 +97,7 @@ cut_by_limit echo limit left byte unread mid rest held now t typing full one = r
   reads = subst (λ bs. Consumes unread rest (bs ++ byte ∷ [])) (append-nil (typing.front ++ t.kept)) (consumes-more unread mid rest ((typing.front ++ t.kept) ++ []) (byte ∷ []) typing.reads one);
   unbroken = typing.unbroken;
   within = λ other. absurd (other refl);
+  few = λ other. absurd (other refl);
   written = shown echo typing.front;
   writes = typing.writes;
   front = (shows_more echo typing.front t.kept byte typing.keeps typing.unbroken).shows;
@@ -112,8 +114,8 @@ flushed_front echo t =
     ] refl
 
 -- the bytes that were let go couldn't be written whole
-pub cut_by_writer : (echo : Bool) (limit left byte : ℕ) (unread mid rest held a now : Option (List ℕ)) (t : Typing) → IsTyping echo limit left unread mid held a t [] → byte ≢ 10 → Consumes mid rest (byte ∷ []) → WroteFront a now (shown echo (flushed t)) → BrokeTyping Write echo limit unread rest held now
-cut_by_writer echo limit left byte unread mid rest held a now t typing other one broke =
+pub cut_by_writer : (echo : Bool) (limit left byte : ℕ) (unread mid rest held a now : Option (List ℕ)) (t : Typing) → IsTyping echo limit left unread mid held a t [] → left ≢ 0 → byte ≢ 10 → Consumes mid rest (byte ∷ []) → WroteFront a now (shown echo (flushed t)) → BrokeTyping Write echo limit unread rest held now
+cut_by_writer echo limit left byte unread mid rest held a now t typing some other one broke =
     let line = typing.front ++ t.kept in
     let shows = shows_by echo line (line ++ byte ∷ []) (line ++ byte ∷ []) [] (lines-last (line ++ byte ∷ []) (break-append line (byte ∷ []) typing.unbroken (unbroken_byte byte other)) (one_more line byte)) (front_first line (byte ∷ [])) in
     let near : IsFront (shown echo typing.front ++ broke.written) (shown echo line) =
@@ -124,13 +126,14 @@ cut_by_writer echo limit left byte unread mid rest held a now t typing other one
       past = [];
       reads = subst (λ bs. Consumes unread rest bs) (ap (λ bs. bs ++ byte ∷ []) (append-nil line) ∙ sym (append-nil (line ++ byte ∷ []))) (consumes-more unread mid rest (line ++ []) (byte ∷ []) typing.reads one);
       unbroken = break-append line (byte ∷ []) typing.unbroken (unbroken_byte byte other);
-      within = λ some. refl;
+      within = λ same. refl;
+      few = λ same. omega (arith, some, typing.counts, length-append line [], length-append line (byte ∷ []), length-append (line ++ byte ∷ []) []);
       written = shown echo typing.front ++ broke.written;
       writes = appends-more held a now (shown echo typing.front) broke.written typing.writes broke.writes;
-      front = λ tale flags state going.
-          subst (λ bs. IsFront (prompt ++ (shown echo typing.front ++ broke.written)) (played tale echo flags state (lines bs))) (sym (append-nil (line ++ byte ∷ [])))
-          (front_trans (prompt ++ (shown echo typing.front ++ broke.written)) (prompt ++ shown echo line) (played tale echo flags state (lines (line ++ byte ∷ [])))
-          (front-behind prompt (shown echo typing.front ++ broke.written) (shown echo line) near) (shows.shows tale flags state going));
+      front = λ g refusals state going.
+          subst (λ bs. IsFront (prompt ++ (shown echo typing.front ++ broke.written)) (played g echo refusals state (lines bs))) (sym (append-nil (line ++ byte ∷ [])))
+          (front_trans (prompt ++ (shown echo typing.front ++ broke.written)) (prompt ++ shown echo line) (played g echo refusals state (lines (line ++ byte ∷ [])))
+          (front-behind prompt (shown echo typing.front ++ broke.written) (shown echo line) near) (shows.shows g refusals state going));
       full = λ wrong. absurd cc;
     }
 

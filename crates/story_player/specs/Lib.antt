@@ -1,7 +1,10 @@
 pub mod Breaks
+pub mod Deeds
 pub mod ReplyTexts
 pub mod Runs
 pub mod Sessions
 pub mod Steps
+pub mod StoryGames
 pub mod Typed
 pub mod Watches
+pub mod Worlds

@@ -1,18 +1,20 @@
--- What contracts see of a session: its story's tale and its state.
-use Rattle.std.specs.Prelude.{Bool, true, false}
+-- What contracts see of a session: its story's game, and its state.
+use Rattle.std.specs.Prelude.{ℕ, Bool, true, false, Option, None, Some, if◌then◌else◌}
+use Rattle.world_meaning.specs.Games.{Game}
 use Rattle.world_meaning.specs.Session.{State}
 use Rattle.world_meaning.specs.declared.session.Abandon.{Abandon}
 use Rattle.world_meaning.specs.declared.session.Abandon.TheVariants.{Memory, NestedTooDeep, TooMuchWork, NumberOutOfRange}
 use Rattle.world_meaning.specs.declared.session.ReplyKind.{ReplyKind}
 use Rattle.world_meaning.specs.declared.session.ReplyKind.TheVariants.{Kept, Free, Abandoned, Ended, Over}
-use Rattle.world_meaning.specs.declared.tale.Tale.{Tale}
+use Rattle.story_player.specs.StoryGames.{game_of_story}
+use Rattle.story_player.specs.Worlds.{world_of}
 use Rattle.story_player.specs.declared.session.Session.{Session}
 
-abbrev pub tale_of : Session → Tale
-tale_of session = session.story
+abbrev pub game_of : Session → Game
+game_of session = game_of_story session.story
 
 abbrev pub state_of : Session → State
-state_of session = record { world = session.world; ending = session.ending }
+state_of session = record { world = world_of session.world; ending = session.ending }
 
 abbrev pub is_memory : Abandon → Bool
 is_memory Memory = true
@@ -27,3 +29,7 @@ is_refusal Free = false
 is_refusal (Abandoned reason) = is_memory reason
 is_refusal Ended = false
 is_refusal Over = false
+
+-- where an answer of this kind tells that memory was refused: in the line's one command
+abbrev pub refusal_of : ReplyKind → Option ℕ
+refusal_of kind = if is_refusal kind then Some 0 else None

@@ -1,12 +1,12 @@
 -- What the parts of a run do, each by itself: a write, a line that is typed, a line that is answered.
-use Rattle.std.specs.Prelude.{◌≡◌, ◌≢◌, ℕ, ◌+◌, ◌<◌, suc, Bool, true, false, List, [], ◌∷◌, ◌++◌, length, Option, Some, None, if◌then◌else◌}
+use Rattle.std.specs.Prelude.{◌≡◌, ◌≢◌, ℕ, ◌+◌, ◌<◌, ◌≤◌, suc, Bool, true, false, List, [], ◌∷◌, ◌++◌, length, Option, Some, None, if◌then◌else◌}
 use Rattle.std.specs.Io.KnownBytes.{Appends, Consumes, IsAtEnd}
 use Rattle.std.specs.Str.Lines.{lines, strip_carriage_return}
 use Rattle.world_meaning.specs.Session.{State, answer_of, answer_to}
 use Rattle.world_meaning.specs.Texts.{prompt}
-use Rattle.world_meaning.specs.Transcript.{behind, echoed, played, unless_ended}
-use Rattle.world_meaning.specs.declared.tale.Tale.{Tale}
-use Rattle.story_player.specs.Runs.{IsFront, has_break}
+use Rattle.world_meaning.specs.Transcript.{behind_lines, echoed, played, while_going}
+use Rattle.world_meaning.specs.Games.{Game}
+use Rattle.story_player.specs.Runs.{AreAnswered, IsFront, has_break}
 use Rattle.story_player.specs.Typed.{IsGone, Typing, is_untyped, typed_reading}
 use Rattle.story_player.specs.declared.playing.RunFault.{RunFault}
 use Rattle.story_player.specs.declared.playing.RunFault.TheVariants.{InputTooLong}
@@ -45,51 +45,53 @@ pub record BrokeTyping (fault : RunFault) (echo : Bool) (limit : ℕ) (unread re
   pub reads : Consumes unread rest (typed ++ past)
   pub unbroken : has_break typed ≡ false
   pub within : fault ≢ InputTooLong → past ≡ []
+  pub few : fault ≢ InputTooLong → length (typed ++ past) ≤ limit
   pub full : fault ≡ InputTooLong → (length past ≡ 1) × (length (typed ++ past) ≡ suc limit)
   pub written : List ℕ
   pub writes : Appends held now written
-  pub front : (tale : Tale) (flags : List Bool) (state : State) → state.ending ≡ None → IsFront (prompt ++ written) (played tale echo flags state (lines (typed ++ past)))
+  pub front : (g : Game) (refusals : List (Option ℕ)) (state : State) → state.ending ≡ None → IsFront (prompt ++ written) (played g echo refusals state (lines (typed ++ past)))
 
 -- the part of the transcript that is written for a typed line behind what was shown of it
-abbrev pub typed_part : Tale → Bool → Bool → State → Typing → List ℕ
-typed_part tale echo refused state t = shown echo (t.kept ++ 10 ∷ []) ++ (answer_to tale refused state (typed_reading t)).spoken.text
+abbrev pub typed_part : Game → Bool → Option ℕ → State → Typing → List ℕ
+typed_part g echo refused state t = shown echo (t.kept ++ 10 ∷ []) ++ (answer_to g refused state (typed_reading g t)).spoken.text
 
 -- that part and the prompt behind it, where the input has ended; no byte is no line
-abbrev pub last_part : Tale → Bool → Bool → State → Typing → List ℕ
-last_part tale echo refused state t =
-    if is_untyped t then [] else typed_part tale echo refused state t ++ unless_ended (answer_to tale refused state (typed_reading t)).state.ending prompt
+abbrev pub last_part : Game → Bool → Option ℕ → State → Typing → List ℕ
+last_part g echo refused state t =
+    if is_untyped t then [] else typed_part g echo refused state t ++ while_going (answer_to g refused state (typed_reading g t)).state.ending prompt
 
-abbrev pub last_state : Tale → Bool → State → Typing → State
-last_state tale refused state t = if is_untyped t then state else (answer_to tale refused state (typed_reading t)).state
+abbrev pub last_state : Game → Option ℕ → State → Typing → State
+last_state g refused state t = if is_untyped t then state else (answer_to g refused state (typed_reading g t)).state
 
 -- A line was answered: these bytes were written, and the session is in the state behind the line.
-pub record Answered (part : Bool → List ℕ) (state : Bool → State) (held now : Option (List ℕ)) (to : State) : Type 0 where
-  pub refused : Bool
+pub record Answered (part : Option ℕ → List ℕ) (state : Option ℕ → State) (held now : Option (List ℕ)) (to : State) : Type 0 where
+  pub refused : Option ℕ
   pub writes : Appends held now (part refused)
   pub behind : to ≡ state refused
 
 -- The same, but that writing failed.
-pub record BrokeAnswer (part : Bool → List ℕ) (state : Bool → State) (held now : Option (List ℕ)) (to : State) : Type 0 where
-  pub refused : Bool
+pub record BrokeAnswer (part : Option ℕ → List ℕ) (state : Option ℕ → State) (held now : Option (List ℕ)) (to : State) : Type 0 where
+  pub refused : Option ℕ
   pub writes : WroteFront held now (part refused)
   pub behind : to ≡ state refused
 
 -- A whole line was played.
-pub record PlayedLine (tale : Tale) (echo : Bool) (limit left : ℕ) (unread rest held now : Option (List ℕ)) (from to : State) : Type 0 where
+pub record PlayedLine (g : Game) (echo : Bool) (limit left : ℕ) (unread rest held now : Option (List ℕ)) (from to : State) : Type 0 where
   pub line : List ℕ
   pub unbroken : has_break line ≡ false
   pub reads : Consumes unread rest (line ++ 10 ∷ [])
-  pub refused : Bool
-  pub writes : Appends held now (prompt ++ echoed echo (strip_carriage_return line) ++ (answer_of tale refused from (strip_carriage_return line)).spoken.text)
-  pub behind : to ≡ (answer_of tale refused from (strip_carriage_return line)).state
+  pub refused : Option ℕ
+  pub writes : Appends held now (prompt ++ echoed echo (strip_carriage_return line) ++ (answer_of g refused from (strip_carriage_return line)).spoken.text)
+  pub behind : to ≡ (answer_of g refused from (strip_carriage_return line)).state
   pub counts : length (line ++ 10 ∷ []) + left ≡ limit
 
 -- The last line was played, which has no break and may be empty.
-pub record PlayedLast (tale : Tale) (echo : Bool) (limit left : ℕ) (unread rest held now : Option (List ℕ)) (from to : State) : Type 0 where
+pub record PlayedLast (g : Game) (echo : Bool) (limit left : ℕ) (unread rest held now : Option (List ℕ)) (from to : State) : Type 0 where
   pub line : List ℕ
   pub reads : Consumes unread rest line
   pub ends : IsAtEnd rest
-  pub flags : List Bool
-  pub writes : Appends held now (played tale echo flags from (lines line))
-  pub state_is : to ≡ behind tale flags from (lines line)
+  pub refusals : List (Option ℕ)
+  pub writes : Appends held now (played g echo refusals from (lines line))
+  pub answered : AreAnswered g refusals from (lines line)
+  pub state_is : to ≡ behind_lines g refusals from (lines line)
   pub counts : length line + left ≡ limit

@@ -1,12 +1,12 @@
 //! Playing a session over a reader and a writer.
 ghost use Rattle.std.specs.Prelude.{◌≡◌, ◌++◌, ◌∷◌, [], ℕ, List, Bool, false, true, None, Ok, Some, IfErr, IfOk, OnErr, OnOk};
 ghost use Rattle.std.specs.Io.KnownBytes.{Appends, Consumes, IsAtEnd};
-ghost use Rattle.world_meaning.specs.Session.{answer_to, opening_text};
+ghost use Rattle.world_meaning.specs.Session.{answer_to, opened};
 ghost use Rattle.world_meaning.specs.Texts.{prompt};
-ghost use Rattle.world_meaning.specs.Transcript.{unless_ended};
+ghost use Rattle.world_meaning.specs.Transcript.{while_going};
 ghost use Rattle.story_player.specs.Breaks.{Blames};
 ghost use Rattle.story_player.specs.Runs.{BrokeOff, Played, most_input};
-ghost use Rattle.story_player.specs.Sessions.{state_of, tale_of};
+ghost use Rattle.story_player.specs.Sessions.{state_of, game_of};
 ghost use Rattle.story_player.specs.Steps.{Answered, BrokeAnswer, BrokeTyping, IsTyping, PlayedLast, PlayedLine, ReadsByte, WroteFront, last_part, last_state, shown, typed_part};
 ghost use Rattle.story_player.specs.Typed.{flushed, nothing_typed, typed_reading, typed_with};
 ghost use Rattle.story_player.specs.Watches.{watched_failed, watched_inner};
@@ -183,11 +183,11 @@ fn answer<W: Write>(
     requires writer { watched_failed writer.old ≡ false }
     ensures stands { OnOk result (watched_failed writer.new ≡ false) }
     ensures broke { IfErr result (λ fault. (fault ≡ RunFault.Write) × (watched_failed writer.new ≡ true)) }
-    ensures tale { tale_of session.new ≡ tale_of session.old }
-    ensures answered { OnOk result (Answered (λ refused. typed_part (tale_of session.old) echo refused (state_of session.old) line.now) (λ refused. (answer_to (tale_of session.old) refused (state_of session.old) (typed_reading line.now)).state) (W.contents (watched_inner writer.old)) (W.contents (watched_inner writer.new)) (state_of session.new)) }
-    ensures front { OnErr result (BrokeAnswer (λ refused. typed_part (tale_of session.old) echo refused (state_of session.old) line.now) (λ refused. (answer_to (tale_of session.old) refused (state_of session.old) (typed_reading line.now)).state) (W.contents (watched_inner writer.old)) (W.contents (watched_inner writer.new)) (state_of session.new)) }
+    ensures game { game_of session.new ≡ game_of session.old }
+    ensures answered { OnOk result (Answered (λ refused. typed_part (game_of session.old) echo refused (state_of session.old) line.now) (λ refused. (answer_to (game_of session.old) refused (state_of session.old) (typed_reading (game_of session.old) line.now)).state) (W.contents (watched_inner writer.old)) (W.contents (watched_inner writer.new)) (state_of session.new)) }
+    ensures front { OnErr result (BrokeAnswer (λ refused. typed_part (game_of session.old) echo refused (state_of session.old) line.now) (λ refused. (answer_to (game_of session.old) refused (state_of session.old) (typed_reading (game_of session.old) line.now)).state) (W.contents (watched_inner writer.old)) (W.contents (watched_inner writer.new)) (state_of session.new)) }
 {
-    let reply = session.answer(line.reading());
+    let reply = session.typed(line.typed());
     tell(writer, line, &reply, echo)
 }
 
@@ -196,8 +196,8 @@ fn prompt<W: Write>(writer: &mut Watched<W>, session: &Session) -> Result<(), Ru
     requires writer { watched_failed writer.old ≡ false }
     ensures stands { OnOk result (watched_failed writer.new ≡ false) }
     ensures broke { IfErr result (λ fault. (fault ≡ RunFault.Write) × (watched_failed writer.new ≡ true)) }
-    ensures wrote { OnOk result (Appends (W.contents (watched_inner writer.old)) (W.contents (watched_inner writer.new)) (unless_ended (state_of session.now).ending prompt)) }
-    ensures front { OnErr result (WroteFront (W.contents (watched_inner writer.old)) (W.contents (watched_inner writer.new)) (unless_ended (state_of session.now).ending prompt)) }
+    ensures wrote { OnOk result (Appends (W.contents (watched_inner writer.old)) (W.contents (watched_inner writer.new)) (while_going (state_of session.now).ending prompt)) }
+    ensures front { OnErr result (WroteFront (W.contents (watched_inner writer.old)) (W.contents (watched_inner writer.new)) (while_going (state_of session.now).ending prompt)) }
 {
     if session.ending().is_none() {
         write_whole(writer, PROMPT)
@@ -217,9 +217,9 @@ fn answer_last<W: Write>(
     requires writer { watched_failed writer.old ≡ false }
     ensures stands { OnOk result (watched_failed writer.new ≡ false) }
     ensures broke { IfErr result (λ fault. (fault ≡ RunFault.Write) × (watched_failed writer.new ≡ true)) }
-    ensures tale { tale_of session.new ≡ tale_of session.old }
-    ensures answered { OnOk result (Answered (λ refused. last_part (tale_of session.old) echo refused (state_of session.old) line.now) (λ refused. last_state (tale_of session.old) refused (state_of session.old) line.now) (W.contents (watched_inner writer.old)) (W.contents (watched_inner writer.new)) (state_of session.new)) }
-    ensures front { OnErr result (BrokeAnswer (λ refused. last_part (tale_of session.old) echo refused (state_of session.old) line.now) (λ refused. last_state (tale_of session.old) refused (state_of session.old) line.now) (W.contents (watched_inner writer.old)) (W.contents (watched_inner writer.new)) (state_of session.new)) }
+    ensures game { game_of session.new ≡ game_of session.old }
+    ensures answered { OnOk result (Answered (λ refused. last_part (game_of session.old) echo refused (state_of session.old) line.now) (λ refused. last_state (game_of session.old) refused (state_of session.old) line.now) (W.contents (watched_inner writer.old)) (W.contents (watched_inner writer.new)) (state_of session.new)) }
+    ensures front { OnErr result (BrokeAnswer (λ refused. last_part (game_of session.old) echo refused (state_of session.old) line.now) (λ refused. last_state (game_of session.old) refused (state_of session.old) line.now) (W.contents (watched_inner writer.old)) (W.contents (watched_inner writer.new)) (state_of session.new)) }
 {
     if line.is_empty() {
         return Ok(());
@@ -241,10 +241,10 @@ fn play_line<R: Read, W: Write>(
     requires going { (state_of session.old).ending ≡ None }
     ensures stand { OnOk result ((watched_failed reader.new ≡ false) × (watched_failed writer.new ≡ false)) }
     ensures broke { IfErr result (λ fault. Blames fault (watched_failed reader.new) (watched_failed writer.new)) }
-    ensures tale { tale_of session.new ≡ tale_of session.old }
-    ensures whole { result ≡ Ok LineEnd.Break → PlayedLine (tale_of session.old) echo left.old left.new (R.remaining (watched_inner reader.old)) (R.remaining (watched_inner reader.new)) (W.contents (watched_inner writer.old)) (W.contents (watched_inner writer.new)) (state_of session.old) (state_of session.new) }
-    ensures last { result ≡ Ok LineEnd.Input → PlayedLast (tale_of session.old) echo left.old left.new (R.remaining (watched_inner reader.old)) (R.remaining (watched_inner reader.new)) (W.contents (watched_inner writer.old)) (W.contents (watched_inner writer.new)) (state_of session.old) (state_of session.new) }
-    ensures cut { IfErr result (λ fault. BrokeOff fault (tale_of session.old) echo [] left.old (R.remaining (watched_inner reader.old)) (R.remaining (watched_inner reader.new)) (W.contents (watched_inner writer.old)) (W.contents (watched_inner writer.new)) (state_of session.old) (state_of session.new)) }
+    ensures game { game_of session.new ≡ game_of session.old }
+    ensures whole { result ≡ Ok LineEnd.Break → PlayedLine (game_of session.old) echo left.old left.new (R.remaining (watched_inner reader.old)) (R.remaining (watched_inner reader.new)) (W.contents (watched_inner writer.old)) (W.contents (watched_inner writer.new)) (state_of session.old) (state_of session.new) }
+    ensures last { result ≡ Ok LineEnd.Input → PlayedLast (game_of session.old) echo left.old left.new (R.remaining (watched_inner reader.old)) (R.remaining (watched_inner reader.new)) (W.contents (watched_inner writer.old)) (W.contents (watched_inner writer.new)) (state_of session.old) (state_of session.new) }
+    ensures cut { IfErr result (λ fault. BrokeOff fault (game_of session.old) echo [] left.old (R.remaining (watched_inner reader.old)) (R.remaining (watched_inner reader.new)) (W.contents (watched_inner writer.old)) (W.contents (watched_inner writer.new)) (state_of session.old) (state_of session.new)) }
 {
     prompt(writer, session)?;
     let mut line = TypedLine::new();
@@ -272,17 +272,17 @@ pub fn run<R: Read, W: Write>(
     requires writer { watched_failed writer.old ≡ false }
 
     // A run that comes to its end has written the play of the reader's commands.
-    ensures played { OnOk result (Played (tale_of session.old) echo (R.remaining (watched_inner reader.old)) (R.remaining (watched_inner reader.new)) (W.contents (watched_inner writer.old)) (W.contents (watched_inner writer.new)) (state_of session.old) (state_of session.new)) }
+    ensures played { OnOk result (Played (game_of session.old) echo (R.remaining (watched_inner reader.old)) (R.remaining (watched_inner reader.new)) (W.contents (watched_inner writer.old)) (W.contents (watched_inner writer.new)) (state_of session.old) (state_of session.new)) }
     ensures ended { IfOk result (λ ending. (state_of session.new).ending ≡ Some ending) }
 
     // A run that breaks off has written a front of it.
-    ensures cut { IfErr result (λ fault. BrokeOff fault (tale_of session.old) echo (opening_text (tale_of session.old)) most_input (R.remaining (watched_inner reader.old)) (R.remaining (watched_inner reader.new)) (W.contents (watched_inner writer.old)) (W.contents (watched_inner writer.new)) (state_of session.old) (state_of session.new)) }
+    ensures cut { IfErr result (λ fault. BrokeOff fault (game_of session.old) echo (opened (game_of session.old)).spoken.text most_input (R.remaining (watched_inner reader.old)) (R.remaining (watched_inner reader.new)) (W.contents (watched_inner writer.old)) (W.contents (watched_inner writer.new)) (state_of session.old) (state_of session.new)) }
 
     // It breaks off with the reader's fault exactly where the reader has failed, with the writer's
     // exactly where the writer has.
     ensures stand { OnOk result ((watched_failed reader.new ≡ false) × (watched_failed writer.new ≡ false)) }
     ensures broke { IfErr result (λ fault. Blames fault (watched_failed reader.new) (watched_failed writer.new)) }
-    ensures tale { tale_of session.new ≡ tale_of session.old }
+    ensures game { game_of session.new ≡ game_of session.old }
 {
     let mut left = MOST_INPUT;
     write_whole(writer, session.opening())?;

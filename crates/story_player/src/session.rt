@@ -1,10 +1,16 @@
 //! A session: a story in play, line by line.
-ghost use Rattle.std.specs.Prelude.{◌≡◌, ◌<◌, ◌++◌, false, Some, if◌then◌else◌, IfOk, OnOk};
-ghost use Rattle.std.specs.Bool.{MatchBool};
-ghost use Rattle.world_meaning.specs.Texts.{memory_text, said};
-ghost use Rattle.world_meaning.specs.Transcript.{ending_at_end};
-ghost use Rattle.world_meaning.specs.Session.{abandoned, answer_of, answer_to, later, look_text, looked_in, most_turns, opening_text, read_answer, room_after, start_state};
+ghost use Rattle.std.specs.Prelude.{◌≡◌, ◌<◌, ◌++◌, None, Some, IfOk, OnOk};
+ghost use Rattle.world_meaning.specs.Texts.{said};
+ghost use Rattle.world_meaning.specs.Transcript.{ended_at_end};
+ghost use Rattle.world_meaning.specs.Turns.{most_turns};
+ghost use Rattle.world_meaning.specs.Session.{answer_of, answer_to, opened, read_answer};
+ghost use Rattle.story_player.specs.Deeds.{deed_in, deed_of, look_text, room_after};
+ghost use Rattle.story_player.specs.StoryGames.{facts_of_story, game_of_story};
+ghost use Rattle.story_player.specs.Typed.{reading_typed};
+ghost use Rattle.story_player.specs.Worlds.{world_of};
+ghost use Rattle.world_meaning.specs.declared.tale.Tale.{Tale};
 
+use crate::typed::Typed;
 use crate::{Reply, World, read_line, texts};
 use std::alloc::{AllocError, Global};
 use story_format::Story;
@@ -29,7 +35,7 @@ pub struct Session {
     world: World,
     ending: Option<Ending>,
     opening: TextBytes,
-    ghost opened: { opening ≡ opening_text story },
+    ghost opened: { opening ≡ (opened (game_of_story story)).spoken.text },
 }
 
 /// Adds a text and a line break.
@@ -43,7 +49,7 @@ fn say(text: &mut Vec<u8>, bytes: &[u8]) -> Result<(), AllocError>
 
 /// The heading and the body of a room.
 fn look_text(alloc: Global, story: &Story, room: ObjNo) -> Result<TextBytes, AllocError>
-    ensures { IfOk result (λ text. text ≡ look_text story.now room) }
+    ensures { IfOk result (λ text. text ≡ look_text (facts_of_story story.now) room) }
 {
     let mut text = Vec::new(alloc);
     say(&mut text, story.name(room))?;
@@ -53,13 +59,24 @@ fn look_text(alloc: Global, story: &Story, room: ObjNo) -> Result<TextBytes, All
     Ok(TextBytes::new(text))
 }
 
+/// What a line means as it was typed.
+fn read_typed(typed: Typed<'_>) -> Reading
+    ensures { (story : Tale) → result ≡ reading_typed (game_of_story story) typed.entry }
+{
+    match typed {
+        Typed::Whole(line) => read_line(line),
+        Typed::Overlong { has_word: true } => Reading::TooLong,
+        Typed::Overlong { has_word: false } => Reading::Empty,
+    }
+}
+
 impl Session {
-    ghost use Rattle.story_player.specs.Sessions.{is_refusal, state_of, tale_of};
+    ghost use Rattle.story_player.specs.Sessions.{game_of, refusal_of, state_of};
 
     /// Begins the story: the player looks round in the first room.
     pub fn start(alloc: Global, story: Story) -> Result<Session, StartFault>
-        ensures begun { IfOk result (λ session. state_of session ≡ start_state story) }
-        ensures story { IfOk result (λ session. tale_of session ≡ story) }
+        ensures begun { IfOk result (λ session. state_of session ≡ (opened (game_of_story story)).state) }
+        ensures game { IfOk result (λ session. game_of session ≡ game_of_story story) }
     {
         let mut world = World::start(alloc, &story).map_err(|_| StartFault::Memory)?;
         let room = story.start();
@@ -76,14 +93,14 @@ impl Session {
 
     /// The text with which the session began.
     pub fn opening(&self) -> &[u8]
-        ensures { result.now ≡ opening_text (tale_of self.now) }
+        ensures { result.now ≡ (opened (game_of self.now)).spoken.text }
     {
         self.opening.as_slice()
     }
 
     /// The world as it is now.
     pub fn world(&self) -> &World
-        ensures { result.now ≡ (state_of self.now).world }
+        ensures { world_of result.now ≡ (state_of self.now).world }
     {
         &self.world
     }
@@ -95,9 +112,9 @@ impl Session {
         self.ending
     }
 
-    /// Where an action takes the player, if it does.
+    /// Where an action lets the player look round, if it does.
     fn room_after(&self, action: Action) -> Option<ObjNo>
-        ensures { result ≡ room_after (tale_of self.now) (state_of self.now).world action }
+        ensures { result ≡ room_after (facts_of_story self.now.story) (state_of self.now).world action }
     {
         match action {
             Action::Looking => Some(self.world.location()),
@@ -108,9 +125,8 @@ impl Session {
     /// The player looks round in the room, and the turn is over.
     fn look_in(&mut self, room: ObjNo) -> Reply
         requires { (state_of self.old).world.turns < most_turns }
-        ensures spoken { MatchBool (is_refusal result.kind) (result ≡ (abandoned (state_of self.old) Abandon.Memory memory_text).spoken) (result ≡ record { text = look_text (tale_of self.old) room; kind = ReplyKind.Kept }) }
-        ensures state { state_of self.new ≡ (if is_refusal result.kind then state_of self.old else record (state_of self.old) { world = later (looked_in room (state_of self.old).world) }) }
-        ensures tale { tale_of self.new ≡ tale_of self.old }
+        ensures answer { record { spoken = result; state = state_of self.new } ≡ deed_in (facts_of_story self.old.story) (refusal_of result.kind) (state_of self.old) (Some room) }
+        ensures story { self.new.story ≡ self.old.story }
     {
         match look_text(self.alloc, &self.story, room) {
             Ok(text) => {
@@ -122,11 +138,20 @@ impl Session {
         }
     }
 
-    /// Plays a turn: one action.
+    /// There is no way, and the turn is over.
+    fn stay(&mut self) -> Reply
+        requires { (state_of self.old).world.turns < most_turns }
+        ensures answer { record { spoken = result; state = state_of self.new } ≡ deed_in (facts_of_story self.old.story) (refusal_of result.kind) (state_of self.old) None }
+        ensures story { self.new.story ≡ self.old.story }
+    {
+        self.world.end_turn();
+        Reply::fixed(texts::NO_WAY, ReplyKind::Kept)
+    }
+
+    /// Plays a turn at once.
     fn turn(&mut self, action: Action) -> Reply
-        requires { (state_of self.old).ending ≡ None }
-        ensures answer { record { spoken = result; state = state_of self.new } ≡ read_answer (tale_of self.old) (is_refusal result.kind) (state_of self.old) (Reading.Act action) }
-        ensures tale { tale_of self.new ≡ tale_of self.old }
+        ensures answer { record { spoken = result; state = state_of self.new } ≡ deed_of (facts_of_story self.old.story) (refusal_of result.kind) (state_of self.old) action }
+        ensures story { self.new.story ≡ self.old.story }
     {
         if self.world.turns() >= MOST_TURNS {
             return Reply::fixed(
@@ -135,34 +160,38 @@ impl Session {
             );
         }
         match self.room_after(action) {
-            None => {
-                self.world.end_turn();
-                Reply::fixed(texts::NO_WAY, ReplyKind::Kept)
-            }
+            None => self.stay(),
             Some(room) => self.look_in(room),
         }
     }
 
+    /// Plays a turn: what its rules say.
+    fn act(&mut self, action: Action) -> Reply
+        ensures answer { record { spoken = result; state = state_of self.new } ≡ read_answer (game_of self.old) (refusal_of result.kind) (state_of self.old) (Reading.Act action) }
+        ensures story { self.new.story ≡ self.old.story }
+    {
+        self.turn(action)
+    }
+
     /// Ends the session at the player's word.
     fn quit(&mut self) -> Reply
-        requires { (state_of self.old).ending ≡ None }
-        ensures answer { record { spoken = result; state = state_of self.new } ≡ read_answer (tale_of self.old) false (state_of self.old) Reading.Quit }
-        ensures tale { tale_of self.new ≡ tale_of self.old }
+        ensures answer { record { spoken = result; state = state_of self.new } ≡ read_answer (game_of self.old) (refusal_of result.kind) (state_of self.old) Reading.Quit }
+        ensures story { self.new.story ≡ self.old.story }
     {
         self.ending = Some(Ending::Quit);
         Reply::fixed(b"", ReplyKind::Ended)
     }
 
     /// Answers what a line means.
-    pub(crate) fn answer(&mut self, reading: Reading) -> Reply
-        ensures answer { record { spoken = result; state = state_of self.new } ≡ answer_to (tale_of self.old) (is_refusal result.kind) (state_of self.old) reading }
-        ensures tale { tale_of self.new ≡ tale_of self.old }
+    fn answer(&mut self, reading: Reading) -> Reply
+        ensures answer { record { spoken = result; state = state_of self.new } ≡ answer_to (game_of self.old) (refusal_of result.kind) (state_of self.old) reading }
+        ensures story { self.new.story ≡ self.old.story }
     {
         if self.ending.is_some() {
             return Reply::fixed(b"", ReplyKind::Over);
         }
         match reading {
-            Reading::Act(action) => self.turn(action),
+            Reading::Act(action) => self.act(action),
             Reading::Quit => self.quit(),
             Reading::Empty => Reply::fixed(texts::EMPTY, ReplyKind::Free),
             Reading::TooLong => Reply::fixed(texts::TOO_LONG, ReplyKind::Free),
@@ -172,20 +201,29 @@ impl Session {
         }
     }
 
-    /// Answers a line. Where memory is refused in a turn, the answer says so and nothing has changed;
-    /// every other line is answered without memory.
-    pub fn line(&mut self, line: &[u8]) -> Reply
-        ensures answer { record { spoken = result; state = state_of self.new } ≡ answer_of (tale_of self.old) (is_refusal result.kind) (state_of self.old) line.now }
-        ensures tale { tale_of self.new ≡ tale_of self.old }
+    /// Answers a line as it was typed.
+    pub(crate) fn typed(&mut self, typed: Typed<'_>) -> Reply
+        ensures answer { record { spoken = result; state = state_of self.new } ≡ answer_to (game_of self.old) (refusal_of result.kind) (state_of self.old) (reading_typed (game_of self.old) typed.entry) }
+        ensures game { game_of self.new ≡ game_of self.old }
     {
-        self.answer(read_line(line))
+        self.answer(read_typed(typed))
+    }
+
+    /// Answers a line. Where memory is refused in a turn, the answer says so and nothing has changed;
+    /// every line that asks for none is answered without it: only a turn in which the player looks round
+    /// asks for memory.
+    pub fn line(&mut self, line: &[u8]) -> Reply
+        ensures answer { record { spoken = result; state = state_of self.new } ≡ answer_of (game_of self.old) (refusal_of result.kind) (state_of self.old) line.now }
+        ensures game { game_of self.new ≡ game_of self.old }
+    {
+        self.typed(Typed::Whole(line))
     }
 
     /// The commands have run out: answers how the session has ended.
     pub(crate) fn end_input(&mut self) -> Ending
-        ensures state { state_of self.new ≡ record (state_of self.old) { ending = ending_at_end (state_of self.old).ending } }
+        ensures state { state_of self.new ≡ ended_at_end (state_of self.old) }
         ensures ending { (state_of self.new).ending ≡ Some result }
-        ensures tale { tale_of self.new ≡ tale_of self.old }
+        ensures game { game_of self.new ≡ game_of self.old }
     {
         match self.ending {
             Some(ending) => ending,

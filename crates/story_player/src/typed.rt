@@ -1,8 +1,6 @@
 //! The line that is being typed: its bytes so far, of which only a part is kept where it is long.
-use crate::read_line;
 use arrayvec::ArrayVec;
 use std::marker::Model;
-use world_meaning::Reading;
 
 /// The bytes that are kept: a line that is no longer is kept whole.
 const MOST_KEPT: usize = 256;
@@ -18,7 +16,16 @@ pub enum Gone {
     Words,
 }
 
-/// A line in front of its line break.
+/// A line as it was typed, in front of its line break.
+#[derive(Clone, Copy, Debug)]
+pub enum Typed<'a> {
+    /// All of its bytes.
+    Whole(&'a [u8]),
+    /// A line of over 255 bytes, of which it is known whether a word is in it.
+    Overlong { has_word: bool },
+}
+
+/// A line that is being typed.
 #[derive(Drop)]
 pub struct TypedLine {
     gone: Gone,
@@ -35,7 +42,8 @@ impl Model for TypedLine {
 
 ghost use Rattle.std.specs.Prelude.{◌≡◌, ◌<◌, ◌++◌, ◌∷◌, [], false, length};
 ghost use Rattle.std.specs.Str.Lines.{strip_carriage_return};
-ghost use Rattle.story_player.specs.Typed.{gone_with, has_word, is_full, is_untyped, is_word_byte, most_kept, nothing_typed, typed_reading};
+ghost use Rattle.story_player.specs.Typed.{gone_with, has_word, is_full, is_untyped, is_word_byte, most_kept, nothing_typed, reading_typed, typed_reading};
+ghost use Rattle.world_meaning.specs.Games.{Game};
 
 /// Whether the byte is no blank.
 fn is_word_byte(byte: &u8) -> bool
@@ -114,14 +122,16 @@ impl TypedLine {
         }
     }
 
-    /// What the line means: one of over 255 bytes is too long, unless it is all blanks.
-    pub fn reading(&self) -> Reading
-        ensures { result ≡ typed_reading self.now }
+    /// The line as it was typed: whole, or what is known of it.
+    pub fn typed(&self) -> Typed<'_>
+        ensures { (g : Game) → reading_typed g result ≡ typed_reading g self.now }
     {
         match self.gone {
-            Gone::Nothing => read_line(self.kept.as_slice()),
-            Gone::Blanks if !has_word(self.kept.as_slice()) => Reading::Empty,
-            Gone::Blanks | Gone::Words => Reading::TooLong,
+            Gone::Nothing => Typed::Whole(self.kept.as_slice()),
+            Gone::Blanks => Typed::Overlong {
+                has_word: has_word(self.kept.as_slice()),
+            },
+            Gone::Words => Typed::Overlong { has_word: true },
         }
     }
 }

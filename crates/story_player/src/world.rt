@@ -1,14 +1,18 @@
 //! The world of a story in play.
 ghost use Rattle.std.specs.Prelude.{◌≡◌, ◌<◌, false, IfOk, slice_index_or};
-ghost use Rattle.world_meaning.specs.Session.{looked_in, later, most_turns};
-ghost use Rattle.world_meaning.specs.World.{start_world};
+ghost use Rattle.world_meaning.specs.Turns.{most_turns};
+ghost use Rattle.world_meaning.specs.World.{next_turn, start_world};
+ghost use Rattle.story_player.specs.Deeds.{looked_in};
+ghost use Rattle.story_player.specs.StoryGames.{facts_of_story};
+ghost use Rattle.story_player.specs.Worlds.{world_of};
 
 use std::alloc::{AllocError, Global};
 use std::marker::Model;
 use story_format::Story;
 use world_meaning::ObjNo;
 
-/// Where the player is, which rooms were visited, and the turn count.
+/// Where the player is, which rooms were visited, and the turn count. No story of this language ends of
+/// itself.
 #[derive(Debug, Drop)]
 pub struct World {
     location: ObjNo,
@@ -17,9 +21,9 @@ pub struct World {
 }
 
 impl Model for World {
-    ghost use Rattle.world_meaning.specs.World as state;
+    ghost use Rattle.story_player.specs.Worlds.{KeptWorld};
 
-    ghost Value = { state.World };
+    ghost Value = { KeptWorld };
 
     ghost view = { λ w. record { location = w.location; visited = w.visited.items; turns = w.turns } };
 }
@@ -27,7 +31,7 @@ impl Model for World {
 impl World {
     /// The world with which the story begins.
     pub(crate) fn start(alloc: Global, story: &Story) -> Result<World, AllocError>
-        ensures { IfOk result (λ world. world ≡ start_world story.now) }
+        ensures { IfOk result (λ world. world_of world ≡ start_world (facts_of_story story.now)) }
     {
         Ok(World {
             location: story.start(),
@@ -62,7 +66,7 @@ impl World {
 
     /// The player looks round in the room, which is then visited.
     pub(crate) fn look_in(&mut self, room: ObjNo)
-        ensures { self.new ≡ looked_in room self.old }
+        ensures { world_of self.new ≡ looked_in room (world_of self.old) }
     {
         self.location = room;
         if let Some(visited) = self.visited.get_mut(room.get() as usize) {
@@ -73,7 +77,7 @@ impl World {
     /// The turn is over.
     pub(crate) fn end_turn(&mut self)
         requires { self.old.turns < most_turns }
-        ensures { self.new ≡ later self.old }
+        ensures { world_of self.new ≡ next_turn (world_of self.old) }
     {
         self.turns += 1;
     }

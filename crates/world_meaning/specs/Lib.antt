@@ -1,8 +1,17 @@
+pub mod Acting
+pub mod Consulting
 pub mod Directions
+pub mod Facts
+pub mod Games
+pub mod Progress
 pub mod Reading
+pub mod Rulebooks
 pub mod Session
 pub mod Spelling
+pub mod StandardGame
+pub mod StandardRules
 pub mod Tale
 pub mod Texts
 pub mod Transcript
+pub mod Turns
 pub mod World

@@ -77,9 +77,13 @@ abbrev pub words_reading : List (List ℕ) → Reading
 words_reading [] = Empty
 words_reading (verb ∷ words) = verb_reading verb words
 
--- what a line means: at most 255 bytes and 32 words
-abbrev pub reading_of : List ℕ → Reading
-reading_of line =
+-- What a line means: no word, over 255 bytes or 32 words, else what its words do.
+abbrev pub line_reading : (List (List ℕ) → Reading) → List ℕ → Reading
+line_reading reads line =
     if length (words_of line) == 0 then Empty
     else if nat_lt 255 (length line) || nat_lt 32 (length (words_of line)) then TooLong
-    else words_reading (words_of line)
+    else reads (words_of line)
+
+-- what a line means by this grammar
+abbrev pub reading_of : List ℕ → Reading
+reading_of line = line_reading words_reading line

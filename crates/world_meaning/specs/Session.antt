@@ -1,19 +1,18 @@
 -- A session: what each line does to the world, and the text that it gives.
-use Rattle.std.specs.Prelude.{ℕ, ◌+◌, Bool, true, nat_lt, List, [], ◌++◌, Option, None, Some, slice_set, if◌then◌else◌}
-use Rattle.world_meaning.specs.Directions.{direction_number}
-use Rattle.world_meaning.specs.Reading.{reading_of}
-use Rattle.world_meaning.specs.Tale.{name_of, description_of, way_of, start_of}
-use Rattle.world_meaning.specs.Texts.{said, empty_text, too_long_text, no_verb_text, not_seen_text, not_understood_text, no_way_text, memory_text, out_of_range_text}
-use Rattle.world_meaning.specs.World.{World, start_world}
-use Rattle.world_meaning.specs.declared.tale.Tale.{Tale}
+use Rattle.std.specs.Prelude.{ℕ, ◌==◌, Bool, true, false, ◌&&◌, List, [], ◌++◌, Option, None, Some, Ok, Err, if◌then◌else◌}
+use Rattle.world_meaning.specs.Games.{Game}
+use Rattle.world_meaning.specs.Progress.{Attempt, Progress, fresh}
+use Rattle.world_meaning.specs.Reading.{line_reading}
+use Rattle.world_meaning.specs.Texts.{closing_text, empty_text, memory_text, not_seen_text, not_understood_text, no_verb_text, out_of_range_text, too_deep_text, too_long_text, too_much_work_text}
+use Rattle.world_meaning.specs.Turns.{asks_memory, opening, turn}
+use Rattle.world_meaning.specs.World.{World}
 use Rattle.world_meaning.specs.declared.reading.Action.{Action}
-use Rattle.world_meaning.specs.declared.reading.Action.TheVariants.{Looking, Going}
 use Rattle.world_meaning.specs.declared.reading.Reading.{Reading}
 use Rattle.world_meaning.specs.declared.reading.Reading.TheVariants.{Act, Quit, Empty, TooLong, NoVerb, NotSeen, NotUnderstood}
 use Rattle.world_meaning.specs.declared.session.Ending.{Ending}
-use Rattle.world_meaning.specs.declared.session.Ending.TheVariants.{Quit as Quitting}
+use Rattle.world_meaning.specs.declared.session.Ending.TheVariants.{Quit as Quitting, Story}
 use Rattle.world_meaning.specs.declared.session.Abandon.{Abandon}
-use Rattle.world_meaning.specs.declared.session.Abandon.TheVariants.{Memory, NumberOutOfRange}
+use Rattle.world_meaning.specs.declared.session.Abandon.TheVariants.{NestedTooDeep, Memory, TooMuchWork, NumberOutOfRange}
 use Rattle.world_meaning.specs.declared.session.ReplyKind.{ReplyKind}
 use Rattle.world_meaning.specs.declared.session.ReplyKind.TheVariants.{Kept, Free, Abandoned, Ended, Over}
 
@@ -32,86 +31,60 @@ pub record Answer : Type 0 where
   pub spoken : Spoken
   pub state : State
 
-abbrev pub described : Option (List ℕ) → List ℕ
-described None = []
-described (Some text) = said text
+-- the answer with this text, of this kind, and this state behind it
+abbrev pub answered : List ℕ → ReplyKind → State → Answer
+answered text kind state = record { spoken = record { text = text; kind = kind }; state = state }
 
--- the heading and the body of a room
-abbrev pub look_text : Tale → ℕ → List ℕ
-look_text tale room = said (name_of tale room) ++ described (description_of tale room)
+abbrev pub abandon_text : Abandon → List ℕ
+abandon_text NestedTooDeep = too_deep_text
+abandon_text Memory = memory_text
+abandon_text TooMuchWork = too_much_work_text
+abandon_text NumberOutOfRange = out_of_range_text
 
--- the player looks round in a room, which is then visited
-abbrev pub looked_in : ℕ → World → World
-looked_in room world = record { location = room; visited = slice_set world.visited room true; turns = world.turns }
+-- play that is abandoned gives one line and changes nothing
+abbrev pub abandoned : State → Abandon → Answer
+abandoned state reason = answered (abandon_text reason) (Abandoned reason) state
 
--- the room in which an action lets the player look round
-abbrev pub room_after : Tale → World → Action → Option ℕ
-room_after tale world Looking = Some world.location
-room_after tale world (Going d) = way_of tale world.location (direction_number d)
+-- where the story ended, a closing line is the last part of the text
+abbrev pub closed : ReplyKind → State → Progress → Option (List ℕ) → Answer
+closed kind state p None = answered p.text kind (record state { world = p.world })
+closed kind state p (Some ending) = answered (p.text ++ closing_text ending) Ended (record state { world = p.world; ending = Some Story })
 
--- what an action says and makes of the world
-pub record Deed : Type 0 where
-  pub text : List ℕ
-  pub world : World
+-- what play gives from a state on, of this kind where the story goes on
+abbrev pub played_out : ReplyKind → State → Attempt Progress → Answer
+played_out kind state (Ok p) = closed kind state p p.world.ended
+played_out kind state (Err reason) = abandoned state reason
 
-abbrev pub deed_in : Tale → World → Option ℕ → Deed
-deed_in tale world None = record { text = no_way_text; world = world }
-deed_in tale world (Some room) = record { text = look_text tale room; world = looked_in room world }
+-- Where memory was refused in a line, if it was: by the place of the command that was refused, the
+-- first being 0. A line of this language has one command.
+abbrev pub refuses : Option ℕ → ℕ → Bool
+refuses None place = false
+refuses (Some refused) place = refused == place
 
-abbrev pub deed_of : Tale → World → Action → Deed
-deed_of tale world action = deed_in tale world (room_after tale world action)
+-- what a reading gives; memory can be refused only where it is asked for
+abbrev pub read_answer : Game → Option ℕ → State → Reading → Answer
+read_answer g refused state Empty = answered empty_text Free state
+read_answer g refused state TooLong = answered too_long_text Free state
+read_answer g refused state NoVerb = answered no_verb_text Free state
+read_answer g refused state NotSeen = answered not_seen_text Free state
+read_answer g refused state NotUnderstood = answered not_understood_text Free state
+read_answer g refused state Quit = answered [] Ended (record state { ending = Some Quitting })
+read_answer g refused state (Act action) =
+    if refuses refused 0 && asks_memory g state.world action then abandoned state Memory
+    else played_out Kept state (turn g action (fresh state.world))
 
--- a turn is over
-abbrev pub later : World → World
-later world = record { location = world.location; visited = world.visited; turns = world.turns + 1 }
+-- after the end a line gives nothing
+abbrev pub unless_ended : Option Ending → State → Answer → Answer
+unless_ended None state answer = answer
+unless_ended (Some ending) state answer = answered [] Over state
 
-abbrev pub free : State → List ℕ → Answer
-free state text = record { spoken = record { text = text; kind = Free }; state = state }
-
--- a turn that is abandoned gives one line and changes nothing
-abbrev pub abandoned : State → Abandon → List ℕ → Answer
-abandoned state reason text = record { spoken = record { text = text; kind = Abandoned reason }; state = state }
-
-abbrev pub kept : Deed → Answer
-kept deed = record { spoken = record { text = deed.text; kind = Kept }; state = record { world = later deed.world; ending = None } }
-
--- the highest turn count
-abbrev pub most_turns : ℕ
-most_turns = 2147483647
-
-abbrev pub turn_of : Tale → State → Action → Answer
-turn_of tale state action =
-    if nat_lt state.world.turns most_turns then kept (deed_of tale state.world action)
-    else abandoned state NumberOutOfRange out_of_range_text
-
--- what a reading gives; `refused` says whether memory was refused in it, which only an action asks for
-abbrev pub read_answer : Tale → Bool → State → Reading → Answer
-read_answer tale refused state Empty = free state empty_text
-read_answer tale refused state TooLong = free state too_long_text
-read_answer tale refused state NoVerb = free state no_verb_text
-read_answer tale refused state NotSeen = free state not_seen_text
-read_answer tale refused state NotUnderstood = free state not_understood_text
-read_answer tale refused state Quit =
-    record { spoken = record { text = []; kind = Ended }; state = record { world = state.world; ending = Some Quitting } }
-read_answer tale refused state (Act action) =
-    if refused then abandoned state Memory memory_text else turn_of tale state action
-
--- what a reading gives; after the end, nothing
-abbrev pub ended_answer : Tale → Bool → State → Reading → Option Ending → Answer
-ended_answer tale refused state reading (Some ending) = record { spoken = record { text = []; kind = Over }; state = state }
-ended_answer tale refused state reading None = read_answer tale refused state reading
-
-abbrev pub answer_to : Tale → Bool → State → Reading → Answer
-answer_to tale refused state reading = ended_answer tale refused state reading state.ending
+abbrev pub answer_to : Game → Option ℕ → State → Reading → Answer
+answer_to g refused state reading = unless_ended state.ending state (read_answer g refused state reading)
 
 -- what a line gives
-abbrev pub answer_of : Tale → Bool → State → List ℕ → Answer
-answer_of tale refused state line = answer_to tale refused state (reading_of line)
+abbrev pub answer_of : Game → Option ℕ → State → List ℕ → Answer
+answer_of g refused state line = answer_to g refused state (line_reading g.reads line)
 
--- the state in which a session begins: the player has looked round
-abbrev pub start_state : Tale → State
-start_state tale = record { world = looked_in (start_of tale) (start_world tale); ending = None }
-
--- the text with which a session begins
-abbrev pub opening_text : Tale → List ℕ
-opening_text tale = look_text tale (start_of tale)
+-- the story begins: what the opening gives
+abbrev pub opened : Game → Answer
+opened g = played_out Free (record { world = g.start; ending = None }) (opening g (fresh g.start))

@@ -28,6 +28,16 @@ memory_text = said (codes "[The turn was abandoned: out of memory.]")
 abbrev pub out_of_range_text : List ℕ
 out_of_range_text = said (codes "[The turn was abandoned: number out of range.]")
 
+abbrev pub too_deep_text : List ℕ
+too_deep_text = said (codes "[The turn was abandoned: nested too deep.]")
+
+abbrev pub too_much_work_text : List ℕ
+too_much_work_text = said (codes "[The turn was abandoned: too much work.]")
+
+-- the line with which a story ends
+abbrev pub closing_text : List ℕ → List ℕ
+closing_text ending = 10 ∷ codes "*** " ++ said (ending ++ codes " ***")
+
 -- what stands before each line that is typed
 abbrev pub prompt : List ℕ
 prompt = 10 ∷ 62 ∷ []

@@ -2,8 +2,8 @@ use Rattle.std.proofs.Common.{Ok, ap, subst}
 use Rattle.std.specs.Io.KnownBytes.{Appends}
 use Rattle.std.proofs.lemmas.Result.{err_from_is_err_and}
 use Rattle.world_meaning.specs.Texts.{prompt}
-use Rattle.world_meaning.specs.Transcript.{unless_ended}
-use Rattle.story_player.specs.Sessions.{state_of, tale_of}
+use Rattle.world_meaning.specs.Transcript.{while_going}
+use Rattle.story_player.specs.Sessions.{state_of, game_of}
 use Rattle.story_player.specs.Steps.{Answered, BrokeAnswer}
 use Rattle.story_player.specs.Watches.{watched_inner}
 use Rattle.story_player.proofs.PlayedLines.{cut_at_prompt, cut_in_answer, cut_in_last, cut_in_line, played_last, played_line}
@@ -19,7 +19,7 @@ returns-in_err-prompt-clause-cut g c =
     let now = g.W.Write.contents (watched_inner c.prompt.new.writer) in
     let told = c.in_err-prompt.ensures in
     rw (p.1, p.2, told.broke.0)
-    (cut_at_prompt (tale_of c.args.session.now) c.args.echo c.args.left.now unread held now (state_of c.args.session.now) c.requires.going (consumes-nothing unread) told.front)
+    (cut_at_prompt (game_of c.args.session.now) c.args.echo c.args.left.now unread held now (state_of c.args.session.now) c.requires.going (consumes-nothing unread) told.front)
 
 pub returns-in_err-end-clause-cut : goal.returns-in_err-end-clause-cut
 returns-in_err-end-clause-cut g c =
@@ -29,9 +29,9 @@ returns-in_err-end-clause-cut g c =
     let held = g.W.Write.contents (watched_inner c.args.writer.now) in
     let a = g.W.Write.contents (watched_inner c.prompt.new.writer) in
     let now = g.W.Write.contents (watched_inner c.type_line.new.writer) in
-    let prompted = subst (λ e. Appends held a (unless_ended e prompt)) c.requires.going c.in_ok-prompt.ensures.wrote in
+    let prompted = subst (λ e. Appends held a (while_going e prompt)) c.requires.going c.in_ok-prompt.ensures.wrote in
     rw (p.1, p.2)
-    (cut_in_line c.in_err-end.field-0.0 (tale_of c.args.session.now) c.args.echo c.args.left.now unread rest held a now (state_of c.args.session.now) c.requires.going prompted c.in_err-end.ensures.cut)
+    (cut_in_line c.in_err-end.field-0.0 (game_of c.args.session.now) c.args.echo c.args.left.now unread rest held a now (state_of c.args.session.now) c.requires.going prompted c.in_err-end.ensures.cut)
 
 pub returns-in_err-answer-in-Break-clause-cut : goal.returns-in_err-answer-in-Break-clause-cut
 returns-in_err-answer-in-Break-clause-cut g c =
@@ -42,15 +42,15 @@ returns-in_err-answer-in-Break-clause-cut g c =
     let a = g.W.Write.contents (watched_inner c.prompt.new.writer) in
     let b = g.W.Write.contents (watched_inner c.type_line.new.writer) in
     let now = g.W.Write.contents (watched_inner c.answer.new.writer) in
-    let tale = tale_of c.args.session.now in
+    let game = game_of c.args.session.now in
     let from = state_of c.args.session.now in
     let to = state_of c.answer.new.session in
     let line = c.type_line.new.line in
-    let prompted = subst (λ e. Appends held a (unless_ended e prompt)) c.requires.going c.in_ok-prompt.ensures.wrote in
+    let prompted = subst (λ e. Appends held a (while_going e prompt)) c.requires.going c.in_ok-prompt.ensures.wrote in
     let told = c.in_err-answer-in-Break.ensures in
-    let broke = subst (λ t. BrokeAnswer (part_told tale c.args.echo from t) (state_told tale from t) b now to) c.drop_return.ensures told.front in
+    let broke = subst (λ t. BrokeAnswer (part_told game c.args.echo from t) (state_told game from t) b now to) c.drop_return.ensures told.front in
     rw (p.1, p.2, told.broke.0)
-    (cut_in_answer tale c.args.echo c.args.left.now c.type_line.new.left unread rest held a b now from to line.gone line.kept c.requires.going prompted (c.in_ok-end.ensures.whole (ap (λ e. Ok e) c.in-Break.is)) broke)
+    (cut_in_answer game c.args.echo c.args.left.now c.type_line.new.left unread rest held a b now from to line.gone line.kept c.requires.going prompted (c.in_ok-end.ensures.whole (ap (λ e. Ok e) c.in-Break.is)) broke)
 
 pub returns-in_err-answer_last-in-Input-clause-cut : goal.returns-in_err-answer_last-in-Input-clause-cut
 returns-in_err-answer_last-in-Input-clause-cut g c =
@@ -62,10 +62,10 @@ returns-in_err-answer_last-in-Input-clause-cut g c =
     let b = g.W.Write.contents (watched_inner c.type_line.new.writer) in
     let now = g.W.Write.contents (watched_inner c.answer_last.new.writer) in
     let line = c.type_line.new.line in
-    let prompted = subst (λ e. Appends held a (unless_ended e prompt)) c.requires.going c.in_ok-prompt.ensures.wrote in
+    let prompted = subst (λ e. Appends held a (while_going e prompt)) c.requires.going c.in_ok-prompt.ensures.wrote in
     let told = c.in_err-answer_last-in-Input.ensures in
     rw (p.1, p.2, told.broke.0)
-    (cut_in_last (tale_of c.args.session.now) c.args.echo c.args.left.now c.type_line.new.left unread rest held a b now (state_of c.args.session.now) (state_of c.answer_last.new.session) line.gone line.kept c.requires.going prompted (c.in_ok-end.ensures.last (ap (λ e. Ok e) c.in-Input.is)) told.front)
+    (cut_in_last (game_of c.args.session.now) c.args.echo c.args.left.now c.type_line.new.left unread rest held a b now (state_of c.args.session.now) (state_of c.answer_last.new.session) line.gone line.kept c.requires.going prompted (c.in_ok-end.ensures.last (ap (λ e. Ok e) c.in-Input.is)) (c.in_ok-end.ensures.ends (ap (λ e. Ok e) c.in-Input.is)) told.front)
 
 pub returns-in_ok-answer-in-Break-clause-whole : goal.returns-in_ok-answer-in-Break-clause-whole
 returns-in_ok-answer-in-Break-clause-whole g c = λ ends.
@@ -75,13 +75,13 @@ returns-in_ok-answer-in-Break-clause-whole g c = λ ends.
     let a = g.W.Write.contents (watched_inner c.prompt.new.writer) in
     let b = g.W.Write.contents (watched_inner c.type_line.new.writer) in
     let now = g.W.Write.contents (watched_inner c.answer.new.writer) in
-    let tale = tale_of c.args.session.now in
+    let game = game_of c.args.session.now in
     let from = state_of c.args.session.now in
     let to = state_of c.answer.new.session in
     let line = c.type_line.new.line in
-    let prompted = subst (λ e. Appends held a (unless_ended e prompt)) c.requires.going c.in_ok-prompt.ensures.wrote in
-    let told = subst (λ t. Answered (part_told tale c.args.echo from t) (state_told tale from t) b now to) c.drop_return.ensures c.in_ok-answer-in-Break.ensures.answered in
-    played_line tale c.args.echo c.args.left.now c.type_line.new.left unread rest held a b now from to line.gone line.kept prompted (c.in_ok-end.ensures.whole ends) told
+    let prompted = subst (λ e. Appends held a (while_going e prompt)) c.requires.going c.in_ok-prompt.ensures.wrote in
+    let told = subst (λ t. Answered (part_told game c.args.echo from t) (state_told game from t) b now to) c.drop_return.ensures c.in_ok-answer-in-Break.ensures.answered in
+    played_line game c.args.echo c.args.left.now c.type_line.new.left unread rest held a b now from to line.gone line.kept prompted (c.in_ok-end.ensures.whole ends) told
 
 pub returns-in_ok-answer_last-in-Input-clause-last : goal.returns-in_ok-answer_last-in-Input-clause-last
 returns-in_ok-answer_last-in-Input-clause-last g c = λ ends.
@@ -92,5 +92,5 @@ returns-in_ok-answer_last-in-Input-clause-last g c = λ ends.
     let b = g.W.Write.contents (watched_inner c.type_line.new.writer) in
     let now = g.W.Write.contents (watched_inner c.answer_last.new.writer) in
     let line = c.type_line.new.line in
-    let prompted = subst (λ e. Appends held a (unless_ended e prompt)) c.requires.going c.in_ok-prompt.ensures.wrote in
-    played_last (tale_of c.args.session.now) c.args.echo c.args.left.now c.type_line.new.left unread rest held a b now (state_of c.args.session.now) (state_of c.answer_last.new.session) line.gone line.kept c.requires.going prompted (c.in_ok-end.ensures.last ends) (c.in_ok-end.ensures.ends ends) c.in_ok-answer_last-in-Input.ensures.answered
+    let prompted = subst (λ e. Appends held a (while_going e prompt)) c.requires.going c.in_ok-prompt.ensures.wrote in
+    played_last (game_of c.args.session.now) c.args.echo c.args.left.now c.type_line.new.left unread rest held a b now (state_of c.args.session.now) (state_of c.answer_last.new.session) line.gone line.kept c.requires.going prompted (c.in_ok-end.ensures.last ends) (c.in_ok-end.ensures.ends ends) c.in_ok-answer_last-in-Input.ensures.answered

@@ -2,9 +2,9 @@ use Rattle.std.proofs.Common.{true, false, [], Ok, refl, ap, subst, sym, ◌∙�
 use Rattle.std.specs.Prelude.{is_none}
 use Rattle.std.specs.Io.KnownBytes.{Appends}
 use Rattle.std.proofs.lemmas.Result.{err_from_is_err_and}
-use Rattle.world_meaning.specs.Session.{opening_text}
+use Rattle.world_meaning.specs.Session.{opened}
 use Rattle.story_player.specs.Runs.{BrokeOff, most_input}
-use Rattle.story_player.specs.Sessions.{state_of, tale_of}
+use Rattle.story_player.specs.Sessions.{state_of, game_of}
 use Rattle.story_player.specs.Steps.{PlayedLast, PlayedLine, WroteFront}
 use Rattle.story_player.specs.Watches.{watched_inner}
 use Rattle.story_player.proofs.RunLemmas.{behind_opening, cut_in_opening, cut_so_far, none_from, not_some, run_begins, run_ends, run_is_over, run_more, some_from}
@@ -17,18 +17,18 @@ returns-in_err-write_whole-clause-cut g c =
     let unread = g.R.Read.remaining (watched_inner c.args.reader.now) in
     let held = g.W.Write.contents (watched_inner c.args.writer.now) in
     let now = g.W.Write.contents (watched_inner c.write_whole.new.writer) in
-    let tale = tale_of c.args.session.now in
+    let game = game_of c.args.session.now in
     rw (p.1, p.2, c.in_err-write_whole.ensures.broke.0)
-    (cut_in_opening tale c.args.echo (opening_text tale) most_input unread held now (state_of c.args.session.now) (consumes-nothing unread) (subst (λ bs. WroteFront held now bs) c.opening.ensures c.in_err-write_whole.ensures.front))
+    (cut_in_opening game c.args.echo (opened game).spoken.text most_input unread held now (state_of c.args.session.now) (consumes-nothing unread) (subst (λ bs. WroteFront held now bs) c.opening.ensures c.in_err-write_whole.ensures.front))
 
 pub loop-reader-init : goal.loop-reader-init
 loop-reader-init g c =
     let unread = g.R.Read.remaining (watched_inner c.args.reader.now) in
-    let opened = g.W.Write.contents (watched_inner c.write_whole.new.writer) in (
+    let first = g.W.Write.contents (watched_inner c.write_whole.new.writer) in (
       c.requires.reader,
       c.in_ok-write_whole.ensures.stands,
       refl,
-      run_begins (tale_of c.args.session.now) c.args.echo [] most_input unread opened opened (state_of c.args.session.now) (consumes-nothing unread) (appends-nothing opened),
+      run_begins (game_of c.args.session.now) c.args.echo [] most_input unread first first (state_of c.args.session.now) (consumes-nothing unread) (appends-nothing first),
     )
 
 pub returns-in_err-play_line-clause-cut : goal.returns-in_err-play_line-clause-cut
@@ -38,28 +38,28 @@ returns-in_err-play_line-clause-cut g c =
     let a = g.R.Read.remaining (watched_inner c.loop-reader.reader) in
     let rest = g.R.Read.remaining (watched_inner c.play_line.new.reader) in
     let held = g.W.Write.contents (watched_inner c.args.writer.now) in
-    let opened = g.W.Write.contents (watched_inner c.write_whole.new.writer) in
+    let first = g.W.Write.contents (watched_inner c.write_whole.new.writer) in
     let b = g.W.Write.contents (watched_inner c.loop-reader.writer) in
     let now = g.W.Write.contents (watched_inner c.play_line.new.writer) in
-    let tale = tale_of c.args.session.now in
+    let game = game_of c.args.session.now in
     let from = state_of c.args.session.now in
     let state = state_of c.loop-reader.session in
     let to = state_of c.play_line.new.session in
     let fault = c.in_err-play_line.field-0.0 in
-    let opening = subst (λ bs. Appends held opened bs) c.opening.ensures c.in_ok-write_whole.ensures.wrote in
-    let sofar = behind_opening tale c.args.echo (opening_text tale) most_input c.loop-reader.left unread a held opened b from state opening c.loop-reader.invariant.3 in
+    let opening = subst (λ bs. Appends held first bs) c.opening.ensures c.in_ok-write_whole.ensures.wrote in
+    let sofar = behind_opening game c.args.echo (opened game).spoken.text most_input c.loop-reader.left unread a held first b from state opening c.loop-reader.invariant.3 in
     let broke = subst (λ t. BrokeOff fault t c.args.echo [] c.loop-reader.left a rest b now state to) c.loop-reader.invariant.2 c.in_err-play_line.ensures.cut in
-    rw (p.1, p.2) (cut_so_far fault tale c.args.echo (opening_text tale) most_input c.loop-reader.left unread a rest held b now from state to sofar broke)
+    rw (p.1, p.2) (cut_so_far fault game c.args.echo (opened game).spoken.text most_input c.loop-reader.left unread a rest held b now from state to sofar broke)
 
 pub loop-reader-preserved : goal.loop-reader-preserved
 loop-reader-preserved g c =
     let unread = g.R.Read.remaining (watched_inner c.args.reader.now) in
     let a = g.R.Read.remaining (watched_inner c.loop-reader.reader) in
     let rest = g.R.Read.remaining (watched_inner c.play_line.new.reader) in
-    let opened = g.W.Write.contents (watched_inner c.write_whole.new.writer) in
+    let first = g.W.Write.contents (watched_inner c.write_whole.new.writer) in
     let b = g.W.Write.contents (watched_inner c.loop-reader.writer) in
     let now = g.W.Write.contents (watched_inner c.play_line.new.writer) in
-    let tale = tale_of c.args.session.now in
+    let game = game_of c.args.session.now in
     let from = state_of c.args.session.now in
     let state = state_of c.loop-reader.session in
     let to = state_of c.play_line.new.session in
@@ -68,8 +68,8 @@ loop-reader-preserved g c =
     let line = subst (λ t. PlayedLine t c.args.echo c.loop-reader.left c.play_line.new.left a rest b now state to) c.loop-reader.invariant.2 (told.whole (ap (λ e. Ok e) c.in-Break.is)) in (
       told.stand.0,
       told.stand.1,
-      told.tale ∙ c.loop-reader.invariant.2,
-      run_more tale c.args.echo [] most_input c.loop-reader.left c.play_line.new.left unread a rest opened b now from state to c.loop-reader.invariant.3 going line,
+      told.game ∙ c.loop-reader.invariant.2,
+      run_more game c.args.echo [] most_input c.loop-reader.left c.play_line.new.left unread a rest first b now from state to c.loop-reader.invariant.3 going line,
     )
 
 pub returns-in-Input-clause-played : goal.returns-in-Input-clause-played
@@ -78,29 +78,29 @@ returns-in-Input-clause-played g c =
     let a = g.R.Read.remaining (watched_inner c.loop-reader.reader) in
     let rest = g.R.Read.remaining (watched_inner c.play_line.new.reader) in
     let held = g.W.Write.contents (watched_inner c.args.writer.now) in
-    let opened = g.W.Write.contents (watched_inner c.write_whole.new.writer) in
+    let first = g.W.Write.contents (watched_inner c.write_whole.new.writer) in
     let b = g.W.Write.contents (watched_inner c.loop-reader.writer) in
     let now = g.W.Write.contents (watched_inner c.play_line.new.writer) in
-    let tale = tale_of c.args.session.now in
+    let game = game_of c.args.session.now in
     let from = state_of c.args.session.now in
     let state = state_of c.loop-reader.session in
     let to = state_of c.play_line.new.session in
-    let opening = subst (λ bs. Appends held opened bs) c.opening.ensures c.in_ok-write_whole.ensures.wrote in
-    let sofar = behind_opening tale c.args.echo (opening_text tale) most_input c.loop-reader.left unread a held opened b from state opening c.loop-reader.invariant.3 in
+    let opening = subst (λ bs. Appends held first bs) c.opening.ensures c.in_ok-write_whole.ensures.wrote in
+    let sofar = behind_opening game c.args.echo (opened game).spoken.text most_input c.loop-reader.left unread a held first b from state opening c.loop-reader.invariant.3 in
     let line = subst (λ t. PlayedLast t c.args.echo c.loop-reader.left c.play_line.new.left a rest b now state to) c.loop-reader.invariant.2 (c.in_ok-play_line.ensures.last (ap (λ e. Ok e) c.in-Input.is)) in
-    run_ends tale c.args.echo c.loop-reader.left c.play_line.new.left unread a rest held b now from state to (state_of c.end_input.new.self) sofar line c.end_input.ensures.state
+    run_ends game c.args.echo c.loop-reader.left c.play_line.new.left unread a rest held b now from state to (state_of c.end_input.new.self) sofar line c.end_input.ensures.state
 
 pub returns-clause-played : goal.returns-clause-played
 returns-clause-played g c =
     let unread = g.R.Read.remaining (watched_inner c.args.reader.now) in
     let rest = g.R.Read.remaining (watched_inner c.loop-reader.reader) in
     let held = g.W.Write.contents (watched_inner c.args.writer.now) in
-    let opened = g.W.Write.contents (watched_inner c.write_whole.new.writer) in
+    let first = g.W.Write.contents (watched_inner c.write_whole.new.writer) in
     let now = g.W.Write.contents (watched_inner c.loop-reader.writer) in
-    let tale = tale_of c.args.session.now in
+    let game = game_of c.args.session.now in
     let from = state_of c.args.session.now in
     let to = state_of c.loop-reader.session in
-    let opening = subst (λ bs. Appends held opened bs) c.opening.ensures c.in_ok-write_whole.ensures.wrote in
-    let sofar = behind_opening tale c.args.echo (opening_text tale) most_input c.loop-reader.left unread rest held opened now from to opening c.loop-reader.invariant.3 in
+    let opening = subst (λ bs. Appends held first bs) c.opening.ensures c.in_ok-write_whole.ensures.wrote in
+    let sofar = behind_opening game c.args.echo (opened game).spoken.text most_input c.loop-reader.left unread rest held first now from to opening c.loop-reader.invariant.3 in
     let over = some_from to.ending (ap is_none (sym c.ending.ensures) ∙ not_some c.ending.result c.is_none.result false c.is_none.ensures c.loop-reader-test.false) in
-    run_is_over tale c.args.echo c.loop-reader.left unread rest held now from to (state_of c.end_input-2.new.self) over.0 sofar over.1 c.end_input-2.ensures.state
+    run_is_over game c.args.echo c.loop-reader.left unread rest held now from to (state_of c.end_input-2.new.self) over.0 sofar over.1 c.end_input-2.ensures.state

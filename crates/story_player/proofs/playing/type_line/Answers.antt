@@ -56,4 +56,4 @@ returns-in_err-keep_byte-clause-cut g c =
     let read = subst (λ found. ReadsByte mid rest found) c.in-Some.is c.in_ok-byte.ensures.read in
     let told = c.in_err-keep_byte.ensures in
     rw (p.1, p.2, told.broke.0)
-    (cut_by_writer c.args.echo c.args.left.now c.loop-byte.left c.in-Some.byte unread mid rest held before now c.loop-byte.line c.loop-byte.invariant.2 c.if-byte-eq10.false read told.front)
+    (cut_by_writer c.args.echo c.args.left.now c.loop-byte.left c.in-Some.byte unread mid rest held before now c.loop-byte.line c.loop-byte.invariant.2 c.if-left-eq0.false c.if-byte-eq10.false read told.front)
