@@ -1,16 +1,63 @@
--- What playing a source does to its reader and its writer.
-use Rattle.std.specs.Prelude.{◌≡◌, ℕ, Bool, false, List, Option, Some}
-use Rattle.world_meaning.specs.Session.{State, opening_text, start_state}
+-- What playing a source or a story file does to its reader and its writer.
+use Rattle.std.specs.Prelude.{◌≡◌, ℕ, Bool, true, false, List, [], Option, Some}
+use Rattle.world_meaning.specs.Games.{Game}
+use Rattle.world_meaning.specs.Session.{State, opened}
+use Rattle.world_meaning.specs.StandardGame.{game_of_tale}
+use Rattle.world_meaning.specs.Transcript.{IsPlay}
 use Rattle.world_meaning.specs.declared.session.Ending.{Ending}
 use Rattle.world_meaning.specs.declared.tale.Tale.{Tale}
+use Rattle.story_format.specs.Refusals.{IsRefused as IsNoStory}
+use Rattle.story_format.specs.Spells.{Spells}
 use Rattle.story_format.specs.declared.fault.LoadFault.TheVariants as load
-use Rattle.story_file.specs.Compilations.{IsCompiled, IsRefused}
+use Rattle.story_file.specs.Compilations.{IsRefused, Means}
 use Rattle.story_player.specs.Breaks.{Blames}
 use Rattle.story_player.specs.Runs.{BrokeOff, Played, most_input}
+use Rattle.story_player.specs.StoryGames.{game_of_story}
 use Rattle.story_player.specs.declared.playing.RunFault.{RunFault}
 use Rattle.story_player.specs.declared.session.StartFault.TheVariants as start
 use Rattle.source_player.specs.declared.source_run.SourceRunFault.{SourceRunFault}
 use Rattle.source_player.specs.declared.source_run.SourceRunFault.TheVariants.{Source, Story, Start, Run}
+
+-- A game was played from its beginning: the play of the reader's commands was written, and so the session
+-- ended.
+pub record PlayedGame (g : Game) (echo : Bool) (unread rest held now : Option (List ℕ)) (ending : Ending) : Type 0 where
+  pub last : State
+  pub played : Played g echo unread rest held now (opened g).state last
+  pub ended : last.ending ≡ Some ending
+
+-- The play of a game from its beginning broke off.
+pub record BrokeOffGame (fault : RunFault) (g : Game) (echo : Bool) (unread rest held now : Option (List ℕ)) : Type 0 where
+  pub last : State
+  pub broke : BrokeOff fault g echo (opened g).spoken.text most_input unread rest held now (opened g).state last
+
+-- Bytes that spell a story were played: its own game.
+pub record PlayedStory (bytes : List ℕ) (echo : Bool) (unread rest held now : Option (List ℕ)) (ending : Ending) : Type 0 where
+  pub story : Tale
+  pub spells : Spells bytes story
+  pub played : PlayedGame (game_of_story story) echo unread rest held now ending
+
+pub record BrokeOffStory (fault : RunFault) (bytes : List ℕ) (echo : Bool) (unread rest held now : Option (List ℕ)) : Type 0 where
+  pub story : Tale
+  pub spells : Spells bytes story
+  pub broke : BrokeOffGame fault (game_of_story story) echo unread rest held now
+
+-- The headline: a source was played, in the game of the tale that its sentences mean.
+pub record PlayedSource (source : List ℕ) (echo : Bool) (unread rest held now : Option (List ℕ)) (ending : Ending) : Type 0 where
+  pub tale : Tale
+  pub means : Means source tale
+  pub played : PlayedGame (game_of_tale tale) echo unread rest held now ending
+
+pub record BrokeOffSource (fault : RunFault) (source : List ℕ) (echo : Bool) (unread rest held now : Option (List ℕ)) : Type 0 where
+  pub tale : Tale
+  pub means : Means source tale
+  pub broke : BrokeOffGame fault (game_of_tale tale) echo unread rest held now
+
+-- whether play had begun
+abbrev pub is_of_run : SourceRunFault → Bool
+is_of_run (Source fault) = false
+is_of_run (Story fault) = false
+is_of_run (Start fault) = false
+is_of_run (Run fault) = true
 
 -- Which of a reader and a writer has failed: before the story is played neither is touched.
 abbrev pub FaultsWith : SourceRunFault → Bool → Bool → Type 0
@@ -19,48 +66,33 @@ FaultsWith (Story fault) reader writer = (reader ≡ false) × (writer ≡ false
 FaultsWith (Start fault) reader writer = (reader ≡ false) × (writer ≡ false)
 FaultsWith (Run fault) reader writer = Blames fault reader writer
 
--- The source's story has begun: the source is compiled to its bytes, and the state is the one in which the
--- tale begins that its sentences mean.
-pub record IsBegun (source : List ℕ) (tale : Tale) (state : State) : Type 0 where
-  pub story : List ℕ
-  pub compiled : IsCompiled source story
-  pub tale_is : tale ≡ compiled.tale
-  pub state_is : state ≡ start_state tale
+-- Why bytes aren't played to their end as a story: they are none, memory is refused where it begins, or
+-- the run broke off.
+abbrev pub LeavesStory : SourceRunFault → List ℕ → Bool → Option (List ℕ) → Option (List ℕ) → Option (List ℕ) → Option (List ℕ) → Type 0
+LeavesStory (Source fault) bytes echo unread rest held now = ⊥
+LeavesStory (Story fault) bytes echo unread rest held now = IsNoStory fault bytes
+LeavesStory (Start fault) bytes echo unread rest held now = fault ≡ start.Memory
+LeavesStory (Run fault) bytes echo unread rest held now = BrokeOffStory fault bytes echo unread rest held now
 
--- The headline: from the beginning of the source's story the play of the reader's commands was written,
--- and so the session ended.
-pub record PlayedSource (source : List ℕ) (echo : Bool) (unread rest held now : Option (List ℕ)) (ending : Ending) : Type 0 where
+-- Why a source isn't played to its end: a refusal of it stands, memory is refused where its story is
+-- loaded or begins (what was compiled is a story), or the run broke off.
+abbrev pub LeavesSource : SourceRunFault → List ℕ → Bool → Option (List ℕ) → Option (List ℕ) → Option (List ℕ) → Option (List ℕ) → Type 0
+LeavesSource (Source fault) source echo unread rest held now = IsRefused source fault
+LeavesSource (Story fault) source echo unread rest held now = fault ≡ load.Memory
+LeavesSource (Start fault) source echo unread rest held now = fault ≡ start.Memory
+LeavesSource (Run fault) source echo unread rest held now = BrokeOffSource fault source echo unread rest held now
+
+-- A source was played over bytes of commands: the transcript is the play of all of them.
+pub record PlayedBytes (source commands : List ℕ) (echo : Bool) (transcript : List ℕ) (ending : Ending) : Type 0 where
   pub tale : Tale
-  pub first : State
-  pub begun : IsBegun source tale first
+  pub means : Means source tale
   pub last : State
-  pub played : Played tale echo unread rest held now first last
+  pub play : IsPlay (game_of_tale tale) echo (opened (game_of_tale tale)).state commands transcript last
   pub ended : last.ending ≡ Some ending
 
--- The run of the source's story broke off.
-pub record BrokeOffSource (fault : RunFault) (source : List ℕ) (echo : Bool) (unread rest held now : Option (List ℕ)) : Type 0 where
-  pub tale : Tale
-  pub first : State
-  pub begun : IsBegun source tale first
-  pub last : State
-  pub broke : BrokeOff fault tale echo (opening_text tale) most_input unread rest held now first last
-
--- Why a source's story doesn't begin: a refusal of the source stands, or memory is refused; what was
--- compiled is loaded.
-abbrev pub NotBegun : SourceRunFault → List ℕ → Type 0
-NotBegun (Source fault) source = IsRefused source fault
-NotBegun (Story fault) source = fault ≡ load.Memory
-NotBegun (Start fault) source = fault ≡ start.Memory
-NotBegun (Run fault) source = ⊥
-
--- nothing was read or written
-abbrev pub Untouched : Option (List ℕ) → Option (List ℕ) → Option (List ℕ) → Option (List ℕ) → Type 0
-Untouched unread rest held now = (rest ≡ unread) × (now ≡ held)
-
--- What a fault of playing a source tells, and what it leaves: before the story is played nothing was read
--- or written.
-abbrev pub Leaves : SourceRunFault → List ℕ → Bool → Option (List ℕ) → Option (List ℕ) → Option (List ℕ) → Option (List ℕ) → Type 0
-Leaves (Source fault) source echo unread rest held now = NotBegun (Source fault) source × Untouched unread rest held now
-Leaves (Story fault) source echo unread rest held now = NotBegun (Story fault) source × Untouched unread rest held now
-Leaves (Start fault) source echo unread rest held now = NotBegun (Start fault) source × Untouched unread rest held now
-Leaves (Run fault) source echo unread rest held now = BrokeOffSource fault source echo unread rest held now
+-- Why a source isn't played over bytes of commands: what playing it leaves, where the commands are read
+-- into a transcript that is empty at first.
+pub record IsUnplayed (fault : SourceRunFault) (source commands : List ℕ) (echo : Bool) : Type 0 where
+  pub rest : Option (List ℕ)
+  pub now : Option (List ℕ)
+  pub left : LeavesSource fault source echo (Some commands) rest (Some []) now

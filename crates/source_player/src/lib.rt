@@ -6,4 +6,4 @@ mod faults;
 mod source_run;
 
 pub use faults::{ProgramFault, report};
-pub use source_run::{SourceRunFault, run_source};
+pub use source_run::{Play, SourceRunFault, play_bytes, run_source, run_story};

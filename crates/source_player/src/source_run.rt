@@ -1,7 +1,8 @@
-//! Compiling, loading, starting and playing a source.
-ghost use Rattle.std.specs.Prelude.{◌≡◌, false, IfErr, IfOk, OnOk};
-ghost use Rattle.source_player.specs.SourceRuns.{FaultsWith, IsBegun, Leaves, NotBegun, PlayedSource};
-ghost use Rattle.story_player.specs.Sessions.{state_of, tale_of};
+//! Playing a story file, and playing a source: compiled, loaded, started and run.
+ghost use Rattle.std.specs.Prelude.{◌≡◌, false, IfErr, IfOk, OnErr, OnOk};
+ghost use Rattle.source_player.specs.SourceRuns.{FaultsWith, IsUnplayed, LeavesSource, LeavesStory, PlayedBytes, PlayedSource, PlayedStory, is_of_run};
+ghost use Rattle.story_format.specs.Refusals.{IsRefused};
+ghost use Rattle.story_format.specs.Spells.{Spells};
 ghost use Rattle.story_player.specs.Watches.{watched_failed, watched_inner};
 
 use std::alloc::Global;
@@ -9,9 +10,9 @@ use std::io::{Read, Write};
 use story_file::{LoadFault, compile, load};
 use story_player::{RunFault, Session, StartFault, Watched, run};
 use thiserror::Error;
-use world_meaning::{Ending, Fault};
+use world_meaning::{Ending, Fault, TextBytes};
 
-/// Why a source isn't played to its end.
+/// Why a source or a story isn't played to its end.
 #[derive(Clone, Copy, Debug, Drop, PartialEq, Eq, Error)]
 pub enum SourceRunFault {
     #[error("{0}")]
@@ -24,27 +25,45 @@ pub enum SourceRunFault {
     Run(RunFault),
 }
 
-/// Compiles the source, loads the story and begins it.
-fn begin(alloc: Global, source: &[u8]) -> Result<Session, SourceRunFault>
-    ensures begun { IfOk result (λ session. IsBegun source.now (tale_of session) (state_of session)) }
-    ensures refused { IfErr result (λ fault. NotBegun fault source.now) }
+/// Loads the story, begins it and plays it over the reader and the writer, each command being echoed if
+/// asked. Answers the first fault of these, else how the session ended.
+pub fn run_story<R: Read, W: Write>(
+    alloc: Global,
+    bytes: &[u8],
+    reader: &mut Watched<R>,
+    writer: &mut Watched<W>,
+    echo: bool,
+) -> Result<Ending, SourceRunFault>
+    requires reader { watched_failed reader.old ≡ false }
+    requires writer { watched_failed writer.old ≡ false }
+
+    // The play of the reader's commands, in the story's own game, was written.
+    ensures played { IfOk result (PlayedStory bytes.now echo (R.remaining (watched_inner reader.old)) (R.remaining (watched_inner reader.new)) (W.contents (watched_inner writer.old)) (W.contents (watched_inner writer.new))) }
+
+    // A fault says why not, and a fault in front of the run leaves reader and writer as they were.
+    ensures left { IfErr result (λ fault. LeavesStory fault bytes.now echo (R.remaining (watched_inner reader.old)) (R.remaining (watched_inner reader.new)) (W.contents (watched_inner writer.old)) (W.contents (watched_inner writer.new))) }
+    ensures untouched { IfErr result (λ fault. is_of_run fault ≡ false → (reader.new ≡ reader.old) × (writer.new ≡ writer.old)) }
+
+    // The run's fault is the reader's exactly where the reader has failed, and the writer's alike.
+    ensures stand { OnOk result ((watched_failed reader.new ≡ false) × (watched_failed writer.new ≡ false)) }
+    ensures broke { IfErr result (λ fault. FaultsWith fault (watched_failed reader.new) (watched_failed writer.new)) }
 {
-    let bytes = match compile(alloc, source) {
-        Ok(bytes) => bytes,
-        Err(fault) => return Err(SourceRunFault::Source(fault)),
-    };
-    let story = match load(alloc, bytes.as_slice()) {
+    let story = match load(alloc, bytes) {
         Ok(story) => story,
         Err(fault) => return Err(SourceRunFault::Story(fault)),
     };
-    match Session::start(alloc, story) {
-        Ok(session) => Ok(session),
-        Err(fault) => Err(SourceRunFault::Start(fault)),
+    let mut session = match Session::start(alloc, story) {
+        Ok(session) => session,
+        Err(fault) => return Err(SourceRunFault::Start(fault)),
+    };
+    match run(reader, writer, &mut session, echo) {
+        Ok(ending) => Ok(ending),
+        Err(fault) => Err(SourceRunFault::Run(fault)),
     }
 }
 
-/// Compiles the source, loads the story, begins it and plays it over the reader and the writer, each
-/// command being echoed if asked. Answers the first fault of these, else how the session ended.
+/// Compiles the source and plays the story over the reader and the writer, each command being echoed if
+/// asked. Answers the first fault of these, else how the session ended.
 pub fn run_source<R: Read, W: Write>(
     alloc: Global,
     source: &[u8],
@@ -55,20 +74,51 @@ pub fn run_source<R: Read, W: Write>(
     requires reader { watched_failed reader.old ≡ false }
     requires writer { watched_failed writer.old ≡ false }
 
-    // The play of the reader's commands, in the story that the source is compiled to, was written.
+    // The play of the reader's commands, in the game of the tale that the source's sentences mean, was
+    // written.
     ensures played { IfOk result (PlayedSource source.now echo (R.remaining (watched_inner reader.old)) (R.remaining (watched_inner reader.new)) (W.contents (watched_inner writer.old)) (W.contents (watched_inner writer.new))) }
 
-    // A fault of a part before the run leaves reader and writer alone, and a fault of the run leaves
-    // what the run leaves.
-    ensures left { IfErr result (λ fault. Leaves fault source.now echo (R.remaining (watched_inner reader.old)) (R.remaining (watched_inner reader.new)) (W.contents (watched_inner writer.old)) (W.contents (watched_inner writer.new))) }
+    // A fault says why not, and a fault in front of the run leaves reader and writer as they were.
+    ensures left { IfErr result (λ fault. LeavesSource fault source.now echo (R.remaining (watched_inner reader.old)) (R.remaining (watched_inner reader.new)) (W.contents (watched_inner writer.old)) (W.contents (watched_inner writer.new))) }
+    ensures untouched { IfErr result (λ fault. is_of_run fault ≡ false → (reader.new ≡ reader.old) × (writer.new ≡ writer.old)) }
 
     // The run's fault is the reader's exactly where the reader has failed, and the writer's alike.
     ensures stand { OnOk result ((watched_failed reader.new ≡ false) × (watched_failed writer.new ≡ false)) }
     ensures broke { IfErr result (λ fault. FaultsWith fault (watched_failed reader.new) (watched_failed writer.new)) }
 {
-    let mut session = begin(alloc, source)?;
-    match run(reader, writer, &mut session, echo) {
-        Ok(ending) => Ok(ending),
-        Err(fault) => Err(SourceRunFault::Run(fault)),
-    }
+    let bytes = match compile(alloc, source) {
+        Ok(bytes) => bytes,
+        Err(fault) => return Err(SourceRunFault::Source(fault)),
+    };
+    run_story(alloc, bytes.as_slice(), reader, writer, echo)
+}
+
+/// What a source that was played over bytes of commands gives: the bytes of its transcript, and how the
+/// session ended.
+#[derive(Debug, Drop)]
+pub struct Play {
+    pub transcript: TextBytes,
+    pub ending: Ending,
+}
+
+/// Compiles the source and plays the story over the commands, each being echoed if asked.
+pub fn play_bytes(
+    alloc: Global,
+    source: &[u8],
+    commands: &[u8],
+    echo: bool,
+) -> Result<Play, SourceRunFault>
+    // The transcript is the play of the commands, in the game of the tale that the source's sentences mean.
+    ensures played { IfOk result (λ play. PlayedBytes source.now commands.now echo play.transcript play.ending) }
+
+    // A fault says why not: a refusal of the source, memory, or a limit.
+    ensures refused { IfErr result (λ fault. IsUnplayed fault source.now commands.now echo) }
+{
+    let mut reader = Watched::new(commands);
+    let mut writer = Watched::new(Vec::new(alloc));
+    let ending = run_source(alloc, source, &mut reader, &mut writer, echo)?;
+    Ok(Play {
+        transcript: TextBytes::new(writer.into_inner()),
+        ending,
+    })
 }

@@ -1,7 +1,9 @@
 -- The definitions computed on the two-room source.
 use Rattle.std.specs.Prelude.{◌≡◌, ℕ, true, false, List, [], ◌∷◌, ◌++◌, codes, Result, Ok, Err}
 use Rattle.std.specs.Str.Lines.{lines}
-use Rattle.world_meaning.specs.Session.{opening_text, start_state}
+use Rattle.world_meaning.specs.Games.{Game}
+use Rattle.world_meaning.specs.Session.{opened}
+use Rattle.world_meaning.specs.StandardGame.{game_of_tale}
 use Rattle.world_meaning.specs.Transcript.{played}
 use Rattle.world_meaning.specs.declared.direction.Direction.TheVariants.{North}
 use Rattle.world_meaning.specs.declared.fault.Fault.{Fault}
@@ -24,9 +26,12 @@ two_rooms =
     ∷ record { saying = Way (record { subject = plain (codes "Garden"); direction = North; room = plain (codes "Hall"); is_room_first = false }); line = 3 }
     ∷ []
 
+abbrev pub transcript_of : Game → List ℕ → List ℕ
+transcript_of g commands = (opened g).spoken.text ++ played g true [] (opened g).state (lines commands)
+
 abbrev pub transcript_by : Result Tale Fault → List ℕ → List ℕ
 transcript_by (Err fault) commands = []
-transcript_by (Ok tale) commands = opening_text tale ++ played tale true [] (start_state tale) (lines commands)
+transcript_by (Ok tale) commands = transcript_of (game_of_tale tale) commands
 
 abbrev pub break : List ℕ
 break = 10 ∷ []

@@ -1,7 +1,7 @@
 //! A reader or a writer that knows whether a call on it has failed.
-ghost use Rattle.std.specs.Prelude.{◌≡◌, ◌||◌, false, not, is_ok};
+ghost use Rattle.std.specs.Prelude.{◌≡◌, ◌||◌, false, not, is_ok, OnOk};
 ghost use Rattle.std.specs.Io.{ReadsAtMost, WritesAtMost};
-ghost use Rattle.std.specs.Io.KnownBytes.{Keeps, ReadConsumes, WriteAppends};
+ghost use Rattle.std.specs.Io.KnownBytes.{Appends, Consumes, Keeps, ReadConsumes, WriteAppends};
 
 use std::io::{self, Read, Write};
 
@@ -26,6 +26,13 @@ impl<T> Watched<T> {
         }
     }
 
+    /// The reader or the writer, watched no more.
+    pub fn into_inner(self) -> T
+        ensures { result ≡ watched_inner self }
+    {
+        self.inner
+    }
+
     /// Whether a call has failed, or a write of some bytes took none.
     pub fn has_failed(&self) -> bool
         ensures { result ≡ watched_failed self.now }
@@ -45,6 +52,17 @@ impl<R: Read> Read for Watched<R> {
         ensures failed { watched_failed self.new ≡ (watched_failed self.old || not (is_ok result)) }
     {
         let result = self.inner.read(buf);
+        if result.is_err() {
+            self.failed = true;
+        }
+        result
+    }
+
+    fn read_exact(&mut self, buf: &mut [u8]) -> io::Result<()>
+        ensures bytes { OnOk result (Consumes (R.remaining (watched_inner self.old)) (R.remaining (watched_inner self.new)) buf.new) }
+        ensures failed { watched_failed self.new ≡ (watched_failed self.old || not (is_ok result)) }
+    {
+        let result = self.inner.read_exact(buf);
         if result.is_err() {
             self.failed = true;
         }
@@ -78,6 +96,17 @@ impl<W: Write> Write for Watched<W> {
         ensures failed { watched_failed self.new ≡ (watched_failed self.old || not (is_ok result)) }
     {
         let result = self.inner.flush();
+        if result.is_err() {
+            self.failed = true;
+        }
+        result
+    }
+
+    fn write_all(&mut self, buf: &[u8]) -> io::Result<()>
+        ensures bytes { OnOk result (Appends (W.contents (watched_inner self.old)) (W.contents (watched_inner self.new)) buf.now) }
+        ensures failed { watched_failed self.new ≡ (watched_failed self.old || not (is_ok result)) }
+    {
+        let result = self.inner.write_all(buf);
         if result.is_err() {
             self.failed = true;
         }
