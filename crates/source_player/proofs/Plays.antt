@@ -3,7 +3,7 @@ use Rattle.std.proofs.Common.{◌≡◌, ℕ, Bool, List, Ok, Err, Option, ap, s
 use Rattle.std.specs.Prelude.{Result, IfErr, IfOk}
 use Rattle.world_meaning.specs.Games.{Game}
 use Rattle.world_meaning.specs.Session.{State, opened}
-use Rattle.story_player.specs.Runs.{BrokeOff, most_input}
+use Rattle.story_player.specs.Runs.{BrokeOff, streams_of, most_input}
 use Rattle.story_player.specs.declared.playing.RunFault.{RunFault}
 use Rattle.world_meaning.specs.StandardGame.{game_of_tale}
 use Rattle.world_meaning.specs.declared.session.Ending.{Ending}
@@ -23,19 +23,19 @@ use Rattle.source_player.specs.declared.source_run.SourceRunFault.TheVariants.{S
 pub same_game : (source bytes : List ℕ) (compiled : IsCompiled source bytes) (story : Tale) → Spells bytes story → game_of_story story ≡ game_of_tale compiled.tale
 same_game source bytes compiled story spells = ap game_of_tale (same_tale bytes story compiled.tale spells compiled.spells)
 
-pub played_source : (source bytes : List ℕ) (echo : Bool) (unread rest held now : Option (List ℕ)) (result : Result Ending SourceRunFault) → IsCompiled source bytes → IfOk result (PlayedStory bytes echo unread rest held now) → IfOk result (PlayedSource source echo unread rest held now)
+pub played_source : (source bytes : List ℕ) (echo : Bool) (unread rest held now : Option (List ℕ)) (result : Result Ending SourceRunFault) → IsCompiled source bytes → IfOk result (PlayedStory bytes echo (streams_of unread held) (streams_of rest now)) → IfOk result (PlayedSource source echo (streams_of unread held) (streams_of rest now))
 played_source source bytes echo unread rest held now (Err fault) compiled played = tt
 played_source source bytes echo unread rest held now (Ok ending) compiled played = record {
   tale = compiled.tale;
   means = compiled.means;
-  played = subst (λ g. PlayedGame g echo unread rest held now ending) (same_game source bytes compiled played.story played.spells) played.played;
+  played = subst (λ g. PlayedGame g echo (streams_of unread held) (streams_of rest now) ending) (same_game source bytes compiled played.story played.spells) played.played;
 }
 
 -- what was compiled is a story: of its faults only memory is left
 pub story_fault : (source bytes : List ℕ) (fault : LoadFault) → IsCompiled source bytes → IsNoStory fault bytes → fault ≡ Memory
 story_fault source bytes fault compiled refused = not_refused bytes compiled.tale fault compiled.spells refused
 
-pub left_source : (source bytes : List ℕ) (echo : Bool) (unread rest held now : Option (List ℕ)) (result : Result Ending SourceRunFault) → IsCompiled source bytes → IfErr result (λ fault. LeavesStory fault bytes echo unread rest held now) → IfErr result (λ fault. LeavesSource fault source echo unread rest held now)
+pub left_source : (source bytes : List ℕ) (echo : Bool) (unread rest held now : Option (List ℕ)) (result : Result Ending SourceRunFault) → IsCompiled source bytes → IfErr result (λ fault. LeavesStory fault bytes echo (streams_of unread held) (streams_of rest now)) → IfErr result (λ fault. LeavesSource fault source echo (streams_of unread held) (streams_of rest now))
 left_source source bytes echo unread rest held now (Ok ending) compiled left = tt
 left_source source bytes echo unread rest held now (Err (Source fault)) compiled left = absurd left
 left_source source bytes echo unread rest held now (Err (Story fault)) compiled left = story_fault source bytes fault compiled left
@@ -43,13 +43,13 @@ left_source source bytes echo unread rest held now (Err (Start fault)) compiled 
 left_source source bytes echo unread rest held now (Err (Run fault)) compiled left = record {
   tale = compiled.tale;
   means = compiled.means;
-  broke = subst (λ g. BrokeOffGame fault g echo unread rest held now) (same_game source bytes compiled left.story left.spells) left.broke;
+  broke = subst (λ g. BrokeOffGame fault g echo (streams_of unread held) (streams_of rest now)) (same_game source bytes compiled left.story left.spells) left.broke;
 }
 
 -- the run of a story that was begun broke off
-pub broke_game : (fault : RunFault) (g h : Game) (echo : Bool) (unread rest held now : Option (List ℕ)) (from to : State) → g ≡ h → from ≡ (opened h).state → BrokeOff fault g echo (opened g).spoken.text most_input unread rest held now from to → BrokeOffGame fault h echo unread rest held now
+pub broke_game : (fault : RunFault) (g h : Game) (echo : Bool) (unread rest held now : Option (List ℕ)) (from to : State) → g ≡ h → from ≡ (opened h).state → BrokeOff fault g echo (opened g).spoken.text most_input (streams_of unread held) (streams_of rest now) from to → BrokeOffGame fault h echo (streams_of unread held) (streams_of rest now)
 broke_game fault g h echo unread rest held now from to same begun broke = record {
   last = to;
-  broke = subst (λ x. BrokeOff fault x echo (opened x).spoken.text most_input unread rest held now (opened h).state to) same
-      (subst (λ state. BrokeOff fault g echo (opened g).spoken.text most_input unread rest held now state to) begun broke);
+  broke = subst (λ x. BrokeOff fault x echo (opened x).spoken.text most_input (streams_of unread held) (streams_of rest now) (opened h).state to) same
+      (subst (λ state. BrokeOff fault g echo (opened g).spoken.text most_input (streams_of unread held) (streams_of rest now) state to) begun broke);
 }

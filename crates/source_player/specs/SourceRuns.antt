@@ -11,7 +11,7 @@ use Rattle.story_format.specs.Spells.{Spells}
 use Rattle.story_format.specs.declared.fault.LoadFault.TheVariants as load
 use Rattle.story_file.specs.Compilations.{IsRefused, Means}
 use Rattle.story_player.specs.Breaks.{Blames}
-use Rattle.story_player.specs.Runs.{BrokeOff, Played, most_input}
+use Rattle.story_player.specs.Runs.{BrokeOff, Played, Streams, streams_of, most_input}
 use Rattle.story_player.specs.StoryGames.{game_of_story}
 use Rattle.story_player.specs.declared.playing.RunFault.{RunFault}
 use Rattle.story_player.specs.declared.session.StartFault.TheVariants as start
@@ -20,37 +20,37 @@ use Rattle.source_player.specs.declared.source_run.SourceRunFault.TheVariants.{S
 
 -- A game was played from its beginning: the play of the reader's commands was written, and so the session
 -- ended.
-pub record PlayedGame (g : Game) (echo : Bool) (unread rest held now : Option (List ℕ)) (ending : Ending) : Type 0 where
+pub record PlayedGame (g : Game) (echo : Bool) (before after : Streams) (ending : Ending) : Type 0 where
   pub last : State
-  pub played : Played g echo unread rest held now (opened g).state last
+  pub played : Played g echo before after (opened g).state last
   pub ended : last.ending ≡ Some ending
 
 -- The play of a game from its beginning broke off.
-pub record BrokeOffGame (fault : RunFault) (g : Game) (echo : Bool) (unread rest held now : Option (List ℕ)) : Type 0 where
+pub record BrokeOffGame (fault : RunFault) (g : Game) (echo : Bool) (before after : Streams) : Type 0 where
   pub last : State
-  pub broke : BrokeOff fault g echo (opened g).spoken.text most_input unread rest held now (opened g).state last
+  pub broke : BrokeOff fault g echo (opened g).spoken.text most_input before after (opened g).state last
 
 -- Bytes that spell a story were played: its own game.
-pub record PlayedStory (bytes : List ℕ) (echo : Bool) (unread rest held now : Option (List ℕ)) (ending : Ending) : Type 0 where
+pub record PlayedStory (bytes : List ℕ) (echo : Bool) (before after : Streams) (ending : Ending) : Type 0 where
   pub story : Tale
   pub spells : Spells bytes story
-  pub played : PlayedGame (game_of_story story) echo unread rest held now ending
+  pub played : PlayedGame (game_of_story story) echo before after ending
 
-pub record BrokeOffStory (fault : RunFault) (bytes : List ℕ) (echo : Bool) (unread rest held now : Option (List ℕ)) : Type 0 where
+pub record BrokeOffStory (fault : RunFault) (bytes : List ℕ) (echo : Bool) (before after : Streams) : Type 0 where
   pub story : Tale
   pub spells : Spells bytes story
-  pub broke : BrokeOffGame fault (game_of_story story) echo unread rest held now
+  pub broke : BrokeOffGame fault (game_of_story story) echo before after
 
 -- The headline: a source was played, in the game of the tale that its sentences mean.
-pub record PlayedSource (source : List ℕ) (echo : Bool) (unread rest held now : Option (List ℕ)) (ending : Ending) : Type 0 where
+pub record PlayedSource (source : List ℕ) (echo : Bool) (before after : Streams) (ending : Ending) : Type 0 where
   pub tale : Tale
   pub means : Means source tale
-  pub played : PlayedGame (game_of_tale tale) echo unread rest held now ending
+  pub played : PlayedGame (game_of_tale tale) echo before after ending
 
-pub record BrokeOffSource (fault : RunFault) (source : List ℕ) (echo : Bool) (unread rest held now : Option (List ℕ)) : Type 0 where
+pub record BrokeOffSource (fault : RunFault) (source : List ℕ) (echo : Bool) (before after : Streams) : Type 0 where
   pub tale : Tale
   pub means : Means source tale
-  pub broke : BrokeOffGame fault (game_of_tale tale) echo unread rest held now
+  pub broke : BrokeOffGame fault (game_of_tale tale) echo before after
 
 -- whether play had begun
 abbrev pub is_of_run : SourceRunFault → Bool
@@ -68,19 +68,19 @@ FaultsWith (Run fault) reader writer = Blames fault reader writer
 
 -- Why bytes aren't played to their end as a story: they are none, memory is refused where it begins, or
 -- the run broke off.
-abbrev pub LeavesStory : SourceRunFault → List ℕ → Bool → Option (List ℕ) → Option (List ℕ) → Option (List ℕ) → Option (List ℕ) → Type 0
-LeavesStory (Source fault) bytes echo unread rest held now = ⊥
-LeavesStory (Story fault) bytes echo unread rest held now = IsNoStory fault bytes
-LeavesStory (Start fault) bytes echo unread rest held now = fault ≡ start.Memory
-LeavesStory (Run fault) bytes echo unread rest held now = BrokeOffStory fault bytes echo unread rest held now
+abbrev pub LeavesStory : SourceRunFault → List ℕ → Bool → Streams → Streams → Type 0
+LeavesStory (Source fault) bytes echo before after = ⊥
+LeavesStory (Story fault) bytes echo before after = IsNoStory fault bytes
+LeavesStory (Start fault) bytes echo before after = fault ≡ start.Memory
+LeavesStory (Run fault) bytes echo before after = BrokeOffStory fault bytes echo before after
 
 -- Why a source isn't played to its end: a refusal of it stands, memory is refused where its story is
 -- loaded or begins (what was compiled is a story), or the run broke off.
-abbrev pub LeavesSource : SourceRunFault → List ℕ → Bool → Option (List ℕ) → Option (List ℕ) → Option (List ℕ) → Option (List ℕ) → Type 0
-LeavesSource (Source fault) source echo unread rest held now = IsRefused source fault
-LeavesSource (Story fault) source echo unread rest held now = fault ≡ load.Memory
-LeavesSource (Start fault) source echo unread rest held now = fault ≡ start.Memory
-LeavesSource (Run fault) source echo unread rest held now = BrokeOffSource fault source echo unread rest held now
+abbrev pub LeavesSource : SourceRunFault → List ℕ → Bool → Streams → Streams → Type 0
+LeavesSource (Source fault) source echo before after = IsRefused source fault
+LeavesSource (Story fault) source echo before after = fault ≡ load.Memory
+LeavesSource (Start fault) source echo before after = fault ≡ start.Memory
+LeavesSource (Run fault) source echo before after = BrokeOffSource fault source echo before after
 
 -- A source was played over bytes of commands: the transcript is the play of all of them.
 pub record PlayedBytes (source commands : List ℕ) (echo : Bool) (transcript : List ℕ) (ending : Ending) : Type 0 where
@@ -93,6 +93,5 @@ pub record PlayedBytes (source commands : List ℕ) (echo : Bool) (transcript : 
 -- Why a source isn't played over bytes of commands: what playing it leaves, where the commands are read
 -- into a transcript that is empty at first.
 pub record IsUnplayed (fault : SourceRunFault) (source commands : List ℕ) (echo : Bool) : Type 0 where
-  pub rest : Option (List ℕ)
-  pub now : Option (List ℕ)
-  pub left : LeavesSource fault source echo (Some commands) rest (Some []) now
+  pub after : Streams
+  pub left : LeavesSource fault source echo (streams_of (Some commands) (Some [])) after

@@ -3,6 +3,7 @@ ghost use Rattle.std.specs.Prelude.{◌≡◌, false, IfErr, IfOk, OnErr, OnOk};
 ghost use Rattle.source_player.specs.SourceRuns.{FaultsWith, IsUnplayed, LeavesSource, LeavesStory, PlayedBytes, PlayedSource, PlayedStory, is_of_run};
 ghost use Rattle.story_format.specs.Refusals.{IsRefused};
 ghost use Rattle.story_format.specs.Spells.{Spells};
+ghost use Rattle.story_player.specs.Runs.{streams};
 ghost use Rattle.story_player.specs.Watches.{watched_failed, watched_inner};
 
 use std::alloc::Global;
@@ -38,10 +39,16 @@ pub fn run_story<R: Read, W: Write>(
     requires writer { watched_failed writer.old ≡ false }
 
     // The play of the reader's commands, in the story's own game, was written.
-    ensures played { IfOk result (PlayedStory bytes.now echo (R.remaining (watched_inner reader.old)) (R.remaining (watched_inner reader.new)) (W.contents (watched_inner writer.old)) (W.contents (watched_inner writer.new))) }
+    ensures played { IfOk result (PlayedStory bytes.now echo
+        (streams R.remaining W.contents reader.old writer.old)
+        (streams R.remaining W.contents reader.new writer.new)
+       ) }
 
     // A fault says why not, and a fault in front of the run leaves reader and writer as they were.
-    ensures left { IfErr result (λ fault. LeavesStory fault bytes.now echo (R.remaining (watched_inner reader.old)) (R.remaining (watched_inner reader.new)) (W.contents (watched_inner writer.old)) (W.contents (watched_inner writer.new))) }
+    ensures left { IfErr result (λ fault. LeavesStory fault bytes.now echo
+        (streams R.remaining W.contents reader.old writer.old)
+        (streams R.remaining W.contents reader.new writer.new)
+       ) }
     ensures untouched { IfErr result (λ fault. is_of_run fault ≡ false → (reader.new ≡ reader.old) × (writer.new ≡ writer.old)) }
 
     // The run's fault is the reader's exactly where the reader has failed, and the writer's alike.
@@ -76,10 +83,16 @@ pub fn run_source<R: Read, W: Write>(
 
     // The play of the reader's commands, in the game of the tale that the source's sentences mean, was
     // written.
-    ensures played { IfOk result (PlayedSource source.now echo (R.remaining (watched_inner reader.old)) (R.remaining (watched_inner reader.new)) (W.contents (watched_inner writer.old)) (W.contents (watched_inner writer.new))) }
+    ensures played { IfOk result (PlayedSource source.now echo
+        (streams R.remaining W.contents reader.old writer.old)
+        (streams R.remaining W.contents reader.new writer.new)
+       ) }
 
     // A fault says why not, and a fault in front of the run leaves reader and writer as they were.
-    ensures left { IfErr result (λ fault. LeavesSource fault source.now echo (R.remaining (watched_inner reader.old)) (R.remaining (watched_inner reader.new)) (W.contents (watched_inner writer.old)) (W.contents (watched_inner writer.new))) }
+    ensures left { IfErr result (λ fault. LeavesSource fault source.now echo
+        (streams R.remaining W.contents reader.old writer.old)
+        (streams R.remaining W.contents reader.new writer.new)
+       ) }
     ensures untouched { IfErr result (λ fault. is_of_run fault ≡ false → (reader.new ≡ reader.old) × (writer.new ≡ writer.old)) }
 
     // The run's fault is the reader's exactly where the reader has failed, and the writer's alike.

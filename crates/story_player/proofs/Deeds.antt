@@ -1,5 +1,5 @@
 -- What the code does in a turn is what the standard rules make of it.
-use Rattle.std.proofs.Common.{◌≡◌, ℕ, Bool, true, false, List, refl, ap, sym, ◌∙◌, subst, Ok, Err}
+use Rattle.std.proofs.Common.{◌≡◌, ℕ, Bool, true, false, List, refl, ap, sym, ◌∙◌, Ok, Err}
 use Rattle.std.specs.Prelude.{◌&&◌, nat_lt, Option, None, Some, is_ok, if◌then◌else◌}
 use Rattle.world_meaning.specs.Directions.{direction_number}
 use Rattle.world_meaning.specs.Facts.{Facts}
@@ -17,7 +17,7 @@ use Rattle.world_meaning.specs.declared.reading.Reading.TheVariants.{Act}
 use Rattle.world_meaning.specs.declared.session.Abandon.TheVariants.{Memory, NumberOutOfRange}
 use Rattle.world_meaning.specs.declared.session.Ending.{Ending}
 use Rattle.world_meaning.specs.declared.session.ReplyKind.TheVariants.{Kept}
-use Rattle.story_player.specs.Deeds.{deed_in, deed_of, look_text, looked_in, room_after}
+use Rattle.story_player.specs.Deeds.{deed_in, deed_of, look_text, looked_in}
 
 abbrev pub world : ℕ → List Bool → ℕ → World
 world location visited turns = record { location = location; visited = visited; turns = turns; ended = None }
@@ -42,7 +42,7 @@ pub told_by : (refused : Option ℕ) (from : State) (makes : Bool) (turns work l
 told_by refused from makes turns work location visited count text =
     let p : Progress = record { world = world location visited count; text = text; work = work } in
     let Goal : Bool → Bool → Bool → Type 0 = λ b r m. (if r && (is_ok (next (if b then Ok p else Err NumberOutOfRange) (λ q. Ok q)) && m) then abandoned from Memory else played_out Kept from (next (if b then Ok p else Err NumberOutOfRange) (λ q. Ok q)))
-        ≡ (if b then (if r && m then abandoned from Memory else answered text Kept (record from { world = world location visited count })) else abandoned from NumberOutOfRange) in
+    ≡ (if b then (if r && m then abandoned from Memory else answered text Kept (record from { world = world location visited count })) else abandoned from NumberOutOfRange) in
     all_told Goal refl refl refl refl refl refl refl refl (nat_lt turns most_turns) (refuses refused 0) makes
   where
     all_told : (Goal : Bool → Bool → Bool → Type 0) → Goal true true true → Goal true true false → Goal true false true → Goal true false false → Goal false true true → Goal false true false → Goal false false true → Goal false false false → (b r m : Bool) → Goal b r m
@@ -109,6 +109,7 @@ deeds_are_rules facts refused location turns visited ending (Going d) =
         ∙ sym (told_fixed refused from (nat_lt turns most_turns) no_way_text (next_turn w))
         ∙ sym (told_by refused from false turns 1 location visited (next_turn w).turns no_way_text)
         ∙ sym (answer_is refused from (turn g (Going d) (fresh w)) (counted turns (record { world = next_turn w; text = no_way_text; work = 1 })) (succeeds (act g (top g) (Going d) (fresh w))) false (stays facts location turns visited d none) (stays_failing facts location turns visited d none))
+
     entering : (facts : Facts) (refused : Option ℕ) (location turns room : ℕ) (visited : List Bool) (ending : Option Ending) (d : Direction) → facts.way location (direction_number d) ≡ Some room → deed_of facts refused (state location visited turns ending) (Going d) ≡ read_answer (game_of facts) refused (state location visited turns ending) (Act (Going d))
     entering facts refused location turns room visited ending d some =
         let from = state location visited turns ending in

@@ -9,7 +9,7 @@ use Rattle.world_meaning.specs.Session.{State, answer_of, answer_to}
 use Rattle.world_meaning.specs.Texts.{prompt}
 use Rattle.world_meaning.specs.Transcript.{behind_lines, echoed, played, while_going}
 use Rattle.world_meaning.specs.Games.{Game}
-use Rattle.story_player.specs.Runs.{AreAnswered, BrokeOff, IsFront, has_break}
+use Rattle.story_player.specs.Runs.{AreAnswered, BrokeOff, IsFront, has_break, streams_of}
 use Rattle.story_player.specs.Steps.{Answered, BrokeAnswer, BrokeTyping, IsTyping, PlayedLast, PlayedLine, WroteFront, last_part, last_state, shown, typed_part}
 use Rattle.story_player.specs.Typed.{IsGone, Typing, is_untyped, typed_reading}
 use Rattle.story_player.specs.declared.playing.RunFault.{RunFault}
@@ -52,9 +52,9 @@ is_stripped_part g echo refused state gone kept front is keeps =
 
 -- a whole line was answered
 pub played_line : (g : Game) (echo : Bool) (limit left : ℕ) (unread rest held a b now : Option (List ℕ)) (state to : State) (gone : Gone) (kept : List ℕ)
-    → Appends held a prompt → IsTyping echo limit left unread rest a b (record { gone = gone; kept = kept }) (10 ∷ [])
+    → Appends held a prompt → IsTyping echo limit left (streams_of unread a) (streams_of rest b) (record { gone = gone; kept = kept }) (10 ∷ [])
     → Answered (part_told g echo state (record { gone = gone; kept = strip_carriage_return kept })) (state_told g state (record { gone = gone; kept = strip_carriage_return kept })) b now to
-    → PlayedLine g echo limit left unread rest held now state to
+    → PlayedLine g echo limit left (streams_of unread held) (streams_of rest now) state to
 played_line g echo limit left unread rest held a b now state to gone kept prompted typing told =
     let part = is_stripped_part g echo told.refused state gone kept typing.front typing.gone typing.keeps in
     record {
@@ -138,9 +138,9 @@ is_last g echo refused state gone kept front going is unbroken =
 
 -- the last line was answered, if there is one
 pub played_last : (g : Game) (echo : Bool) (limit left : ℕ) (unread rest held a b now : Option (List ℕ)) (state to : State) (gone : Gone) (kept : List ℕ)
-    → state.ending ≡ None → Appends held a prompt → IsTyping echo limit left unread rest a b (record { gone = gone; kept = kept }) [] → IsAtEnd rest
+    → state.ending ≡ None → Appends held a prompt → IsTyping echo limit left (streams_of unread a) (streams_of rest b) (record { gone = gone; kept = kept }) [] → IsAtEnd rest
     → Answered (part_last g echo state (record { gone = gone; kept = kept })) (state_last g state (record { gone = gone; kept = kept })) b now to
-    → PlayedLast g echo limit left unread rest held now state to
+    → PlayedLast g echo limit left (streams_of unread held) (streams_of rest now) state to
 played_last g echo limit left unread rest held a b now state to gone kept going prompted typing ends told =
     let t : Typing = record { gone = gone; kept = kept } in
     let line = typing.front ++ kept in
@@ -159,7 +159,7 @@ played_last g echo limit left unread rest held a b now state to gone kept going 
     }
 
 -- the prompt couldn't be written whole
-pub cut_at_prompt : (g : Game) (echo : Bool) (limit : ℕ) (unread held now : Option (List ℕ)) (state : State) → state.ending ≡ None → Consumes unread unread [] → WroteFront held now (while_going state.ending prompt) → BrokeOff Write g echo [] limit unread unread held now state state
+pub cut_at_prompt : (g : Game) (echo : Bool) (limit : ℕ) (unread held now : Option (List ℕ)) (state : State) → state.ending ≡ None → Consumes unread unread [] → WroteFront held now (while_going state.ending prompt) → BrokeOff Write g echo [] limit (streams_of unread held) (streams_of unread now) state state
 cut_at_prompt g echo limit unread held now state going none broke = record {
   read = [];
   reads = none;
@@ -185,7 +185,7 @@ cut_at_prompt g echo limit unread held now state going none broke = record {
 }
 
 -- typing the line broke off
-pub cut_in_line : (fault : RunFault) (g : Game) (echo : Bool) (limit : ℕ) (unread rest held a now : Option (List ℕ)) (state : State) → state.ending ≡ None → Appends held a prompt → BrokeTyping fault echo limit unread rest a now → BrokeOff fault g echo [] limit unread rest held now state state
+pub cut_in_line : (fault : RunFault) (g : Game) (echo : Bool) (limit : ℕ) (unread rest held a now : Option (List ℕ)) (state : State) → state.ending ≡ None → Appends held a prompt → BrokeTyping fault echo limit (streams_of unread a) (streams_of rest now) → BrokeOff fault g echo [] limit (streams_of unread held) (streams_of rest now) state state
 cut_in_line fault g echo limit unread rest held a now state going prompted broke = record {
   read = broke.typed ++ broke.past;
   reads = broke.reads;
@@ -212,9 +212,9 @@ cut_in_line fault g echo limit unread rest held a now state going prompted broke
 
 -- what a line gives couldn't be written whole
 pub cut_in_answer : (g : Game) (echo : Bool) (limit left : ℕ) (unread rest held a b now : Option (List ℕ)) (state to : State) (gone : Gone) (kept : List ℕ)
-    → state.ending ≡ None → Appends held a prompt → IsTyping echo limit left unread rest a b (record { gone = gone; kept = kept }) (10 ∷ [])
+    → state.ending ≡ None → Appends held a prompt → IsTyping echo limit left (streams_of unread a) (streams_of rest b) (record { gone = gone; kept = kept }) (10 ∷ [])
     → BrokeAnswer (part_told g echo state (record { gone = gone; kept = strip_carriage_return kept })) (state_told g state (record { gone = gone; kept = strip_carriage_return kept })) b now to
-    → BrokeOff Write g echo [] limit unread rest held now state to
+    → BrokeOff Write g echo [] limit (streams_of unread held) (streams_of rest now) state to
 cut_in_answer g echo limit left unread rest held a b now state to gone kept going prompted typing told =
     let line = typing.front ++ kept in
     let t : Typing = record { gone = gone; kept = strip_carriage_return kept } in
@@ -252,9 +252,9 @@ cut_in_answer g echo limit left unread rest held a b now state to gone kept goin
 
 -- what the last line gives couldn't
 pub cut_in_last : (g : Game) (echo : Bool) (limit left : ℕ) (unread rest held a b now : Option (List ℕ)) (state to : State) (gone : Gone) (kept : List ℕ)
-    → state.ending ≡ None → Appends held a prompt → IsTyping echo limit left unread rest a b (record { gone = gone; kept = kept }) [] → IsAtEnd rest
+    → state.ending ≡ None → Appends held a prompt → IsTyping echo limit left (streams_of unread a) (streams_of rest b) (record { gone = gone; kept = kept }) [] → IsAtEnd rest
     → BrokeAnswer (part_last g echo state (record { gone = gone; kept = kept })) (state_last g state (record { gone = gone; kept = kept })) b now to
-    → BrokeOff Write g echo [] limit unread rest held now state to
+    → BrokeOff Write g echo [] limit (streams_of unread held) (streams_of rest now) state to
 cut_in_last g echo limit left unread rest held a b now state to gone kept going prompted typing ends told =
     let line = typing.front ++ kept in
     let t : Typing = record { gone = gone; kept = kept } in

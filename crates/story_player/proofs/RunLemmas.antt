@@ -4,12 +4,12 @@ use Rattle.std.specs.Prelude.{Option, Some, None, is_none, is_some, not}
 use Rattle.std.specs.Io.KnownBytes.{Appends, Consumes, IsAtEnd}
 use Rattle.std.specs.Str.Lines.{lines, strip_carriage_return}
 use Rattle.std.proofs.lemmas.List.{length-append, append-nil}
-use Rattle.world_meaning.specs.Session.{State, answer_of, opened}
+use Rattle.world_meaning.specs.Session.{State, opened}
 use Rattle.world_meaning.specs.Texts.{prompt}
 use Rattle.world_meaning.specs.Transcript.{behind, behind_lines, ended_at_end, exchanges, played, told, told_out, while_going}
 use Rattle.world_meaning.specs.declared.session.Ending.{Ending}
 use Rattle.world_meaning.specs.Games.{Game}
-use Rattle.story_player.specs.Runs.{AreAnswered, AreKnown, AreWholeLines, BrokeOff, IsFront, Played, most_input}
+use Rattle.story_player.specs.Runs.{AreAnswered, AreKnown, AreWholeLines, BrokeOff, IsFront, Played, Streams, streams_of, most_input}
 use Rattle.story_player.specs.Steps.{PlayedLast, PlayedLine, WroteFront}
 use Rattle.story_player.specs.declared.playing.RunFault.{RunFault}
 use Rattle.story_player.specs.declared.playing.RunFault.TheVariants.{Write}
@@ -19,20 +19,20 @@ use Rattle.story_player.proofs.Transcripts.{behind-append, behind_lines-append, 
 use Rattle.story_player.proofs.Writes.{appends-more, consumes-more}
 
 -- The lines that were read are answered, and their parts are written behind the opening.
-pub record RunSoFar (g : Game) (echo : Bool) (opening : List ℕ) (limit left : ℕ) (unread rest held now : Option (List ℕ)) (from to : State) : Type 0 where
+pub record RunSoFar (g : Game) (echo : Bool) (opening : List ℕ) (limit left : ℕ) (before after : Streams) (from to : State) : Type 0 where
   pub refusals : List (Option ℕ)
   pub answered : List (List ℕ)
   pub told_of : length refusals ≡ length answered
   pub read : List ℕ
-  pub reads : Consumes unread rest read
+  pub reads : Consumes before.unread after.unread read
   pub whole : AreWholeLines read
   pub splits : (ahead : List ℕ) → lines (read ++ ahead) ≡ answered ++ lines ahead
-  pub writes : Appends held now (opening ++ told echo (exchanges g refusals from answered))
+  pub writes : Appends before.held after.held (opening ++ told echo (exchanges g refusals from answered))
   pub answers : AreAnswered g refusals from answered
   pub state : to ≡ behind_lines g refusals from answered
   pub counts : length read + left ≡ limit
 
-pub run_begins : (g : Game) (echo : Bool) (opening : List ℕ) (limit : ℕ) (unread held now : Option (List ℕ)) (from : State) → Consumes unread unread [] → Appends held now opening → RunSoFar g echo opening limit limit unread unread held now from from
+pub run_begins : (g : Game) (echo : Bool) (opening : List ℕ) (limit : ℕ) (unread held now : Option (List ℕ)) (from : State) → Consumes unread unread [] → Appends held now opening → RunSoFar g echo opening limit limit (streams_of unread held) (streams_of unread now) from from
 run_begins g echo opening limit unread held now from none opened = record {
   refusals = [];
   answered = [];
@@ -48,7 +48,7 @@ run_begins g echo opening limit unread held now from none opened = record {
 }
 
 -- what the run writes stands behind the opening
-pub behind_opening : (g : Game) (echo : Bool) (opening : List ℕ) (limit left : ℕ) (unread rest held a now : Option (List ℕ)) (from to : State) → Appends held a opening → RunSoFar g echo [] limit left unread rest a now from to → RunSoFar g echo opening limit left unread rest held now from to
+pub behind_opening : (g : Game) (echo : Bool) (opening : List ℕ) (limit left : ℕ) (unread rest held a now : Option (List ℕ)) (from to : State) → Appends held a opening → RunSoFar g echo [] limit left (streams_of unread a) (streams_of rest now) from to → RunSoFar g echo opening limit left (streams_of unread held) (streams_of rest now) from to
 behind_opening g echo opening limit left unread rest held a now from to opened sofar = record {
   refusals = sofar.refusals;
   answered = sofar.answered;
@@ -77,7 +77,7 @@ answered-append g refusals more from to lines others same behind first second =
     ∙ length-append xs ys ∙ ap (λ n. n + length ys) first ∙ ap (λ n. length lines + n) second ∙ sym (length-append lines others)
 
 -- one more line
-pub run_more : (g : Game) (echo : Bool) (opening : List ℕ) (limit mid left : ℕ) (unread a rest held b now : Option (List ℕ)) (from state to : State) → RunSoFar g echo opening limit mid unread a held b from state → state.ending ≡ None → PlayedLine g echo mid left a rest b now state to → RunSoFar g echo opening limit left unread rest held now from to
+pub run_more : (g : Game) (echo : Bool) (opening : List ℕ) (limit mid left : ℕ) (unread a rest held b now : Option (List ℕ)) (from state to : State) → RunSoFar g echo opening limit mid (streams_of unread held) (streams_of a b) from state → state.ending ≡ None → PlayedLine g echo mid left (streams_of a b) (streams_of rest now) state to → RunSoFar g echo opening limit left (streams_of unread held) (streams_of rest now) from to
 run_more g echo opening limit mid left unread a rest held b now from state to sofar going line =
     let stripped = strip_carriage_return line.line in
     let bytes = line.line ++ 10 ∷ [] in
@@ -112,7 +112,7 @@ run_more g echo opening limit mid left unread a rest held b now from state to so
     }
 
 -- the opening couldn't be written whole
-pub cut_in_opening : (g : Game) (echo : Bool) (opening : List ℕ) (limit : ℕ) (unread held now : Option (List ℕ)) (from : State) → Consumes unread unread [] → WroteFront held now opening → BrokeOff Write g echo opening limit unread unread held now from from
+pub cut_in_opening : (g : Game) (echo : Bool) (opening : List ℕ) (limit : ℕ) (unread held now : Option (List ℕ)) (from : State) → Consumes unread unread [] → WroteFront held now opening → BrokeOff Write g echo opening limit (streams_of unread held) (streams_of unread now) from from
 cut_in_opening g echo opening limit unread held now from none broke = record {
   read = [];
   reads = none;
@@ -143,7 +143,7 @@ ends-append fault rest a b first (inl whole) = inl (whole-append a b first whole
 ends-append fault rest a b first (inr last) = inr last
 
 -- a line broke off
-pub cut_so_far : (fault : RunFault) (g : Game) (echo : Bool) (opening : List ℕ) (limit left : ℕ) (unread a rest held b now : Option (List ℕ)) (from state to : State) → RunSoFar g echo opening limit left unread a held b from state → BrokeOff fault g echo [] left a rest b now state to → BrokeOff fault g echo opening limit unread rest held now from to
+pub cut_so_far : (fault : RunFault) (g : Game) (echo : Bool) (opening : List ℕ) (limit left : ℕ) (unread a rest held b now : Option (List ℕ)) (from state to : State) → RunSoFar g echo opening limit left (streams_of unread held) (streams_of a b) from state → BrokeOff fault g echo [] left (streams_of a b) (streams_of rest now) state to → BrokeOff fault g echo opening limit (streams_of unread held) (streams_of rest now) from to
 cut_so_far fault g echo opening limit left unread a rest held b now from state to sofar broke =
     let before = told echo (exchanges g sofar.refusals from sofar.answered) in
     let all : lines (sofar.read ++ broke.read) ≡ sofar.answered ++ lines broke.read = sofar.splits broke.read in
@@ -181,7 +181,7 @@ cut_so_far fault g echo opening limit left unread a rest held b now from state t
       full = λ same. ((broke.full same).0, omega (arith, (broke.full same).1, sofar.counts, length-append sofar.read broke.read));
     }
 
-pub lines_read : (g : Game) (echo : Bool) (opening : List ℕ) (limit left : ℕ) (unread rest held now : Option (List ℕ)) (from to : State) (sofar : RunSoFar g echo opening limit left unread rest held now from to) → lines sofar.read ≡ sofar.answered
+pub lines_read : (g : Game) (echo : Bool) (opening : List ℕ) (limit left : ℕ) (unread rest held now : Option (List ℕ)) (from to : State) (sofar : RunSoFar g echo opening limit left (streams_of unread held) (streams_of rest now) from to) → lines sofar.read ≡ sofar.answered
 lines_read g echo opening limit left unread rest held now from to sofar = ap lines (sym (append-nil sofar.read)) ∙ sofar.splits [] ∙ append-nil sofar.answered
 
 -- the reader's bytes, as far as they are known
@@ -196,7 +196,7 @@ commands_of (Some xs) None read reads = absurd reads
 commands_of (Some xs) (Some ys) read reads = record { ahead = ys; known = reads; none_at_end = λ ends. ends }
 
 -- the input has ended, and its last line is answered
-pub run_ends : (g : Game) (echo : Bool) (mid left : ℕ) (unread a rest held b now : Option (List ℕ)) (from state to last : State) → RunSoFar g echo (opened g).spoken.text most_input mid unread a held b from state → PlayedLast g echo mid left a rest b now state to → last ≡ ended_at_end to → Played g echo unread rest held now from last
+pub run_ends : (g : Game) (echo : Bool) (mid left : ℕ) (unread a rest held b now : Option (List ℕ)) (from state to last : State) → RunSoFar g echo (opened g).spoken.text most_input mid (streams_of unread held) (streams_of a b) from state → PlayedLast g echo mid left (streams_of a b) (streams_of rest now) state to → last ≡ ended_at_end to → Played g echo (streams_of unread held) (streams_of rest now) from last
 run_ends g echo mid left unread a rest held b now from state to last sofar line ended =
     let opening = (opened g).spoken.text in
     let before = told echo (exchanges g sofar.refusals from sofar.answered) in
@@ -235,7 +235,7 @@ run_ends g echo mid left unread a rest held b now from state to last sofar line 
     }
 
 -- the session is over
-pub run_is_over : (g : Game) (echo : Bool) (left : ℕ) (unread rest held now : Option (List ℕ)) (from to last : State) (ending : Ending) → RunSoFar g echo (opened g).spoken.text most_input left unread rest held now from to → to.ending ≡ Some ending → last ≡ ended_at_end to → Played g echo unread rest held now from last
+pub run_is_over : (g : Game) (echo : Bool) (left : ℕ) (unread rest held now : Option (List ℕ)) (from to last : State) (ending : Ending) → RunSoFar g echo (opened g).spoken.text most_input left (streams_of unread held) (streams_of rest now) from to → to.ending ≡ Some ending → last ≡ ended_at_end to → Played g echo (streams_of unread held) (streams_of rest now) from last
 run_is_over g echo left unread rest held now from to last ending sofar over ended =
     let opening = (opened g).spoken.text in
     let answered = exchanges g sofar.refusals from sofar.answered in

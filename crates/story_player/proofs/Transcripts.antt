@@ -1,7 +1,7 @@
 -- What the transcript begins with, and how it grows line by line.
 use Rattle.std.proofs.Common.{◌≡◌, ℕ, Bool, true, false, List, [], ◌∷◌, ◌++◌, length, Some, None, refl, ap, sym, ◌∙◌, subst, append_assoc}
 use Rattle.std.specs.Prelude.{Option}
-use Rattle.std.proofs.lemmas.List.{append-nil, length-append}
+use Rattle.std.proofs.lemmas.List.{append-nil}
 use Rattle.world_meaning.specs.Games.{Game}
 use Rattle.world_meaning.specs.Session.{State, answer_of}
 use Rattle.world_meaning.specs.Texts.{prompt}
@@ -57,6 +57,7 @@ exchanges-append g (refused ∷ refusals) more state (line ∷ lines) others sam
         exchanges-going g (refused ∷ (refusals ++ more)) state line (lines ++ others) going
         ∙ ap (λ xs. exchange g refused state line ∷ xs) rest
         ∙ ap (λ xs. xs ++ exchanges g more (behind state xs) others) (sym first)
+
     appended_over : (g : Game) (refused : Option ℕ) (refusals more : List (Option ℕ)) (state : State) (line : List ℕ) (lines others : List (List ℕ)) (ending : Ending) → state.ending ≡ Some ending → exchanges g (refused ∷ (refusals ++ more)) state (line ∷ (lines ++ others)) ≡ exchanges g (refused ∷ refusals) state (line ∷ lines) ++ exchanges g more (behind_lines g (refused ∷ refusals) state (line ∷ lines)) others
     appended_over g refused refusals more state line lines others ending over =
         let none = exchanges-over g (refused ∷ refusals) state (line ∷ lines) ending over in

@@ -9,7 +9,7 @@ use Rattle.world_meaning.specs.Session.{State}
 use Rattle.world_meaning.specs.Texts.{prompt}
 use Rattle.world_meaning.specs.Transcript.{played}
 use Rattle.world_meaning.specs.Games.{Game}
-use Rattle.story_player.specs.Runs.{IsFront, has_break}
+use Rattle.story_player.specs.Runs.{IsFront, has_break, streams_of}
 use Rattle.story_player.specs.Steps.{BrokeTyping, IsTyping, WroteFront, shown}
 use Rattle.story_player.specs.Typed.{Typing, flushed, gone_with, is_full, typed_with}
 use Rattle.story_player.specs.declared.playing.RunFault.TheVariants.{Read, Write, InputTooLong}
@@ -75,7 +75,7 @@ shows_more echo front kept byte keeps unbroken =
     ] refl
 
 -- a read failed
-pub cut_by_reader : (echo : Bool) (limit left : ℕ) (unread mid rest held now : Option (List ℕ)) (t : Typing) → IsTyping echo limit left unread mid held now t [] → Consumes mid rest [] → BrokeTyping Read echo limit unread rest held now
+pub cut_by_reader : (echo : Bool) (limit left : ℕ) (unread mid rest held now : Option (List ℕ)) (t : Typing) → IsTyping echo limit left (streams_of unread held) (streams_of mid now) t [] → Consumes mid rest [] → BrokeTyping Read echo limit (streams_of unread held) (streams_of rest now)
 cut_by_reader echo limit left unread mid rest held now t typing none = record {
   typed = typing.front ++ t.kept;
   past = [];
@@ -90,7 +90,7 @@ cut_by_reader echo limit left unread mid rest held now t typing none = record {
 }
 
 -- there is too much input
-pub cut_by_limit : (echo : Bool) (limit left byte : ℕ) (unread mid rest held now : Option (List ℕ)) (t : Typing) → IsTyping echo limit left unread mid held now t [] → left ≡ 0 → Consumes mid rest (byte ∷ []) → BrokeTyping InputTooLong echo limit unread rest held now
+pub cut_by_limit : (echo : Bool) (limit left byte : ℕ) (unread mid rest held now : Option (List ℕ)) (t : Typing) → IsTyping echo limit left (streams_of unread held) (streams_of mid now) t [] → left ≡ 0 → Consumes mid rest (byte ∷ []) → BrokeTyping InputTooLong echo limit (streams_of unread held) (streams_of rest now)
 cut_by_limit echo limit left byte unread mid rest held now t typing full one = record {
   typed = typing.front ++ t.kept;
   past = byte ∷ [];
@@ -114,7 +114,7 @@ flushed_front echo t =
     ] refl
 
 -- the bytes that were let go couldn't be written whole
-pub cut_by_writer : (echo : Bool) (limit left byte : ℕ) (unread mid rest held a now : Option (List ℕ)) (t : Typing) → IsTyping echo limit left unread mid held a t [] → left ≢ 0 → byte ≢ 10 → Consumes mid rest (byte ∷ []) → WroteFront a now (shown echo (flushed t)) → BrokeTyping Write echo limit unread rest held now
+pub cut_by_writer : (echo : Bool) (limit left byte : ℕ) (unread mid rest held a now : Option (List ℕ)) (t : Typing) → IsTyping echo limit left (streams_of unread held) (streams_of mid a) t [] → left ≢ 0 → byte ≢ 10 → Consumes mid rest (byte ∷ []) → WroteFront a now (shown echo (flushed t)) → BrokeTyping Write echo limit (streams_of unread held) (streams_of rest now)
 cut_by_writer echo limit left byte unread mid rest held a now t typing some other one broke =
     let line = typing.front ++ t.kept in
     let shows = shows_by echo line (line ++ byte ∷ []) (line ++ byte ∷ []) [] (lines-last (line ++ byte ∷ []) (break-append line (byte ∷ []) typing.unbroken (unbroken_byte byte other)) (one_more line byte)) (front_first line (byte ∷ [])) in
@@ -138,7 +138,7 @@ cut_by_writer echo limit left byte unread mid rest held a now t typing some othe
     }
 
 -- one more byte, where bytes must be let go
-pub typed_full : (echo : Bool) (limit left byte : ℕ) (unread mid rest held a now : Option (List ℕ)) (t : Typing) → is_full t ≡ true → IsTyping echo limit (left + 1) unread mid held a t [] → byte ≢ 10 → Consumes mid rest (byte ∷ []) → Appends a now (shown echo (flushed t)) → IsTyping echo limit left unread rest held now (record { gone = gone_with t.gone t.kept; kept = byte ∷ [] }) []
+pub typed_full : (echo : Bool) (limit left byte : ℕ) (unread mid rest held a now : Option (List ℕ)) (t : Typing) → is_full t ≡ true → IsTyping echo limit (left + 1) (streams_of unread held) (streams_of mid a) t [] → byte ≢ 10 → Consumes mid rest (byte ∷ []) → Appends a now (shown echo (flushed t)) → IsTyping echo limit left (streams_of unread held) (streams_of rest now) (record { gone = gone_with t.gone t.kept; kept = byte ∷ [] }) []
 typed_full echo limit left byte unread mid rest held a now t full typing other one wrote =
     let line = typing.front ++ t.kept in
     let all = eqb-true (length t.kept) 256 full in
@@ -154,7 +154,7 @@ typed_full echo limit left byte unread mid rest held a now t full typing other o
     }
 
 -- one more byte, where there is room
-pub typed_room : (echo : Bool) (limit left byte : ℕ) (unread mid rest held a now : Option (List ℕ)) (t : Typing) → is_full t ≡ false → IsTyping echo limit (left + 1) unread mid held a t [] → byte ≢ 10 → Consumes mid rest (byte ∷ []) → Appends a now (shown echo (flushed t)) → IsTyping echo limit left unread rest held now (record { gone = t.gone; kept = t.kept ++ byte ∷ [] }) []
+pub typed_room : (echo : Bool) (limit left byte : ℕ) (unread mid rest held a now : Option (List ℕ)) (t : Typing) → is_full t ≡ false → IsTyping echo limit (left + 1) (streams_of unread held) (streams_of mid a) t [] → byte ≢ 10 → Consumes mid rest (byte ∷ []) → Appends a now (shown echo (flushed t)) → IsTyping echo limit left (streams_of unread held) (streams_of rest now) (record { gone = t.gone; kept = t.kept ++ byte ∷ [] }) []
 typed_room echo limit left byte unread mid rest held a now t room typing other one wrote =
     let line = typing.front ++ t.kept in
     let same : line ++ byte ∷ [] ≡ typing.front ++ (t.kept ++ byte ∷ []) = append_assoc typing.front t.kept (byte ∷ []) in
@@ -169,10 +169,10 @@ typed_room echo limit left byte unread mid rest held a now t room typing other o
       counts = omega (arith, typing.counts, length-append line [], length-append (typing.front ++ (t.kept ++ byte ∷ [])) [], length-append line (byte ∷ []), ap length same);
     }
 
-pub typed_more : (echo : Bool) (limit left byte : ℕ) (unread mid rest held a now : Option (List ℕ)) (t : Typing) → IsTyping echo limit (left + 1) unread mid held a t [] → byte ≢ 10 → Consumes mid rest (byte ∷ []) → Appends a now (shown echo (flushed t)) → IsTyping echo limit left unread rest held now (typed_with t byte) []
+pub typed_more : (echo : Bool) (limit left byte : ℕ) (unread mid rest held a now : Option (List ℕ)) (t : Typing) → IsTyping echo limit (left + 1) (streams_of unread held) (streams_of mid a) t [] → byte ≢ 10 → Consumes mid rest (byte ∷ []) → Appends a now (shown echo (flushed t)) → IsTyping echo limit left (streams_of unread held) (streams_of rest now) (typed_with t byte) []
 typed_more echo limit left byte unread mid rest held a now t typing other one wrote =
-    let Goal : Bool → Type 0 = λ v. is_full t ≡ v → IsTyping echo limit left unread rest held now (typed_with t byte) [] in
-    let Typed : Bool → Type 0 = λ v. IsTyping echo limit left unread rest held now (if v then record { gone = gone_with t.gone t.kept; kept = byte ∷ [] } else record { gone = t.gone; kept = t.kept ++ byte ∷ [] }) [] in
+    let Goal : Bool → Type 0 = λ v. is_full t ≡ v → IsTyping echo limit left (streams_of unread held) (streams_of rest now) (typed_with t byte) [] in
+    let Typed : Bool → Type 0 = λ v. IsTyping echo limit left (streams_of unread held) (streams_of rest now) (if v then record { gone = gone_with t.gone t.kept; kept = byte ∷ [] } else record { gone = t.gone; kept = t.kept ++ byte ∷ [] }) [] in
     elim (is_full t) as Goal [
       | true ↦ λ full. subst Typed (sym full) (typed_full echo limit left byte unread mid rest held a now t full typing other one wrote)
       | false ↦ λ room. subst Typed (sym room) (typed_room echo limit left byte unread mid rest held a now t room typing other one wrote)

@@ -1,5 +1,5 @@
 -- What the code does in a turn, told at once: proved to be what the standard rules make of it.
-use Rattle.std.specs.Prelude.{ℕ, nat_lt, Bool, List, ◌++◌, Option, None, Some, if◌then◌else◌}
+use Rattle.std.specs.Prelude.{ℕ, nat_lt, List, ◌++◌, Option, None, Some, if◌then◌else◌}
 use Rattle.world_meaning.specs.Directions.{direction_number}
 use Rattle.world_meaning.specs.Facts.{Facts}
 use Rattle.world_meaning.specs.Session.{Answer, State, abandoned, answered, refuses}

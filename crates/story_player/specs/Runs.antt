@@ -6,8 +6,22 @@ use Rattle.std.specs.Str.Lines.{lines}
 use Rattle.world_meaning.specs.Games.{Game}
 use Rattle.world_meaning.specs.Session.{State}
 use Rattle.world_meaning.specs.Transcript.{IsPlay, behind_lines, exchanges, played}
+use Rattle.story_player.specs.Watches.{watched_inner}
 use Rattle.story_player.specs.declared.playing.RunFault.{RunFault}
 use Rattle.story_player.specs.declared.playing.RunFault.TheVariants.{Write, InputTooLong}
+use Rattle.story_player.specs.declared.watched.Watched.{Watched}
+
+-- the bytes that a reader has left and that a writer holds, as far as they are known
+pub record Streams : Type 0 where
+  pub unread : Option (List ℕ)
+  pub held : Option (List ℕ)
+
+abbrev pub streams_of : Option (List ℕ) → Option (List ℕ) → Streams
+streams_of unread held = record { unread = unread; held = held }
+
+-- those of a watched reader and a watched writer
+abbrev pub streams : {R W : Type 0} → (R → Option (List ℕ)) → (W → Option (List ℕ)) → Watched R → Watched W → Streams
+streams remaining contents reader writer = streams_of (remaining (watched_inner reader)) (contents (watched_inner writer))
 
 -- the most bytes of commands that are read
 abbrev pub most_input : ℕ
@@ -33,14 +47,14 @@ AreAnswered g refusals from lines = length (exchanges g refusals from lines) ≡
 -- A run that came to its end: the play of all the commands that the reader has was written, and the
 -- session is in the state behind them. At most so many bytes of them were read, and each line of these
 -- was answered; fewer than all were read only where they are whole lines that ended the session.
-pub record Played (g : Game) (echo : Bool) (unread rest held now : Option (List ℕ)) (from last : State) : Type 0 where
+pub record Played (g : Game) (echo : Bool) (before after : Streams) (from last : State) : Type 0 where
   pub commands : List ℕ
-  pub are_commands : AreKnown unread commands
+  pub are_commands : AreKnown before.unread commands
   pub transcript : List ℕ
-  pub writes : Appends held now transcript
+  pub writes : Appends before.held after.held transcript
   pub play : IsPlay g echo from commands transcript last
   pub read : List ℕ
-  pub reads : Consumes unread rest read
+  pub reads : Consumes before.unread after.unread read
   pub front : IsFront read commands
   pub few : length read ≤ most_input
   pub answered : AreAnswered g play.refusals from (lines read)
@@ -54,15 +68,15 @@ has_break bytes = list_any (λ b. b == 10) bytes
 -- line is whole, unless the input has ended and writing its answer failed. What was written is a front
 -- of what the bytes that were read would give as a whole input, and the session is where the answered
 -- lines left it; unless writing failed, all that those lines give was written, and nothing has ended.
-pub record BrokeOff (fault : RunFault) (g : Game) (echo : Bool) (opening : List ℕ) (limit : ℕ) (unread rest held now : Option (List ℕ)) (from to : State) : Type 0 where
+pub record BrokeOff (fault : RunFault) (g : Game) (echo : Bool) (opening : List ℕ) (limit : ℕ) (before after : Streams) (from to : State) : Type 0 where
   pub read : List ℕ
-  pub reads : Consumes unread rest read
+  pub reads : Consumes before.unread after.unread read
   pub whole : List ℕ
   pub typed : List ℕ
   pub past : List ℕ
   pub bytes : read ≡ whole ++ (typed ++ past)
   pub parts : lines read ≡ lines whole ++ lines (typed ++ past)
-  pub ends : AreWholeLines whole ⊎ ((fault ≡ Write) × IsAtEnd rest)
+  pub ends : AreWholeLines whole ⊎ ((fault ≡ Write) × IsAtEnd after.unread)
   pub unbroken : has_break typed ≡ false
   pub within : fault ≢ InputTooLong → past ≡ []
   pub few : fault ≢ InputTooLong → length read ≤ limit
@@ -71,7 +85,7 @@ pub record BrokeOff (fault : RunFault) (g : Game) (echo : Bool) (opening : List 
   pub answered : AreAnswered g refusals from (lines whole)
   pub state : to ≡ behind_lines g refusals from (lines whole)
   pub written : List ℕ
-  pub writes : Appends held now written
+  pub writes : Appends before.held after.held written
   pub front : IsFront written (opening ++ played g echo refusals from (lines read))
   pub begins : fault ≢ Write → IsFront (opening ++ played g echo refusals from (lines whole)) written
   pub going : fault ≢ Write → to.ending ≡ None

@@ -6,7 +6,7 @@ use Rattle.world_meaning.specs.Session.{State, answer_of, answer_to}
 use Rattle.world_meaning.specs.Texts.{prompt}
 use Rattle.world_meaning.specs.Transcript.{behind_lines, echoed, played, while_going}
 use Rattle.world_meaning.specs.Games.{Game}
-use Rattle.story_player.specs.Runs.{AreAnswered, IsFront, has_break}
+use Rattle.story_player.specs.Runs.{AreAnswered, IsFront, Streams, has_break}
 use Rattle.story_player.specs.Typed.{IsGone, Typing, is_untyped, typed_reading}
 use Rattle.story_player.specs.declared.playing.RunFault.{RunFault}
 use Rattle.story_player.specs.declared.playing.RunFault.TheVariants.{InputTooLong}
@@ -28,27 +28,27 @@ shown true bytes = bytes
 shown false bytes = []
 
 -- A line was typed so far, and these bytes behind it: the bytes that are kept no more were shown.
-pub record IsTyping (echo : Bool) (limit left : ℕ) (unread rest held now : Option (List ℕ)) (t : Typing) (tail : List ℕ) : Type 0 where
+pub record IsTyping (echo : Bool) (limit left : ℕ) (before after : Streams) (t : Typing) (tail : List ℕ) : Type 0 where
   pub front : List ℕ
   pub gone : IsGone t.gone front
   pub keeps : 0 < length front → 0 < length t.kept
   pub unbroken : has_break (front ++ t.kept) ≡ false
-  pub reads : Consumes unread rest ((front ++ t.kept) ++ tail)
-  pub writes : Appends held now (shown echo front)
+  pub reads : Consumes before.unread after.unread ((front ++ t.kept) ++ tail)
+  pub writes : Appends before.held after.held (shown echo front)
   pub counts : length ((front ++ t.kept) ++ tail) + left ≡ limit
 
 -- Typing a line broke off, perhaps at a byte past the limit: what was written is a front of what any
 -- play shows for these bytes behind the prompt.
-pub record BrokeTyping (fault : RunFault) (echo : Bool) (limit : ℕ) (unread rest held now : Option (List ℕ)) : Type 0 where
+pub record BrokeTyping (fault : RunFault) (echo : Bool) (limit : ℕ) (before after : Streams) : Type 0 where
   pub typed : List ℕ
   pub past : List ℕ
-  pub reads : Consumes unread rest (typed ++ past)
+  pub reads : Consumes before.unread after.unread (typed ++ past)
   pub unbroken : has_break typed ≡ false
   pub within : fault ≢ InputTooLong → past ≡ []
   pub few : fault ≢ InputTooLong → length (typed ++ past) ≤ limit
   pub full : fault ≡ InputTooLong → (length past ≡ 1) × (length (typed ++ past) ≡ suc limit)
   pub written : List ℕ
-  pub writes : Appends held now written
+  pub writes : Appends before.held after.held written
   pub front : (g : Game) (refusals : List (Option ℕ)) (state : State) → state.ending ≡ None → IsFront (prompt ++ written) (played g echo refusals state (lines (typed ++ past)))
 
 -- the part of the transcript that is written for a typed line behind what was shown of it
@@ -75,23 +75,30 @@ pub record BrokeAnswer (part : Option ℕ → List ℕ) (state : Option ℕ → 
   pub writes : WroteFront held now (part refused)
   pub behind : to ≡ state refused
 
+-- the last line was answered, if there is one, or writing its answer failed
+abbrev pub AnsweredLast : Game → Bool → State → Typing → Option (List ℕ) → Option (List ℕ) → State → Type 0
+AnsweredLast g echo from t = Answered (λ refused. last_part g echo refused from t) (λ refused. last_state g refused from t)
+
+abbrev pub BrokeLast : Game → Bool → State → Typing → Option (List ℕ) → Option (List ℕ) → State → Type 0
+BrokeLast g echo from t = BrokeAnswer (λ refused. last_part g echo refused from t) (λ refused. last_state g refused from t)
+
 -- A whole line was played.
-pub record PlayedLine (g : Game) (echo : Bool) (limit left : ℕ) (unread rest held now : Option (List ℕ)) (from to : State) : Type 0 where
+pub record PlayedLine (g : Game) (echo : Bool) (limit left : ℕ) (before after : Streams) (from to : State) : Type 0 where
   pub line : List ℕ
   pub unbroken : has_break line ≡ false
-  pub reads : Consumes unread rest (line ++ 10 ∷ [])
+  pub reads : Consumes before.unread after.unread (line ++ 10 ∷ [])
   pub refused : Option ℕ
-  pub writes : Appends held now (prompt ++ echoed echo (strip_carriage_return line) ++ (answer_of g refused from (strip_carriage_return line)).spoken.text)
+  pub writes : Appends before.held after.held (prompt ++ echoed echo (strip_carriage_return line) ++ (answer_of g refused from (strip_carriage_return line)).spoken.text)
   pub behind : to ≡ (answer_of g refused from (strip_carriage_return line)).state
   pub counts : length (line ++ 10 ∷ []) + left ≡ limit
 
 -- The last line was played, which has no break and may be empty.
-pub record PlayedLast (g : Game) (echo : Bool) (limit left : ℕ) (unread rest held now : Option (List ℕ)) (from to : State) : Type 0 where
+pub record PlayedLast (g : Game) (echo : Bool) (limit left : ℕ) (before after : Streams) (from to : State) : Type 0 where
   pub line : List ℕ
-  pub reads : Consumes unread rest line
-  pub ends : IsAtEnd rest
+  pub reads : Consumes before.unread after.unread line
+  pub ends : IsAtEnd after.unread
   pub refusals : List (Option ℕ)
-  pub writes : Appends held now (played g echo refusals from (lines line))
+  pub writes : Appends before.held after.held (played g echo refusals from (lines line))
   pub answered : AreAnswered g refusals from (lines line)
   pub state_is : to ≡ behind_lines g refusals from (lines line)
   pub counts : length line + left ≡ limit

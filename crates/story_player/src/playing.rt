@@ -5,9 +5,9 @@ ghost use Rattle.world_meaning.specs.Session.{answer_to, opened};
 ghost use Rattle.world_meaning.specs.Texts.{prompt};
 ghost use Rattle.world_meaning.specs.Transcript.{while_going};
 ghost use Rattle.story_player.specs.Breaks.{Blames};
-ghost use Rattle.story_player.specs.Runs.{BrokeOff, Played, most_input};
+ghost use Rattle.story_player.specs.Runs.{BrokeOff, Played, most_input, streams};
 ghost use Rattle.story_player.specs.Sessions.{state_of, game_of};
-ghost use Rattle.story_player.specs.Steps.{Answered, BrokeAnswer, BrokeTyping, IsTyping, PlayedLast, PlayedLine, ReadsByte, WroteFront, last_part, last_state, shown, typed_part};
+ghost use Rattle.story_player.specs.Steps.{Answered, AnsweredLast, BrokeAnswer, BrokeLast, BrokeTyping, IsTyping, PlayedLast, PlayedLine, ReadsByte, WroteFront, shown, typed_part};
 ghost use Rattle.story_player.specs.Typed.{flushed, nothing_typed, typed_reading, typed_with};
 ghost use Rattle.story_player.specs.Watches.{watched_failed, watched_inner};
 
@@ -136,10 +136,19 @@ fn type_line<R: Read, W: Write>(
     requires fresh { line.old ≡ nothing_typed }
     ensures stand { OnOk result ((watched_failed reader.new ≡ false) × (watched_failed writer.new ≡ false)) }
     ensures broke { IfErr result (λ fault. Blames fault (watched_failed reader.new) (watched_failed writer.new)) }
-    ensures whole { result ≡ Ok LineEnd.Break → IsTyping echo left.old left.new (R.remaining (watched_inner reader.old)) (R.remaining (watched_inner reader.new)) (W.contents (watched_inner writer.old)) (W.contents (watched_inner writer.new)) line.new (10 ∷ []) }
-    ensures last { result ≡ Ok LineEnd.Input → IsTyping echo left.old left.new (R.remaining (watched_inner reader.old)) (R.remaining (watched_inner reader.new)) (W.contents (watched_inner writer.old)) (W.contents (watched_inner writer.new)) line.new [] }
+    ensures whole { result ≡ Ok LineEnd.Break → IsTyping echo left.old left.new
+        (streams R.remaining W.contents reader.old writer.old)
+        (streams R.remaining W.contents reader.new writer.new)
+        line.new (10 ∷ []) }
+    ensures last { result ≡ Ok LineEnd.Input → IsTyping echo left.old left.new
+        (streams R.remaining W.contents reader.old writer.old)
+        (streams R.remaining W.contents reader.new writer.new)
+        line.new [] }
     ensures ends { result ≡ Ok LineEnd.Input → IsAtEnd (R.remaining (watched_inner reader.new)) }
-    ensures cut { IfErr result (λ fault. BrokeTyping fault echo left.old (R.remaining (watched_inner reader.old)) (R.remaining (watched_inner reader.new)) (W.contents (watched_inner writer.old)) (W.contents (watched_inner writer.new))) }
+    ensures cut { IfErr result (λ fault. BrokeTyping fault echo left.old
+        (streams R.remaining W.contents reader.old writer.old)
+        (streams R.remaining W.contents reader.new writer.new)
+        ) }
 {
     while let Some(byte) = next_byte(reader)? {
         if *left == 0 {
@@ -184,8 +193,14 @@ fn answer<W: Write>(
     ensures stands { OnOk result (watched_failed writer.new ≡ false) }
     ensures broke { IfErr result (λ fault. (fault ≡ RunFault.Write) × (watched_failed writer.new ≡ true)) }
     ensures game { game_of session.new ≡ game_of session.old }
-    ensures answered { OnOk result (Answered (λ refused. typed_part (game_of session.old) echo refused (state_of session.old) line.now) (λ refused. (answer_to (game_of session.old) refused (state_of session.old) (typed_reading (game_of session.old) line.now)).state) (W.contents (watched_inner writer.old)) (W.contents (watched_inner writer.new)) (state_of session.new)) }
-    ensures front { OnErr result (BrokeAnswer (λ refused. typed_part (game_of session.old) echo refused (state_of session.old) line.now) (λ refused. (answer_to (game_of session.old) refused (state_of session.old) (typed_reading (game_of session.old) line.now)).state) (W.contents (watched_inner writer.old)) (W.contents (watched_inner writer.new)) (state_of session.new)) }
+    ensures answered { OnOk result (Answered
+        (λ refused. typed_part (game_of session.old) echo refused (state_of session.old) line.now)
+        (λ refused. (answer_to (game_of session.old) refused (state_of session.old) (typed_reading (game_of session.old) line.now)).state)
+        (W.contents (watched_inner writer.old)) (W.contents (watched_inner writer.new)) (state_of session.new)) }
+    ensures front { OnErr result (BrokeAnswer
+        (λ refused. typed_part (game_of session.old) echo refused (state_of session.old) line.now)
+        (λ refused. (answer_to (game_of session.old) refused (state_of session.old) (typed_reading (game_of session.old) line.now)).state)
+        (W.contents (watched_inner writer.old)) (W.contents (watched_inner writer.new)) (state_of session.new)) }
 {
     let reply = session.typed(line.typed());
     tell(writer, line, &reply, echo)
@@ -218,8 +233,10 @@ fn answer_last<W: Write>(
     ensures stands { OnOk result (watched_failed writer.new ≡ false) }
     ensures broke { IfErr result (λ fault. (fault ≡ RunFault.Write) × (watched_failed writer.new ≡ true)) }
     ensures game { game_of session.new ≡ game_of session.old }
-    ensures answered { OnOk result (Answered (λ refused. last_part (game_of session.old) echo refused (state_of session.old) line.now) (λ refused. last_state (game_of session.old) refused (state_of session.old) line.now) (W.contents (watched_inner writer.old)) (W.contents (watched_inner writer.new)) (state_of session.new)) }
-    ensures front { OnErr result (BrokeAnswer (λ refused. last_part (game_of session.old) echo refused (state_of session.old) line.now) (λ refused. last_state (game_of session.old) refused (state_of session.old) line.now) (W.contents (watched_inner writer.old)) (W.contents (watched_inner writer.new)) (state_of session.new)) }
+    ensures answered { OnOk result (AnsweredLast (game_of session.old) echo (state_of session.old) line.now
+        (W.contents (watched_inner writer.old)) (W.contents (watched_inner writer.new)) (state_of session.new)) }
+    ensures front { OnErr result (BrokeLast (game_of session.old) echo (state_of session.old) line.now
+        (W.contents (watched_inner writer.old)) (W.contents (watched_inner writer.new)) (state_of session.new)) }
 {
     if line.is_empty() {
         return Ok(());
@@ -242,9 +259,18 @@ fn play_line<R: Read, W: Write>(
     ensures stand { OnOk result ((watched_failed reader.new ≡ false) × (watched_failed writer.new ≡ false)) }
     ensures broke { IfErr result (λ fault. Blames fault (watched_failed reader.new) (watched_failed writer.new)) }
     ensures game { game_of session.new ≡ game_of session.old }
-    ensures whole { result ≡ Ok LineEnd.Break → PlayedLine (game_of session.old) echo left.old left.new (R.remaining (watched_inner reader.old)) (R.remaining (watched_inner reader.new)) (W.contents (watched_inner writer.old)) (W.contents (watched_inner writer.new)) (state_of session.old) (state_of session.new) }
-    ensures last { result ≡ Ok LineEnd.Input → PlayedLast (game_of session.old) echo left.old left.new (R.remaining (watched_inner reader.old)) (R.remaining (watched_inner reader.new)) (W.contents (watched_inner writer.old)) (W.contents (watched_inner writer.new)) (state_of session.old) (state_of session.new) }
-    ensures cut { IfErr result (λ fault. BrokeOff fault (game_of session.old) echo [] left.old (R.remaining (watched_inner reader.old)) (R.remaining (watched_inner reader.new)) (W.contents (watched_inner writer.old)) (W.contents (watched_inner writer.new)) (state_of session.old) (state_of session.new)) }
+    ensures whole { result ≡ Ok LineEnd.Break → PlayedLine (game_of session.old) echo left.old left.new
+        (streams R.remaining W.contents reader.old writer.old)
+        (streams R.remaining W.contents reader.new writer.new)
+        (state_of session.old) (state_of session.new) }
+    ensures last { result ≡ Ok LineEnd.Input → PlayedLast (game_of session.old) echo left.old left.new
+        (streams R.remaining W.contents reader.old writer.old)
+        (streams R.remaining W.contents reader.new writer.new)
+        (state_of session.old) (state_of session.new) }
+    ensures cut { IfErr result (λ fault. BrokeOff fault (game_of session.old) echo [] left.old
+        (streams R.remaining W.contents reader.old writer.old)
+        (streams R.remaining W.contents reader.new writer.new)
+        (state_of session.old) (state_of session.new)) }
 {
     prompt(writer, session)?;
     let mut line = TypedLine::new();
@@ -272,11 +298,17 @@ pub fn run<R: Read, W: Write>(
     requires writer { watched_failed writer.old ≡ false }
 
     // A run that comes to its end has written the play of the reader's commands.
-    ensures played { OnOk result (Played (game_of session.old) echo (R.remaining (watched_inner reader.old)) (R.remaining (watched_inner reader.new)) (W.contents (watched_inner writer.old)) (W.contents (watched_inner writer.new)) (state_of session.old) (state_of session.new)) }
+    ensures played { OnOk result (Played (game_of session.old) echo
+        (streams R.remaining W.contents reader.old writer.old)
+        (streams R.remaining W.contents reader.new writer.new)
+        (state_of session.old) (state_of session.new)) }
     ensures ended { IfOk result (λ ending. (state_of session.new).ending ≡ Some ending) }
 
     // A run that breaks off has written a front of it.
-    ensures cut { IfErr result (λ fault. BrokeOff fault (game_of session.old) echo (opened (game_of session.old)).spoken.text most_input (R.remaining (watched_inner reader.old)) (R.remaining (watched_inner reader.new)) (W.contents (watched_inner writer.old)) (W.contents (watched_inner writer.new)) (state_of session.old) (state_of session.new)) }
+    ensures cut { IfErr result (λ fault. BrokeOff fault (game_of session.old) echo (opened (game_of session.old)).spoken.text most_input
+        (streams R.remaining W.contents reader.old writer.old)
+        (streams R.remaining W.contents reader.new writer.new)
+        (state_of session.old) (state_of session.new)) }
 
     // It breaks off with the reader's fault exactly where the reader has failed, with the writer's
     // exactly where the writer has.

@@ -3,7 +3,7 @@ use Rattle.std.specs.Prelude.{is_none}
 use Rattle.std.specs.Io.KnownBytes.{Appends}
 use Rattle.std.proofs.lemmas.Result.{err_from_is_err_and}
 use Rattle.world_meaning.specs.Session.{opened}
-use Rattle.story_player.specs.Runs.{BrokeOff, most_input}
+use Rattle.story_player.specs.Runs.{BrokeOff, streams_of, most_input}
 use Rattle.story_player.specs.Sessions.{state_of, game_of}
 use Rattle.story_player.specs.Steps.{PlayedLast, PlayedLine, WroteFront}
 use Rattle.story_player.specs.Watches.{watched_inner}
@@ -48,7 +48,7 @@ returns-in_err-play_line-clause-cut g c =
     let fault = c.in_err-play_line.field-0.0 in
     let opening = subst (λ bs. Appends held first bs) c.opening.ensures c.in_ok-write_whole.ensures.wrote in
     let sofar = behind_opening game c.args.echo (opened game).spoken.text most_input c.loop-reader.left unread a held first b from state opening c.loop-reader.invariant.3 in
-    let broke = subst (λ t. BrokeOff fault t c.args.echo [] c.loop-reader.left a rest b now state to) c.loop-reader.invariant.2 c.in_err-play_line.ensures.cut in
+    let broke = subst (λ t. BrokeOff fault t c.args.echo [] c.loop-reader.left (streams_of a b) (streams_of rest now) state to) c.loop-reader.invariant.2 c.in_err-play_line.ensures.cut in
     rw (p.1, p.2) (cut_so_far fault game c.args.echo (opened game).spoken.text most_input c.loop-reader.left unread a rest held b now from state to sofar broke)
 
 pub loop-reader-preserved : goal.loop-reader-preserved
@@ -65,7 +65,7 @@ loop-reader-preserved g c =
     let to = state_of c.play_line.new.session in
     let told = c.in_ok-play_line.ensures in
     let going = none_from state.ending (ap is_none (sym c.ending.ensures) ∙ not_some c.ending.result c.is_none.result true c.is_none.ensures c.loop-reader-test.true) in
-    let line = subst (λ t. PlayedLine t c.args.echo c.loop-reader.left c.play_line.new.left a rest b now state to) c.loop-reader.invariant.2 (told.whole (ap (λ e. Ok e) c.in-Break.is)) in (
+    let line = subst (λ t. PlayedLine t c.args.echo c.loop-reader.left c.play_line.new.left (streams_of a b) (streams_of rest now) state to) c.loop-reader.invariant.2 (told.whole (ap (λ e. Ok e) c.in-Break.is)) in (
       told.stand.0,
       told.stand.1,
       told.game ∙ c.loop-reader.invariant.2,
@@ -87,7 +87,7 @@ returns-in-Input-clause-played g c =
     let to = state_of c.play_line.new.session in
     let opening = subst (λ bs. Appends held first bs) c.opening.ensures c.in_ok-write_whole.ensures.wrote in
     let sofar = behind_opening game c.args.echo (opened game).spoken.text most_input c.loop-reader.left unread a held first b from state opening c.loop-reader.invariant.3 in
-    let line = subst (λ t. PlayedLast t c.args.echo c.loop-reader.left c.play_line.new.left a rest b now state to) c.loop-reader.invariant.2 (c.in_ok-play_line.ensures.last (ap (λ e. Ok e) c.in-Input.is)) in
+    let line = subst (λ t. PlayedLast t c.args.echo c.loop-reader.left c.play_line.new.left (streams_of a b) (streams_of rest now) state to) c.loop-reader.invariant.2 (c.in_ok-play_line.ensures.last (ap (λ e. Ok e) c.in-Input.is)) in
     run_ends game c.args.echo c.loop-reader.left c.play_line.new.left unread a rest held b now from state to (state_of c.end_input.new.self) sofar line c.end_input.ensures.state
 
 pub returns-clause-played : goal.returns-clause-played

@@ -1,5 +1,6 @@
 use Rattle.std.proofs.Common.{◌≡◌, ◌+◌, ◌-◌, [], subst, sym, arith}
 use Rattle.std.proofs.lemmas.Result.{err_from_is_err_and}
+use Rattle.story_player.specs.Runs.{streams_of}
 use Rattle.story_player.specs.Steps.{IsTyping, ReadsByte}
 use Rattle.story_player.specs.Watches.{watched_inner}
 use Rattle.story_player.proofs.TypedLines.{cut_by_limit, cut_by_reader, cut_by_writer, typed_more}
@@ -35,12 +36,12 @@ loop-byte-preserved g c =
     let before = g.W.Write.contents (watched_inner c.loop-byte.writer) in
     let now = g.W.Write.contents (watched_inner c.keep_byte.new.writer) in
     let one_left : c.loop-byte.left ≡ c.loop-byte.left - 1 + 1 = omega (arith, c.if-left-eq0.false) in
-    let typing = subst (λ n. IsTyping c.args.echo c.args.left.now n unread mid held before c.loop-byte.line []) one_left c.loop-byte.invariant.2 in
+    let typing = subst (λ n. IsTyping c.args.echo c.args.left.now n (streams_of unread held) (streams_of mid before) c.loop-byte.line []) one_left c.loop-byte.invariant.2 in
     let read = subst (λ found. ReadsByte mid rest found) c.in-Some.is c.in_ok-byte.ensures.read in
     let told = c.in_ok-keep_byte.ensures in (
       c.in_ok-byte.ensures.stands,
       told.stands,
-      subst (λ t. IsTyping c.args.echo c.args.left.now (c.loop-byte.left - 1) unread rest held now t []) (sym told.kept)
+      subst (λ t. IsTyping c.args.echo c.args.left.now (c.loop-byte.left - 1) (streams_of unread held) (streams_of rest now) t []) (sym told.kept)
           (typed_more c.args.echo c.args.left.now (c.loop-byte.left - 1) c.in-Some.byte unread mid rest held before now c.loop-byte.line typing c.if-byte-eq10.false read told.wrote),
     )
 
