@@ -67,6 +67,14 @@ fn refusal<'a>(alloc: Global, error: &Error) -> ProgramFault<'a> {
     }
 }
 
+/// A word of the program that can't be read is a faulty word.
+pub fn unreadable<'a>(alloc: Global) -> ProgramFault<'a> {
+    match String::from_str(alloc, "i7story: a word that isn't UTF-8\n") {
+        Ok(text) => ProgramFault::Words(text),
+        Err(_) => ProgramFault::Memory,
+    }
+}
+
 /// What the words tell the program to do.
 pub fn told<'a>(rt: &HostRuntime, words: &'a [String]) -> Result<Order<'a>, ProgramFault<'a>> {
     let alloc = rt.alloc();
@@ -74,7 +82,7 @@ pub fn told<'a>(rt: &HostRuntime, words: &'a [String]) -> Result<Order<'a>, Prog
     match forms.try_get_matches_from(words) {
         Ok(matches) => match order_in(&matches) {
             Some(order) => Ok(order),
-            None => Err(ProgramFault::Memory),
+            None => Err(unreadable(alloc)),
         },
         Err(error) => Err(refusal(alloc, &error)),
     }

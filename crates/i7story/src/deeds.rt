@@ -3,12 +3,11 @@ ghost use Rattle.std.specs.Prelude.{◌≡◌, false, IfOk};
 ghost use Rattle.story_player.specs.Watches.{watched_failed};
 
 use crate::command::Order;
-use source_player::{ProgramFault, SourceRunFault, run_source};
-use std::alloc::Global;
+use source_player::{ProgramFault, SourceRunFault, run_source, run_story};
 use std::fs;
 use std::io::{self, BufReader, Stdin};
-use story_file::{LoadFault, compile, load};
-use story_player::{Session, Watched, run};
+use story_file::compile;
+use story_player::{StartFault, Watched};
 
 /// Reads a file whole.
 fn bytes_of<'a>(rt: &HostRuntime, path: &'a str) -> Result<Vec<u8>, ProgramFault<'a>> {
@@ -34,15 +33,6 @@ fn compile_file<'a>(
     fs::write(rt, story, compiled.as_slice()).map_err(|_| ProgramFault::CannotWrite(story))
 }
 
-/// Begins the story of a file.
-fn begun<'a>(alloc: Global, path: &'a str, bytes: &[u8]) -> Result<Session, ProgramFault<'a>> {
-    let story = load(alloc, bytes).map_err(|fault| ProgramFault::Story(path, fault))?;
-    match Session::start(alloc, story) {
-        Ok(session) => Ok(session),
-        Err(_) => Err(ProgramFault::Memory),
-    }
-}
-
 /// The commands: the standard input, read by the block.
 fn commands<'a>(rt: &HostRuntime) -> Result<Watched<BufReader<Stdin>>, ProgramFault<'a>>
     ensures { IfOk result (λ input. watched_failed input ≡ false) }
@@ -53,30 +43,29 @@ fn commands<'a>(rt: &HostRuntime) -> Result<Watched<BufReader<Stdin>>, ProgramFa
     }
 }
 
+/// The program's fault for a fault of playing the file of this path.
+fn playing_fault<'a>(path: &'a str, fault: SourceRunFault) -> ProgramFault<'a> {
+    match fault {
+        SourceRunFault::Source(fault) => ProgramFault::Source(path, fault),
+        SourceRunFault::Story(fault) => ProgramFault::Story(path, fault),
+        SourceRunFault::Start(StartFault::Memory) => ProgramFault::Memory,
+        SourceRunFault::Run(fault) => ProgramFault::Stream(fault),
+    }
+}
+
 /// Plays a story file over the standard streams.
-fn play_file<'a>(
+fn play_story<'a>(
     rt: &HostRuntime,
     path: &'a str,
     transcript: bool,
 ) -> Result<(), ProgramFault<'a>> {
-    let bytes = bytes_of(rt, path)?;
-    let mut session = begun(rt.alloc(), path, bytes.as_slice())?;
+    let story = bytes_of(rt, path)?;
     let mut input = commands(rt)?;
     let mut output = Watched::new(rt.stdout());
-    match run(&mut input, &mut output, &mut session, transcript) {
+    let bytes = story.as_slice();
+    match run_story(rt.alloc(), bytes, &mut input, &mut output, transcript) {
         Ok(_) => Ok(()),
-        Err(fault) => Err(ProgramFault::Stream(fault)),
-    }
-}
-
-/// The program's fault for a fault of playing a source.
-fn source_fault<'a>(path: &'a str, fault: SourceRunFault) -> ProgramFault<'a> {
-    match fault {
-        SourceRunFault::Source(fault) => ProgramFault::Source(path, fault),
-        SourceRunFault::Story(LoadFault::Memory) => ProgramFault::Memory,
-        SourceRunFault::Story(fault) => ProgramFault::Story(path, fault),
-        SourceRunFault::Start(_) => ProgramFault::Memory,
-        SourceRunFault::Run(fault) => ProgramFault::Stream(fault),
+        Err(fault) => Err(playing_fault(path, fault)),
     }
 }
 
@@ -92,7 +81,7 @@ fn play_source<'a>(
     let bytes = source.as_slice();
     match run_source(rt.alloc(), bytes, &mut input, &mut output, transcript) {
         Ok(_) => Ok(()),
-        Err(fault) => Err(source_fault(path, fault)),
+        Err(fault) => Err(playing_fault(path, fault)),
     }
 }
 
@@ -100,7 +89,7 @@ fn play_source<'a>(
 pub fn obey<'a>(rt: &HostRuntime, order: Order<'a>) -> Result<(), ProgramFault<'a>> {
     match order {
         Order::Compile { source, story } => compile_file(rt, source, story),
-        Order::Play { story, transcript } => play_file(rt, story, transcript),
+        Order::Play { story, transcript } => play_story(rt, story, transcript),
         Order::Run { source, transcript } => play_source(rt, source, transcript),
     }
 }

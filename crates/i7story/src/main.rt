@@ -4,20 +4,28 @@
 mod command;
 mod deeds;
 
-use command::told;
+use command::{told, unreadable};
 use deeds::obey;
 use source_player::{ProgramFault, report};
 use std::env;
+use std::io::ErrorKind;
 use std::process::ExitCode;
+
+/// The program's words.
+fn words_of<'a>(rt: &HostRuntime) -> Result<Vec<String>, ProgramFault<'a>> {
+    let alloc = rt.alloc();
+    match env::args(rt) {
+        Ok(args) => args.collect(alloc).map_err(|_| ProgramFault::Memory),
+        Err(error) if error.kind() == ErrorKind::OutOfMemory => Err(ProgramFault::Memory),
+        Err(_) => Err(unreadable(alloc)),
+    }
+}
 
 /// Does what the words ask, and answers the status.
 fn status(rt: &HostRuntime) -> u8 {
-    let words: Vec<String> = match env::args(rt) {
-        Ok(args) => match args.collect(rt.alloc()) {
-            Ok(words) => words,
-            Err(_) => return report(&ProgramFault::Memory, &mut rt.stderr()),
-        },
-        Err(_) => return report(&ProgramFault::Memory, &mut rt.stderr()),
+    let words = match words_of(rt) {
+        Ok(words) => words,
+        Err(fault) => return report(&fault, &mut rt.stderr()),
     };
     match told(rt, words.as_slice()).and_then(|order| obey(rt, order)) {
         Ok(()) => 0,

@@ -1,1 +1,2 @@
 pub mod SourceRuns
+pub mod Statuses

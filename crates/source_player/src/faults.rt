@@ -1,4 +1,7 @@
 //! Telling what went wrong: a line and a status.
+ghost use Rattle.std.specs.Prelude.{◌≡◌};
+ghost use Rattle.source_player.specs.Statuses.{is_memory, plain_status, status_of};
+
 use std::io::Write;
 use story_file::LoadFault;
 use story_player::RunFault;
@@ -27,17 +30,24 @@ pub enum ProgramFault<'a> {
 
 impl ProgramFault<'_> {
     /// Whether memory was refused, wherever it was.
-    fn is_memory(&self) -> bool {
+    fn is_memory(&self) -> bool
+        ensures { result ≡ is_memory self.now }
+    {
         match self {
             ProgramFault::Memory => true,
             ProgramFault::Source(_, fault) => fault.code == FaultCode::Memory,
             ProgramFault::Story(_, fault) => *fault == LoadFault::Memory,
-            _ => false,
+            ProgramFault::Words(_)
+            | ProgramFault::CannotRead(_)
+            | ProgramFault::CannotWrite(_)
+            | ProgramFault::Stream(_) => false,
         }
     }
 
-    /// The status with which the program ends.
-    fn status(&self) -> u8 {
+    /// The status with which the program ends, where it isn't for want of memory.
+    fn plain_status(&self) -> u8
+        ensures { result ≡ plain_status self.now }
+    {
         match self {
             ProgramFault::Source(..) => 1,
             ProgramFault::Story(..) => 2,
@@ -52,7 +62,9 @@ impl ProgramFault<'_> {
 /// Writes the fault's line, and answers the status with which the program ends: 1 a source that is
 /// refused, 2 a story that is refused, 3 a file or a stream, 4 memory, 5 the program's words. That the
 /// transcript can't be written is told by the status alone.
-pub fn report<W: Write>(fault: &ProgramFault<'_>, writer: &mut W) -> u8 {
+pub fn report<W: Write>(fault: &ProgramFault<'_>, writer: &mut W) -> u8
+    ensures { result ≡ status_of fault.now }
+{
     if fault.is_memory() {
         let _ = writeln!(writer, "{}", ProgramFault::Memory);
         return 4;
@@ -66,5 +78,5 @@ pub fn report<W: Write>(fault: &ProgramFault<'_>, writer: &mut W) -> u8 {
             let _ = writeln!(writer, "{fault}");
         }
     }
-    fault.status()
+    fault.plain_status()
 }
