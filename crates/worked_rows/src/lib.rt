@@ -1,4 +1,5 @@
-//! Tests across the crates: worked examples with hostile streams, damaged stories and refused sources.
+//! Tests across the crates: sessions line by line and whole plays, hostile streams, damaged stories,
+//! refused sources and the program's lines.
 #![tactic(auto)]
 
 #[cfg(test)]
@@ -6,8 +7,14 @@ mod damaged_stories;
 #[cfg(test)]
 mod fakes;
 #[cfg(test)]
+mod lines;
+#[cfg(test)]
+mod plays;
+#[cfg(test)]
 mod refused_sources;
 #[cfg(test)]
 mod reports;
 #[cfg(test)]
 mod streams;
+#[cfg(test)]
+mod watches;
