@@ -1,0 +1,227 @@
+#!/usr/bin/env python3
+"""Damaged story files: each cut, each flipped bit and many random changes of a story are judged by a plain
+reader of the format, written here from docs/story-format.md alone, and the program must say the same: the
+fault, or what the story tells at first.
+Use: tests/damaged_stories.py PROGRAM"""
+import os
+import random
+import subprocess
+import sys
+import tempfile
+
+NONE16, NONE8 = 65535, 255
+PLAYER_WORDS = ["yourself", "me", "myself", "self"]
+DIRECTIONS = [("north", "n"), ("northeast", "ne"), ("northwest", "nw"), ("south", "s"), ("southeast", "se"),
+              ("southwest", "sw"), ("east", "e"), ("west", "w"), ("up", "u"), ("down", "d"), ("inside", "in"),
+              ("outside", "out")]
+
+
+class Fault(Exception):
+    """A fault of a story file, by its code."""
+
+
+class Cursor:
+    """Bytes that are read from the front; where they run out the story is truncated."""
+
+    def __init__(self, data):
+        self.data, self.place = data, 0
+
+    def take(self, count):
+        if self.place + count > len(self.data):
+            raise Fault("L3 Truncated")
+        taken = self.data[self.place:self.place + count]
+        self.place += count
+        return taken
+
+    def number(self, width):
+        return int.from_bytes(self.take(width), "big")
+
+    def listed(self, width):
+        return [self.number(width) for _ in range(self.number(1))]
+
+    def text(self):
+        return self.take(self.number(2))
+
+    def table(self, entry):
+        return [entry() for _ in range(self.number(2))]
+
+
+def aspect(c):
+    tag = c.number(1)
+    if tag == 1:
+        return tag, c.number(2)
+    if tag == 2:
+        return tag, c.number(1), [(c.number(1), c.number(1)) for _ in range(c.number(1))]
+    return (tag,)
+
+
+def body(c):
+    tag = c.number(1)
+    return (tag, c.number(2)) if tag == 0 else (tag, c.number(1)) if tag == 1 else (tag,)
+
+
+def rule(c):
+    return c.number(2), c.number(1), aspect(c), aspect(c), aspect(c), c.number(1), c.number(2), body(c)
+
+
+def thing(c):
+    return {"kind": c.number(1), "name": c.number(2), "article": c.number(1), "code": c.number(2),
+            "words": c.listed(2), "relation": c.number(1), "holder": c.number(2), "flags": c.listed(1),
+            "numbers": c.listed(4)}
+
+
+def tables(data):
+    c = Cursor(data)
+    if data[:4] != b"I7ST":
+        raise Fault("L1 BadMagic")
+    c.take(4)
+    if c.number(2) != 1:
+        raise Fault("L2 BadVersion")
+    t = {"strings": c.table(c.text), "kinds": c.table(lambda: c.number(1)), "flags": c.table(lambda: c.listed(1)),
+         "numbers": c.table(lambda: c.listed(1)), "variables": c.table(lambda: c.number(4)),
+         "objects": c.table(lambda: thing(c)),
+         "ways": c.table(lambda: [(c.number(2), c.number(2)) for _ in range(12)]),
+         "actions": c.table(lambda: c.take(4)), "grammar": c.table(lambda: (c.number(1), c.listed(2))),
+         "rules": c.table(lambda: rule(c)), "books": c.table(lambda: c.table(lambda: c.number(2))),
+         "scenes": c.table(lambda: c.take(5)), "codes": c.table(c.text)}
+    if c.place != len(data):
+        raise Fault("L4 TooLong")
+    return t
+
+
+def right(condition):
+    if not condition:
+        raise Fault("L5 BadTable")
+
+
+def name_words(name):
+    """The words of a name: its pieces between blanks, ASCII letters in lower case, each once."""
+    words = []
+    for piece in name.split(b" "):
+        lowered = bytes(b + 32 if 65 <= b <= 90 else b for b in piece)
+        if piece and lowered not in words:
+            words.append(lowered)
+    return words
+
+
+def judge_objects(t):
+    strings, objects = t["strings"], t["objects"]
+    right(14 <= len(objects) <= 1000 and len(t["ways"]) == len(objects) - 13)
+    for number, o in enumerate(objects):
+        right(o["name"] < len(strings) and all(w < len(strings) for w in o["words"]))
+        right(o["code"] == NONE16 or o["code"] < len(t["codes"]))
+        right(not o["flags"] and not o["numbers"] and o["article"] <= 3)
+        name, words = strings[o["name"]], [strings[w] for w in o["words"]]
+        right(len(words) <= 32 and len(set(words)) == len(words))
+        right(not any(65 <= b <= 90 for w in words for b in w))
+        if number == 0:
+            own = [w.encode() for w in PLAYER_WORDS]
+            right(o["kind"] == 6 and o["article"] == 0 and name == b"yourself")
+            right(o["relation"] == 0 and 13 <= o["holder"] < len(objects))
+        elif number <= 12:
+            own = [w.encode() for w in DIRECTIONS[number - 1]]
+            right(o["kind"] == 2 and o["article"] == 0 and name == own[0])
+        else:
+            own = name_words(name)
+            right(o["kind"] == 1)
+        if number > 0:
+            right(o["relation"] == NONE8 and o["holder"] == NONE16)
+        right(words[:len(own)] == own)
+
+
+def in_first_order(numbers):
+    seen = []
+    for number in numbers:
+        if number not in seen:
+            seen.append(number)
+    return seen
+
+
+def judge_tables(t):
+    right(not any(t[name] for name in ["kinds", "flags", "numbers", "variables", "actions", "grammar", "rules",
+                                       "books", "scenes"]))
+    right(len(set(t["strings"])) == len(t["strings"]))
+    judge_objects(t)
+    right(all(door == NONE16 and (room == NONE16 or 13 <= room < len(t["objects"]))
+              for ways in t["ways"] for room, door in ways))
+    named = [o["code"] for o in t["objects"] if o["code"] != NONE16]
+    first = in_first_order(named)
+    right(first == list(range(len(first))))
+    mentioned = in_first_order([n for o in t["objects"] for n in [o["name"]] + o["words"]])
+    right(mentioned == list(range(len(mentioned))))
+    return named, mentioned
+
+
+def judge_codes(t, named, mentioned):
+    sound = sorted(named) == list(range(len(t["codes"])))
+    said = []
+    for code in t["codes"]:
+        sound = sound and len(code) == 4 and code[0] == 0x22 and code[3] == 0x37
+        said.append(int.from_bytes(code[1:3], "big"))
+    sound = sound and all(n < len(t["strings"]) for n in said)
+    sound = sound and in_first_order(mentioned + said) == list(range(len(t["strings"])))
+    if not sound:
+        raise Fault("L6 BadCode")
+    return said
+
+
+def opening(data):
+    """What the story says at first, or its fault."""
+    t = tables(data)
+    said = judge_codes(t, *judge_tables(t))
+    room = t["objects"][t["objects"][0]["holder"]]
+    text = t["strings"][room["name"]] + b"\n"
+    if room["code"] != NONE16:
+        text += t["strings"][said[room["code"]]] + b"\n"
+    return text + b"\n>"
+
+
+def damaged(story):
+    yield "whole", story
+    for length in range(len(story)):
+        yield f"cut to {length}", story[:length]
+    yield "a byte more", story + b"\0"
+    for bit in range(len(story) * 8):
+        data = bytearray(story)
+        data[bit // 8] ^= 1 << (bit % 8)
+        yield f"bit {bit}", bytes(data)
+    chance = random.Random(7)
+    for turn in range(3000):
+        data = bytearray(story)
+        for _ in range(turn % 4 + 1):
+            data[chance.randrange(len(data))] = chance.choice([0, 1, 2, 6, 13, 14, 34, 55, 255, chance.randrange(256)])
+        yield f"change {turn}", bytes(data)
+
+
+def main():
+    program = os.path.abspath(sys.argv[1])
+    source = os.path.join(os.path.dirname(os.path.abspath(__file__)), "rows", "two_rooms", "source.i7")
+    passed = failed = kinds = 0
+    seen = set()
+    with tempfile.TemporaryDirectory() as scratch:
+        path = os.path.join(scratch, "story")
+        subprocess.run([program, "compile", source, path], check=True)
+        story = open(path, "rb").read()
+        for name, data in damaged(story):
+            open(path, "wb").write(data)
+            run = subprocess.run([program, "play", path], stdin=subprocess.DEVNULL, capture_output=True, timeout=10)
+            try:
+                want = (0, opening(data), b"")
+                seen.add("played")
+            except Fault as fault:
+                want = (2, b"", f"{path}: {fault}\n".encode())
+                seen.add(str(fault))
+            if (run.returncode, run.stdout, run.stderr) == want:
+                passed += 1
+            else:
+                failed += 1
+                print(f"damaged stories: {name}: {run.returncode} {run.stdout[:60]} {run.stderr[-30:]}, wanted {want}")
+    for fault in ["played", "L1 BadMagic", "L2 BadVersion", "L3 Truncated", "L4 TooLong", "L5 BadTable", "L6 BadCode"]:
+        if fault not in seen:
+            failed += 1
+            print(f"damaged stories: none is {fault}")
+    print(f"damaged stories: {passed} passed, {failed} failed")
+    sys.exit(failed != 0)
+
+
+main()
