@@ -1,6 +1,6 @@
 -- The consultation of a rulebook: its rules in order, each asked in the world of that moment, up to the
 -- first decision.
-use Rattle.std.specs.Prelude.{ℕ, List, Option, None, Some, Ok, map, if◌then◌else◌}
+use Rattle.std.specs.Prelude.{ℕ, Option, None, Some, Ok, map, if◌then◌else◌}
 use Rattle.world_meaning.specs.Games.{Game, Inner}
 use Rattle.world_meaning.specs.Progress.{Asked, Attempt, Decides, Done, Flow, GoesOn, NoDecision, Progress, first_decision, next, spend, undecided}
 use Rattle.world_meaning.specs.declared.reading.Action.{Action}

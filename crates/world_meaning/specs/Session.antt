@@ -1,12 +1,11 @@
 -- A session: what each line does to the world, and the text that it gives.
-use Rattle.std.specs.Prelude.{ℕ, ◌==◌, Bool, true, false, ◌&&◌, List, [], ◌++◌, Option, None, Some, Ok, Err, if◌then◌else◌}
+use Rattle.std.specs.Prelude.{ℕ, ◌==◌, Bool, false, ◌&&◌, List, [], ◌++◌, Option, None, Some, Ok, Err, if◌then◌else◌}
 use Rattle.world_meaning.specs.Games.{Game}
 use Rattle.world_meaning.specs.Progress.{Attempt, Progress, fresh}
 use Rattle.world_meaning.specs.Reading.{line_reading}
 use Rattle.world_meaning.specs.Texts.{closing_text, empty_text, memory_text, not_seen_text, not_understood_text, no_verb_text, out_of_range_text, too_deep_text, too_long_text, too_much_work_text}
 use Rattle.world_meaning.specs.Turns.{asks_memory, opening, turn}
 use Rattle.world_meaning.specs.World.{World}
-use Rattle.world_meaning.specs.declared.reading.Action.{Action}
 use Rattle.world_meaning.specs.declared.reading.Reading.{Reading}
 use Rattle.world_meaning.specs.declared.reading.Reading.TheVariants.{Act, Quit, Empty, TooLong, NoVerb, NotSeen, NotUnderstood}
 use Rattle.world_meaning.specs.declared.session.Ending.{Ending}
