@@ -1,34 +1,31 @@
 -- A story file holds the tale that sentences mean.
-use Rattle.std.proofs.Common.{◌≡◌, ℕ, zero, suc, ◌+◌, ◌-◌, ◌<◌, ◌≤◌, Bool, true, false, cond, not, ◌&&◌, ◌||◌, ltb, leb, eqb, List, [], ◌∷◌, ◌++◌, length, map, take, drop, Option, Some, None, Result, Ok, Err, refl, sym, ap, subst, ◌∙◌, arith, inl, inr, ◌⊎◌}
-use Rattle.std.specs.Prelude.{find, fold, slice_get, codes}
+use Rattle.std.proofs.Common.{◌≡◌, ℕ, suc, ◌+◌, ◌-◌, ◌<◌, ◌≤◌, Bool, true, false, cond, not, ◌&&◌, ◌||◌, ltb, leb, eqb, List, [], ◌∷◌, ◌++◌, length, map, Option, Some, None, Ok, refl, sym, ap, subst, ◌∙◌, arith, inl, inr}
+use Rattle.std.specs.Prelude.{find, fold, slice_get}
 use Rattle.std.specs.List.{list_all, list_any, position_or_len}
 use Rattle.std.specs.Option.{option_map}
 use Rattle.std.specs.Str.{bytes_eq}
-use Rattle.std.proofs.lemmas.Bool.{ltb-false, ltb-true, lt-ltb, le-leb, ne_eqb}
-use Rattle.std.proofs.lemmas.List.{length-append}
+use Rattle.std.proofs.lemmas.Bool.{ltb-false, lt-ltb, le-leb, ne_eqb}
 use Rattle.std.proofs.lemmas.List.Folds.{list_any-append}
 use Rattle.std.proofs.lemmas.Option.{slice_get_past}
-use Rattle.std.proofs.lemmas.Slice.Eq.{bytes_eq-Decides}
 use Rattle.world_meaning.specs.Directions.{all_directions, direction_number, opposite_of}
 use Rattle.world_meaning.specs.declared.direction.Direction.{Direction}
 use Rattle.world_meaning.specs.declared.fault.Fault.{Fault}
 use Rattle.world_meaning.specs.declared.fault.FaultCode.TheVariants.{NoRoom, TooMany, Twice, TwoPlaces, WrongKind}
-use Rattle.world_meaning.specs.declared.tale.Object.{Object}
 use Rattle.world_meaning.specs.declared.tale.Tale.{Tale}
 use Rattle.i7_sentences.specs.declared.name.Name.{Name}
 use Rattle.i7_sentences.specs.declared.sentence.Saying.{Saying}
 use Rattle.i7_sentences.specs.declared.sentence.Saying.TheVariants.{Description, Room, Way}
 use Rattle.i7_sentences.specs.declared.sentence.Sentence.{Sentence}
-use Rattle.object_words.specs.Words.{more_words, short_words, words_for}
+use Rattle.object_words.specs.Words.{more_words, words_for}
 use Rattle.i7_kinds.specs.Demands.{Description as Described, Lead, descriptions_of, description_of, first_target, implied_in, implied_leads, is_exit, is_wrong, lead_of, line_at, line_of_description, second_description, second_target, stated_in, stated_leads, subject_of, taken_name, target_of, wrong_after, wrong_kind}
 use Rattle.i7_kinds.specs.Firsts.{first_of}
-use Rattle.i7_kinds.specs.Statements.{Fact, IsRoom, LeadsTo, NameAt, Named, Statement, Told, built_in_keys, fact_in, has_key, key_of, named_by, names_at, names_in, number_in, number_of, place_or, stated_by, statement_in, with_name, with_names_of}
-use Rattle.i7_kinds.specs.Tales.{direction_object, earlier, exits_of, frame_refusal, has_long_name, has_long_text, is_too_long, judged, limit_refusal, name_too_long, no_room, object_too_many, objects_of, or_refused, player, refusal_at, room_of, rooms_from, tale_said, text_too_long, way_to}
-use Rattle.i7_kinds.proofs.Bounds.{IsCounted, counted-source, few_objects, first_none_both, unmapped, unrefused}
+use Rattle.i7_kinds.specs.Statements.{Fact, IsRoom, LeadsTo, NameAt, Named, Statement, Told, built_in_keys, fact_in, has_key, key_of, named_by, names_at, number_in, stated_by, statement_in, with_name, with_names_of}
+use Rattle.i7_kinds.specs.Tales.{direction_object, earlier, exits_of, frame_refusal, has_long_name, has_long_text, is_too_long, limit_refusal, name_too_long, no_room, object_too_many, objects_of, or_refused, refusal_at, room_of, rooms_from, tale_said, text_too_long, way_to}
+use Rattle.i7_kinds.proofs.Bounds.{counted-source, few_objects, first_none_both, unmapped, unrefused}
 use Rattle.story_format.specs.Holding.{has_few_words, has_short_texts, is_short, is_short_or_none, IsHeld}
 use Rattle.story_format.specs.Making.{worded, worded_from}
 use Rattle.story_format.specs.Shape.{are_directions, has_shape, is_direction, is_player, is_room}
-use Rattle.story_format.specs.Sizes.{is_room_number, is_room_or_none, lead_to_rooms, leads_to_room}
+use Rattle.story_format.specs.Sizes.{is_room_number, is_room_or_none, leads_to_room}
 use Rattle.story_format.proofs.StoryLemmas.{both, both_are}
 use Rattle.story_format.proofs.Known.{either, text_is_itself, passes_at}
 

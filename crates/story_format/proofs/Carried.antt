@@ -1,10 +1,9 @@
 -- The tables of a tale say of each object what the tale says.
-use Rattle.std.proofs.Common.{◌≡◌, ℕ, zero, suc, ◌+◌, ◌-◌, ◌<◌, ◌≤◌, Bool, true, false, cond, ◌&&◌, ltb, eqb, List, [], ◌∷◌, ◌++◌, length, map, take, drop, Option, Some, None, refl, sym, ap, ◌∙◌, append_assoc, arith, inl, inr}
+use Rattle.std.proofs.Common.{◌≡◌, ℕ, zero, suc, ◌+◌, ◌-◌, ◌<◌, ◌≤◌, true, false, cond, ltb, eqb, List, [], ◌∷◌, ◌++◌, length, map, take, drop, Option, Some, None, refl, sym, ap, ◌∙◌, append_assoc, arith, inl, inr}
 use Rattle.std.specs.Prelude.{min, slice_get, is_none}
 use Rattle.std.specs.List.{list_all, flat_map}
 use Rattle.std.proofs.lemmas.Bool.{ne_eqb, ltb-true, ltb-false, eqb-true}
 use Rattle.std.proofs.lemmas.List.{length-append, take-append-drop, take-map, drop-map}
-use Rattle.std.proofs.lemmas.Nat.{from_be_bytes-to_be_bytes_2}
 use Rattle.std.proofs.lemmas.Option.{get_or_from_slice_get}
 use Rattle.world_meaning.specs.Tale.{description_in as told_description, name_in as told_name, holder_in as told_holder, place_in as told_place, room_beyond, way_in as told_way}
 use Rattle.world_meaning.specs.declared.direction.Direction.{Direction}
@@ -17,10 +16,10 @@ use Rattle.world_meaning.specs.declared.tale.Tale.{Tale}
 use Rattle.object_words.specs.Mentions.{number_in}
 use Rattle.object_words.proofs.StringLemmas.{length_mapped}
 use Rattle.story_format.specs.Carrying.{Carries}
-use Rattle.story_format.specs.Facts.{description_in, exits_at, holder_in, name_in, said, text_at, way_in, way_of}
+use Rattle.story_format.specs.Facts.{description_in, exits_at, holder_in, name_in, said, text_at, way_in}
 use Rattle.story_format.specs.Holding.{IsHeld}
-use Rattle.story_format.specs.Making.{Worded, worded, worded_from, texts_of, code_strings, strings_of, place_holder, code_number, entry_of, entries_of, code_of, codes_of, ways_of, tables_with, tables_of}
-use Rattle.story_format.specs.Shape.{is_closed, are_closed, stands_in_room, is_player, is_direction, is_room, are_directions, has_shape}
+use Rattle.story_format.specs.Making.{Worded, worded, texts_of, code_strings, strings_of, place_holder, code_number, entry_of, entries_of, code_of, codes_of, ways_of, tables_with, tables_of}
+use Rattle.story_format.specs.Shape.{is_closed, are_closed, stands_in_room, is_direction, is_room, are_directions, has_shape}
 use Rattle.story_format.specs.Soundness.{string_said}
 use Rattle.story_format.proofs.StoryLemmas.{both_are, parts, player_parts, direction_parts, room_parts, get_dropped}
 use Rattle.story_format.proofs.Known.{either, found_by_number, is_known, is_told, told_in_strings}
@@ -160,8 +159,8 @@ ways_carried (player ∷ others) o direction h =
           let rooms : list_all (is_room (length (objects_in others) + 1)) (objects_in (drop 12 others)) ≡ true = ap (list_all (is_room (length (objects_in others) + 1))) (sym (drop-map (λ (w : Worded). w.object) 12 others)) ∙ p.rooms in
           let place : suc (o - 1) ≡ o = omega arith in
           let there : slice_get (objects_in (drop 12 others)) (o - 13) ≡ slice_get (objects_in (player ∷ others)) o =
-            ap (λ (objects : List Object). slice_get objects (o - 13)) (sym (drop-map (λ (w : Worded). w.object) 12 others))
-            ∙ get_dropped 12 (o - 13) (o - 1) (objects_in others) (omega arith) ∙ ap (slice_get (objects_in (player ∷ others))) place in
+          ap (λ (objects : List Object). slice_get objects (o - 13)) (sym (drop-map (λ (w : Worded). w.object) 12 others))
+          ∙ get_dropped 12 (o - 13) (o - 1) (objects_in others) (omega arith) ∙ ap (slice_get (objects_in (player ∷ others))) place in
           rw isnt (ap (λ (ways : List Exits). way_in (slice_get ways (o - 13)) direction) (ways_behind player others h) ∙ rooms_way (length (objects_in others) + 1) (drop 12 others) (o - 13) direction rooms ∙ ap (λ (object : Option Object). told_way object direction) there)
     ]
 

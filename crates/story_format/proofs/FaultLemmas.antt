@@ -11,7 +11,7 @@ use Rattle.story_format.specs.declared.fault.LoadFault.TheVariants.{BadMagic, Ba
 use Rattle.story_format.specs.declared.tables.Tables.{Tables}
 use Rattle.story_format.specs.FormatLaws.{number16_lawful}
 use Rattle.story_format.specs.Layout.{tables_layout}
-use Rattle.story_format.specs.Spells.{magic, head, are_ordered}
+use Rattle.story_format.specs.Spells.{magic, head}
 use Rattle.story_format.specs.Checks.{are_right}
 use Rattle.story_format.specs.Reading.{whole, body_at, body_read, tables_in, tables_read}
 use Rattle.story_format.specs.Refusals.{IsRefused}

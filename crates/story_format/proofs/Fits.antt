@@ -1,5 +1,5 @@
 -- The tables of a tale have room in their bytes.
-use Rattle.std.proofs.Common.{◌≡◌, ℕ, ◌+◌, ◌*◌, ◌<◌, ◌≤◌, Bool, true, false, ◌&&◌, ltb, leb, eqb, List, [], ◌∷◌, ◌++◌, length, map, take, drop, Option, Some, None, refl, sym, ap, subst, ◌∙◌, arith, inl, inr}
+use Rattle.std.proofs.Common.{◌≡◌, ℕ, ◌+◌, ◌*◌, ◌<◌, ◌≤◌, Bool, true, ◌&&◌, ltb, leb, eqb, List, [], ◌∷◌, ◌++◌, length, map, take, drop, Option, Some, None, refl, sym, ap, ◌∙◌, arith, inl, inr}
 use Rattle.std.specs.Prelude.{fold, is_none}
 use Rattle.std.specs.List.{list_any, list_all, flat_map}
 use Rattle.std.specs.Str.{bytes_eq}
@@ -22,13 +22,13 @@ use Rattle.story_format.specs.Formats.{fits_optional}
 use Rattle.story_format.specs.Layout.{kind_layout, granted_layout, variable_layout, world_layout, entry_layout, way_layout, exits_layout, action_layout, line_layout, book_layout, scene_layout, rules_layout, tables_layout}
 use Rattle.story_format.specs.Making.{Worded, worded, texts_of, entry_strings, code_strings, strings_of, article_number, relation_number, place_relation, place_holder, code_number, entry_of, entries_of, code_of, codes_of, ways_of, tables_with}
 use Rattle.story_format.specs.Holding.{has_few_words, has_short_texts, is_short, is_short_or_none}
-use Rattle.story_format.specs.Shape.{stands_in_room, is_in, is_player, is_direction, is_room, are_directions, has_shape}
+use Rattle.story_format.specs.Shape.{stands_in_room, is_in, is_direction, is_room, are_directions, has_shape}
 use Rattle.story_format.specs.Sizes.{is_room_number, is_room_or_none, leads_to_room, lead_to_rooms}
 use Rattle.story_format.proofs.StoryLemmas.{both, both_are, all_weaker, parts, player_parts, direction_parts, room_parts}
 use Rattle.story_format.proofs.Known.{either}
 use Rattle.story_format.proofs.OrderLemmas.{at_most_one, mention_new, mention_old}
 use Rattle.story_format.proofs.WordFacts.{all_mentioned, is_good}
-use Rattle.story_format.proofs.TableLemmas.{all_good_words, all_may, codes_few, entries_counted, good_words, leads_with_words, object_leads_on, objects_back, objects_in, room_leads_on, rooms_lead}
+use Rattle.story_format.proofs.TableLemmas.{all_good_words, all_may, codes_few, entries_counted, good_words, leads_with_words, object_leads_on, objects_back, objects_in, rooms_lead}
 
 -- ---- how many strings there are
 

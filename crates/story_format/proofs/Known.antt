@@ -8,7 +8,7 @@ use Rattle.std.proofs.lemmas.List.Folds.{list_any-append}
 use Rattle.std.proofs.lemmas.Slice.Eq.{bytes_eq-Decides}
 use Rattle.object_words.specs.Mentions.{mention, number_in}
 use Rattle.story_format.specs.Making.{Worded, entry_strings, code_strings, strings_of}
-use Rattle.story_format.proofs.StoryLemmas.{both, both_are}
+use Rattle.story_format.proofs.StoryLemmas.{both}
 
 pub text_is_itself : (text : List ℕ) → bytes_eq text text ≡ true
 text_is_itself text = (bytes_eq-Decides text text).1 refl

@@ -19,7 +19,7 @@ use Rattle.story_format.specs.Layout.{tables_layout}
 use Rattle.story_format.specs.Checks.{has_no_world, has_no_rules, are_distinct, is_of_room, are_right_objects, are_right}
 use Rattle.story_format.specs.Sizes.{is_right_exits, sizes_of}
 use Rattle.story_format.specs.Soundness.{are_sound}
-use Rattle.story_format.specs.Spells.{magic, head, are_ordered, IsStory, Spells}
+use Rattle.story_format.specs.Spells.{magic, head, are_ordered, Spells}
 use Rattle.story_format.proofs.StoryLemmas.{last_of_five, three}
 
 -- ---- reading what was put

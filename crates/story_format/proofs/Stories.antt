@@ -1,5 +1,5 @@
 -- The tables of a tale that a story file holds are a story's.
-use Rattle.std.proofs.Common.{◌≡◌, ◌≤◌, ℕ, length, sym, ap, ◌∙◌, arith}
+use Rattle.std.proofs.Common.{◌≡◌, ◌≤◌, length, sym, ap, ◌∙◌, arith}
 use Rattle.world_meaning.specs.declared.tale.Tale.{Tale}
 use Rattle.object_words.proofs.StringLemmas.{length_mapped}
 use Rattle.story_format.specs.Holding.{IsHeld}

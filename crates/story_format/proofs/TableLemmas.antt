@@ -4,7 +4,7 @@ use Rattle.std.specs.Prelude.{min, is_none, codes, count_by, slice_get}
 use Rattle.std.specs.List.{list_any, list_all, flat_map}
 use Rattle.std.specs.Str.{bytes_eq}
 use Rattle.std.specs.Option.{option_map}
-use Rattle.std.proofs.lemmas.Bool.{lt-ltb, eqb-true, eq-eqb, ne_eqb, le-leb, leb-true}
+use Rattle.std.proofs.lemmas.Bool.{lt-ltb, eqb-true, eq-eqb, ne_eqb, le-leb}
 use Rattle.std.proofs.lemmas.List.{length-append, take-append-drop, take-map, drop-map}
 use Rattle.std.proofs.lemmas.List.Folds.{list_all-append}
 use Rattle.std.proofs.lemmas.List.Sums.{sum_by-cons}
@@ -25,9 +25,9 @@ use Rattle.object_words.proofs.StringLemmas.{length_mapped}
 use Rattle.story_format.specs.declared.row.Sizes.{Sizes}
 use Rattle.story_format.specs.declared.tables.Entry.{Entry}
 use Rattle.story_format.specs.Making.{Worded, worded_from, worded, texts_of, entry_strings, code_strings, strings_of, article_number, relation_number, place_relation, place_holder, code_number, entry_of, entries_of, code_of, codes_of, ways_of, tables_with}
-use Rattle.story_format.specs.Holding.{has_few_words, has_short_texts, is_short, is_short_or_none, IsHeld}
+use Rattle.story_format.specs.Holding.{has_few_words, has_short_texts, is_short, is_short_or_none}
 use Rattle.story_format.specs.Shape.{has_no_article, is_in, stands_in_room, is_player, is_direction, is_room, are_directions, has_shape}
-use Rattle.story_format.specs.Sizes.{are_different, is_among, is_right_entry, is_right_exits, is_room_number, lead_to_rooms, sizes_of}
+use Rattle.story_format.specs.Sizes.{are_different, is_among, is_right_entry, is_right_exits, is_room_number, lead_to_rooms}
 use Rattle.story_format.specs.Checks.{is_named, begin_with, has_words, have_words, is_small, is_small_at, has_small_words, is_of_room, is_player_entry, is_direction_entry, is_room_entry, are_direction_entries, are_in_place, are_right_objects, are_right}
 use Rattle.story_format.proofs.StoryLemmas.{both, both_are, all_weaker, parts, player_parts, direction_parts, room_parts}
 use Rattle.story_format.proofs.Known.{either, text_is_itself, found_by_number, is_known, texts_known, any_left, any_right, fold_finds}

@@ -1,5 +1,5 @@
 -- Tables that carry a tale: they say of each object what the tale says.
-use Rattle.std.specs.Prelude.{◌≡◌, ℕ, List, length, Option}
+use Rattle.std.specs.Prelude.{◌≡◌, ℕ, length}
 use Rattle.world_meaning.specs.Tale.{description_of as told_description, name_of as told_name, start_of as told_start, way_of as told_way}
 use Rattle.world_meaning.specs.declared.tale.Tale.{Tale}
 use Rattle.story_format.specs.declared.tables.Tables.{Tables}

@@ -58,4 +58,6 @@ macro_rules! write_fields {
     }};
 }
 
-pub(crate) use {read_fields, skip_fields, write_fields};
+pub(crate) use read_fields;
+pub(crate) use skip_fields;
+pub(crate) use write_fields;

@@ -91,11 +91,7 @@ fn mention_entries(
     Ok(())
 }
 
-fn mention_code(
-    alloc: Global,
-    strings: &mut Strings,
-    worded: &Worded<'_>,
-) -> Result<(), AllocError>
+fn mention_code(alloc: Global, strings: &mut Strings, worded: &Worded<'_>) -> Result<(), AllocError>
     ensures { OnOk result (strings.new ≡ fold mention strings.old (code_strings (worded_of worded.now))) }
 {
     match &worded.object.description {

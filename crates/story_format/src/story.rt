@@ -86,7 +86,11 @@ impl Story {
         if entry.description == NONE {
             return None;
         }
-        let code = self.tables.codes.as_slice().get(entry.description as usize)?;
+        let code = self
+            .tables
+            .codes
+            .as_slice()
+            .get(entry.description as usize)?;
         let text = string_said(code.as_slice());
         Some(text_at(self.tables.strings.as_slice(), text))
     }

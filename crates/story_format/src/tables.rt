@@ -46,7 +46,19 @@ impl Field for Entry {
     }
 
     fn write(&self, out: &mut Vec<u8>) -> Result<(), AllocError> {
-        write_fields!(self, out, kind, name, article, description, words, relation, holder, properties, numbers)
+        write_fields!(
+            self,
+            out,
+            kind,
+            name,
+            article,
+            description,
+            words,
+            relation,
+            holder,
+            properties,
+            numbers
+        )
     }
 
     ghost lawful = { entry_layout.lawful };

@@ -1,6 +1,6 @@
-use Rattle.std.proofs.Common.{◌≡◌, true, false, sym, ◌∙◌, arith}
+use Rattle.std.proofs.Common.{sym, ◌∙◌, arith}
 use Rattle.std.proofs.lemmas.Result.{err_from_is_err_and}
-use Rattle.story_format.proofs.ReadingLemmas.{code_fault, memory_fault, only_memory, read_is, refused, right_if_spelled, right_ordered, sound_if_spelled, story_there, table_fault, tables_stand}
+use Rattle.story_format.proofs.ReadingLemmas.{code_fault, memory_fault, only_memory, read_is, refused, right_if_spelled, sound_if_spelled, story_there, table_fault}
 use Rattle.story_format.proofs.loading.load.Goals as goal
 
 pub returns-in_err-tables-clause-only : goal.returns-in_err-tables-clause-only

@@ -1,4 +1,4 @@
-use Rattle.std.proofs.Common.{◌≡◌, ◌∙◌, sym}
+use Rattle.std.proofs.Common.{◌∙◌}
 use Rattle.std.proofs.lemmas.Result.{err_from_is_err_and}
 use Rattle.story_format.specs.Layout.{tables_layout}
 use Rattle.story_format.proofs.ReadingLemmas.{cut_by_skip, long_by_skip, read_by_skip, whole_by_skip}

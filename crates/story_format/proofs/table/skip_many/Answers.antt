@@ -1,4 +1,3 @@
-use Rattle.std.proofs.Common.{sym}
 use Rattle.story_format.specs.Formats.{skip_many}
 use Rattle.story_format.proofs.Loops.{skips_on, skip_ends, skip_done}
 use Rattle.story_format.proofs.table.skip_many.Goals as goal

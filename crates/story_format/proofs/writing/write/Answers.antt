@@ -1,4 +1,4 @@
-use Rattle.std.proofs.Common.{◌≡◌, ◌++◌, subst, sym, ap, ◌∙◌}
+use Rattle.std.proofs.Common.{◌++◌, subst, sym, ap, ◌∙◌}
 use Rattle.story_format.specs.Layout.{tables_layout}
 use Rattle.story_format.specs.Spells.{IsStory, head}
 use Rattle.story_format.proofs.Stories.{tale_is_story}
