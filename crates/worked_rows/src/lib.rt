@@ -10,4 +10,6 @@ mod refused_sources;
 #[cfg(test)]
 mod reports;
 #[cfg(test)]
+mod story_files;
+#[cfg(test)]
 mod streams;
