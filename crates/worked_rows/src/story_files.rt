@@ -116,9 +116,15 @@ fn loads_the_story(rt: HostRuntime) -> Result<(), Fail> {
 fn refuses_another_head(rt: HostRuntime) -> Result<(), Fail> {
     let alloc = rt.alloc();
     let version = changed(alloc, 5, 9)?;
-    assert_eq!(rt; fault_of(alloc, version.as_slice()), Some(LoadFault::BadVersion));
+    assert_eq!(rt;
+        fault_of(alloc, version.as_slice()),
+        Some(LoadFault::BadVersion)
+    );
     let magic = changed(alloc, 0, b'i')?;
-    assert_eq!(rt; fault_of(alloc, magic.as_slice()), Some(LoadFault::BadMagic));
+    assert_eq!(rt;
+        fault_of(alloc, magic.as_slice()),
+        Some(LoadFault::BadMagic)
+    );
     Ok(())
 }
 
@@ -163,7 +169,10 @@ const ENTRIES: [(usize, &[u8]); 11] = [
     (225, &[255, 255, 255, 255]),
     (567, &[1, 0, 255, 0]),
     (569, &[0, 2, 0, 5, 255, 254]),
-    (571, &[0, 0, 0, 1, 0, 13, 2, 1, 1, 3, 0, 0, 255, 255, 255, 0, 0, 1]),
+    (
+        571,
+        &[0, 0, 0, 1, 0, 13, 2, 1, 1, 3, 0, 0, 255, 255, 255, 0, 0, 1],
+    ),
     (571, &[0, 0, 0, 0, 0, 0, 255, 255, 255, 1, 61]),
     (571, &[0, 0, 0, 9, 0, 0, 255, 255, 255, 7]),
     (573, &[0, 1, 0, 0]),
@@ -175,12 +184,25 @@ fn refuses_entries_of_empty_tables(rt: HostRuntime) -> Result<(), Fail> {
     let alloc = rt.alloc();
     for (count, entry) in &ENTRIES {
         let bytes = lengthened(alloc, (*count, 1), *count + 1, entry)?;
-        assert_eq!(rt; fault_of(alloc, bytes.as_slice()), Some(LoadFault::BadTable), "count {count}");
+        assert_eq!(rt;
+            fault_of(alloc, bytes.as_slice()),
+            Some(LoadFault::BadTable),
+            "count {count}"
+        );
         let mut more = bytes.clone()?;
         more.push(0)?;
-        assert_eq!(rt; fault_of(alloc, more.as_slice()), Some(LoadFault::TooLong), "count {count}");
-        let fewer = bytes.get(..bytes.len() - 1).unwrap_or(b"");
-        assert_eq!(rt; fault_of(alloc, fewer), Some(LoadFault::Truncated), "count {count}");
+        assert_eq!(rt;
+            fault_of(alloc, more.as_slice()),
+            Some(LoadFault::TooLong),
+            "count {count}"
+        );
+        let mut fewer = bytes;
+        let _ = fewer.pop();
+        assert_eq!(rt;
+            fault_of(alloc, fewer.as_slice()),
+            Some(LoadFault::Truncated),
+            "count {count}"
+        );
     }
     Ok(())
 }
@@ -223,7 +245,11 @@ fn refuses_bad_codes(rt: HostRuntime) -> Result<(), Fail> {
         if let Some(next) = bytes.get_mut(*place + 1) {
             *next = *byte;
         }
-        assert_eq!(rt; fault_of(alloc, bytes.as_slice()), Some(LoadFault::BadCode), "bytes {place}");
+        assert_eq!(rt;
+            fault_of(alloc, bytes.as_slice()),
+            Some(LoadFault::BadCode),
+            "bytes {place}"
+        );
     }
     Ok(())
 }
