@@ -1,4 +1,1 @@
-pub mod Bounds
-pub mod Exits
-pub mod Firsts
-pub mod Rooms
+pub mod Held

@@ -15,6 +15,8 @@ mod refused_sources;
 #[cfg(test)]
 mod reports;
 #[cfg(test)]
+mod story_files;
+#[cfg(test)]
 mod streams;
 #[cfg(test)]
 mod watches;

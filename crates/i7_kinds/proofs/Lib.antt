@@ -1,0 +1,4 @@
+pub mod Bounds
+pub mod Exits
+pub mod Firsts
+pub mod Rooms
