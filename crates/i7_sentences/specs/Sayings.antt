@@ -1,28 +1,94 @@
--- What a sentence says: what its form makes of its letters, or a text alone.
-use Rattle.std.specs.Prelude.{◌≡◌, ◌⊎◌, ℕ, true, List, [], ◌∷◌, Some}
-use Rattle.std.specs.List.{AllPass}
+-- What a form says with its letters, if it is part of the language so far.
+use Rattle.std.specs.Prelude.{ℕ, Bool, true, false, not, ◌||◌, ◌==◌, List, [], ◌∷◌, Option, Some, None, if◌then◌else◌}
+use Rattle.std.specs.List.{list_all}
+use Rattle.world_meaning.specs.declared.direction.Direction.{Direction}
+use Rattle.world_meaning.specs.declared.direction.Direction.TheVariants.{Up, Down}
 use Rattle.i7_lexer.specs.declared.token.Token.{Token}
-use Rattle.i7_lexer.specs.declared.token.TokenKind.TheVariants.{Text}
-use Rattle.i7_sentences.specs.Readings.{IsReading}
-use Rattle.i7_sentences.specs.Senses.{Sense, Told, form_sense, is_plain, is_word_kind}
+use Rattle.i7_lexer.specs.declared.token.TokenKind.{TokenKind}
+use Rattle.i7_lexer.specs.declared.token.TokenKind.TheVariants.{Text, Word, Mark}
+use Rattle.i7_sentences.specs.Keywords.{is_sign}
+use Rattle.i7_sentences.specs.Names.{is_reserved_name, is_single, name_of}
+use Rattle.i7_sentences.specs.Words.{word_of, direction_named}
+use Rattle.i7_sentences.specs.declared.keyword.Keyword.TheVariants as keyword
 use Rattle.i7_sentences.specs.declared.form.Form.{Form}
+use Rattle.i7_sentences.specs.declared.form.Form.TheVariants as form
+use Rattle.i7_sentences.specs.declared.sentence.Saying.{Saying}
+use Rattle.i7_sentences.specs.declared.sentence.Saying.TheVariants as saying
 
--- words, and what the form that reads them makes of its letters
-pub record SaysByForm (tokens : List Token) (sense : Sense) : Type 0 where
-  pub words : AllPass (λ token. is_word_kind token.kind) tokens
-  pub form : Form
-  pub letters : List (List Token)
-  pub reading : IsReading tokens form letters
-  pub makes : form_sense form letters ≡ Some sense
+-- a text that may describe: brackets that open and single quotes have no meaning yet
+abbrev pub is_plain : List ℕ → Bool
+is_plain text = list_all (λ b. not ((b == 91) || (b == 39))) text
 
--- one text that may describe
-pub record SaysByText (tokens : List Token) (sense : Sense) : Type 0 where
-  pub token : Token
-  pub alone : tokens ≡ token ∷ []
-  pub text : List ℕ
-  pub is_text : token.kind ≡ Text text
-  pub plain : is_plain text ≡ true
-  pub tells : sense ≡ Told text
+abbrev pub text_saying : TokenKind → Option Saying
+text_saying (Text text) = if is_plain text then Some (saying.Description text) else None
+text_saying (Word word) = None
+text_saying (Mark mark) = None
 
-abbrev pub Says : List Token → Sense → Type 0
-Says tokens sense = SaysByForm tokens sense ⊎ SaysByText tokens sense
+abbrev pub lone_saying : List Token → Option Saying
+lone_saying [] = None
+lone_saying (token ∷ []) = text_saying token.kind
+lone_saying (token ∷ next ∷ more) = None
+
+-- a text alone
+abbrev pub description_saying : List (List Token) → Option Saying
+description_saying [] = None
+description_saying (text ∷ []) = lone_saying text
+description_saying (text ∷ next ∷ more) = None
+
+-- the direction of `above`, `below`, or a direction's name
+abbrev pub direction_at : Token → Option Direction
+direction_at token =
+    if is_sign keyword.Above token then Some Up
+    else (if is_sign keyword.Below token then Some Down else direction_named (word_of token))
+
+abbrev pub side_direction : List Token → Option Direction
+side_direction [] = None
+side_direction (first ∷ more) = direction_at first
+
+abbrev pub way_saying : List Token → Option Direction → List Token → Bool → Option Saying
+way_saying subject None room is_room_first = None
+way_saying subject (Some direction) room is_room_first = Some (saying.Way (record { subject = name_of subject; direction = direction; room = name_of room; is_room_first = is_room_first }))
+
+-- of two names, and the side of the one on which the other lies, the room's is the first or the second
+abbrev pub way_of : Bool → List (List Token) → Option Saying
+way_of is_room_first [] = None
+way_of is_room_first (first ∷ []) = None
+way_of is_room_first (first ∷ second ∷ []) = None
+way_of is_room_first (first ∷ second ∷ third ∷ []) =
+    if is_room_first then way_saying third (side_direction first) second true
+    else way_saying first (side_direction second) third false
+way_of is_room_first (first ∷ second ∷ third ∷ fourth ∷ more) = None
+
+-- a room; a list of rooms isn't read yet
+abbrev pub room_saying : List (List Token) → Option Saying
+room_saying [] = None
+room_saying (names ∷ []) = if is_single names then Some (saying.Room (name_of names)) else None
+room_saying (names ∷ next ∷ more) = None
+
+-- what a form says with these letters
+unfoldable pub saying_of : Form → List (List Token) → Option Saying
+saying_of form.Description letters = description_saying letters
+saying_of form.WayTo letters = way_of false letters
+saying_of form.WayFrom letters = way_of true letters
+saying_of form.Room letters = room_saying letters
+saying_of _ letters = None
+
+abbrev pub has_reserved_end : Bool → List (List Token) → Bool
+has_reserved_end is_room_first [] = false
+has_reserved_end is_room_first (first ∷ []) = false
+has_reserved_end is_room_first (first ∷ second ∷ []) = false
+has_reserved_end is_room_first (first ∷ second ∷ third ∷ []) =
+    if is_room_first then is_reserved_name second || is_reserved_name third
+    else is_reserved_name first || is_reserved_name third
+has_reserved_end is_room_first (first ∷ second ∷ third ∷ fourth ∷ more) = false
+
+abbrev pub has_reserved_first : List (List Token) → Bool
+has_reserved_first [] = false
+has_reserved_first (name ∷ more) = is_reserved_name name
+
+-- whether a name among the letters holds a reserved word
+unfoldable pub has_reserved_name : Form → List (List Token) → Bool
+has_reserved_name form.WayTo letters = has_reserved_end false letters
+has_reserved_name form.WayFrom letters = has_reserved_end true letters
+has_reserved_name form.Room letters = has_reserved_first letters
+has_reserved_name _ letters = false
