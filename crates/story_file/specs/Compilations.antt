@@ -10,7 +10,7 @@ use Rattle.i7_sentences.specs.Sources.{HasSentences, IsRefused as IsUnread}
 use Rattle.i7_sentences.specs.declared.sentence.Sentence.{Sentence}
 use Rattle.story_format.specs.Shape.{IsTale}
 use Rattle.story_format.specs.Spells.{Spells}
-use Rattle.story_file.specs.Tales.{tale_said}
+use Rattle.i7_kinds.specs.Tales.{tale_said}
 
 -- A source says these sentences: they are spelled by the tokens that it spells.
 pub record Says (source : List ℕ) (sentences : List Sentence) : Type 0 where

@@ -1,10 +1,2 @@
-pub mod Bounds
 pub mod Compilations
-pub mod Demands
-pub mod Described
-pub mod Firsts
-pub mod StatedWays
-pub mod Statements
-pub mod Tales
 pub mod WorkedRows
-pub mod Views

@@ -11,7 +11,7 @@ use Rattle.i7_sentences.specs.declared.name.Name.{Name}
 use Rattle.i7_sentences.specs.declared.name.NameArticle.TheVariants.{Plain}
 use Rattle.i7_sentences.specs.declared.sentence.Saying.TheVariants.{Description, Room, Way}
 use Rattle.i7_sentences.specs.declared.sentence.Sentence.{Sentence}
-use Rattle.story_file.specs.Tales.{tale_said}
+use Rattle.i7_kinds.specs.Tales.{tale_said}
 
 abbrev pub plain : List ℕ → Name
 plain text = record { text = text; article = Plain }

@@ -2,7 +2,7 @@
 ghost use Rattle.std.specs.Prelude.{IfErr, IfOk, MatchResult};
 ghost use Rattle.story_file.specs.Compilations.{IsCompiled, IsRefused, Means};
 
-use crate::tale_of;
+use i7_kinds::tale_of;
 use i7_lexer::lex;
 use i7_sentences::read;
 use std::alloc::Global;

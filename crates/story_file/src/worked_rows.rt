@@ -7,7 +7,7 @@ pub fn two_rooms_are_played()
 {}
 
 /// By the definitions the empty source has no room.
-#[tactic(auto, unfolding(crate::specs::Tales::frame_refusal))]
+#[tactic(auto, unfolding(i7_kinds::specs::Tales::frame_refusal))]
 pub fn empty_source_is_refused()
     ensures { IsRefusedEmpty }
 {}

@@ -1,8 +1,5 @@
 pub mod Loops
-pub mod Folds
-pub mod StringLemmas
 pub mod StoryLemmas
-pub mod WordLemmas
 pub mod TellingLoop
 pub mod RoundTrip
 pub mod ReadingLemmas

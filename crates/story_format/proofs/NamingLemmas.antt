@@ -7,7 +7,7 @@ use Rattle.std.proofs.lemmas.Bool.{cases_lt, leb-true, eqb-true}
 use Rattle.std.proofs.lemmas.List.{length-append, append-nil}
 use Rattle.std.proofs.lemmas.Option.{slice_get_within, get_or_from_slice_get}
 use Rattle.std.proofs.lemmas.Slice.Eq.{bytes_eq-Decides}
-use Rattle.story_format.specs.Mentions.{mention, first_mentions, number_in}
+use Rattle.object_words.specs.Mentions.{mention, first_mentions, number_in}
 use Rattle.story_format.specs.Checks.{are_distinct, is_text, is_named, are_named}
 use Rattle.story_format.specs.Keeping.{text_at}
 use Rattle.story_format.specs.Soundness.{are_all_named}

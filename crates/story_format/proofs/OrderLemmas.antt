@@ -7,14 +7,14 @@ use Rattle.std.proofs.lemmas.Bool.{lt-ltb, ne_eqb, eq-eqb, eqb-true, le-leb}
 use Rattle.std.proofs.lemmas.List.{length-append, append-nil}
 use Rattle.std.proofs.lemmas.Slice.Eq.{bytes_eq-Decides}
 use Rattle.world_meaning.specs.declared.tale.Object.{Object}
-use Rattle.story_format.specs.Mentions.{mention, first_mentions, number_in}
-use Rattle.story_format.specs.Words.{object_words}
+use Rattle.object_words.specs.Mentions.{mention, first_mentions, number_in}
+use Rattle.object_words.specs.Words.{object_words}
 use Rattle.story_format.specs.Making.{texts_of, entry_strings, code_strings, strings_of, code_number, entry_of, entries_of, codes_of, code_of}
 use Rattle.story_format.specs.Checks.{are_distinct, are_named_in_order, strings_named, codes_named, is_some_code}
 use Rattle.story_format.specs.Soundness.{are_in_turn, are_all_named}
-use Rattle.story_format.proofs.StringLemmas.{length_mapped}
+use Rattle.object_words.proofs.StringLemmas.{length_mapped}
 use Rattle.story_format.proofs.StoryLemmas.{both, both_are}
-use Rattle.story_format.proofs.Folds.{fold_both}
+use Rattle.object_words.proofs.Folds.{fold_both}
 use Rattle.story_format.proofs.RoundTrip.{passes_at}
 
 pub either : (b : Bool) → (b ≡ true) ⊎ (b ≡ false)

@@ -18,12 +18,12 @@ use Rattle.world_meaning.specs.declared.exits.Exits.{Exits}
 use Rattle.world_meaning.specs.declared.direction.Direction.{Direction}
 use Rattle.world_meaning.specs.declared.tale.Object.{Object}
 use Rattle.world_meaning.specs.declared.tale.Tale.{Tale}
-use Rattle.story_format.specs.Mentions.{mention, number_in}
-use Rattle.story_format.specs.Words.{all_directions}
+use Rattle.object_words.specs.Mentions.{mention, number_in}
+use Rattle.object_words.specs.Words.{all_directions}
 use Rattle.story_format.specs.Making.{texts_of, entry_strings, code_strings, strings_of, article_number, relation_number, place_relation, place_holder, code_number, entry_of, entries_of, code_of, codes_of, ways_of, tables_of}
 use Rattle.story_format.specs.Telling.{article_of, relation_of, place_of, said, description_of, object_told, no_way, no_exits, exits_taken, objects_told, tale_told}
 use Rattle.story_format.specs.Shape.{is_closed, are_closed, is_player, is_direction, is_room, are_directions, has_shape, IsTale}
-use Rattle.story_format.proofs.StringLemmas.{length_mapped}
+use Rattle.object_words.proofs.StringLemmas.{length_mapped}
 use Rattle.story_format.proofs.StoryLemmas.{both, both_are, all_weaker, parts, player_parts, direction_parts, room_parts}
 
 -- ---- a string that was mentioned is found by its number

@@ -15,12 +15,12 @@ use Rattle.world_meaning.specs.declared.direction.Direction.{Direction}
 use Rattle.world_meaning.specs.Directions.{direction_name}
 use Rattle.world_meaning.specs.declared.tale.Object.{Object}
 use Rattle.story_format.specs.declared.tables.Entry.{Entry}
-use Rattle.story_format.specs.Mentions.{number_in}
-use Rattle.story_format.specs.Words.{all_directions, object_words}
+use Rattle.object_words.specs.Mentions.{number_in}
+use Rattle.object_words.specs.Words.{all_directions, object_words}
 use Rattle.story_format.specs.Making.{code_strings, article_number, relation_number, place_relation, place_holder, entry_of, entries_of, ways_of}
 use Rattle.story_format.specs.Shape.{is_room_number, lead_to_rooms, are_closed, has_no_article, is_in, stands_in_room, is_player, is_direction, is_room, are_directions, has_shape, has_few_words}
 use Rattle.story_format.specs.Checks.{is_named, words_are, has_words, is_player_entry, is_direction_entry, is_room_entry, are_direction_entries, are_in_place}
-use Rattle.story_format.proofs.StringLemmas.{length_mapped}
+use Rattle.object_words.proofs.StringLemmas.{length_mapped}
 use Rattle.story_format.proofs.StoryLemmas.{both, both_are, last_of_five, three}
 use Rattle.story_format.proofs.RoundTrip.{found_by_number, is_known, has_own_exits, relation_told}
 use Rattle.story_format.proofs.OrderLemmas.{either, text_is_itself}

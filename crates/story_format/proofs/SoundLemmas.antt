@@ -7,7 +7,7 @@ use Rattle.std.proofs.lemmas.Nat.{from_be_bytes-to_be_bytes_2}
 use Rattle.std.proofs.lemmas.List.{map-append}
 use Rattle.world_meaning.specs.declared.tale.Object.{Object}
 use Rattle.world_meaning.specs.declared.tale.Tale.{Tale}
-use Rattle.story_format.specs.Mentions.{number_or_none, number_in}
+use Rattle.object_words.specs.Mentions.{number_or_none, number_in}
 use Rattle.story_format.specs.Making.{texts_of, entry_strings, code_strings, strings_of, entries_of, code_of, codes_of, tables_of}
 use Rattle.story_format.specs.Shape.{IsTale}
 use Rattle.story_format.specs.Checks.{strings_named}

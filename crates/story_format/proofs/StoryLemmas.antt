@@ -14,7 +14,7 @@ use Rattle.world_meaning.specs.declared.place.Rel.TheVariants as relations
 use Rattle.world_meaning.specs.declared.direction.Direction.{Direction}
 use Rattle.world_meaning.specs.Directions.{direction_name}
 use Rattle.world_meaning.specs.declared.tale.Object.{Object}
-use Rattle.story_format.specs.Words.{all_directions}
+use Rattle.object_words.specs.Words.{all_directions}
 use Rattle.story_format.specs.Shape.{is_room_number, is_room_or_none, leads_to_room, lead_to_rooms, is_closed, are_closed, is_in, stands_in_room, is_player, is_direction, is_room, are_directions, has_shape, has_no_article}
 
 pub both_are : (a b : Bool) → (a && b) ≡ true → (a ≡ true) × (b ≡ true)

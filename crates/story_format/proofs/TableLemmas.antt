@@ -18,13 +18,13 @@ use Rattle.world_meaning.specs.Directions.{direction_name}
 use Rattle.world_meaning.specs.declared.tale.Object.{Object}
 use Rattle.world_meaning.specs.declared.tale.Tale.{Tale}
 use Rattle.story_format.specs.declared.tables.Entry.{Entry}
-use Rattle.story_format.specs.Mentions.{number_in}
-use Rattle.story_format.specs.Words.{object_words}
+use Rattle.object_words.specs.Mentions.{number_in}
+use Rattle.object_words.specs.Words.{object_words}
 use Rattle.story_format.specs.Making.{texts_of, entry_strings, code_strings, strings_of, article_number, relation_number, place_relation, place_holder, code_number, entry_of, entries_of, code_of, codes_of, ways_of, tables_of}
-use Rattle.story_format.specs.Words.{all_directions}
+use Rattle.object_words.specs.Words.{all_directions}
 use Rattle.story_format.specs.Shape.{is_room_number, lead_to_rooms, has_few_words, has_no_article, is_in, stands_in_room, is_player, is_direction, is_room, are_directions, has_shape, IsTale}
 use Rattle.story_format.specs.Checks.{is_plain, is_named, are_named, has_words, is_of_room, is_player_entry, is_direction_entry, is_room_entry, are_direction_entries, are_in_place, are_right}
-use Rattle.story_format.proofs.StringLemmas.{length_mapped}
+use Rattle.object_words.proofs.StringLemmas.{length_mapped}
 use Rattle.story_format.proofs.StoryLemmas.{both, both_are, all_weaker, parts, player_parts, direction_parts, room_parts}
 use Rattle.story_format.proofs.RoundTrip.{found_by_number, is_known, texts_known, any_left, any_right, fold_finds}
 use Rattle.story_format.proofs.OrderLemmas.{either, text_is_itself, at_most_one, strings_distinct, strings_in_order, codes_in_order}

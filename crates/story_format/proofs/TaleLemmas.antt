@@ -11,7 +11,7 @@ use Rattle.story_format.specs.declared.tables.Entry.{Entry}
 use Rattle.story_format.specs.declared.tables.WorldCounts.{WorldCounts}
 use Rattle.story_format.specs.declared.tables.RuleCounts.{RuleCounts}
 use Rattle.story_format.specs.declared.tables.Tables.{Tables}
-use Rattle.story_format.specs.Mentions.{first_mentions}
+use Rattle.object_words.specs.Mentions.{first_mentions}
 use Rattle.std.specs.Int.{w16}
 use Rattle.story_format.specs.Formats.{number, counted, text}
 use Rattle.story_format.specs.Layout.{entry_format, exits_format, world_counts_format, rule_counts_format, tables_format}

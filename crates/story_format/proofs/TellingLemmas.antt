@@ -15,15 +15,15 @@ use Rattle.world_meaning.specs.declared.place.Place.{Place}
 use Rattle.world_meaning.specs.declared.exits.Exits.{Exits}
 use Rattle.world_meaning.specs.declared.tale.Object.{Object}
 use Rattle.story_format.specs.declared.tables.Entry.{Entry}
-use Rattle.story_format.specs.Mentions.{number_in}
-use Rattle.story_format.specs.Words.{words_for}
+use Rattle.object_words.specs.Mentions.{number_in}
+use Rattle.object_words.specs.Words.{words_for}
 use Rattle.story_format.specs.Making.{texts_of, entry_strings, code_strings, article_number, place_relation, place_holder, code_number, entry_of, entries_of, code_of, codes_of, ways_of}
 use Rattle.story_format.specs.Shape.{are_closed}
 use Rattle.story_format.specs.Telling.{article_of, place_of, said, description_of, object_told, no_exits, exits_taken, objects_told}
 use Rattle.story_format.specs.Checks.{are_distinct, are_named, words_are, has_words, is_plain, strings_named, codes_named, is_some_code, is_of_room}
 use Rattle.story_format.specs.Keeping.{text_at}
 use Rattle.story_format.specs.Soundness.{saying, string_said, says_string, are_in_turn}
-use Rattle.story_format.proofs.StringLemmas.{length_mapped}
+use Rattle.object_words.proofs.StringLemmas.{length_mapped}
 use Rattle.story_format.proofs.StoryLemmas.{both_are, both, all_at, get_within}
 use Rattle.story_format.proofs.RoundTrip.{has_own_exits, get_behind}
 use Rattle.story_format.proofs.OrderLemmas.{either}

@@ -8,8 +8,8 @@ use Rattle.story_format.specs.declared.tables.Entry.{Entry}
 use Rattle.story_format.specs.declared.tables.WorldCounts.{WorldCounts}
 use Rattle.story_format.specs.declared.tables.RuleCounts.{RuleCounts}
 use Rattle.story_format.specs.declared.tables.Tables.{Tables}
-use Rattle.story_format.specs.Mentions.{first_mentions}
-use Rattle.story_format.specs.Words.{all_directions, words_for}
+use Rattle.object_words.specs.Mentions.{first_mentions}
+use Rattle.object_words.specs.Words.{all_directions, words_for}
 use Rattle.story_format.specs.Shape.{is_room_number, lead_to_rooms}
 
 abbrev pub has_no_world : WorldCounts → Bool

@@ -1,8 +1,6 @@
 pub mod Formats
 pub mod FormatLaws
 pub mod Layout
-pub mod Mentions
-pub mod Words
 pub mod Making
 pub mod Shape
 pub mod Spells

@@ -12,8 +12,8 @@ use Rattle.world_meaning.specs.declared.tale.Object.{Object}
 use Rattle.world_meaning.specs.declared.tale.Tale.{Tale}
 use Rattle.story_format.specs.declared.tables.Entry.{Entry}
 use Rattle.story_format.specs.declared.tables.Tables.{Tables}
-use Rattle.story_format.specs.Mentions.{first_mentions, number_in}
-use Rattle.story_format.specs.Words.{object_words}
+use Rattle.object_words.specs.Mentions.{first_mentions, number_in}
+use Rattle.object_words.specs.Words.{object_words}
 use Rattle.story_format.specs.Layout.{tables_format}
 
 abbrev pub texts_of : Option (List ℕ) → List (List ℕ)

@@ -13,7 +13,7 @@ use Rattle.world_meaning.specs.declared.direction.Direction.{Direction}
 use Rattle.world_meaning.specs.Directions.{direction_name}
 use Rattle.world_meaning.specs.declared.tale.Object.{Object}
 use Rattle.world_meaning.specs.declared.tale.Tale.{Tale}
-use Rattle.story_format.specs.Words.{all_directions, object_words}
+use Rattle.object_words.specs.Words.{all_directions, object_words}
 use Rattle.story_format.specs.Making.{strings_of, tables_of}
 use Rattle.story_format.specs.Layout.{tables_format}
 

@@ -4,12 +4,11 @@ ghost use Rattle.std.specs.List.{list_all, flat_map};
 ghost use Rattle.story_format.specs.Shape.{lead_to_rooms};
 ghost use Rattle.story_format.specs.Checks.{has_no_world, has_no_rules, are_distinct, is_named, are_named, has_words, is_plain, is_player_entry, is_direction_entry, is_room_entry, are_direction_entries, are_in_place, are_named_in_order, strings_named, codes_named, is_of_room, are_right};
 
-use crate::making::ROOM;
+use crate::making::{DIRECTION, PERSON, ROOM};
 use crate::place::NONE;
 use crate::shape::{is_room_number, lead_to_rooms};
-use crate::strings::Strings;
 use crate::tables::{Entry, RuleCounts, Tables, WorldCounts};
-use crate::words::{DIRECTION, PERSON, words_for};
+use object_words::{Strings, words_for};
 use std::alloc::{AllocError, Global};
 use world_meaning::{Direction, Exits, ObjNo, TextBytes};
 
@@ -30,7 +29,7 @@ fn has_no_rules(counts: &RuleCounts) -> bool
 }
 
 /// Whether no string stands twice.
-#[tactic(auto, unfolding(crate::specs::Checks::are_distinct), using(crate::proofs::StringLemmas::length_mapped))]
+#[tactic(auto, unfolding(crate::specs::Checks::are_distinct), using(object_words::proofs::StringLemmas::length_mapped))]
 fn are_distinct(alloc: Global, strings: &[TextBytes]) -> Result<bool, AllocError>
     ensures { IfOk result (λ distinct. distinct ≡ are_distinct strings.now) }
 {

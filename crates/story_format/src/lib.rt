@@ -14,12 +14,10 @@ mod place;
 mod shape;
 mod soundness;
 mod story;
-mod strings;
 mod table;
 mod tables;
 mod telling;
 mod text;
-mod words;
 mod writing;
 
 pub use fault::LoadFault;
@@ -30,8 +28,6 @@ pub use laws::{
 pub use loading::load;
 pub use shape::is_writable;
 pub use story::Story;
-pub use strings::Strings;
-pub use words::words_for;
 pub use writing::write;
 
 #[cfg(test)]

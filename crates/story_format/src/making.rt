@@ -1,17 +1,22 @@
 //! The tables of a tale.
 ghost use Rattle.std.specs.Prelude.{◌≡◌, ◌++◌, List, [], ◌∷◌, length, IfOk, OnOk, fold, map};
 ghost use Rattle.std.specs.List.{flat_map};
-ghost use Rattle.story_format.specs.Mentions.{mention, number_in};
-ghost use Rattle.story_format.specs.Words.{object_words};
+ghost use Rattle.object_words.specs.Mentions.{mention, number_in};
+ghost use Rattle.object_words.specs.Words.{object_words};
 ghost use Rattle.story_format.specs.Making.{article_number, relation_number, place_relation, place_holder, code_number, entry_strings, code_strings, strings_of, entry_of, entries_of, code_of, codes_of, ways_of, tables_of};
 
 use crate::place::NONE;
-use crate::strings::Strings;
 use crate::table::{Listed, Table};
 use crate::tables::{Entry, RuleCounts, Tables, WorldCounts};
-use crate::words::words_of;
+use object_words::{Strings, words_for};
 use std::alloc::{AllocError, Global};
 use world_meaning::{Article, Exits, Object, Place, Rel, Tale, TextBytes};
+
+/// The kind of the directions.
+pub const DIRECTION: u8 = 2;
+
+/// The kind of the player.
+pub const PERSON: u8 = 6;
 
 /// The kind of the rooms.
 pub const ROOM: u8 = 1;
@@ -22,7 +27,7 @@ pub const SAY: u8 = 0x22;
 /// The byte that ends a code.
 pub const DONE: u8 = 0x37;
 
-#[tactic(auto, using(crate::proofs::Folds::fold_both))]
+#[tactic(auto, using(object_words::proofs::Folds::fold_both))]
 fn mention_all(alloc: Global, strings: &mut Strings, others: &Strings) -> Result<(), AllocError>
     ensures { OnOk result (strings.new ≡ fold mention strings.old others.now) }
 {
@@ -32,7 +37,7 @@ fn mention_all(alloc: Global, strings: &mut Strings, others: &Strings) -> Result
     Ok(())
 }
 
-#[tactic(auto, unfolding(crate::specs::Making::entry_strings), using(crate::proofs::Folds::fold_both))]
+#[tactic(auto, unfolding(crate::specs::Making::entry_strings), using(object_words::proofs::Folds::fold_both))]
 fn mention_entry(alloc: Global, strings: &mut Strings, object: &Object) -> Result<(), AllocError>
     ensures { OnOk result (strings.new ≡ fold mention strings.old (entry_strings object.now)) }
 {
@@ -41,7 +46,7 @@ fn mention_entry(alloc: Global, strings: &mut Strings, object: &Object) -> Resul
     mention_all(alloc, strings, &words)
 }
 
-#[tactic(auto, using(crate::proofs::Folds::fold_both))]
+#[tactic(auto, using(object_words::proofs::Folds::fold_both))]
 fn mention_entries(
     alloc: Global,
     strings: &mut Strings,
@@ -64,7 +69,7 @@ fn mention_code(alloc: Global, strings: &mut Strings, object: &Object) -> Result
     }
 }
 
-#[tactic(auto, using(crate::proofs::Folds::fold_both))]
+#[tactic(auto, using(object_words::proofs::Folds::fold_both))]
 fn mention_codes(alloc: Global, strings: &mut Strings, objects: &[Object]) -> Result<(), AllocError>
     ensures { OnOk result (strings.new ≡ fold mention strings.old (flat_map code_strings objects.now)) }
 {
@@ -75,7 +80,7 @@ fn mention_codes(alloc: Global, strings: &mut Strings, objects: &[Object]) -> Re
 }
 
 /// The strings of a story of these objects.
-#[tactic(auto, unfolding(crate::specs::Making::strings_of), using(crate::proofs::Folds::fold_both))]
+#[tactic(auto, unfolding(crate::specs::Making::strings_of), using(object_words::proofs::Folds::fold_both))]
 pub fn strings_of(alloc: Global, objects: &[Object]) -> Result<Strings, AllocError>
     ensures { IfOk result (λ strings. strings ≡ strings_of objects.now) }
 {
@@ -173,7 +178,7 @@ fn entry_of(
     })
 }
 
-#[tactic(auto, unfolding(crate::specs::Making::entries_of), using(crate::proofs::Folds::one_behind))]
+#[tactic(auto, unfolding(crate::specs::Making::entries_of), using(object_words::proofs::Folds::one_behind))]
 fn entries_of(
     alloc: Global,
     strings: &Strings,
@@ -232,6 +237,24 @@ fn ways_of(alloc: Global, objects: &[Object]) -> Result<Table<Exits>, AllocError
     Ok(Table::new(ways))
 }
 
+/// The words of an object.
+pub fn words_of(alloc: Global, object: &Object) -> Result<Strings, AllocError>
+    ensures { IfOk result (λ words. words ≡ object_words object.now) }
+{
+    words_for(alloc, object.kind.get(), object.name.as_slice())
+}
+
+/// The table of these strings.
+fn table_of(alloc: Global, strings: &Strings) -> Result<Table<TextBytes>, AllocError>
+    ensures { IfOk result (λ table. table ≡ strings.now) }
+{
+    let mut all = Vec::new(alloc);
+    for string in strings.as_slice() {
+        all.push(TextBytes::copied(alloc, string.as_slice())?)?;
+    }
+    Ok(Table::new(all))
+}
+
 /// The tables of a tale.
 #[tactic(auto, unfolding(crate::specs::Making::tables_of))]
 pub fn tables_of(alloc: Global, tale: &Tale) -> Result<Tables, AllocError>
@@ -240,7 +263,7 @@ pub fn tables_of(alloc: Global, tale: &Tale) -> Result<Tables, AllocError>
     let objects = tale.objects.as_slice();
     let strings = strings_of(alloc, objects)?;
     Ok(Tables {
-        strings: strings.table(alloc)?,
+        strings: table_of(alloc, &strings)?,
         world: WorldCounts {
             kinds: 0,
             flags: 0,

@@ -1,12 +1,11 @@
 //! Which tales a story file of this version can hold.
 ghost use Rattle.std.specs.Prelude.{◌≡◌, ◌↔◌, IsTrue, IfOk, List};
 ghost use Rattle.std.specs.List.{list_all};
-ghost use Rattle.story_format.specs.Words.{all_directions};
+ghost use Rattle.object_words.specs.Words.{all_directions};
 ghost use Rattle.story_format.specs.Shape.{is_room_number, is_room_or_none, leads_to_room, lead_to_rooms, is_closed, are_closed, has_no_article, is_in, stands_in_room, is_player, is_direction, is_room, are_directions, has_shape, has_few_words, IsTale};
 
 use crate::field::Field;
-use crate::making::{ROOM, strings_of, tables_of};
-use crate::words::{DIRECTION, PERSON, words_of};
+use crate::making::{DIRECTION, PERSON, ROOM, strings_of, tables_of, words_of};
 use std::alloc::{AllocError, Global};
 use world_meaning::{Article, Direction, Exits, ObjNo, Object, Place, Rel, Tale, Way};
 
@@ -160,7 +159,7 @@ fn has_shape(objects: &[Object]) -> bool
     }
 }
 
-#[tactic(auto, unfolding(crate::specs::Shape::has_few_words), using(crate::proofs::StringLemmas::length_mapped))]
+#[tactic(auto, unfolding(crate::specs::Shape::has_few_words), using(object_words::proofs::StringLemmas::length_mapped))]
 fn has_few_words(alloc: Global, object: &Object) -> Result<bool, AllocError>
     ensures { IfOk result (λ few. few ≡ has_few_words object.now) }
 {

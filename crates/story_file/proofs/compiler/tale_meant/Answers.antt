@@ -1,7 +1,7 @@
 use Rattle.std.proofs.Common.{inl, inr, ap, sym, ◌∙◌}
 use Rattle.std.proofs.lemmas.Result.{err_from_is_err_and}
 use Rattle.story_file.specs.Compilations.IsRefused.{memory, unmeant, unread, unspelled}
-use Rattle.story_file.specs.Tales.{tale_said}
+use Rattle.i7_kinds.specs.Tales.{tale_said}
 use Rattle.story_file.proofs.compiler.tale_meant.Goals as goal
 
 pub returns-in_err-lexed-clause-refused : goal.returns-in_err-lexed-clause-refused

@@ -1,6 +1,6 @@
 use Rattle.std.proofs.Common.{refl}
-use Rattle.story_format.specs.Words.{more_words, words_for}
-use Rattle.story_file.specs.Tales.{exits_of, frame_refusal, limit_refusal, objects_of, room_of}
+use Rattle.object_words.specs.Words.{more_words, words_for}
+use Rattle.i7_kinds.specs.Tales.{exits_of, frame_refusal, limit_refusal, objects_of, room_of}
 use Rattle.story_file.proofs.worked_rows.two_rooms_are_played.Goals as goal
 
 pub returns : goal.returns

@@ -1,5 +1,5 @@
 use Rattle.std.proofs.Common.{◌≡◌, take}
-use Rattle.story_format.specs.Mentions.{first_mentions}
+use Rattle.object_words.specs.Mentions.{first_mentions}
 use Rattle.story_format.proofs.checks.are_distinct.Given as goal
 
 abbrev pub invariant-loop-string : goal.invariant-loop-string

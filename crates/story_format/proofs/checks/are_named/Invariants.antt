@@ -1,6 +1,6 @@
 use Rattle.std.proofs.Common.{◌≡◌, length}
 use Rattle.story_format.specs.Checks.{are_named}
-use Rattle.story_format.proofs.StringLemmas.{items_of}
+use Rattle.object_words.proofs.StringLemmas.{items_of}
 use Rattle.story_format.proofs.checks.are_named.Given as goal
 
 abbrev pub invariant-loop-numbers : goal.invariant-loop-numbers

@@ -1,7 +1,7 @@
 use Rattle.std.proofs.Common.{◌≡◌, take}
 use Rattle.std.specs.Prelude.{fold}
-use Rattle.story_format.specs.Mentions.{mention}
-use Rattle.story_format.proofs.StringLemmas.{items_of}
+use Rattle.object_words.specs.Mentions.{mention}
+use Rattle.object_words.proofs.StringLemmas.{items_of}
 use Rattle.story_format.proofs.making.mention_all.Given as goal
 
 abbrev pub invariant-loop-string : goal.invariant-loop-string

@@ -1,7 +1,7 @@
 use Rattle.std.proofs.Common.{◌≡◌, take}
 use Rattle.std.specs.Prelude.{fold}
 use Rattle.std.specs.List.{flat_map}
-use Rattle.story_format.specs.Mentions.{mention}
+use Rattle.object_words.specs.Mentions.{mention}
 use Rattle.story_format.specs.Making.{code_strings}
 use Rattle.story_format.proofs.making.mention_codes.Given as goal
 

@@ -1,6 +1,6 @@
 use Rattle.std.proofs.Common.{◌≡◌, take, map}
-use Rattle.story_format.specs.Mentions.{number_in}
-use Rattle.story_format.proofs.StringLemmas.{items_of}
+use Rattle.object_words.specs.Mentions.{number_in}
+use Rattle.object_words.proofs.StringLemmas.{items_of}
 use Rattle.story_format.proofs.making.word_numbers.Given as goal
 
 abbrev pub invariant-loop-word : goal.invariant-loop-word

@@ -1,0 +1,142 @@
+-- The numbers of a tale whose objects are few are small.
+use Rattle.std.proofs.Common.{◌≡◌, ℕ, zero, suc, ◌+◌, ◌≤◌, Bool, true, false, cond, List, [], ◌∷◌, ◌++◌, length, map, refl, subst, arith}
+use Rattle.std.specs.Prelude.{Option, Some, None, fold, slice_get, if◌then◌else◌}
+use Rattle.std.specs.Option.{option_map}
+use Rattle.std.specs.List.{position_or_len}
+use Rattle.std.specs.Str.{bytes_eq}
+use Rattle.std.proofs.lemmas.List.{length-append}
+use Rattle.i7_sentences.specs.declared.sentence.Sentence.{Sentence}
+use Rattle.i7_sentences.specs.declared.sentence.Saying.{Saying}
+use Rattle.i7_sentences.specs.declared.sentence.Saying.TheVariants.{Description, Room, Way}
+use Rattle.world_meaning.specs.Directions.{opposite_of}
+use Rattle.world_meaning.specs.declared.fault.FaultCode.{FaultCode}
+use Rattle.world_meaning.specs.declared.fault.FaultCode.TheVariants.{NoRoom, TooMany, Twice, TwoPlaces, WrongKind}
+use Rattle.i7_kinds.specs.Bounds.{AreWithin, IsSmall, IsWithin, LeadWithin}
+use Rattle.i7_kinds.specs.Demands.{Lead, descriptions_of, first_target, line_at, second_description, second_target, taken_name, wrong_kind, implied_in, implied_leads, is_exit, lead_of, stated_in, stated_leads}
+use Rattle.i7_kinds.specs.Firsts.{first_of}
+use Rattle.i7_kinds.specs.Tales.{earlier, frame_refusal, no_room, object_too_many, refusal_at}
+use Rattle.i7_kinds.specs.Statements.{Fact, IsRoom, LeadsTo, NameAt, Named, Statement, Told, built_in_keys, fact_in, has_key, key_of, named_by, names_at, number_in, place_or, stated_by, statement_in, with_name, with_names_of}
+
+-- as many keys as objects
+abbrev pub IsCounted : Named → Type 0
+IsCounted named = length named.keys ≡ 13 + length named.mentions
+
+pub counted-name : (named : Named) (at : NameAt) → IsCounted named → IsCounted (with_name named at)
+counted-name named at counted =
+    let key = key_of at.name.text in
+    let Goal : Bool → Type 0 = λ known. IsCounted (if known then named else record { keys = named.keys ++ key ∷ []; mentions = named.mentions ++ at ∷ [] }) in
+    elim (has_key named.keys key) as Goal [
+      | true ↦ counted
+      | false ↦ omega (arith, counted, length-append named.keys (key ∷ []), length-append named.mentions (at ∷ []))
+    ]
+
+pub counted-names : (names : List NameAt) (named : Named) → IsCounted named → IsCounted (fold with_name named names)
+counted-names [] named counted = counted
+counted-names (at ∷ names) named counted = counted-names names (with_name named at) (counted-name named at counted)
+
+pub counted-sentences : (sentences : List Sentence) (named : Named) → IsCounted named → IsCounted (fold with_names_of named sentences)
+counted-sentences [] named counted = counted
+counted-sentences (sentence ∷ sentences) named counted = counted-sentences sentences (with_names_of named sentence) (counted-names (names_at sentence) named counted)
+
+pub counted-source : (sentences : List Sentence) → IsCounted (named_by sentences)
+counted-source sentences = counted-sentences sentences (record { keys = built_in_keys; mentions = [] }) refl
+
+pub place-within : (count place : ℕ) → place ≤ count → (test : Bool) → place_or count (cond test (Some place) None) ≤ count
+place-within count place within true = within
+place-within count place within false = omega arith
+
+pub position-within : (keys : List (List ℕ)) (key : List ℕ) → position_or_len (bytes_eq key) keys ≤ length keys
+position-within [] key = omega arith
+position-within (k ∷ keys) key =
+    let Goal : Bool → Type 0 = λ v. bytes_eq key k ≡ v → position_or_len (bytes_eq key) (k ∷ keys) ≤ length (k ∷ keys) in
+    elim (bytes_eq key k) as Goal [
+      | true ↦ λ here. rw here (omega arith)
+      | false ↦ λ later. rw later (omega (arith, position-within keys key))
+    ] refl
+
+-- a number is at most the count of the keys
+pub number-within : (keys : List (List ℕ)) (key : List ℕ) → number_in keys key ≤ length keys
+number-within keys key = place-within (length keys) (position_or_len (bytes_eq key) keys) (position-within keys key) _
+
+pub saying-within : (named : Named) (saying : Saying) → IsWithin (length named.keys) (fact_in named saying)
+saying-within named (Description text) = tt
+saying-within named (Room name) = tt
+saying-within named (Way way) = (number-within named.keys (key_of way.subject.text), number-within named.keys (key_of way.room.text))
+
+pub all-within : (named : Named) (sentences : List Sentence) → AreWithin (length named.keys) (map (statement_in named) sentences)
+all-within named [] = tt
+all-within named (sentence ∷ sentences) = (saying-within named sentence.saying, all-within named sentences)
+
+-- the numbers of a source's statements
+pub source-within : (sentences : List Sentence) → AreWithin (13 + length (named_by sentences).mentions) (stated_by sentences)
+source-within sentences = subst (λ n. AreWithin n (stated_by sentences)) (counted-source sentences) (all-within (named_by sentences) sentences)
+
+pub small-first : (a b : Option ℕ) → IsSmall a → IsSmall b → IsSmall (first_of a b)
+small-first None b first second = second
+small-first (Some n) b first second = first
+
+-- a lead in front of others
+pub small-lead : (lead : Lead) (leads : List Lead) (room direction : ℕ) → lead.target ≤ 1000 → IsSmall (first_target leads room direction) → IsSmall (first_target (lead ∷ leads) room direction)
+small-lead lead leads room direction small others =
+    let Goal : Bool → Type 0 = λ v. is_exit room direction lead ≡ v → IsSmall (first_target (lead ∷ leads) room direction) in
+    elim (is_exit room direction lead) as Goal [
+      | true ↦ λ here. rw here small
+      | false ↦ λ other. rw other others
+    ] refl
+
+pub stated-small-by : (most : ℕ) (fact : Fact) (line : ℕ) (statements : List Statement) (room direction : ℕ) → most ≤ 1000 → IsWithin most fact → IsSmall (first_target (stated_leads statements) room direction) → IsSmall (first_target (stated_in fact line ++ stated_leads statements) room direction)
+stated-small-by most (Told text) line statements room direction few within others = others
+stated-small-by most (IsRoom o) line statements room direction few within others = others
+stated-small-by most (LeadsTo subject towards from) line statements room direction few within others = small-lead (lead_of subject towards from line) (stated_leads statements) room direction (omega (arith, within.0, few)) others
+
+pub implied-small-by : (most : ℕ) (fact : Fact) (line : ℕ) (statements : List Statement) (room direction : ℕ) → most ≤ 1000 → IsWithin most fact → IsSmall (first_target (implied_leads statements) room direction) → IsSmall (first_target (implied_in fact line ++ implied_leads statements) room direction)
+implied-small-by most (Told text) line statements room direction few within others = others
+implied-small-by most (IsRoom o) line statements room direction few within others = others
+implied-small-by most (LeadsTo subject towards from) line statements room direction few within others = small-lead (lead_of from (opposite_of towards) subject line) (implied_leads statements) room direction (omega (arith, within.1, few)) others
+
+pub stated-small : (most : ℕ) (statements : List Statement) (room direction : ℕ) → most ≤ 1000 → AreWithin most statements → IsSmall (first_target (stated_leads statements) room direction)
+stated-small most [] room direction few within = tt
+stated-small most (statement ∷ statements) room direction few within = stated-small-by most statement.fact statement.line statements room direction few within.0 (stated-small most statements room direction few within.1)
+
+pub implied-small : (most : ℕ) (statements : List Statement) (room direction : ℕ) → most ≤ 1000 → AreWithin most statements → IsSmall (first_target (implied_leads statements) room direction)
+implied-small most [] room direction few within = tt
+implied-small most (statement ∷ statements) room direction few within = implied-small-by most statement.fact statement.line statements room direction few within.0 (implied-small most statements room direction few within.1)
+
+-- a source of few objects leads within a story
+pub lead-within : (most : ℕ) (statements : List Statement) → most ≤ 1000 → AreWithin most statements → LeadWithin statements
+lead-within most statements few within room direction = small-first (first_target (stated_leads statements) room direction) (first_target (implied_leads statements) room direction) (stated-small most statements room direction few within) (implied-small most statements room direction few within)
+
+pub unmapped : {A B : Type 0} (f : A → B) (found : Option A) → option_map f found ≡ None → found ≡ None
+unmapped f None none = refl
+unmapped f (Some x) none = absurd cc
+
+pub slice_get-none : {A : Type 0} (xs : List A) (n : ℕ) → slice_get xs n ≡ None → length xs ≤ n
+slice_get-none [] n none = omega arith
+slice_get-none (x ∷ xs) zero none = absurd cc
+slice_get-none (x ∷ xs) (suc n) none = omega (arith, slice_get-none xs n none)
+
+pub first_none_both : {X : Type 0} (a b : Option X) → first_of a b ≡ None → (a ≡ None) × (b ≡ None)
+first_none_both None b none = (refl, none)
+first_none_both (Some x) b none = absurd cc
+
+pub unrefused : (code : FaultCode) (line : Option ℕ) → refusal_at code line ≡ None → line ≡ None
+unrefused code None none = refl
+unrefused code (Some line) none = absurd cc
+
+-- with no object too many there are few
+pub few_objects : (mentions : List NameAt) → object_too_many mentions ≡ None → 13 + length mentions ≤ 1000
+few_objects mentions none = omega (arith, slice_get-none mentions 987 (unmapped line_at (slice_get mentions 987) none))
+
+-- where no refusal stands, no object is too many
+pub frame_few : (statements : List Statement) (mentions : List NameAt) → frame_refusal statements mentions ≡ None → 13 + length mentions ≤ 1000
+unfolding frame_refusal
+frame_few statements mentions none =
+    let a = first_none_both (refusal_at Twice (earlier (taken_name mentions) (second_description (descriptions_of statements)))) _ none in
+    let b = first_none_both (refusal_at WrongKind (wrong_kind statements)) _ a.1 in
+    let c = first_none_both (refusal_at TwoPlaces (second_target statements)) _ b.1 in
+    let d = first_none_both (refusal_at TooMany (object_too_many mentions)) (refusal_at NoRoom (no_room mentions)) c.1 in
+    few_objects mentions (unrefused TooMany (object_too_many mentions) d.0)
+
+-- so a source without refusal leads within a story
+pub frame_within : (statements : List Statement) (mentions : List NameAt) → AreWithin (13 + length mentions) statements → frame_refusal statements mentions ≡ None → LeadWithin statements
+frame_within statements mentions within none = lead-within (13 + length mentions) statements (frame_few statements mentions none) within

@@ -1,0 +1,158 @@
+-- What the sentences may not say together: each refusal's line is that of the first statement that
+-- shows it together with those before it.
+use Rattle.std.specs.Prelude.{ℕ, Bool, false, not, ◌&&◌, ◌||◌, ◌==◌, nat_lt, List, [], ◌∷◌, ◌++◌, flat_map, find, Option, Some, None, is_none, option_map, codes, bytes_eq, if◌then◌else◌}
+use Rattle.std.specs.List.{list_any}
+use Rattle.world_meaning.specs.Spelling.{is_spelled}
+use Rattle.world_meaning.specs.Directions.{direction_number, opposite_of}
+use Rattle.world_meaning.specs.declared.direction.Direction.{Direction}
+use Rattle.i7_kinds.specs.Firsts.{first_of}
+use Rattle.i7_kinds.specs.Statements.{Fact, Told, IsRoom, LeadsTo, Statement, NameAt}
+
+-- the names of kinds and properties, and the words that stand for an object or a number
+abbrev pub taken_names : List (List ℕ)
+taken_names =
+    codes "noun" ∷ codes "second noun" ∷ codes "location" ∷ codes "nothing" ∷ codes "something" ∷ codes "turn count"
+    ∷ codes "thing" ∷ codes "room" ∷ codes "direction" ∷ codes "door" ∷ codes "container" ∷ codes "supporter" ∷ codes "person" ∷ codes "device" ∷ codes "man" ∷ codes "woman"
+    ∷ codes "open" ∷ codes "closed" ∷ codes "openable" ∷ codes "unopenable" ∷ codes "transparent" ∷ codes "opaque" ∷ codes "lit" ∷ codes "unlit" ∷ codes "lighted" ∷ codes "dark"
+    ∷ codes "scenery" ∷ codes "fixed in place" ∷ codes "portable" ∷ codes "wearable" ∷ codes "described" ∷ codes "undescribed" ∷ codes "switched on" ∷ codes "switched off" ∷ codes "visited" ∷ codes "unvisited" ∷ []
+
+abbrev pub is_taken : List ℕ → Bool
+is_taken name = list_any (is_spelled name) taken_names
+
+abbrev pub line_at : NameAt → ℕ
+line_at at = at.line
+
+-- C9 of a name: the first object whose name means something already
+abbrev pub taken_name : List NameAt → Option ℕ
+taken_name mentions = option_map line_at (find (λ at. is_taken at.name.text) mentions)
+
+-- the numbers below this are the player's and the directions'
+abbrev pub first_of_author : ℕ
+first_of_author = 13
+
+abbrev pub is_author : ℕ → Bool
+is_author o = not (nat_lt o first_of_author)
+
+-- the object that a statement is about
+abbrev pub subject_of : Fact → Option ℕ
+subject_of (Told text) = None
+subject_of (IsRoom o) = Some o
+subject_of (LeadsTo subject direction room) = Some subject
+
+-- C8: the player and the directions are no rooms, and a text alone needs a subject before it
+abbrev pub is_wrong : Option ℕ → Fact → Bool
+is_wrong before (Told text) = is_none before
+is_wrong before (IsRoom o) = nat_lt o first_of_author
+is_wrong before (LeadsTo subject direction room) = nat_lt subject first_of_author || nat_lt room first_of_author
+
+abbrev pub wrong_after : Option ℕ → List Statement → Option ℕ
+wrong_after before [] = None
+wrong_after before (statement ∷ statements) =
+    if is_wrong before statement.fact then Some statement.line else wrong_after (subject_of statement.fact) statements
+
+abbrev pub wrong_kind : List Statement → Option ℕ
+wrong_kind statements = wrong_after None statements
+
+-- a text that describes an object of the author's, and its line
+pub record Description : Type 0 where
+  pub object : ℕ
+  pub text : List ℕ
+  pub line : ℕ
+
+abbrev pub told_of : ℕ → Fact → ℕ → List Description
+told_of o (Told text) line = record { object = o; text = text; line = line } ∷ []
+told_of o (IsRoom room) line = []
+told_of o (LeadsTo subject direction room) line = []
+
+abbrev pub described_by : Option ℕ → Statement → List Description
+described_by None statement = []
+described_by (Some o) statement = if is_author o then told_of o statement.fact statement.line else []
+
+abbrev pub described_after : Option ℕ → List Statement → List Description
+described_after before [] = []
+described_after before (statement ∷ statements) = described_by before statement ++ described_after (subject_of statement.fact) statements
+
+-- each text alone describes the author's object that the statement before it is about
+abbrev pub descriptions_of : List Statement → List Description
+descriptions_of statements = described_after None statements
+
+-- an object's description: the first text that describes it
+abbrev pub description_of : List Description → ℕ → Option (List ℕ)
+description_of descriptions o = option_map (λ d. d.text) (find (λ d. d.object == o) descriptions)
+
+abbrev pub says : List ℕ → Option (List ℕ) → Bool
+says text None = false
+says text (Some first) = bytes_eq text first
+
+abbrev pub is_second : List Description → Description → Bool
+is_second descriptions d = not (says d.text (description_of descriptions d.object))
+
+abbrev pub line_of_description : Description → ℕ
+line_of_description d = d.line
+
+-- C9 of a text: the first that describes an object otherwise than its description
+abbrev pub second_description : List Description → Option ℕ
+second_description descriptions = option_map line_of_description (find (is_second descriptions) descriptions)
+
+-- an exit: a direction out of a room; and where a statement leads it
+pub record Lead : Type 0 where
+  pub room : ℕ
+  pub direction : ℕ
+  pub target : ℕ
+  pub line : ℕ
+
+-- the subject lies in the direction of the room
+abbrev pub lead_of : ℕ → Direction → ℕ → ℕ → Lead
+lead_of subject direction room line = record { room = room; direction = direction_number direction; target = subject; line = line }
+
+-- the ways that statements state
+abbrev pub stated_in : Fact → ℕ → List Lead
+stated_in (Told text) line = []
+stated_in (IsRoom o) line = []
+stated_in (LeadsTo subject direction room) line = lead_of subject direction room line ∷ []
+
+-- the ways back that they imply
+abbrev pub implied_in : Fact → ℕ → List Lead
+implied_in (Told text) line = []
+implied_in (IsRoom o) line = []
+implied_in (LeadsTo subject direction room) line = lead_of room (opposite_of direction) subject line ∷ []
+
+abbrev pub stated_by_one : Statement → List Lead
+stated_by_one statement = stated_in statement.fact statement.line
+
+abbrev pub implied_by_one : Statement → List Lead
+implied_by_one statement = implied_in statement.fact statement.line
+
+abbrev pub stated_leads : List Statement → List Lead
+stated_leads statements = flat_map stated_by_one statements
+
+abbrev pub implied_leads : List Statement → List Lead
+implied_leads statements = flat_map implied_by_one statements
+
+abbrev pub is_exit : ℕ → ℕ → Lead → Bool
+is_exit room direction lead = (lead.room == room) && (lead.direction == direction)
+
+abbrev pub target_led : Lead → ℕ
+target_led lead = lead.target
+
+-- where an exit is led first
+abbrev pub first_target : List Lead → ℕ → ℕ → Option ℕ
+first_target leads room direction = option_map target_led (find (is_exit room direction) leads)
+
+-- where an exit leads: where a sentence says, else where the first that implies it does
+abbrev pub target_of : List Statement → ℕ → ℕ → Option ℕ
+target_of statements room direction = first_of (first_target (stated_leads statements) room direction) (first_target (implied_leads statements) room direction)
+
+abbrev pub leads_to : ℕ → Option ℕ → Bool
+leads_to target None = false
+leads_to target (Some first) = target == first
+
+abbrev pub is_elsewhere : List Lead → Lead → Bool
+is_elsewhere leads lead = not (leads_to lead.target (first_target leads lead.room lead.direction))
+
+abbrev pub line_of_lead : Lead → ℕ
+line_of_lead lead = lead.line
+
+-- C10: the first statement that leads an exit to a second target
+abbrev pub second_target : List Statement → Option ℕ
+second_target statements = option_map line_of_lead (find (is_elsewhere (stated_leads statements)) (stated_leads statements))

@@ -1,0 +1,137 @@
+-- The tale that a source's sentences mean, or the refusal that stands.
+use Rattle.std.specs.Prelude.{ℕ, ◌+◌, ◌-◌, Bool, ◌||◌, ◌==◌, nat_lt, min, List, [], ◌∷◌, ◌++◌, length, map, find, replicate, slice_get, Option, Some, None, option_map, codes, Result, Ok, Err, if◌then◌else◌}
+use Rattle.std.specs.List.{list_any}
+use Rattle.world_meaning.specs.Directions.{all_directions, direction_name, direction_number}
+use Rattle.world_meaning.specs.declared.article.Article.{Article}
+use Rattle.world_meaning.specs.declared.article.Article.TheVariants as article
+use Rattle.world_meaning.specs.declared.direction.Direction.{Direction}
+use Rattle.world_meaning.specs.declared.exits.Exits.{Exits}
+use Rattle.world_meaning.specs.declared.exits.Way.{Way}
+use Rattle.world_meaning.specs.declared.fault.Fault.{Fault}
+use Rattle.world_meaning.specs.declared.fault.FaultCode.{FaultCode}
+use Rattle.world_meaning.specs.declared.fault.FaultCode.TheVariants.{Twice, WrongKind, TwoPlaces, TooMany, NoRoom}
+use Rattle.world_meaning.specs.declared.place.Place.{Place}
+use Rattle.world_meaning.specs.declared.place.Rel.TheVariants.{In}
+use Rattle.world_meaning.specs.declared.tale.Object.{Object}
+use Rattle.world_meaning.specs.declared.tale.Tale.{Tale}
+use Rattle.i7_sentences.specs.declared.name.NameArticle.{NameArticle}
+use Rattle.i7_sentences.specs.declared.name.NameArticle.TheVariants as written
+use Rattle.i7_sentences.specs.declared.sentence.Sentence.{Sentence}
+use Rattle.i7_kinds.specs.Demands.{Description, taken_name, wrong_kind, descriptions_of, description_of, second_description, second_target, target_of, first_of_author, line_at, line_of_description}
+use Rattle.object_words.specs.Words.{words_for}
+use Rattle.i7_kinds.specs.Firsts.{first_of}
+use Rattle.i7_kinds.specs.Statements.{NameAt, Statement, named_by, stated_by}
+
+-- the lower of two lines
+abbrev pub earlier : Option ℕ → Option ℕ → Option ℕ
+earlier None other = other
+earlier (Some a) None = Some a
+earlier (Some a) (Some b) = Some (min a b)
+
+-- C12: the object that is one too many; the player and the directions are among the 1,000
+abbrev pub object_too_many : List NameAt → Option ℕ
+object_too_many mentions = option_map line_at (slice_get mentions (1000 - first_of_author))
+
+-- C12: a name of over 65,535 bytes or 32 words, at its first mention
+abbrev pub is_too_long : List ℕ → Bool
+is_too_long name = nat_lt 65535 (length name) || nat_lt 32 (length (words_for 1 name))
+
+abbrev pub has_long_name : NameAt → Bool
+has_long_name at = is_too_long at.name.text
+
+abbrev pub name_too_long : List NameAt → Option ℕ
+name_too_long mentions = option_map line_at (find has_long_name mentions)
+
+abbrev pub has_long_text : Description → Bool
+has_long_text d = nat_lt 65535 (length d.text)
+
+-- C12: a description of over 65,535 bytes
+abbrev pub text_too_long : List Description → Option ℕ
+text_too_long descriptions = option_map line_of_description (find has_long_text descriptions)
+
+abbrev pub is_vowel : ℕ → Bool
+is_vowel b = list_any (λ vowel. b == vowel) (codes "aeiouAEIOU")
+
+-- `an` stands before a vowel
+abbrev pub plain_article : List ℕ → Article
+plain_article [] = article.A
+plain_article (b ∷ bs) = if is_vowel b then article.An else article.A
+
+-- the article that an object is printed with, by that of its first mention
+abbrev pub article_of : NameArticle → List ℕ → Article
+article_of written.None name = article.None
+article_of written.Plain name = plain_article name
+article_of written.Some name = article.Some
+
+abbrev pub way_to : Option ℕ → Way
+way_to target = record { room = target; door = None }
+
+-- where a room's twelve directions lead
+unfoldable pub exits_of : List Statement → ℕ → Exits
+exits_of statements room = record { ways = map (λ d. way_to (target_of statements room (direction_number d))) all_directions }
+
+abbrev pub no_exits : Exits
+no_exits = record { ways = replicate 12 (way_to None) }
+
+abbrev pub built_in : ℕ → List ℕ → Option Place → Object
+built_in kind name place = record { kind = kind; name = name; article = article.None; description = None; place = place; exits = no_exits }
+
+-- the player stands in the lowest-numbered room
+abbrev pub player : Object
+player = built_in 6 (codes "yourself") (Some (record { relation = In; holder = first_of_author }))
+
+abbrev pub direction_object : Direction → Object
+direction_object d = built_in 2 (direction_name d) None
+
+-- a room of the author's, by its number and its first mention
+unfoldable pub room_of : List Statement → ℕ → NameAt → Object
+room_of statements o at = record {
+  kind = 1;
+  name = at.name.text;
+  article = article_of at.name.article at.name.text;
+  description = description_of (descriptions_of statements) o;
+  place = None;
+  exits = exits_of statements o;
+}
+
+abbrev pub rooms_from : List Statement → ℕ → List NameAt → List Object
+rooms_from statements o [] = []
+rooms_from statements o (at ∷ mentions) = room_of statements o at ∷ rooms_from statements (o + 1) mentions
+
+-- the objects by number: the player, the directions, the author's rooms
+unfoldable pub objects_of : List Statement → List NameAt → List Object
+objects_of statements mentions = player ∷ map direction_object all_directions ++ rooms_from statements first_of_author mentions
+
+-- a source without a room is refused at line 1
+abbrev pub no_room : List NameAt → Option ℕ
+no_room [] = Some 1
+no_room (at ∷ mentions) = None
+
+abbrev pub refusal_at : FaultCode → Option ℕ → Option Fault
+refusal_at code None = None
+refusal_at code (Some line) = Some (record { code = code; line = line })
+
+-- what the statements may not say together: each code is looked for in all of them before the next
+unfoldable pub frame_refusal : List Statement → List NameAt → Option Fault
+frame_refusal statements mentions =
+    first_of (refusal_at Twice (earlier (taken_name mentions) (second_description (descriptions_of statements))))
+    (first_of (refusal_at WrongKind (wrong_kind statements))
+    (first_of (refusal_at TwoPlaces (second_target statements))
+    (first_of (refusal_at TooMany (object_too_many mentions))
+    (refusal_at NoRoom (no_room mentions)))))
+
+-- what is too long
+unfoldable pub limit_refusal : List Statement → List NameAt → Option Fault
+limit_refusal statements mentions = refusal_at TooMany (earlier (name_too_long mentions) (text_too_long (descriptions_of statements)))
+
+abbrev pub or_refused : Option Fault → Tale → Result Tale Fault
+or_refused None tale = Ok tale
+or_refused (Some fault) tale = Err fault
+
+-- the tale, unless a refusal stands
+abbrev pub judged : List Statement → List NameAt → Result Tale Fault
+judged statements mentions = or_refused (first_of (frame_refusal statements mentions) (limit_refusal statements mentions)) (record { objects = objects_of statements mentions })
+
+-- the tale of a source's sentences, or the refusal that stands
+abbrev pub tale_said : List Sentence → Result Tale Fault
+tale_said sentences = judged (stated_by sentences) ((named_by sentences).mentions)

@@ -1,0 +1,153 @@
+//! Lone texts: each describes the room that is the subject of the sentence before it.
+ghost use Rattle.std.specs.Prelude.{◌≡◌, ℕ, nat_eq, option_copied, IfOk, OnOk};
+ghost use Rattle.i7_kinds.specs.Demands.{described_by, description_of, descriptions_of, is_second, second_description, subject_of};
+ghost use Rattle.i7_kinds.specs.Firsts.{first_of, given};
+ghost use Rattle.i7_kinds.specs.Views.{fact_of, found_descriptions, statement_of, statements_of, text_at, told_description, told_descriptions};
+
+use crate::names::FIRST_OF_AUTHOR;
+use crate::statements::{Fact, Statement};
+use indexmap::IndexMap;
+use std::alloc::{AllocError, Global};
+use world_meaning::TextBytes;
+
+/// An object of the author's, and a text that describes it.
+#[derive(Clone, Copy, Debug)]
+pub struct Description<'a> {
+    pub object: usize,
+    pub text: &'a TextBytes,
+    pub line: u32,
+}
+
+/// The number of the object that a sentence is about, if there is one.
+pub fn subject_of(fact: &Fact<'_>) -> Option<usize>
+    ensures { result ≡ subject_of (fact_of fact.now) }
+{
+    match fact {
+        Fact::Description(_) => None,
+        Fact::Room(number) => Some(*number),
+        Fact::Way(way) => Some(way.subject),
+    }
+}
+
+/// What a statement behind one about this object, or about none, describes.
+fn described_by<'a>(before: Option<usize>, statement: &Statement<'a>) -> Option<Description<'a>>
+    ensures { found_descriptions result ≡ described_by before (statement_of statement.now) }
+{
+    let object = before?;
+    match statement.fact {
+        Fact::Description(text) if object >= FIRST_OF_AUTHOR => Some(Description {
+            object,
+            text,
+            line: statement.line,
+        }),
+        Fact::Description(_) | Fact::Room(_) | Fact::Way(_) => None,
+    }
+}
+
+/// The descriptions that follow a statement about an object of the author's, in order.
+pub fn descriptions_of<'a>(
+    alloc: Global,
+    statements: &[Statement<'a>],
+) -> Result<Vec<Description<'a>>, AllocError>
+    ensures { IfOk result (λ found. told_descriptions found.items ≡ descriptions_of (statements_of statements.now)) }
+{
+    let mut descriptions = Vec::new(alloc);
+    let mut subject = None;
+    let mut rest = statements;
+    while let [statement, after @ ..] = rest {
+        if let Some(description) = described_by(subject, statement) {
+            descriptions.push(description)?;
+        }
+        subject = subject_of(&statement.fact);
+        rest = after;
+    }
+    Ok(descriptions)
+}
+
+/// The texts that describe the author's objects, and each object's first.
+#[derive(Drop)]
+pub struct Descriptions<'a> {
+    all: Vec<Description<'a>>,
+    firsts: IndexMap<usize, &'a TextBytes>,
+    ghost first: { (object : ℕ) → text_at firsts object ≡ description_of (told_descriptions all.items) object },
+}
+
+/// Gives an object its description, unless it has one.
+fn describe<'a>(
+    firsts: &mut IndexMap<usize, &'a TextBytes>,
+    description: &Description<'a>,
+) -> Result<(), AllocError>
+    ensures { OnOk result ((object : ℕ) → text_at firsts.new object ≡ first_of (text_at firsts.old object) (given nat_eq description.now.object description.now.text.now object)) }
+{
+    if firsts.get(&description.object).is_none() {
+        firsts.insert(description.object, description.text)?;
+    }
+    Ok(())
+}
+
+/// Each object's first description.
+fn first_descriptions<'a>(
+    alloc: Global,
+    descriptions: &[Description<'a>],
+) -> Result<IndexMap<usize, &'a TextBytes>, AllocError>
+    ensures { IfOk result (λ firsts. (object : ℕ) → text_at firsts object ≡ description_of (told_descriptions descriptions.now) object) }
+{
+    let mut firsts = IndexMap::new(alloc);
+    let mut rest = descriptions;
+    while let [description, after @ ..] = rest {
+        describe(&mut firsts, description)?;
+        rest = after;
+    }
+    Ok(firsts)
+}
+
+impl<'a> Descriptions<'a> {
+    ghost use Rattle.i7_kinds.specs.Described.{descriptions_in};
+
+    /// The descriptions that the statements give.
+    pub fn new(alloc: Global, statements: &[Statement<'a>]) -> Result<Descriptions<'a>, AllocError>
+        ensures { IfOk result (λ found. descriptions_in found ≡ descriptions_of (statements_of statements.now)) }
+    {
+        let all = descriptions_of(alloc, statements)?;
+        let firsts = first_descriptions(alloc, all.as_slice())?;
+        Ok(Descriptions { all, firsts })
+    }
+
+    /// All of them, in order.
+    pub fn all(&self) -> &[Description<'a>]
+        ensures { told_descriptions result.now ≡ descriptions_in self.now }
+    {
+        self.all.as_slice()
+    }
+
+    /// The object's first description.
+    pub fn of(&self, object: usize) -> Option<&'a TextBytes>
+        ensures { option_copied result ≡ description_of (descriptions_in self.now) object }
+    {
+        self.firsts.get(&object).copied()
+    }
+
+    /// The line of the first text that describes an object otherwise than its first description.
+    pub fn second(&self) -> Option<u32>
+        ensures { result ≡ second_description (descriptions_in self.now) }
+    {
+        let mut rest = self.all.as_slice();
+        while let [description, after @ ..] = rest {
+            if self.is_second(description) {
+                return Some(description.line);
+            }
+            rest = after;
+        }
+        None
+    }
+
+    /// Whether the text isn't the object's first description.
+    fn is_second(&self, description: &Description<'a>) -> bool
+        ensures { result ≡ is_second (descriptions_in self.now) (told_description description.now) }
+    {
+        match self.of(description.object) {
+            None => true,
+            Some(first) => description.text.as_slice() != first.as_slice(),
+        }
+    }
+}

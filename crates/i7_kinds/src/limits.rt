@@ -1,0 +1,70 @@
+//! The limits of a tale: objects, words of a name, bytes of a name or a text.
+ghost use Rattle.std.specs.Prelude.{◌≡◌, IfOk};
+ghost use Rattle.i7_kinds.specs.Tales.{is_too_long, name_too_long, object_too_many, text_too_long};
+ghost use Rattle.i7_kinds.specs.Views.{mentions_of, told_descriptions};
+
+use crate::descriptions::Description;
+use crate::names::{FIRST_OF_AUTHOR, Mention};
+use object_words::words_for;
+use std::alloc::{AllocError, Global};
+
+/// The number of the kind room.
+const ROOM: u8 = 1;
+
+/// The most objects of a story, the player and the directions counted.
+const MOST_OBJECTS: usize = 1000;
+
+/// The most words of an object.
+const MOST_WORDS: usize = 32;
+
+/// The most bytes of a name or a text.
+const MOST_BYTES: usize = 65_535;
+
+/// The line of the mention that is one object too many.
+pub fn object_too_many(mentions: &[Mention<'_>]) -> Option<u32>
+    ensures { result ≡ object_too_many (mentions_of mentions.now) }
+{
+    match mentions.get(MOST_OBJECTS - FIRST_OF_AUTHOR) {
+        Some(mention) => Some(mention.line),
+        None => None,
+    }
+}
+
+/// Whether a name has too many words or bytes.
+fn is_too_long(alloc: Global, name: &[u8]) -> Result<bool, AllocError>
+    ensures { IfOk result (λ long. long ≡ is_too_long name.now) }
+{
+    if name.len() > MOST_BYTES {
+        return Ok(true);
+    }
+    let words = words_for(alloc, ROOM, name)?;
+    Ok(words.len() > MOST_WORDS)
+}
+
+/// The line of the first mention of a name that is too long.
+pub fn name_too_long(alloc: Global, mentions: &[Mention<'_>]) -> Result<Option<u32>, AllocError>
+    ensures { IfOk result (λ line. line ≡ name_too_long (mentions_of mentions.now)) }
+{
+    let mut rest = mentions;
+    while let [mention, after @ ..] = rest {
+        if is_too_long(alloc, mention.name.text.as_slice())? {
+            return Ok(Some(mention.line));
+        }
+        rest = after;
+    }
+    Ok(None)
+}
+
+/// The line of the first description that is too long.
+pub fn text_too_long(descriptions: &[Description<'_>]) -> Option<u32>
+    ensures { result ≡ text_too_long (told_descriptions descriptions.now) }
+{
+    let mut rest = descriptions;
+    while let [description, after @ ..] = rest {
+        if description.text.as_slice().len() > MOST_BYTES {
+            return Some(description.line);
+        }
+        rest = after;
+    }
+    None
+}

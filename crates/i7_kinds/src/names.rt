@@ -1,0 +1,155 @@
+//! The objects of a source by their names: 0 the player, 1 to 12 the directions, then the author's by
+//! first mention.
+ghost use Rattle.std.specs.Prelude.{◌≡◌, [], IfOk, OnOk};
+ghost use Rattle.std.specs.Str.{str_to_ascii_lowercase};
+ghost use Rattle.i7_kinds.specs.Statements.{built_in_keys, key_of, named_by, number_in, number_of, with_name, with_names_of};
+ghost use Rattle.i7_kinds.specs.Views.{names_of};
+
+use i7_sentences::{Name, Saying, Sentence};
+use object_words::Strings;
+use std::alloc::{AllocError, Global};
+use world_meaning::{Direction, is_spelled};
+
+/// The first number of an object of the author's.
+pub const FIRST_OF_AUTHOR: usize = 13;
+
+/// The first mention of an object of the author's.
+#[derive(Clone, Copy, Debug)]
+pub struct Mention<'a> {
+    pub name: &'a Name,
+    pub line: u32,
+}
+
+/// The names of a source's objects: their keys by number, and the author's objects by first mention.
+#[derive(Drop)]
+pub struct Names<'a> {
+    keys: Strings,
+    mentions: Vec<Mention<'a>>,
+}
+
+/// The bytes with small ASCII letters.
+fn lowered(alloc: Global, bytes: &[u8]) -> Result<Vec<u8>, AllocError>
+    ensures { IfOk result (λ small. small.items ≡ str_to_ascii_lowercase bytes.now) }
+{
+    bytes
+        .iter()
+        .map(|byte| byte.to_ascii_lowercase())
+        .collect(alloc)
+}
+
+/// The key of a name: its bytes in small letters; the player's names have one key.
+fn key_of(alloc: Global, name: &[u8]) -> Result<Vec<u8>, AllocError>
+    ensures { IfOk result (λ key. key.items ≡ key_of name.now) }
+{
+    if is_spelled(name, b"player") {
+        return Vec::from_slice(alloc, b"yourself");
+    }
+    lowered(alloc, name)
+}
+
+/// The keys of the built-in objects.
+fn built_in_keys(alloc: Global) -> Result<Strings, AllocError>
+    ensures { IfOk result (λ keys. keys ≡ built_in_keys) }
+{
+    let mut keys = Strings::new(alloc);
+    keys.mention(alloc, b"yourself")?;
+    keys.mention(alloc, b"north")?;
+    keys.mention(alloc, b"northeast")?;
+    keys.mention(alloc, b"northwest")?;
+    keys.mention(alloc, b"south")?;
+    keys.mention(alloc, b"southeast")?;
+    keys.mention(alloc, b"southwest")?;
+    keys.mention(alloc, b"east")?;
+    keys.mention(alloc, b"west")?;
+    keys.mention(alloc, b"up")?;
+    keys.mention(alloc, b"down")?;
+    keys.mention(alloc, b"inside")?;
+    keys.mention(alloc, b"outside")?;
+    Ok(keys)
+}
+
+/// The place of a key.
+fn number_in(keys: &Strings, key: &[u8]) -> usize
+    ensures { result ≡ number_in keys.now key.now }
+{
+    match keys.place_of(key) {
+        Some(place) => place,
+        None => keys.len(),
+    }
+}
+
+/// Takes up a name, if it is new.
+fn take_up<'a>(
+    alloc: Global,
+    names: &mut Names<'a>,
+    name: &'a Name,
+    line: u32,
+) -> Result<(), AllocError>
+    ensures { OnOk result (names_of names.new ≡ with_name (names_of names.old) (record { name = name.now; line = line })) }
+{
+    let key = key_of(alloc, name.text.as_slice())?;
+    if !names.keys.contains(key.as_slice()) {
+        names.keys.mention(alloc, key.as_slice())?;
+        names.mentions.push(Mention { name, line })?;
+    }
+    Ok(())
+}
+
+/// Takes up the names of a sentence, in the order of its words.
+fn take_up_all<'a>(
+    alloc: Global,
+    names: &mut Names<'a>,
+    sentence: &'a Sentence,
+) -> Result<(), AllocError>
+    ensures { OnOk result (names_of names.new ≡ with_names_of (names_of names.old) sentence.now) }
+{
+    let line = sentence.line;
+    match &sentence.saying {
+        Saying::Description(_) => Ok(()),
+        Saying::Room(name) => take_up(alloc, names, name, line),
+        Saying::Way(way) => {
+            let (first, second) = if way.is_room_first {
+                (&way.room, &way.subject)
+            } else {
+                (&way.subject, &way.room)
+            };
+            take_up(alloc, names, first, line)?;
+            take_up(alloc, names, second, line)
+        }
+    }
+}
+
+/// The names of the sentences.
+pub fn names_of<'a>(alloc: Global, sentences: &'a [Sentence]) -> Result<Names<'a>, AllocError>
+    ensures { IfOk result (λ names. names_of names ≡ named_by sentences.now) }
+{
+    let mut names = Names {
+        keys: built_in_keys(alloc)?,
+        mentions: Vec::new(alloc),
+    };
+    let mut rest = sentences;
+    while let [sentence, after @ ..] = rest {
+        take_up_all(alloc, &mut names, sentence)?;
+        rest = after;
+    }
+    Ok(names)
+}
+
+impl<'a> Names<'a> {
+    ghost use Rattle.i7_kinds.specs.Views.{mentions_of};
+
+    /// The author's objects, in order.
+    pub fn mentions(&self) -> &[Mention<'a>]
+        ensures { mentions_of result.now ≡ (names_of self.now).mentions }
+    {
+        self.mentions.as_slice()
+    }
+
+    /// The number of the object of this name.
+    pub fn number_of(&self, alloc: Global, name: &Name) -> Result<usize, AllocError>
+        ensures { IfOk result (λ number. number ≡ number_of (names_of self.now) name.now) }
+    {
+        let key = key_of(alloc, name.text.as_slice())?;
+        Ok(number_in(&self.keys, key.as_slice()))
+    }
+}

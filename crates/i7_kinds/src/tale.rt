@@ -1,0 +1,145 @@
+//! The tale of a source's sentences, or the refusal that stands.
+ghost use Rattle.std.specs.Prelude.{◌≡◌, ◌⊎◌, ◌+◌, length, None, Ok, Err, IfErr, IfOk};
+ghost use Rattle.i7_kinds.specs.Bounds.{AreWithin};
+ghost use Rattle.i7_kinds.specs.Demands.{descriptions_of};
+ghost use Rattle.i7_kinds.specs.Described.{descriptions_in};
+ghost use Rattle.i7_kinds.specs.StatedWays.{stated};
+ghost use Rattle.i7_kinds.specs.Tales.{earlier, frame_refusal, judged, limit_refusal, no_room, refusal_at, tale_said};
+ghost use Rattle.i7_kinds.specs.Views.{mentions_of, statements_of};
+
+use crate::descriptions::Descriptions;
+use crate::kinds::wrong_kind;
+use crate::limits::{name_too_long, object_too_many, text_too_long};
+use crate::names::{Mention, names_of};
+use crate::objects::objects_of;
+use crate::reserved_names::taken_name;
+use crate::statements::{Statement, statements_in};
+use crate::ways::Ways;
+use i7_sentences::Sentence;
+use std::alloc::{AllocError, Global};
+use world_meaning::{Fault, FaultCode, Tale};
+
+/// The refusal at a line, if there is one.
+fn refusal_at(code: FaultCode, line: Option<u32>) -> Option<Fault>
+    ensures { result ≡ refusal_at code line }
+{
+    match line {
+        Some(line) => Some(Fault { code, line }),
+        None => None,
+    }
+}
+
+/// The lower of two lines.
+fn earlier(first: Option<u32>, second: Option<u32>) -> Option<u32>
+    ensures { result ≡ earlier first second }
+{
+    match first {
+        None => second,
+        Some(a) => match second {
+            None => Some(a),
+            Some(b) => Some(a.min(b)),
+        },
+    }
+}
+
+/// A source without a room is refused at line 1.
+fn no_room(mentions: &[Mention<'_>]) -> Option<u32>
+    ensures { result ≡ no_room (mentions_of mentions.now) }
+{
+    match mentions {
+        [] => Some(1),
+        [_, ..] => None,
+    }
+}
+
+/// What the statements may not say together: a name or a description twice, a wrong kind, an exit of
+/// two targets, an object too many, no room; each is looked for in all of them before the next.
+#[tactic(auto, unfolding(crate::specs::Tales::frame_refusal))]
+fn frame_refusal(
+    mentions: &[Mention<'_>],
+    statements: &[Statement<'_>],
+    descriptions: &Descriptions<'_>,
+    ways: &Ways<'_>,
+) -> Option<Fault>
+    requires described { descriptions_in descriptions.now ≡ descriptions_of (statements_of statements.now) }
+    requires led { stated ways.now ≡ statements_of statements.now }
+    ensures { result ≡ frame_refusal (statements_of statements.now) (mentions_of mentions.now) }
+{
+    let twice = earlier(taken_name(mentions), descriptions.second());
+    if let Some(fault) = refusal_at(FaultCode::Twice, twice) {
+        return Some(fault);
+    }
+    if let Some(fault) = refusal_at(FaultCode::WrongKind, wrong_kind(statements)) {
+        return Some(fault);
+    }
+    if let Some(fault) = refusal_at(FaultCode::TwoPlaces, ways.second_target()) {
+        return Some(fault);
+    }
+    if let Some(fault) = refusal_at(FaultCode::TooMany, object_too_many(mentions)) {
+        return Some(fault);
+    }
+    refusal_at(FaultCode::NoRoom, no_room(mentions))
+}
+
+/// The first name or text that is too long.
+#[tactic(auto, unfolding(crate::specs::Tales::limit_refusal))]
+fn limit_refusal(
+    alloc: Global,
+    mentions: &[Mention<'_>],
+    statements: &[Statement<'_>],
+    descriptions: &Descriptions<'_>,
+) -> Result<Option<Fault>, AllocError>
+    requires described { descriptions_in descriptions.now ≡ descriptions_of (statements_of statements.now) }
+    ensures { IfOk result (λ refusal. refusal ≡ limit_refusal (statements_of statements.now) (mentions_of mentions.now)) }
+{
+    let name = name_too_long(alloc, mentions)?;
+    let text = text_too_long(descriptions.all());
+    Ok(refusal_at(FaultCode::TooMany, earlier(name, text)))
+}
+
+/// The tale of these statements, or the refusal that stands.
+fn judged(
+    alloc: Global,
+    mentions: &[Mention<'_>],
+    statements: &[Statement<'_>],
+) -> Result<Result<Tale, Fault>, AllocError>
+    requires { AreWithin (13 + length (mentions_of mentions.now)) (statements_of statements.now) }
+    ensures { IfOk result (λ said. said ≡ judged (statements_of statements.now) (mentions_of mentions.now)) }
+{
+    let descriptions = Descriptions::new(alloc, statements)?;
+    let ways = Ways::new(alloc, statements)?;
+    if let Some(fault) = frame_refusal(mentions, statements, &descriptions, &ways) {
+        return Ok(Err(fault));
+    }
+    if let Some(fault) = limit_refusal(alloc, mentions, statements, &descriptions)? {
+        return Ok(Err(fault));
+    }
+    let objects = objects_of(alloc, mentions, &descriptions, &ways)?;
+    Ok(Ok(Tale { objects }))
+}
+
+/// What the sentences mean: a tale or a refusal.
+fn tale_said(alloc: Global, sentences: &[Sentence]) -> Result<Result<Tale, Fault>, AllocError>
+    ensures { IfOk result (λ said. said ≡ tale_said sentences.now) }
+{
+    let names = names_of(alloc, sentences)?;
+    let statements = statements_in(alloc, &names, sentences)?;
+    let said = judged(alloc, names.mentions(), statements.as_slice())?;
+    Ok(said)
+}
+
+/// The tale that the sentences mean, or the refusal that stands, each code being looked for in the
+/// whole source before the next, the lowest line first: C9, C8, C10, C12 of objects, C13, then C12
+/// of names and texts. Memory is C14, at line 1.
+pub fn tale_of(alloc: Global, sentences: &[Sentence]) -> Result<Tale, Fault>
+    ensures told { IfOk result (λ tale. tale_said sentences.now ≡ Ok tale) }
+    ensures refused { IfErr result (λ fault. (tale_said sentences.now ≡ Err fault) ⊎ (fault ≡ record { code = FaultCode.Memory; line = 1 })) }
+{
+    match tale_said(alloc, sentences) {
+        Ok(said) => said,
+        Err(_) => Err(Fault {
+            code: FaultCode::Memory,
+            line: 1,
+        }),
+    }
+}

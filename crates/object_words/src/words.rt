@@ -1,0 +1,109 @@
+//! The words that a command may name an object by.
+ghost use Rattle.std.specs.Prelude.{◌≡◌, [], ◌∷◌, IfOk, OnOk, fold, filter, position};
+ghost use Rattle.std.specs.List.{flat_map};
+ghost use Rattle.object_words.specs.Mentions.{mention};
+ghost use Rattle.object_words.specs.Words.{is_blank, is_word, blank_words, lowered, more_words, words_for, player_words, short_word_of};
+
+use crate::strings::Strings;
+use std::alloc::{AllocError, Global};
+use world_meaning::Direction;
+
+/// The kind of the directions.
+pub const DIRECTION: u8 = 2;
+
+/// The kind of the player.
+pub const PERSON: u8 = 6;
+
+/// The text with small ASCII letters.
+fn lowered_text(alloc: Global, text: &[u8]) -> Result<Vec<u8>, AllocError>
+    ensures { IfOk result (λ bytes. bytes.items ≡ lowered text.now) }
+{
+    text.iter()
+        .map(|byte| byte.to_ascii_lowercase())
+        .collect(alloc)
+}
+
+/// The place of the first blank.
+fn first_blank(bytes: &[u8]) -> Option<usize>
+    ensures { result ≡ position is_blank bytes.now }
+{
+    bytes.iter().position(|byte| *byte == b' ')
+}
+
+/// Mentions what stands between two blanks, unless nothing does.
+fn mention_piece(alloc: Global, words: &mut Strings, piece: &[u8]) -> Result<(), AllocError>
+    ensures { OnOk result (words.new ≡ fold mention words.old (filter is_word (piece.now ∷ []))) }
+{
+    if piece.is_empty() {
+        return Ok(());
+    }
+    words.mention(alloc, piece)
+}
+
+/// Mentions each word between the blanks of a text.
+fn mention_words(alloc: Global, words: &mut Strings, text: &[u8]) -> Result<(), AllocError>
+    ensures { OnOk result (words.new ≡ fold mention words.old (blank_words text.now)) }
+{
+    let mut rest = text;
+    while let Some(end) = first_blank(rest) {
+        let (piece, behind) = rest.split_at(end);
+        mention_piece(alloc, words, piece)?;
+        let (_, after) = behind.split_at(1);
+        rest = after;
+    }
+    mention_piece(alloc, words, rest)?;
+    Ok(())
+}
+
+fn mention_player_words(alloc: Global, words: &mut Strings) -> Result<(), AllocError>
+    ensures { OnOk result (words.new ≡ fold mention words.old player_words) }
+{
+    words.mention(alloc, b"me")?;
+    words.mention(alloc, b"myself")?;
+    words.mention(alloc, b"self")?;
+    words.mention(alloc, b"yourself")
+}
+
+fn mention_short_words(
+    alloc: Global,
+    words: &mut Strings,
+    name: &[u8],
+    directions: &[Direction],
+) -> Result<(), AllocError>
+    ensures { OnOk result (words.new ≡ fold mention words.old (flat_map (short_word_of name.now) directions.now)) }
+{
+    for direction in directions {
+        if direction.name() == name {
+            words.mention(alloc, direction.short_word())?;
+        }
+    }
+    Ok(())
+}
+
+#[tactic(auto, unfolding(crate::specs::Words::more_words))]
+fn mention_more_words(
+    alloc: Global,
+    words: &mut Strings,
+    kind: u8,
+    name: &[u8],
+) -> Result<(), AllocError>
+    ensures { OnOk result (words.new ≡ fold mention words.old (more_words kind name.now)) }
+{
+    match kind {
+        PERSON => mention_player_words(alloc, words),
+        DIRECTION => mention_short_words(alloc, words, name, &Direction::ALL),
+        _ => Ok(()),
+    }
+}
+
+/// The words of an object of this kind and name, each once.
+#[tactic(auto, unfolding(crate::specs::Words::words_for), using(crate::proofs::Folds::fold_both))]
+pub fn words_for(alloc: Global, kind: u8, name: &[u8]) -> Result<Strings, AllocError>
+    ensures { IfOk result (λ words. words ≡ words_for kind name.now) }
+{
+    let small = lowered_text(alloc, name)?;
+    let mut words = Strings::new(alloc);
+    mention_words(alloc, &mut words, small.as_slice())?;
+    mention_more_words(alloc, &mut words, kind, name)?;
+    Ok(words)
+}

@@ -1,7 +1,0 @@
-use Rattle.std.proofs.Common.{◌∙◌, sym}
-use Rattle.std.specs.Str.{bytes_eq}
-use Rattle.story_format.proofs.StringLemmas.{any_mapped}
-use Rattle.story_format.proofs.strings.Strings.contains.Goals as goal
-
-pub returns : goal.returns
-returns c = rw (← c.self.view_is) (c.contains.ensures ∙ sym (any_mapped (λ key. key.items) (bytes_eq c.args.string.now) c.self.inside.set.keys))
