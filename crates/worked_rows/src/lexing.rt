@@ -1,6 +1,5 @@
-//! Worked examples, and sources that are hostile.
-
-use crate::{Lexed, Start, Token, TokenKind, lex};
+//! Sources with the tokens that they spell, and such that are hard on the lexer.
+use i7_lexer::{Lexed, Start, Token, TokenKind, lex};
 use std::alloc::{AllocError, Global};
 use std::fmt::Write;
 use std::str;
