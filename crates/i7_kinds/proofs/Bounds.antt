@@ -6,8 +6,8 @@ use Rattle.std.specs.List.{position_or_len}
 use Rattle.std.specs.Str.{bytes_eq}
 use Rattle.std.proofs.lemmas.List.{length-append}
 use Rattle.i7_sentences.specs.declared.sentence.Sentence.{Sentence}
-use Rattle.i7_sentences.specs.declared.sentence.Saying.{Saying}
-use Rattle.i7_sentences.specs.declared.sentence.Saying.TheVariants.{Description, Room, Way}
+use Rattle.i7_sentences.specs.declared.sentence.Assertion.{Assertion}
+use Rattle.i7_sentences.specs.declared.sentence.Assertion.TheVariants.{Description, Room, Way}
 use Rattle.world_meaning.specs.Directions.{opposite_of}
 use Rattle.world_meaning.specs.declared.fault.FaultCode.{FaultCode}
 use Rattle.world_meaning.specs.declared.fault.FaultCode.TheVariants.{NoRoom, TooMany, Twice, TwoPlaces, WrongKind}
@@ -58,14 +58,14 @@ position-within (k ∷ keys) key =
 pub number-within : (keys : List (List ℕ)) (key : List ℕ) → number_in keys key ≤ length keys
 number-within keys key = place-within (length keys) (position_or_len (bytes_eq key) keys) (position-within keys key) _
 
-pub saying-within : (named : Named) (saying : Saying) → IsWithin (length named.keys) (fact_in named saying)
-saying-within named (Description text) = tt
-saying-within named (Room name) = tt
-saying-within named (Way way) = (number-within named.keys (key_of way.subject.text), number-within named.keys (key_of way.room.text))
+pub assertion-within : (named : Named) (said : Assertion) → IsWithin (length named.keys) (fact_in named said)
+assertion-within named (Description text) = tt
+assertion-within named (Room name) = tt
+assertion-within named (Way way) = (number-within named.keys (key_of way.subject.text), number-within named.keys (key_of way.room.text))
 
 pub all-within : (named : Named) (sentences : List Sentence) → AreWithin (length named.keys) (map (statement_in named) sentences)
 all-within named [] = tt
-all-within named (sentence ∷ sentences) = (saying-within named sentence.saying, all-within named sentences)
+all-within named (sentence ∷ sentences) = (assertion-within named sentence.said, all-within named sentences)
 
 -- the numbers of a source's statements
 pub source-within : (sentences : List Sentence) → AreWithin (13 + length (named_by sentences).mentions) (stated_by sentences)

@@ -7,8 +7,8 @@ use Rattle.world_meaning.specs.Spelling.{is_spelled}
 use Rattle.world_meaning.specs.Directions.{all_directions, direction_name}
 use Rattle.world_meaning.specs.declared.direction.Direction.{Direction}
 use Rattle.i7_sentences.specs.declared.name.Name.{Name}
-use Rattle.i7_sentences.specs.declared.sentence.Saying.{Saying}
-use Rattle.i7_sentences.specs.declared.sentence.Saying.TheVariants.{Description, Room, Way}
+use Rattle.i7_sentences.specs.declared.sentence.Assertion.{Assertion}
+use Rattle.i7_sentences.specs.declared.sentence.Assertion.TheVariants.{Description, Room, Way}
 use Rattle.i7_sentences.specs.declared.sentence.Sentence.{Sentence}
 
 -- names are compared in small letters; `player` and `yourself` are one
@@ -21,13 +21,13 @@ pub record NameAt : Type 0 where
   pub line : ℕ
 
 -- the names that a sentence mentions, in the order of its words
-abbrev pub names_in : Saying → List Name
+abbrev pub names_in : Assertion → List Name
 names_in (Description text) = []
 names_in (Room name) = name ∷ []
 names_in (Way way) = if way.is_room_first then way.room ∷ way.subject ∷ [] else way.subject ∷ way.room ∷ []
 
 abbrev pub names_at : Sentence → List NameAt
-names_at sentence = map (λ name. record { name = name; line = sentence.line }) (names_in sentence.saying)
+names_at sentence = map (λ name. record { name = name; line = sentence.line }) (names_in sentence.said)
 
 -- the keys of the built-in objects, in the order of their numbers
 abbrev pub built_in_keys : List (List ℕ)
@@ -75,13 +75,13 @@ abbrev pub number_of : Named → Name → ℕ
 number_of named name = number_in named.keys (key_of name.text)
 
 -- the subject lies in the direction of the room
-abbrev pub fact_in : Named → Saying → Fact
+abbrev pub fact_in : Named → Assertion → Fact
 fact_in named (Description text) = Told text
 fact_in named (Room name) = IsRoom (number_of named name)
 fact_in named (Way way) = LeadsTo (number_of named way.subject) way.direction (number_of named way.room)
 
 abbrev pub statement_in : Named → Sentence → Statement
-statement_in named sentence = record { fact = fact_in named sentence.saying; line = sentence.line }
+statement_in named sentence = record { fact = fact_in named sentence.said; line = sentence.line }
 
 -- what all sentences state
 abbrev pub stated_by : List Sentence → List Statement

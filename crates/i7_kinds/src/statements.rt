@@ -4,7 +4,7 @@ ghost use Rattle.i7_kinds.specs.Statements.{fact_in, statement_in};
 ghost use Rattle.i7_kinds.specs.Views.{fact_of, names_of, statement_of, statements_of};
 
 use crate::names::Names;
-use i7_sentences::{Saying, Sentence};
+use i7_sentences::{Assertion, Sentence};
 use std::alloc::{AllocError, Global};
 use world_meaning::{Direction, TextBytes};
 
@@ -31,13 +31,13 @@ pub struct Statement<'a> {
     pub line: u32,
 }
 
-fn fact_in<'a>(alloc: Global, names: &Names<'_>, saying: &'a Saying) -> Result<Fact<'a>, AllocError>
-    ensures { IfOk result (λ fact. fact_of fact ≡ fact_in (names_of names.now) saying.now) }
+fn fact_in<'a>(alloc: Global, names: &Names<'_>, said: &'a Assertion) -> Result<Fact<'a>, AllocError>
+    ensures { IfOk result (λ fact. fact_of fact ≡ fact_in (names_of names.now) said.now) }
 {
-    match saying {
-        Saying::Description(text) => Ok(Fact::Description(text)),
-        Saying::Room(name) => Ok(Fact::Room(names.number_of(alloc, name)?)),
-        Saying::Way(way) => Ok(Fact::Way(NumberedWay {
+    match said {
+        Assertion::Description(text) => Ok(Fact::Description(text)),
+        Assertion::Room(name) => Ok(Fact::Room(names.number_of(alloc, name)?)),
+        Assertion::Way(way) => Ok(Fact::Way(NumberedWay {
             subject: names.number_of(alloc, &way.subject)?,
             direction: way.direction,
             room: names.number_of(alloc, &way.room)?,
@@ -53,7 +53,7 @@ fn statement_in<'a>(
     ensures { IfOk result (λ statement. statement_of statement ≡ statement_in (names_of names.now) sentence.now) }
 {
     Ok(Statement {
-        fact: fact_in(alloc, names, &sentence.saying)?,
+        fact: fact_in(alloc, names, &sentence.said)?,
         line: sentence.line,
     })
 }

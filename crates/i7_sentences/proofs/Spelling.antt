@@ -12,7 +12,7 @@ use Rattle.i7_sentences.proofs.Lists.{false-true}
 use Rattle.i7_sentences.proofs.Understanding.{heard_is, is_heard, reserved_decides, unread_decides}
 
 sentence_by : Piece → Heard → Sentence
-sentence_by part heard = record { saying = heard.saying; line = line_of part }
+sentence_by part heard = record { said = heard.said; line = line_of part }
 
 said_first : (part : Piece) (parts : List Piece) (heard : Heard) → heard_in part ≡ Some heard → filter_map sentence_in (part ∷ parts) ≡ sentence_by part heard ∷ filter_map sentence_in parts
 unfolding sentence_by
@@ -55,14 +55,14 @@ pub record AreSaid (parts : List Piece) (sentences : List Sentence) : Type 0 whe
   pub free : IsNowhere HasReservedName parts
   pub said : filter_map sentence_in parts ≡ sentences
 
-sentence_heard : (part : Piece) (sentence : Sentence) → IsSentence part sentence → heard_in part ≡ Some (record { saying = sentence.saying; has_reserved_name = false })
-sentence_heard part sentence is = heard_is part (record { saying = sentence.saying; has_reserved_name = false }) (record { says = is.says; reserved = is.free })
+sentence_heard : (part : Piece) (sentence : Sentence) → IsSentence part sentence → heard_in part ≡ Some (record { said = sentence.said; has_reserved_name = false })
+sentence_heard part sentence is = heard_is part (record { said = sentence.said; has_reserved_name = false }) (record { says = is.says; reserved = is.free })
 
 first_same : (part : Piece) (parts : List Piece) (sentence : Sentence) → IsSentence part sentence → filter_map sentence_in (part ∷ parts) ≡ sentence ∷ filter_map sentence_in parts
 unfolding sentence_by
 first_same part parts sentence is =
-    said_first part parts (record { saying = sentence.saying; has_reserved_name = false }) (sentence_heard part sentence is)
-    ∙ ap (λ line. record { saying = sentence.saying; line = line } ∷ filter_map sentence_in parts) (sym is.line_is)
+    said_first part parts (record { said = sentence.said; has_reserved_name = false }) (sentence_heard part sentence is)
+    ∙ ap (λ line. record { said = sentence.said; line = line } ∷ filter_map sentence_in parts) (sym is.line_is)
 
 pub are_said : (parts : List Piece) (sentences : List Sentence) → AllZip IsSentence parts sentences → AreSaid parts sentences
 are_said [] [] said = record { read = All-nil (λ p. SaysNothing p → ⊥); free = All-nil (λ p. HasReservedName p → ⊥); said = refl }
@@ -72,7 +72,7 @@ are_said (part ∷ parts) (sentence ∷ sentences) said =
     let more = are_said parts sentences said.1 in
     let heard = sentence_heard part sentence said.0 in
     record {
-      read = All-cons (λ p. SaysNothing p → ⊥) part parts (λ none. none sentence.saying (said.0).says) more.read;
+      read = All-cons (λ p. SaysNothing p → ⊥) part parts (λ none. none sentence.said (said.0).says) more.read;
       free = All-cons (λ p. HasReservedName p → ⊥) part parts (λ name. false-true (sym (ap is_reserving heard) ∙ (reserved_decides part).1 name)) more.free;
       said = first_same part parts sentence said.0 ∙ ap (λ ss. sentence ∷ ss) more.said;
     }

@@ -7,13 +7,13 @@ use Rattle.i7_sentences.specs.Cuts.{Piece}
 use Rattle.i7_sentences.specs.Forms.{IsReading, all_forms}
 use Rattle.i7_sentences.specs.Matching.{Found, lowest_fit}
 use Rattle.i7_sentences.specs.Read.{has_bad_literal, has_reserved, heard_as, heard_by, heard_if, heard_in, is_reserving, is_sentence, is_unread}
-use Rattle.i7_sentences.specs.Sayings.{saying_of, has_reserved_name}
+use Rattle.i7_sentences.specs.Assertions.{assertion_of, has_reserved_name}
 use Rattle.i7_sentences.specs.Sources.{HasBadLiteral, HasReservedName, Says, SaysNothing}
 use Rattle.i7_sentences.specs.declared.form.Form.{Form}
 use Rattle.i7_sentences.specs.declared.part.PartKind.{PartKind}
 use Rattle.i7_sentences.specs.declared.part.PartKind.TheVariants.{Title, Heading, Sentence as Said}
 use Rattle.i7_sentences.specs.declared.reader.Heard.{Heard}
-use Rattle.i7_sentences.specs.declared.sentence.Saying.{Saying}
+use Rattle.i7_sentences.specs.declared.sentence.Assertion.{Assertion}
 use Rattle.i7_sentences.proofs.Choosing.{ReadAs, read_as}
 use Rattle.i7_sentences.proofs.Lists.{false-true}
 use Rattle.i7_sentences.proofs.Sameness.{never_both, reading_same}
@@ -41,14 +41,14 @@ reading_found tokens form letters reading =
 
 -- what a part says, and whether a name in it holds a reserved word
 pub record IsHeard (part : Piece) (heard : Heard) : Type 0 where
-  pub says : Says part heard.saying
+  pub says : Says part heard.said
   pub reserved : has_reserved_name says.form says.letters ≡ heard.has_reserved_name
 
-heard_made : (reserved : Bool) (said : Option Saying) (heard : Heard) → heard_as reserved said ≡ Some heard → (said ≡ Some heard.saying) × (reserved ≡ heard.has_reserved_name)
+heard_made : (reserved : Bool) (said : Option Assertion) (heard : Heard) → heard_as reserved said ≡ Some heard → (said ≡ Some heard.said) × (reserved ≡ heard.has_reserved_name)
 heard_made reserved None heard is = absurd (none-some heard is)
-heard_made reserved (Some saying) heard is =
-    let same = same_some (record { saying = saying; has_reserved_name = reserved }) heard is in
-    (ap (λ h. Some h.saying) same, ap (λ h. h.has_reserved_name) same)
+heard_made reserved (Some said) heard is =
+    let same = same_some (record { said = said; has_reserved_name = reserved }) heard is in
+    (ap (λ h. Some h.said) same, ap (λ h. h.has_reserved_name) same)
 
 heard_found : (part : Piece) (heard : Heard) → part.kind ≡ Said → heard_by (lowest_fit all_forms part.tokens) ≡ Some heard → IsHeard part heard
 heard_found part heard kind is =
@@ -56,7 +56,7 @@ heard_found part heard kind is =
     in (elim (lowest_fit all_forms part.tokens) as Goal [
       | None ↦ λ none makes. absurd (none-some heard makes)
       | Some found ↦ λ some makes.
-          let made = heard_made (has_reserved_name found.form found.letters) (saying_of found.form found.letters) heard makes in
+          let made = heard_made (has_reserved_name found.form found.letters) (assertion_of found.form found.letters) heard makes in
           record {
             says = record { kind = kind; form = found.form; letters = found.letters; reading = found_reading part.tokens found some; makes = made.0 };
             reserved = made.1;
@@ -74,15 +74,15 @@ is_heard part heard is =
     ]) refl is
 
 -- what a part says is heard
-heard_said : (part : Piece) (saying : Saying) (says : Says part saying) → heard_in part ≡ Some (record { saying = saying; has_reserved_name = has_reserved_name says.form says.letters })
+heard_said : (part : Piece) (said : Assertion) (says : Says part said) → heard_in part ≡ Some (record { said = said; has_reserved_name = has_reserved_name says.form says.letters })
 unfolding heard_in
-heard_said part saying says =
+heard_said part said says =
     ap (λ kind. heard_if (is_sentence kind) part.tokens) says.kind
     ∙ ap heard_by (reading_found part.tokens says.form says.letters says.reading)
     ∙ ap (heard_as (has_reserved_name says.form says.letters)) says.makes
 
 pub heard_is : (part : Piece) (heard : Heard) → IsHeard part heard → heard_in part ≡ Some heard
-heard_is part heard is = heard_said part heard.saying is.says ∙ ap (λ reserved. Some (record { saying = heard.saying; has_reserved_name = reserved })) is.reserved
+heard_is part heard is = heard_said part heard.said is.says ∙ ap (λ reserved. Some (record { said = heard.said; has_reserved_name = reserved })) is.reserved
 
 pub bad_literal_decides : (part : Piece) → Decides (has_bad_literal part) (HasBadLiteral part)
 bad_literal_decides part = (λ h. h, λ h. h)
@@ -91,14 +91,14 @@ pub unread_decides : (part : Piece) → Decides (is_unread part) (SaysNothing pa
 unread_decides part = (unread, nothing)
   where
     unread : is_unread part ≡ true → SaysNothing part
-    unread is saying says = false-true (ap (λ heard. is_none heard) (sym (heard_said part saying says)) ∙ is)
+    unread is said says = false-true (ap (λ heard. is_none heard) (sym (heard_said part said says)) ∙ is)
 
     nothing : SaysNothing part → is_unread part ≡ true
     nothing says_none =
         let Goal : Option Heard → Type 0 = λ found. heard_in part ≡ found → is_none found ≡ true
         in (elim (heard_in part) as Goal [
           | None ↦ λ none. refl
-          | Some heard ↦ λ some. absurd (says_none heard.saying (is_heard part heard some).says)
+          | Some heard ↦ λ some. absurd (says_none heard.said (is_heard part heard some).says)
         ]) refl
 
 pub reserved_decides : (part : Piece) → Decides (has_reserved part) (HasReservedName part)
@@ -111,8 +111,8 @@ reserved_decides part = (there, reserving)
           | None ↦ λ none holds. absurd (false-true holds)
           | Some heard ↦ λ some holds.
               let is_so = is_heard part heard some in
-              record { saying = heard.saying; says = is_so.says; reserved = is_so.reserved ∙ holds }
+              record { said = heard.said; says = is_so.says; reserved = is_so.reserved ∙ holds }
         ]) refl is
 
     reserving : HasReservedName part → has_reserved part ≡ true
-    reserving name = ap is_reserving (heard_said part name.saying name.says) ∙ name.reserved
+    reserving name = ap is_reserving (heard_said part name.said name.says) ∙ name.reserved

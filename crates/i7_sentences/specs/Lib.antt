@@ -9,7 +9,7 @@ pub mod Matching
 pub mod Names
 pub mod Pieces
 pub mod Read
-pub mod Sayings
+pub mod Assertions
 pub mod Seams
 pub mod Sources
 pub mod Tags

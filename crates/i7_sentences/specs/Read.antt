@@ -9,12 +9,12 @@ use Rattle.i7_sentences.specs.Cuts.{Piece, parts_of}
 use Rattle.i7_sentences.specs.Forms.{all_forms}
 use Rattle.i7_sentences.specs.Literals.{is_out_of_range}
 use Rattle.i7_sentences.specs.Matching.{Found, lowest_fit}
-use Rattle.i7_sentences.specs.Sayings.{saying_of, has_reserved_name}
+use Rattle.i7_sentences.specs.Assertions.{assertion_of, has_reserved_name}
 use Rattle.i7_sentences.specs.Words.{word_of}
 use Rattle.i7_sentences.specs.declared.part.PartKind.{PartKind}
 use Rattle.i7_sentences.specs.declared.part.PartKind.TheVariants.{Title, Heading, Sentence as Said}
 use Rattle.i7_sentences.specs.declared.reader.Heard.{Heard}
-use Rattle.i7_sentences.specs.declared.sentence.Saying.{Saying}
+use Rattle.i7_sentences.specs.declared.sentence.Assertion.{Assertion}
 use Rattle.i7_sentences.specs.declared.sentence.Sentence.{Sentence}
 
 abbrev pub line_in : List Token → ℕ
@@ -34,13 +34,13 @@ is_sentence Said = true
 unfoldable pub has_bad_literal : Piece → Bool
 has_bad_literal part = is_sentence part.kind && list_any (λ token. is_out_of_range (word_of token)) part.tokens
 
-abbrev pub heard_as : Bool → Option Saying → Option Heard
+abbrev pub heard_as : Bool → Option Assertion → Option Heard
 heard_as is_reserved None = None
-heard_as is_reserved (Some saying) = Some (record { saying = saying; has_reserved_name = is_reserved })
+heard_as is_reserved (Some said) = Some (record { said = said; has_reserved_name = is_reserved })
 
 abbrev pub heard_by : Option Found → Option Heard
 heard_by None = None
-heard_by (Some found) = heard_as (has_reserved_name found.form found.letters) (saying_of found.form found.letters)
+heard_by (Some found) = heard_as (has_reserved_name found.form found.letters) (assertion_of found.form found.letters)
 
 abbrev pub heard_if : Bool → List Token → Option Heard
 heard_if true tokens = heard_by (lowest_fit all_forms tokens)
@@ -61,7 +61,7 @@ abbrev pub has_reserved : Piece → Bool
 has_reserved part = is_reserving (heard_in part)
 
 abbrev pub sentence_in : Piece → Option Sentence
-sentence_in part = option_map (λ heard. record { saying = heard.saying; line = line_of part }) (heard_in part)
+sentence_in part = option_map (λ heard. record { said = heard.said; line = line_of part }) (heard_in part)
 
 -- the lower of two lines
 abbrev pub lower : Option ℕ → ℕ → Option ℕ

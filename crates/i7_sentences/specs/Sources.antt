@@ -8,35 +8,35 @@ use Rattle.i7_lexer.specs.declared.token.Token.{Token}
 use Rattle.i7_sentences.specs.Cuts.{Piece, parts_of}
 use Rattle.i7_sentences.specs.Forms.{IsReading, all_forms}
 use Rattle.i7_sentences.specs.Read.{has_bad_literal, line_of}
-use Rattle.i7_sentences.specs.Sayings.{saying_of, has_reserved_name}
+use Rattle.i7_sentences.specs.Assertions.{assertion_of, has_reserved_name}
 use Rattle.i7_sentences.specs.declared.form.Form.{Form}
 use Rattle.i7_sentences.specs.declared.part.PartKind.TheVariants.{Sentence as Said}
-use Rattle.i7_sentences.specs.declared.sentence.Saying.{Saying}
+use Rattle.i7_sentences.specs.declared.sentence.Assertion.{Assertion}
 use Rattle.i7_sentences.specs.declared.sentence.Sentence.{Sentence}
 
 -- what a sentence says, by the form that reads it; a title or a heading says nothing yet
-pub record Says (part : Piece) (saying : Saying) : Type 0 where
+pub record Says (part : Piece) (said : Assertion) : Type 0 where
   pub kind : part.kind ≡ Said
   pub form : Form
   pub letters : List (List Token)
   pub reading : IsReading all_forms part.tokens form letters
-  pub makes : saying_of form letters ≡ Some saying
+  pub makes : assertion_of form letters ≡ Some said
 
 abbrev pub HasBadLiteral : Piece → Type 0
 HasBadLiteral part = has_bad_literal part ≡ true
 
 abbrev pub SaysNothing : Piece → Type 0
-SaysNothing part = (saying : Saying) → Says part saying → ⊥
+SaysNothing part = (said : Assertion) → Says part said → ⊥
 
 -- a part says something in which a name holds a reserved word
 pub record HasReservedName (part : Piece) : Type 0 where
-  pub saying : Saying
-  pub says : Says part saying
+  pub said : Assertion
+  pub says : Says part said
   pub reserved : has_reserved_name says.form says.letters ≡ true
 
 -- a part's sentence, in which no name holds a reserved word
 pub record IsSentence (part : Piece) (sentence : Sentence) : Type 0 where
-  pub says : Says part sentence.saying
+  pub says : Says part sentence.said
   pub free : has_reserved_name says.form says.letters ≡ false
   pub line_is : sentence.line ≡ line_of part
 

@@ -4,6 +4,7 @@
 //! shortest words for each of the form's letters, and the names in it are tested.
 #![tactic(auto)]
 
+mod assertion;
 mod class;
 mod cut;
 mod form;
@@ -16,7 +17,6 @@ mod name;
 mod part;
 mod reader;
 mod reading;
-mod saying;
 mod sentence;
 mod tagged;
 mod word;
@@ -32,4 +32,4 @@ pub use laws::{
 pub use name::{Name, NameArticle};
 pub use part::{Part, PartKind};
 pub use reader::read;
-pub use sentence::{Saying, Sentence, Way};
+pub use sentence::{Assertion, Sentence, Way};

@@ -82,7 +82,7 @@ pub fn looked(column: &[bool], left: usize) -> bool
 fn end_column(alloc: Global, tokens: &[Tagged<'_>]) -> Result<Vec<bool>, AllocError>
     ensures { IfOk result (λ column. column.items ≡ end_column tokens.now) }
 {
-    let mut column = Vec::new(alloc);
+    let mut column = Vec::with_capacity(alloc, tokens.len() + 1)?;
     column.push(true)?;
     let mut place = tokens.len();
     while place > 0 {
@@ -114,7 +114,7 @@ fn word_column(
 ) -> Result<Vec<bool>, AllocError>
     ensures { IfOk result (λ column. column.items ≡ word_column keyword behind.now tokens.now) }
 {
-    let mut column = Vec::new(alloc);
+    let mut column = Vec::with_capacity(alloc, tokens.len() + 1)?;
     column.push(false)?;
     let mut place = tokens.len();
     while place > 0 {
@@ -139,7 +139,7 @@ fn letter_column(
 ) -> Result<Vec<bool>, AllocError>
     ensures { IfOk result (λ column. column.items ≡ letter_column class behind.now tokens.now) }
 {
-    let mut column = Vec::new(alloc);
+    let mut column = Vec::with_capacity(alloc, tokens.len() + 1)?;
     let mut ahead = Ahead::of_none(looked(behind, 0));
     column.push(ahead.start)?;
     let mut place = tokens.len();

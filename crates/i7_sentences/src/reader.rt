@@ -11,13 +11,13 @@ ghost use Rattle.i7_sentences.specs.Pieces.{piece_of, pieces_of};
 ghost use Rattle.i7_sentences.specs.Read.{has_bad_literal, has_reserved, heard_by, heard_in, is_sentence, is_unread, line_in, line_of, lower, lowest, read_of, sentence_in};
 ghost use Rattle.i7_sentences.specs.Sources.{HasSentences, IsRefused};
 
+use crate::assertion::{assertion_of, has_reserved_name};
 use crate::cut::parts_of;
 use crate::literal::is_out_of_range;
 use crate::reading::{Reading, reading_of};
-use crate::saying::{has_reserved_name, saying_of};
 use crate::tagged::with_tags;
 use crate::word::word_of;
-use crate::{Part, PartKind, Saying, Sentence};
+use crate::{Assertion, Part, PartKind, Sentence};
 use i7_lexer::{Lexed, Token};
 use std::alloc::{AllocError, Global};
 use world_meaning::{Fault, FaultCode};
@@ -25,7 +25,7 @@ use world_meaning::{Fault, FaultCode};
 /// What a sentence says, and whether a name in it holds a reserved word.
 #[derive(Drop)]
 struct Heard {
-    saying: Saying,
+    said: Assertion,
     has_reserved_name: bool,
 }
 
@@ -114,10 +114,10 @@ fn heard_by(alloc: Global, reading: &Reading<'_, '_>) -> Result<Option<Heard>, A
     ensures { IfOk result (λ heard. heard ≡ heard_by (Some (found_in reading.now))) }
 {
     let letters = reading.letters.as_slice();
-    match saying_of(alloc, reading.form, letters)? {
+    match assertion_of(alloc, reading.form, letters)? {
         None => Ok(None),
-        Some(saying) => Ok(Some(Heard {
-            saying,
+        Some(said) => Ok(Some(Heard {
+            said,
             has_reserved_name: has_reserved_name(reading.form, letters),
         })),
     }
@@ -165,7 +165,7 @@ fn heard_parts(alloc: Global, parts: &[Part<'_>]) -> Result<HeardParts, AllocErr
                     reserved = lower(reserved, line);
                 }
                 sentences.push(Sentence {
-                    saying: heard.saying,
+                    said: heard.said,
                     line,
                 })?;
             }

@@ -125,7 +125,7 @@ impl<'a> Tagged<'a> {
 pub fn with_tags<'a>(alloc: Global, tokens: &'a [Token]) -> Result<Vec<Tagged<'a>>, AllocError>
     ensures { IfOk result (λ tagged. tagged.items ≡ tokens.now) }
 {
-    let mut out = Vec::new(alloc);
+    let mut out = Vec::with_capacity(alloc, tokens.len())?;
     let mut rest = tokens;
     while let [token, after @ ..] = rest {
         out.push(Tagged::new(token))?;

@@ -6,8 +6,12 @@ mod damaged_stories;
 #[cfg(test)]
 mod fakes;
 #[cfg(test)]
+mod lexing;
+#[cfg(test)]
 mod refused_sources;
 #[cfg(test)]
 mod reports;
+#[cfg(test)]
+mod sentences;
 #[cfg(test)]
 mod streams;

@@ -1,11 +1,11 @@
 //! What a form says with its letters.
 ghost use Rattle.std.specs.Prelude.{◌≡◌, map, IfOk};
 ghost use Rattle.std.specs.List.{list_all};
-ghost use Rattle.i7_sentences.specs.Sayings.{description_saying, direction_at, has_reserved_end, has_reserved_first, has_reserved_name, is_plain, room_saying, saying_of, side_direction, text_saying, way_of, way_saying};
+ghost use Rattle.i7_sentences.specs.Assertions.{description_assertion, direction_at, has_reserved_end, has_reserved_first, has_reserved_name, is_plain, room_assertion, assertion_of, side_direction, text_assertion, way_of, way_assertion};
 
 use crate::name::{is_reserved_name, is_single, name_of};
 use crate::tagged::Tagged;
-use crate::{Form, Keyword, Saying, Way};
+use crate::{Assertion, Form, Keyword, Way};
 use i7_lexer::{Token, TokenKind};
 use std::alloc::{AllocError, Global};
 use world_meaning::{Direction, TextBytes};
@@ -19,13 +19,13 @@ fn is_plain(text: &[u8]) -> bool
 }
 
 /// The description that a token gives.
-fn text_saying(alloc: Global, token: &Token) -> Result<Option<Saying>, AllocError>
-    ensures { IfOk result (λ saying. saying ≡ text_saying token.now.kind) }
+fn text_assertion(alloc: Global, token: &Token) -> Result<Option<Assertion>, AllocError>
+    ensures { IfOk result (λ said. said ≡ text_assertion token.now.kind) }
 {
     match &token.kind {
         TokenKind::Text(text) => {
             if is_plain(text.as_slice()) {
-                Ok(Some(Saying::Description(TextBytes::copied(alloc, text.as_slice())?)))
+                Ok(Some(Assertion::Description(TextBytes::copied(alloc, text.as_slice())?)))
             } else {
                 Ok(None)
             }
@@ -35,17 +35,17 @@ fn text_saying(alloc: Global, token: &Token) -> Result<Option<Saying>, AllocErro
 }
 
 /// The description of a form whose letter is one text.
-fn description_saying(
+fn description_assertion(
     alloc: Global,
     letters: &[&[Tagged<'_>]],
-) -> Result<Option<Saying>, AllocError>
-    ensures { IfOk result (λ saying. saying ≡ description_saying (map (λ letter. letter.now) letters.now)) }
+) -> Result<Option<Assertion>, AllocError>
+    ensures { IfOk result (λ said. said ≡ description_assertion (map (λ letter. letter.now) letters.now)) }
 {
     match letters {
         [] => Ok(None),
         [text] => match text {
             [] => Ok(None),
-            [token] => Ok(text_saying(alloc, token.token())?),
+            [token] => Ok(text_assertion(alloc, token.token())?),
             [_, _, ..] => Ok(None),
         },
         [_, _, ..] => Ok(None),
@@ -76,18 +76,18 @@ fn side_direction(side: &[Tagged<'_>]) -> Option<Direction>
 }
 
 /// The way by which the subject lies in the direction of the room.
-fn way_saying(
+fn way_assertion(
     alloc: Global,
     subject: &[Tagged<'_>],
     direction: Option<Direction>,
     room: &[Tagged<'_>],
     is_room_first: bool,
-) -> Result<Option<Saying>, AllocError>
-    ensures { IfOk result (λ saying. saying ≡ way_saying subject.now direction room.now is_room_first) }
+) -> Result<Option<Assertion>, AllocError>
+    ensures { IfOk result (λ said. said ≡ way_assertion subject.now direction room.now is_room_first) }
 {
     match direction {
         None => Ok(None),
-        Some(direction) => Ok(Some(Saying::Way(Way {
+        Some(direction) => Ok(Some(Assertion::Way(Way {
             subject: name_of(alloc, subject)?,
             direction,
             room: name_of(alloc, room)?,
@@ -101,8 +101,8 @@ fn way_of(
     alloc: Global,
     is_room_first: bool,
     letters: &[&[Tagged<'_>]],
-) -> Result<Option<Saying>, AllocError>
-    ensures { IfOk result (λ saying. saying ≡ way_of is_room_first (map (λ letter. letter.now) letters.now)) }
+) -> Result<Option<Assertion>, AllocError>
+    ensures { IfOk result (λ said. said ≡ way_of is_room_first (map (λ letter. letter.now) letters.now)) }
 {
     match letters {
         [] => Ok(None),
@@ -110,9 +110,9 @@ fn way_of(
         [_, _] => Ok(None),
         [first, second, third] => {
             if is_room_first {
-                Ok(way_saying(alloc, third, side_direction(first), second, true)?)
+                Ok(way_assertion(alloc, third, side_direction(first), second, true)?)
             } else {
-                Ok(way_saying(alloc, first, side_direction(second), third, false)?)
+                Ok(way_assertion(alloc, first, side_direction(second), third, false)?)
             }
         }
         [_, _, _, _, ..] => Ok(None),
@@ -120,14 +120,14 @@ fn way_of(
 }
 
 /// The room that a form declares; a list of rooms isn't read yet.
-fn room_saying(alloc: Global, letters: &[&[Tagged<'_>]]) -> Result<Option<Saying>, AllocError>
-    ensures { IfOk result (λ saying. saying ≡ room_saying (map (λ letter. letter.now) letters.now)) }
+fn room_assertion(alloc: Global, letters: &[&[Tagged<'_>]]) -> Result<Option<Assertion>, AllocError>
+    ensures { IfOk result (λ said. said ≡ room_assertion (map (λ letter. letter.now) letters.now)) }
 {
     match letters {
         [] => Ok(None),
         [names] => {
             if is_single(names) {
-                Ok(Some(Saying::Room(name_of(alloc, names)?)))
+                Ok(Some(Assertion::Room(name_of(alloc, names)?)))
             } else {
                 Ok(None)
             }
@@ -137,19 +137,19 @@ fn room_saying(alloc: Global, letters: &[&[Tagged<'_>]]) -> Result<Option<Saying
 }
 
 /// What the form says with these letters, if it is part of the language so far.
-#[tactic(auto, unfolding(crate::specs::Sayings::saying_of))]
-pub fn saying_of(
+#[tactic(auto, unfolding(crate::specs::Assertions::assertion_of))]
+pub fn assertion_of(
     alloc: Global,
     form: Form,
     letters: &[&[Tagged<'_>]],
-) -> Result<Option<Saying>, AllocError>
-    ensures { IfOk result (λ saying. saying ≡ saying_of form (map (λ letter. letter.now) letters.now)) }
+) -> Result<Option<Assertion>, AllocError>
+    ensures { IfOk result (λ said. said ≡ assertion_of form (map (λ letter. letter.now) letters.now)) }
 {
     match form {
-        Form::Description => Ok(description_saying(alloc, letters)?),
+        Form::Description => Ok(description_assertion(alloc, letters)?),
         Form::WayTo => Ok(way_of(alloc, false, letters)?),
         Form::WayFrom => Ok(way_of(alloc, true, letters)?),
-        Form::Room => Ok(room_saying(alloc, letters)?),
+        Form::Room => Ok(room_assertion(alloc, letters)?),
         _ => Ok(None),
     }
 }
@@ -184,7 +184,7 @@ fn has_reserved_first(letters: &[&[Tagged<'_>]]) -> bool
 }
 
 /// Whether a name among the form's letters holds a reserved word.
-#[tactic(auto, unfolding(crate::specs::Sayings::has_reserved_name))]
+#[tactic(auto, unfolding(crate::specs::Assertions::has_reserved_name))]
 pub fn has_reserved_name(form: Form, letters: &[&[Tagged<'_>]]) -> bool
     ensures { result ≡ has_reserved_name form (map (λ letter. letter.now) letters.now) }
 {
