@@ -1,15 +1,20 @@
--- Pieces with a word that stands nowhere don't fit.
+-- Pieces that can't begin with the first word don't fit, nor do those with a word that stands nowhere.
 use Rattle.std.proofs.Common.{◌≡◌, Bool, true, false, List, [], ◌∷◌, ◌++◌, refl, ap, sym, ◌∙◌}
-use Rattle.std.specs.Prelude.{not, ◌||◌, Option, Some, None}
+use Rattle.std.specs.Prelude.{not, ◌||◌, Option, Some, None, is_some}
 use Rattle.std.specs.List.{list_any}
 use Rattle.i7_lexer.specs.declared.token.Token.{Token}
 use Rattle.i7_sentences.specs.Keywords.{is_sign}
 use Rattle.i7_sentences.specs.Forms.{Fits}
-use Rattle.i7_sentences.specs.Matching.{first_fit, is_missing}
+use Rattle.i7_sentences.specs.Matching.{can_begin, first_fit, is_missing}
+use Rattle.i7_sentences.specs.Automata.{is_of, runs, step, then_runs}
+use Rattle.i7_sentences.specs.declared.class.Class.{Class}
+use Rattle.i7_sentences.specs.declared.class.State.{State}
+use Rattle.i7_sentences.specs.declared.class.State.TheVariants.{Start}
+use Rattle.i7_sentences.proofs.Automata.{runs_of}
 use Rattle.i7_sentences.specs.declared.keyword.Keyword.{Keyword}
 use Rattle.i7_sentences.specs.declared.form.Piece.{Piece}
 use Rattle.i7_sentences.specs.declared.form.Piece.TheVariants.{Word, Letter}
-use Rattle.i7_sentences.proofs.Lists.{false-true}
+use Rattle.i7_sentences.proofs.Lists.{false-true, nil-cons, same_head}
 use Rattle.i7_sentences.proofs.Fitting.{Fitted, fitted}
 
 -- what stands nowhere among words stands nowhere behind some of them
@@ -54,4 +59,37 @@ missing_fits pieces tokens missing =
     in (elim (first_fit pieces tokens) as Goal [
       | None ↦ λ none. refl
       | Some letters ↦ λ found. absurd (unfit pieces tokens letters missing found.fits)
+    ]) (fitted pieces tokens)
+
+-- a letter's words begin with one that it can begin with
+letter_begins : (class : Class) (token : Token) (words : List Token) → is_of class (token ∷ words) ≡ true → is_some (step class Start token) ≡ true
+letter_begins class token words taken =
+    let Goal : Option State → Type 0 = λ next. then_runs next (λ after. runs class after words) ≡ true → is_some next ≡ true
+    in (elim (step class Start token) as Goal [
+      | None ↦ λ none. absurd (false-true none)
+      | Some state ↦ λ some. refl
+    ]) taken
+
+letter_taken : (class : Class) (token : Token) (tokens words rest : List Token) → token ∷ tokens ≡ words ++ rest → is_of class words ≡ true → is_some (step class Start token) ≡ true
+letter_taken class token tokens [] rest parts taken = absurd (false-true taken)
+letter_taken class token tokens (first ∷ words) rest parts taken =
+    ap (λ t. is_some (step class Start t)) (same_head token first tokens (words ++ rest) parts) ∙ letter_begins class first words taken
+
+begins : (pieces : List Piece) (tokens : List Token) (letters : List (List Token)) → Fits pieces tokens letters → can_begin pieces tokens ≡ true
+begins [] tokens letters fits = refl
+begins (Word keyword ∷ pieces) [] letters fits = absurd (nil-cons fits.word fits.rest fits.parts)
+begins (Word keyword ∷ pieces) (token ∷ tokens) letters fits = ap (is_sign keyword) (same_head token fits.word tokens fits.rest fits.parts) ∙ fits.is_word
+begins (Letter class ∷ pieces) [] letters fits = absurd (none_taken class fits.words fits.rest fits.parts (runs_of class fits.words fits.is_of_class))
+  where
+    none_taken : (class' : Class) (words rest : List Token) → [] ≡ words ++ rest → is_of class' words ≡ true → ⊥
+    none_taken class' [] rest parts taken = false-true taken
+    none_taken class' (first ∷ words) rest parts taken = nil-cons first (words ++ rest) parts
+begins (Letter class ∷ pieces) (token ∷ tokens) letters fits = letter_taken class token tokens fits.words fits.rest fits.parts (runs_of class fits.words fits.is_of_class)
+
+pub never_begins : (pieces : List Piece) (tokens : List Token) → can_begin pieces tokens ≡ false → first_fit pieces tokens ≡ None
+never_begins pieces tokens never =
+    let Goal : Option (List (List Token)) → Type 0 = λ found. Fitted pieces tokens found → found ≡ None
+    in (elim (first_fit pieces tokens) as Goal [
+      | None ↦ λ none. refl
+      | Some letters ↦ λ found. absurd (false-true (sym never ∙ begins pieces tokens letters found.fits))
     ]) (fitted pieces tokens)

@@ -178,3 +178,14 @@ is_never (piece ∷ pieces) tokens = is_never pieces tokens || not (list_any (λ
 abbrev pub is_missing : List Token → Piece → Bool
 is_missing tokens (Word keyword) = not (list_any (is_sign keyword) tokens)
 is_missing tokens (Letter class) = false
+
+-- whether the first piece can take this token in front
+abbrev pub can_take : Piece → Token → Bool
+can_take (Word keyword) token = is_sign keyword token
+can_take (Letter class) token = is_some (step class Start token)
+
+-- whether the first piece can take the first token, if there are both
+abbrev pub can_begin : List Piece → List Token → Bool
+can_begin [] tokens = true
+can_begin (piece ∷ pieces) [] = false
+can_begin (piece ∷ pieces) (token ∷ tokens) = can_take piece token

@@ -3,7 +3,7 @@
 ghost use Rattle.std.specs.Prelude.{◌≡◌, ◌≤◌, ◌++◌, ◌∷◌, [], length, map, option_map, IfNone, IfOk, IfSome, IsTrue, None, Some, false};
 ghost use Rattle.std.specs.List.{list_any};
 ghost use Rattle.i7_sentences.specs.Keywords.{is_sign};
-ghost use Rattle.i7_sentences.specs.Matching.{behind_word, can_fit, columns_of, first_column, first_fit, is_kept, is_missing, IsEndOf, left_by, letters_with, looked, nearest};
+ghost use Rattle.i7_sentences.specs.Matching.{behind_word, can_begin, can_fit, can_take, columns_of, first_column, first_fit, is_kept, is_missing, IsEndOf, left_by, letters_with, looked, nearest};
 
 use crate::class::State;
 use crate::lookahead::{columns, looked};
@@ -123,6 +123,29 @@ fn take_piece<'a, 'b>(
     }
 }
 
+/// Whether a piece can take the token in front.
+fn can_take(piece: Piece, token: &Tagged<'_>) -> bool
+    ensures { result ≡ can_take piece token.now }
+{
+    match piece {
+        Piece::Word(keyword) => token.is_sign(keyword),
+        Piece::Letter(class) => class.step(State::Start, token).is_some(),
+    }
+}
+
+/// Whether the first piece can take the first token.
+fn can_begin(pieces: &[Piece], tokens: &[Tagged<'_>]) -> bool
+    ensures { result ≡ can_begin pieces.now tokens.now }
+{
+    match pieces {
+        [] => true,
+        [piece, ..] => match tokens {
+            [] => false,
+            [token, ..] => can_take(*piece, token),
+        },
+    }
+}
+
 /// Whether a token is this word or mark.
 fn stands_in(keyword: Keyword, tokens: &[Tagged<'_>]) -> bool
     ensures { result ≡ list_any (is_sign keyword) tokens.now }
@@ -185,7 +208,7 @@ fn fits_from<'a, 'b>(
 
 /// The words for the letters of pieces that fit the tokens, each letter as short as it can be, the
 /// first before the second; or none where the pieces don't fit.
-#[tactic(auto, using(crate::proofs::Columns::never_fits, crate::proofs::Missing::missing_fits))]
+#[tactic(auto, using(crate::proofs::Columns::never_fits, crate::proofs::Missing::missing_fits, crate::proofs::Missing::never_begins))]
 pub fn fit<'a, 'b>(
     alloc: Global,
     pieces: &[Piece],
@@ -193,6 +216,9 @@ pub fn fit<'a, 'b>(
 ) -> Result<Option<Vec<&'a [Tagged<'b>]>>, AllocError>
     ensures { IfOk result (λ found. option_map (λ letters. map (λ letter. letter.now) letters.items) found ≡ first_fit pieces.now tokens.now) }
 {
+    if !can_begin(pieces, tokens) {
+        return Ok(None);
+    }
     if lacks_word(pieces, tokens) {
         return Ok(None);
     }
