@@ -34,7 +34,7 @@ object_too_many mentions = option_map line_at (slice_get mentions (1000 - first_
 
 -- C12: a name of over 65,535 bytes or 32 words, at its first mention
 abbrev pub is_too_long : List ℕ → Bool
-is_too_long name = nat_lt 65535 (length name) || nat_lt 32 (length (words_for 1 name))
+is_too_long name = nat_lt 65535 (length name) || nat_lt 32 (length (words_for first_of_author name))
 
 abbrev pub has_long_name : NameAt → Bool
 has_long_name at = is_too_long at.name.text

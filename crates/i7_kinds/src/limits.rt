@@ -8,9 +8,6 @@ use crate::names::{FIRST_OF_AUTHOR, Mention};
 use object_words::words_for;
 use std::alloc::{AllocError, Global};
 
-/// The number of the kind room.
-const ROOM: u8 = 1;
-
 /// The most objects of a story, the player and the directions counted.
 const MOST_OBJECTS: usize = 1000;
 
@@ -37,7 +34,7 @@ fn is_too_long(alloc: Global, name: &[u8]) -> Result<bool, AllocError>
     if name.len() > MOST_BYTES {
         return Ok(true);
     }
-    let words = words_for(alloc, ROOM, name)?;
+    let words = words_for(alloc, FIRST_OF_AUTHOR, name)?;
     Ok(words.len() > MOST_WORDS)
 }
 

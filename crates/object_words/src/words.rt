@@ -1,18 +1,12 @@
 //! The words that a command may name an object by.
-ghost use Rattle.std.specs.Prelude.{◌≡◌, [], ◌∷◌, IfOk, OnOk, fold, filter, position};
-ghost use Rattle.std.specs.List.{flat_map};
+ghost use Rattle.std.specs.Prelude.{◌≡◌, [], ◌∷◌, IfOk, OnOk, fold, filter, position, slice_get};
+ghost use Rattle.world_meaning.specs.Directions.{all_directions};
 ghost use Rattle.object_words.specs.Mentions.{mention};
-ghost use Rattle.object_words.specs.Words.{is_blank, is_word, blank_words, lowered, more_words, words_for, player_words, short_word_of};
+ghost use Rattle.object_words.specs.Words.{is_blank, is_word, blank_words, lowered, more_words, words_for, player_words};
 
 use crate::strings::Strings;
 use std::alloc::{AllocError, Global};
 use world_meaning::Direction;
-
-/// The kind of the directions.
-pub const DIRECTION: u8 = 2;
-
-/// The kind of the player.
-pub const PERSON: u8 = 6;
 
 /// The text with small ASCII letters.
 fn lowered_text(alloc: Global, text: &[u8]) -> Result<Vec<u8>, AllocError>
@@ -64,46 +58,36 @@ fn mention_player_words(alloc: Global, words: &mut Strings) -> Result<(), AllocE
     words.mention(alloc, b"yourself")
 }
 
-fn mention_short_words(
-    alloc: Global,
-    words: &mut Strings,
-    name: &[u8],
-    directions: &[Direction],
-) -> Result<(), AllocError>
-    ensures { OnOk result (words.new ≡ fold mention words.old (flat_map (short_word_of name.now) directions.now)) }
+/// The direction of this place among them.
+fn direction_at(place: usize) -> Option<Direction>
+    ensures { result ≡ slice_get all_directions place }
 {
-    for direction in directions {
-        if direction.name() == name {
-            words.mention(alloc, direction.short_word())?;
-        }
-    }
-    Ok(())
+    let directions: &[Direction] = &Direction::ALL;
+    directions.get(place).copied()
 }
 
+/// Mentions what an object of this number has beside its name's words.
 #[tactic(auto, unfolding(crate::specs::Words::more_words))]
-fn mention_more_words(
-    alloc: Global,
-    words: &mut Strings,
-    kind: u8,
-    name: &[u8],
-) -> Result<(), AllocError>
-    ensures { OnOk result (words.new ≡ fold mention words.old (more_words kind name.now)) }
+fn mention_more_words(alloc: Global, words: &mut Strings, number: usize) -> Result<(), AllocError>
+    ensures { OnOk result (words.new ≡ fold mention words.old (more_words number)) }
 {
-    match kind {
-        PERSON => mention_player_words(alloc, words),
-        DIRECTION => mention_short_words(alloc, words, name, &Direction::ALL),
-        _ => Ok(()),
+    if number == 0 {
+        return mention_player_words(alloc, words);
+    }
+    match direction_at(number - 1) {
+        Some(direction) => words.mention(alloc, direction.short_word()),
+        None => Ok(()),
     }
 }
 
-/// The words of an object of this kind and name, each once.
+/// The words of an object of this number and name, each once.
 #[tactic(auto, unfolding(crate::specs::Words::words_for), using(crate::proofs::Folds::fold_both))]
-pub fn words_for(alloc: Global, kind: u8, name: &[u8]) -> Result<Strings, AllocError>
-    ensures { IfOk result (λ words. words ≡ words_for kind name.now) }
+pub fn words_for(alloc: Global, number: usize, name: &[u8]) -> Result<Strings, AllocError>
+    ensures { IfOk result (λ words. words ≡ words_for number name.now) }
 {
     let small = lowered_text(alloc, name)?;
     let mut words = Strings::new(alloc);
     mention_words(alloc, &mut words, small.as_slice())?;
-    mention_more_words(alloc, &mut words, kind, name)?;
+    mention_more_words(alloc, &mut words, number)?;
     Ok(words)
 }

@@ -1,15 +1,16 @@
 -- Which story file a source has, and which refusal.
 use Rattle.std.specs.Prelude.{◌≡◌, ℕ, List, Ok, Err}
 use Rattle.world_meaning.specs.declared.fault.Fault.{Fault}
-use Rattle.world_meaning.specs.declared.fault.FaultCode.TheVariants.{Memory, TooMany}
+use Rattle.world_meaning.specs.declared.fault.FaultCode.TheVariants.{Memory}
 use Rattle.world_meaning.specs.declared.tale.Tale.{Tale}
 use Rattle.i7_lexer.specs.Readings.{HasTokens}
 use Rattle.i7_lexer.specs.Refusals.{IsRefused as IsUnspelled}
 use Rattle.i7_lexer.specs.declared.token.Token.{Token}
 use Rattle.i7_sentences.specs.Sources.{HasSentences, IsRefused as IsUnread}
 use Rattle.i7_sentences.specs.declared.sentence.Sentence.{Sentence}
-use Rattle.story_format.specs.Shape.{IsTale}
+use Rattle.story_format.specs.Carrying.{Carries}
 use Rattle.story_format.specs.Spells.{Spells}
+use Rattle.story_format.specs.declared.tables.Tables.{Tables}
 use Rattle.i7_kinds.specs.Tales.{tale_said}
 
 -- A source says these sentences: they are spelled by the tokens that it spells.
@@ -24,11 +25,14 @@ pub record Means (source : List ℕ) (tale : Tale) : Type 0 where
   pub says : Says source sentences
   pub meant : tale_said sentences ≡ Ok tale
 
--- A source has this story file: the spelling of the tale that its sentences mean.
+-- A source has this story file: it spells a story's tables that carry the tale that the source's
+-- sentences mean.
 pub record IsCompiled (source bytes : List ℕ) : Type 0 where
   pub tale : Tale
   pub means : Means source tale
-  pub spells : Spells bytes tale
+  pub tables : Tables
+  pub carries : Carries tables tale
+  pub spells : Spells bytes tables
 
 -- A source's tokens are refused.
 pub record IsUnreadSource (source : List ℕ) (fault : Fault) : Type 0 where
@@ -42,16 +46,9 @@ pub record IsUnmeant (source : List ℕ) (fault : Fault) : Type 0 where
   pub says : Says source sentences
   pub refused : tale_said sentences ≡ Err fault
 
--- A source's tale is none that a story file holds: it has more strings.
-pub record IsTooMuch (source : List ℕ) : Type 0 where
-  pub tale : Tale
-  pub means : Means source tale
-  pub unheld : IsTale tale → ⊥
-
--- A source is refused: by its bytes, its tokens, its sentences or its tale; or memory was refused.
+-- A source is refused: by its bytes, its tokens or its sentences; or memory was refused.
 pub data IsRefused : List ℕ → Fault → Type 0 where
   unspelled : {source : List ℕ} {fault : Fault} → IsUnspelled source fault → IsRefused source fault
   unread : {source : List ℕ} {fault : Fault} → IsUnreadSource source fault → IsRefused source fault
   unmeant : {source : List ℕ} {fault : Fault} → IsUnmeant source fault → IsRefused source fault
-  too_much : {source : List ℕ} {fault : Fault} → IsTooMuch source → fault ≡ record { code = TooMany; line = 1 } → IsRefused source fault
   memory : {source : List ℕ} {fault : Fault} → fault ≡ record { code = Memory; line = 1 } → IsRefused source fault

@@ -6,18 +6,12 @@ use i7_kinds::tale_of;
 use i7_lexer::lex;
 use i7_sentences::read;
 use std::alloc::Global;
-use story_format::{is_writable, write};
+use story_format::write;
 use world_meaning::{Fault, FaultCode, Tale};
 
 /// Memory was refused.
 const OUT_OF_MEMORY: Fault = Fault {
     code: FaultCode::Memory,
-    line: 1,
-};
-
-/// The tale has more strings than a story file holds.
-const TOO_MANY_STRINGS: Fault = Fault {
-    code: FaultCode::TooMany,
     line: 1,
 };
 
@@ -33,17 +27,12 @@ fn tale_meant(alloc: Global, source: &[u8]) -> Result<Tale, Fault>
 }
 
 /// The story file of a source, or the refusal that stands: that of the first step that refuses, each
-/// step being the lexer, the reader of sentences and the tale, in this order. A tale of more strings
-/// than a story file holds is C12 at line 1.
+/// step being the lexer, the reader of sentences and the tale, in this order. Each tale that sentences
+/// mean has its story file, so that writing it is refused for memory alone.
 pub fn compile(alloc: Global, source: &[u8]) -> Result<Vec<u8>, Fault>
     ensures { MatchResult result (λ bytes. IsCompiled source.now bytes.items) (IsRefused source.now) }
 {
     let tale = tale_meant(alloc, source)?;
-    match is_writable(alloc, &tale) {
-        Ok(true) => {}
-        Ok(false) => return Err(TOO_MANY_STRINGS),
-        Err(_) => return Err(OUT_OF_MEMORY),
-    }
     match write(alloc, &tale) {
         Ok(bytes) => Ok(bytes),
         Err(_) => Err(OUT_OF_MEMORY),

@@ -1,5 +1,5 @@
 -- No bytes stand for two faults.
-use Rattle.std.proofs.Common.{◌≡◌, ◌≢◌, ℕ, ◌+◌, ◌<◌, Bool, true, false, cond, eqb, List, [], ◌∷◌, ◌++◌, length, take, drop, Some, Result, Ok, Err, refl, sym, ap, ◌∙◌, arith, inl, inr, ◌⊎◌}
+use Rattle.std.proofs.Common.{◌≡◌, ◌≢◌, ℕ, ◌+◌, ◌<◌, Bool, true, false, cond, eqb, List, [], ◌∷◌, ◌++◌, length, take, drop, Option, Some, Result, Ok, Err, refl, sym, ap, ◌∙◌, arith, inl, inr, ◌⊎◌}
 use Rattle.std.specs.Str.{bytes_eq}
 use Rattle.std.specs.Int.{w16, to_be_bytes}
 use Rattle.std.proofs.Math.Dec.{eqb-suc-zero}
@@ -10,12 +10,12 @@ use Rattle.story_format.specs.declared.fault.LoadFault.{LoadFault}
 use Rattle.story_format.specs.declared.fault.LoadFault.TheVariants.{BadMagic, BadVersion, Truncated, TooLong, BadTable, BadCode, BadOrder, Memory}
 use Rattle.story_format.specs.declared.tables.Tables.{Tables}
 use Rattle.story_format.specs.FormatLaws.{number16_lawful}
-use Rattle.story_format.specs.Layout.{tables_format}
-use Rattle.story_format.specs.Making.{magic, head}
+use Rattle.story_format.specs.Layout.{tables_layout}
+use Rattle.story_format.specs.Spells.{magic, head}
 use Rattle.story_format.specs.Checks.{are_right}
-use Rattle.story_format.specs.Reading.{whole, versioned, tables_read}
+use Rattle.story_format.specs.Reading.{whole, body_at, body_read, tables_in, tables_read}
 use Rattle.story_format.specs.Refusals.{IsRefused}
-use Rattle.story_format.proofs.ReadingLemmas.{either, read_whole, same_version}
+use Rattle.story_format.proofs.ReadingLemmas.{either, read_whole, right_ordered, same_version}
 
 -- the fault of what was read
 abbrev fault_told : Result Tables LoadFault → LoadFault
@@ -25,7 +25,7 @@ fault_told (Ok t) = cond (are_right t) BadCode BadTable
 -- ---- what is read where a fault stands
 
 no_magic_read : (bytes : List ℕ) → take 4 bytes ≢ magic → tables_read bytes ≡ Err BadMagic
-unfolding tables_read
+unfolding body_read
 no_magic_read bytes other =
     elim (either (bytes_eq (take 4 bytes) magic)) [
       | inl is ↦ absurd (other ((bytes_eq-Decides (take 4 bytes) magic).0 is))
@@ -33,10 +33,10 @@ no_magic_read bytes other =
     ]
 
 other_version_read : (version : ℕ) (rest : List ℕ) → version ≢ 1 → version < 65536 → tables_read (magic ++ (to_be_bytes w16 version ++ rest)) ≡ Err BadVersion
-unfolding tables_read
+unfolding body_read
 other_version_read version rest other lt =
     let isnt : eqb version 1 ≡ false = ne_eqb version 1 other in
-    ap versioned (number16_lawful.again version rest (lt-ltb version 65536 lt)) ∙ rw isnt refl
+    ap (λ (o : Option (ℕ × List ℕ)). tables_in (body_at o)) (number16_lawful.again version rest (lt-ltb version 65536 lt)) ∙ rw isnt refl
 
 more_is_long : (t : Tables) (rest : List ℕ) → rest ≢ [] → whole (Some (t, rest)) ≡ Err TooLong
 more_is_long t [] some = absurd (some refl)
@@ -49,7 +49,7 @@ told_or_cut bytes Truncated h other = inr (refl, h)
 told_or_cut bytes TooLong (t, rest, some, holds) other = inl (sym (ap fault_told (ap tables_read holds.1 ∙ read_whole t rest holds.0 ∙ more_is_long t rest some)))
 told_or_cut bytes BadTable (t, holds, wrong) other = inl (sym (ap fault_told (ap tables_read holds.1 ∙ read_whole t [] holds.0) ∙ ap (λ (b : Bool). cond b BadCode BadTable) wrong))
 told_or_cut bytes BadCode (t, holds, right, unsound) other = inl (sym (ap fault_told (ap tables_read holds.1 ∙ read_whole t [] holds.0) ∙ ap (λ (b : Bool). cond b BadCode BadTable) right))
-told_or_cut bytes BadOrder h other = absurd h
+told_or_cut bytes BadOrder (t, holds, right, sound, disordered) other = let z : true ≡ false = sym (right_ordered t right) ∙ disordered in absurd cc
 told_or_cut bytes Memory h other = absurd (other refl)
 
 -- ---- where the tables are cut, nothing else stands
@@ -72,8 +72,8 @@ no_other_version bytes rest version other lt e front =
     let same : to_be_bytes w16 version ++ [] ≡ to_be_bytes w16 1 ++ [] = ap (drop 4) (sym (ap (take 6) e) ∙ front) in
     other (same_version version [] [] lt same)
 
-no_tables : (bytes rest : List ℕ) (t : Tables) → IsRefused Truncated bytes → tables_format.fits t ≡ true → bytes ≡ head ++ (tables_format.put t ++ rest) → ⊥
-no_tables bytes rest t (front, inl short) fits e = no_short_head bytes (tables_format.put t ++ rest) e short
+no_tables : (bytes rest : List ℕ) (t : Tables) → IsRefused Truncated bytes → tables_layout.format.fits t ≡ true → bytes ≡ head ++ (tables_layout.format.put t ++ rest) → ⊥
+no_tables bytes rest t (front, inl short) fits e = no_short_head bytes (tables_layout.format.put t ++ rest) e short
 no_tables bytes rest t (front, inr none) fits e = none.1 t rest (fits, e)
 
 only_cut : (bytes : List ℕ) (fault : LoadFault) → IsRefused Truncated bytes → IsRefused fault bytes → fault ≢ Memory → fault ≡ Truncated
@@ -84,7 +84,7 @@ only_cut bytes Truncated h k other = refl
 only_cut bytes TooLong h (t, rest, some, holds) other = absurd (no_tables bytes rest t h holds.0 holds.1)
 only_cut bytes BadTable h (t, holds, wrong) other = absurd (no_tables bytes [] t h holds.0 holds.1)
 only_cut bytes BadCode h (t, holds, right, unsound) other = absurd (no_tables bytes [] t h holds.0 holds.1)
-only_cut bytes BadOrder h k other = absurd k
+only_cut bytes BadOrder h (t, holds, right, sound, disordered) other = absurd (no_tables bytes [] t h holds.0 holds.1)
 only_cut bytes Memory h k other = absurd (other refl)
 
 pub same_fault : (bytes : List ℕ) (fault other : LoadFault) → IsRefused fault bytes → IsRefused other bytes → fault ≢ Memory → other ≢ Memory → fault ≡ other

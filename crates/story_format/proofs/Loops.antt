@@ -1,7 +1,7 @@
 -- Reading values one after the other, as a loop does.
 use Rattle.std.proofs.Common.{◌≡◌, ℕ, zero, suc, ◌-◌, ◌+◌, ◌≤◌, ◌<◌, length, List, [], ◌∷◌, ◌++◌, Option, Some, None, refl, sym, ap, ◌∙◌, append_assoc, arith}
 use Rattle.std.proofs.lemmas.List.{append-nil}
-use Rattle.story_format.specs.Formats.{and_then, get_many}
+use Rattle.story_format.specs.Formats.{and_then, get_many, skip_many}
 
 -- what was read before, and what is still read
 abbrev pub with_front : {A : Type 0} → List A → Option (List A × List ℕ) → Option (List A × List ℕ)
@@ -53,3 +53,26 @@ pub many_length : {A : Type 0} (get : List ℕ → Option (A × List ℕ)) (n : 
 unfolding get_many
 many_length {A} get zero bytes p e = rw (some_is p ([], bytes) e) refl
 many_length {A} get (suc n) bytes p e = length_of_first get n (get bytes) p (many_length get n) e
+
+-- ---- skipping
+
+pub skips_on : (skip : List ℕ → Option (List ℕ)) (count i : ℕ) (bytes after : List ℕ) (total : Option (List ℕ)) → i < count → Some after ≡ skip bytes → skip_many skip (count - i) bytes ≡ total → skip_many skip (count - (i + 1)) after ≡ total
+unfolding skip_many
+skips_on skip count i bytes after total lt h so_far =
+    let k : count - i ≡ suc (count - (i + 1)) = omega arith in
+    let one : skip_many skip (count - i) bytes ≡ skip_many skip (count - (i + 1)) after = rw (k, ← h) refl in
+    sym one ∙ so_far
+
+pub skip_ends : (skip : List ℕ → Option (List ℕ)) (count i : ℕ) (bytes : List ℕ) (total : Option (List ℕ)) → i < count → None ≡ skip bytes → skip_many skip (count - i) bytes ≡ total → None ≡ total
+unfolding skip_many
+skip_ends skip count i bytes total lt h so_far =
+    let k : count - i ≡ suc (count - (i + 1)) = omega arith in
+    let one : skip_many skip (count - i) bytes ≡ None = rw (k, ← h) refl in
+    sym one ∙ so_far
+
+pub skip_done : (skip : List ℕ → Option (List ℕ)) (count i : ℕ) (bytes : List ℕ) (total : Option (List ℕ)) → count ≤ i → skip_many skip (count - i) bytes ≡ total → Some bytes ≡ total
+unfolding skip_many
+skip_done skip count i bytes total le so_far =
+    let k : count - i ≡ 0 = omega arith in
+    let one : skip_many skip (count - i) bytes ≡ Some bytes = rw k refl in
+    sym one ∙ so_far

@@ -1,25 +1,18 @@
 -- The strings of a tale stand once and in order, all of them named, and so do its codes.
-use Rattle.std.proofs.Common.{◌≡◌, ℕ, ◌+◌, ◌<◌, ◌≤◌, Bool, true, false, ltb, leb, eqb, List, [], ◌∷◌, ◌++◌, length, map, Option, Some, None, refl, sym, ap, ◌∙◌, append_assoc, arith, inl, inr, ◌⊎◌}
+use Rattle.std.proofs.Common.{◌≡◌, ℕ, ◌+◌, ◌<◌, ◌≤◌, true, false, ltb, leb, eqb, List, [], ◌∷◌, ◌++◌, length, map, Option, Some, None, refl, sym, ap, ◌∙◌, append_assoc, arith, inl, inr}
 use Rattle.std.specs.Prelude.{min, max, fold, filter}
 use Rattle.std.specs.List.{list_any, flat_map, position_or_len}
 use Rattle.std.specs.Str.{bytes_eq}
 use Rattle.std.proofs.lemmas.Bool.{lt-ltb, ne_eqb, eq-eqb, eqb-true, le-leb}
 use Rattle.std.proofs.lemmas.List.{length-append, append-nil}
-use Rattle.std.proofs.lemmas.Slice.Eq.{bytes_eq-Decides}
-use Rattle.world_meaning.specs.declared.tale.Object.{Object}
 use Rattle.object_words.specs.Mentions.{mention, first_mentions, number_in}
-use Rattle.object_words.specs.Words.{object_words}
-use Rattle.story_format.specs.Making.{texts_of, entry_strings, code_strings, strings_of, code_number, entry_of, entries_of, codes_of, code_of}
+use Rattle.story_format.specs.Making.{Worded, texts_of, entry_strings, code_strings, strings_of, code_number, entry_of, entries_of, codes_of, code_of}
 use Rattle.story_format.specs.Checks.{are_distinct, are_named_in_order, strings_named, codes_named, is_some_code}
 use Rattle.story_format.specs.Soundness.{are_in_turn, are_all_named}
 use Rattle.object_words.proofs.StringLemmas.{length_mapped}
 use Rattle.story_format.proofs.StoryLemmas.{both, both_are}
 use Rattle.object_words.proofs.Folds.{fold_both}
-use Rattle.story_format.proofs.RoundTrip.{passes_at}
-
-pub either : (b : Bool) → (b ≡ true) ⊎ (b ≡ false)
-either true = inl refl
-either false = inr refl
+use Rattle.story_format.proofs.Known.{either, passes_at, text_is_itself}
 
 -- ---- no string twice
 
@@ -40,9 +33,9 @@ rebuilt : (strings seen : List (List ℕ)) → first_mentions seen ≡ seen → 
 rebuilt [] seen h = h
 rebuilt (x ∷ strings) seen h = rebuilt strings (mention seen x) (rebuilt_step seen x h)
 
-pub strings_distinct : (os : List Object) → are_distinct (strings_of os) ≡ true
+pub strings_distinct : (ws : List Worded) → are_distinct (strings_of ws) ≡ true
 unfolding are_distinct strings_of
-strings_distinct os = eq-eqb _ _ (ap length (rebuilt (flat_map entry_strings os ++ flat_map code_strings os) [] refl))
+strings_distinct ws = eq-eqb _ _ (ap length (rebuilt (flat_map entry_strings ws ++ flat_map code_strings ws) [] refl))
 
 -- ---- strings are named in order
 
@@ -62,9 +55,6 @@ place_in_front (s ∷ ss) more x h =
       | inl is ↦ rw is refl
       | inr isnt ↦ let later : list_any (bytes_eq x) ss ≡ true = rw isnt at h in rw (isnt, place_in_front ss more x later) refl
     ]
-
-pub text_is_itself : (text : List ℕ) → bytes_eq text text ≡ true
-text_is_itself text = (bytes_eq-Decides text text).1 refl
 
 pub place_behind : (seen more : List (List ℕ)) (x : List ℕ) → list_any (bytes_eq x) seen ≡ false → position_or_len (bytes_eq x) (seen ++ x ∷ more) ≡ length seen
 place_behind [] more x h = rw (text_is_itself x) refl
@@ -111,16 +101,16 @@ map_both : {A B : Type 0} (f : A → B) (xs ys : List A) → map f (xs ++ ys) �
 map_both f [] ys = refl
 map_both f (x ∷ xs) ys = ap (λ (zs : List _). f x ∷ zs) (map_both f xs ys)
 
-pub numbers_named : (strings : List (List ℕ)) (next : ℕ) (os : List Object) → flat_map strings_named (entries_of strings next os) ≡ map (number_in strings) (flat_map entry_strings os)
+pub numbers_named : (strings : List (List ℕ)) (next : ℕ) (ws : List Worded) → flat_map strings_named (entries_of strings next ws) ≡ map (number_in strings) (flat_map entry_strings ws)
 unfolding entries_of entry_of entry_strings
 numbers_named strings next [] = refl
-numbers_named strings next (o ∷ os) =
-    ap (λ (later : List ℕ). number_in strings o.name ∷ (map (number_in strings) (object_words o) ++ later)) (numbers_named strings (next + length (code_strings o)) os)
-    ∙ ap (λ (later : List ℕ). number_in strings o.name ∷ later) (sym (map_both (number_in strings) (object_words o) (flat_map entry_strings os)))
+numbers_named strings next (w ∷ ws) =
+    ap (λ (later : List ℕ). number_in strings w.object.name ∷ (map (number_in strings) (w.words) ++ later)) (numbers_named strings (next + length (code_strings w)) ws)
+    ∙ ap (λ (later : List ℕ). number_in strings w.object.name ∷ later) (sym (map_both (number_in strings) (w.words) (flat_map entry_strings ws)))
 
-pub strings_all_named : (os : List Object) → length (strings_of os) < 65535 → are_all_named (length (strings_of os)) 0 (map (number_in (strings_of os)) (flat_map entry_strings os ++ flat_map code_strings os)) ≡ true
+pub strings_all_named : (ws : List Worded) → length (strings_of ws) < 65535 → are_all_named (length (strings_of ws)) 0 (map (number_in (strings_of ws)) (flat_map entry_strings ws ++ flat_map code_strings ws)) ≡ true
 unfolding strings_of
-strings_all_named os few = all_ordered (strings_of os) (flat_map entry_strings os ++ flat_map code_strings os) [] refl few
+strings_all_named ws few = all_ordered (strings_of ws) (flat_map entry_strings ws ++ flat_map code_strings ws) [] refl few
 
 -- where all are named in order, those in front are
 in_order_in_front : (ns ms : List ℕ) (count next : ℕ) → are_all_named count next (ns ++ ms) ≡ true → are_named_in_order next ns ≡ true
@@ -130,18 +120,18 @@ in_order_in_front (n ∷ ns) ms count next h =
     let t = both_are (leb n next) (are_all_named count (max next (n + 1)) (ns ++ ms)) h in
     both (leb n next) (are_named_in_order (max next (n + 1)) ns) t.0 (in_order_in_front ns ms count (max next (n + 1)) t.1)
 
-pub strings_in_order : (os : List Object) → length (strings_of os) < 65535 → are_named_in_order 0 (flat_map strings_named (entries_of (strings_of os) 0 os)) ≡ true
-strings_in_order os few =
-    let strings = strings_of os in
-    let parts = map_both (number_in strings) (flat_map entry_strings os) (flat_map code_strings os) in
-    ap (are_named_in_order 0) (numbers_named strings 0 os)
-    ∙ in_order_in_front (map (number_in strings) (flat_map entry_strings os)) (map (number_in strings) (flat_map code_strings os)) (length strings) 0 (sym (ap (are_all_named (length strings) 0) parts) ∙ strings_all_named os few)
+pub strings_in_order : (ws : List Worded) → length (strings_of ws) < 65535 → are_named_in_order 0 (flat_map strings_named (entries_of (strings_of ws) 0 ws)) ≡ true
+strings_in_order ws few =
+    let strings = strings_of ws in
+    let parts = map_both (number_in strings) (flat_map entry_strings ws) (flat_map code_strings ws) in
+    ap (are_named_in_order 0) (numbers_named strings 0 ws)
+    ∙ in_order_in_front (map (number_in strings) (flat_map entry_strings ws)) (map (number_in strings) (flat_map code_strings ws)) (length strings) 0 (sym (ap (are_all_named (length strings) 0) parts) ∙ strings_all_named ws few)
 
 -- ---- codes are named in order
 
-pub entry_code : (strings : List (List ℕ)) (next : ℕ) (o : Object) → (entry_of strings next o).description ≡ code_number next o.description
+pub entry_code : (strings : List (List ℕ)) (next : ℕ) (w : Worded) → (entry_of strings next w).description ≡ code_number next w.object.description
 unfolding entry_of
-entry_code strings next o = refl
+entry_code strings next w = refl
 
 pub at_most_one : (d : Option (List ℕ)) → length (texts_of d) ≤ 1
 at_most_one None = omega arith
@@ -155,15 +145,15 @@ one_in_turn count next n (Some text) later lt h =
     let told : eqb next 65535 ≡ false = ne_eqb _ _ (λ k. omega (arith, k, lt)) in
     rw (number, told, eq-eqb next next refl) h
 
-pub codes_in_turn : (strings : List (List ℕ)) (os : List Object) (next count : ℕ) → next + length (flat_map (codes_of strings) os) ≡ count → next + length os < 65535 → are_in_turn count next (codes_named (entries_of strings next os)) ≡ true
+pub codes_in_turn : (strings : List (List ℕ)) (ws : List Worded) (next count : ℕ) → next + length (flat_map (codes_of strings) ws) ≡ count → next + length ws < 65535 → are_in_turn count next (codes_named (entries_of strings next ws)) ≡ true
 unfolding entries_of are_in_turn
 codes_in_turn strings [] next count e lt = eq-eqb next count (omega (arith, e))
-codes_in_turn strings (o ∷ os) next count e lt =
-    let bound = at_most_one o.description in
-    let one : length (codes_of strings o) ≡ length (code_strings o) = length_mapped (code_of strings) (code_strings o) in
-    let sum : length (codes_of strings o ++ flat_map (codes_of strings) os) ≡ length (codes_of strings o) + length (flat_map (codes_of strings) os) = length-append (codes_of strings o) (flat_map (codes_of strings) os) in
-    rw (entry_code strings next o) (one_in_turn count next 0 o.description (map (λ e. e.description) (entries_of strings (next + length (code_strings o)) os)) (omega (arith, lt))
-    (codes_in_turn strings os (next + length (code_strings o)) count (omega (arith, e, one, sum)) (omega (arith, bound, lt))))
+codes_in_turn strings (w ∷ ws) next count e lt =
+    let bound = at_most_one w.object.description in
+    let one : length (codes_of strings w) ≡ length (code_strings w) = length_mapped (code_of strings) (code_strings w) in
+    let sum : length (codes_of strings w ++ flat_map (codes_of strings) ws) ≡ length (codes_of strings w) + length (flat_map (codes_of strings) ws) = length-append (codes_of strings w) (flat_map (codes_of strings) ws) in
+    rw (entry_code strings next w) (one_in_turn count next 0 w.object.description (map (λ e. e.description) (entries_of strings (next + length (code_strings w)) ws)) (omega (arith, lt))
+    (codes_in_turn strings ws (next + length (code_strings w)) count (omega (arith, e, one, sum)) (omega (arith, bound, lt))))
 
 in_turn_in_order : (ns : List ℕ) (count next : ℕ) → are_in_turn count next ns ≡ true → are_named_in_order next ns ≡ true
 unfolding are_named_in_order are_in_turn
@@ -175,7 +165,7 @@ in_turn_in_order (n ∷ ns) count next h =
     let up : max next (n + 1) ≡ next + 1 = omega (arith, here) in
     both (leb n next) (are_named_in_order (max next (n + 1)) ns) low (ap (λ k. are_named_in_order k ns) up ∙ in_turn_in_order ns count (next + 1) t.1)
 
-pub codes_in_order : (os : List Object) → length os < 65535 → are_named_in_order 0 (codes_named (entries_of (strings_of os) 0 os)) ≡ true
-codes_in_order os lt =
-    let count = length (flat_map (codes_of (strings_of os)) os) in
-    in_turn_in_order (codes_named (entries_of (strings_of os) 0 os)) count 0 (codes_in_turn (strings_of os) os 0 count (omega arith) (omega arith))
+pub codes_in_order : (ws : List Worded) → length ws < 65535 → are_named_in_order 0 (codes_named (entries_of (strings_of ws) 0 ws)) ≡ true
+codes_in_order ws lt =
+    let count = length (flat_map (codes_of (strings_of ws)) ws) in
+    in_turn_in_order (codes_named (entries_of (strings_of ws) 0 ws)) count 0 (codes_in_turn (strings_of ws) ws 0 count (omega arith) (omega arith))

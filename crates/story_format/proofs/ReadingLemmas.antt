@@ -1,67 +1,67 @@
 -- What is known of bytes whose tables were read, and of bytes that were refused.
-use Rattle.std.proofs.Common.{◌≡◌, ◌≢◌, ℕ, ◌+◌, ◌<◌, Bool, true, false, cond, ltb, eqb, List, [], ◌∷◌, ◌++◌, length, take, drop, Option, Some, None, Result, Ok, Err, refl, sym, ap, subst, ◌∙◌, arith, inl, inr, ◌⊎◌}
+use Rattle.std.proofs.Common.{◌≡◌, ◌≢◌, ℕ, ◌+◌, ◌<◌, ◌≤◌, Bool, true, false, cond, ◌&&◌, ltb, eqb, List, [], ◌∷◌, ◌++◌, length, take, drop, Option, Some, None, Result, Ok, Err, refl, sym, ap, subst, ◌∙◌, arith, inl, inr, ◌⊎◌}
+use Rattle.std.specs.Prelude.{count_by}
+use Rattle.std.specs.List.{list_all}
 use Rattle.std.specs.Str.{bytes_eq}
 use Rattle.std.specs.Int.{w16, to_be_bytes, from_be_bytes}
 use Rattle.std.proofs.Math.Dec.{eqb-suc-zero}
-use Rattle.std.proofs.lemmas.Bool.{ltb-true, lt-ltb, eqb-true, eqb-false}
+use Rattle.std.proofs.lemmas.Bool.{ltb-true, lt-ltb, ne_eqb, eq-eqb, eqb-true, eqb-false}
 use Rattle.std.proofs.lemmas.List.{append-nil, length-append, length-drop, take-append-drop}
 use Rattle.std.proofs.lemmas.Slice.Eq.{bytes_eq-Decides}
-use Rattle.world_meaning.specs.declared.tale.Tale.{Tale}
 use Rattle.story_format.specs.declared.fault.LoadFault.{LoadFault}
 use Rattle.story_format.specs.declared.fault.LoadFault.TheVariants.{BadMagic, BadVersion, Truncated, TooLong, BadTable, BadCode, BadOrder, Memory}
 use Rattle.story_format.specs.declared.tables.Tables.{Tables}
-use Rattle.story_format.specs.Formats.{IsBytes, number}
+use Rattle.story_format.specs.Formats.{IsBytes, behind, number}
 use Rattle.story_format.specs.FormatLaws.{number16_lawful, IsBytes-drop}
-use Rattle.story_format.specs.Layout.{tables_format, tables_lawful}
-use Rattle.story_format.specs.Making.{magic, head, tables_of, spelling}
-use Rattle.story_format.specs.Telling.{tale_told}
-use Rattle.story_format.specs.Checks.{are_right}
-use Rattle.story_format.specs.Soundness.{are_sound}
-use Rattle.story_format.specs.Shape.{IsTale}
-use Rattle.story_format.specs.Spells.{Spells}
-use Rattle.story_format.specs.Reading.{whole, versioned, tables_read, FaultGiven}
+use Rattle.story_format.specs.Reading.{whole, body_at, body_read, tables_in, tables_read, FaultGiven}
 use Rattle.story_format.specs.Refusals.{Holds, IsRefused}
-use Rattle.story_format.proofs.RoundTrip.{tale_back}
-use Rattle.story_format.proofs.TableLemmas.{tables_right}
-use Rattle.story_format.proofs.SoundLemmas.{tables_sound}
-use Rattle.story_format.proofs.TaleLemmas.{tale_there}
+use Rattle.story_format.specs.Layout.{tables_layout}
+use Rattle.story_format.specs.Checks.{has_no_world, has_no_rules, are_distinct, is_of_room, are_right_objects, are_right}
+use Rattle.story_format.specs.Sizes.{is_right_exits, sizes_of}
+use Rattle.story_format.specs.Soundness.{are_sound}
+use Rattle.story_format.specs.Spells.{magic, head, are_ordered, Spells}
+use Rattle.story_format.proofs.StoryLemmas.{last_of_five, three}
 
 -- ---- reading what was put
 
-pub read_whole : (t : Tables) (rest : List ℕ) → tables_format.fits t ≡ true → tables_read (head ++ (tables_format.put t ++ rest)) ≡ whole (Some (t, rest))
-unfolding tables_read
-read_whole t rest fits = ap versioned (number16_lawful.again 1 (tables_format.put t ++ rest) refl) ∙ ap whole (tables_lawful.again t rest fits)
-
-pub spelled_read : (bytes : List ℕ) (t : Tale) → Spells bytes t → tables_read bytes ≡ Ok (tables_of t)
-unfolding spelling
-spelled_read bytes t h =
-    ap tables_read (h.spelled ∙ ap (λ (body : List ℕ). head ++ body) (sym (append-nil (tables_format.put (tables_of t))))) ∙ read_whole (tables_of t) [] h.tale.fits
+pub read_whole : (t : Tables) (rest : List ℕ) → tables_layout.format.fits t ≡ true → tables_read (head ++ (tables_layout.format.put t ++ rest)) ≡ whole (Some (t, rest))
+unfolding body_read
+read_whole t rest fits = ap (λ (o : Option (ℕ × List ℕ)). tables_in (body_at o)) (number16_lawful.again 1 (tables_layout.format.put t ++ rest) refl) ∙ ap whole (tables_layout.lawful.again t rest fits)
 
 ok_is : {A : Type 0} (x y : A) → (let left : Result A LoadFault = Ok x in let right : Result A LoadFault = Ok y in left ≡ right) → x ≡ y
 ok_is x y e = cc
 
-pub spelled_told : (bytes : List ℕ) (t : Tale) (tables : Tables) → Spells bytes t → tables_read bytes ≡ Ok tables → tale_told tables ≡ Some t
-spelled_told bytes t tables h e =
-    let same : tables_of t ≡ tables = ok_is (tables_of t) tables (sym (spelled_read bytes t h) ∙ e) in
-    ap tale_told (sym same) ∙ tale_back t h.tale
-
 pub some_is : {A : Type 0} (x y : A) → Some x ≡ Some y → x ≡ y
 some_is x y e = cc
 
-pub same_tale : (bytes : List ℕ) (t u : Tale) → Spells bytes t → Spells bytes u → t ≡ u
-same_tale bytes t u h k =
-    let e = spelled_told bytes t (tables_of u) h (spelled_read bytes u k) in
-    some_is t u (sym e ∙ tale_back u k.tale)
+-- ---- what skipping tells
 
-pub only_memory : (bytes : List ℕ) (t : Tale) (fault : LoadFault) → Spells bytes t → FaultGiven fault (tables_read bytes) → fault ≡ Memory
-only_memory bytes t BadMagic h e = let k = sym (spelled_read bytes t h) ∙ e in absurd cc
-only_memory bytes t BadVersion h e = let k = sym (spelled_read bytes t h) ∙ e in absurd cc
-only_memory bytes t Truncated h e = let k = sym (spelled_read bytes t h) ∙ e in absurd cc
-only_memory bytes t TooLong h e = let k = sym (spelled_read bytes t h) ∙ e in absurd cc
-only_memory bytes t BadTable h e = let k = sym (spelled_read bytes t h) ∙ e in absurd cc
-only_memory bytes t BadCode h e = let k = sym (spelled_read bytes t h) ∙ e in absurd cc
-only_memory bytes t BadOrder h e = let k = sym (spelled_read bytes t h) ∙ e in absurd cc
-only_memory bytes t Memory h e = refl
+pub cut_by_skip : (found : Option (Tables × List ℕ)) → None ≡ behind found → whole found ≡ Err Truncated
+cut_by_skip None e = refl
+cut_by_skip (Some x) e = absurd cc
+
+pub long_by_skip : (found : Option (Tables × List ℕ)) (rest : List ℕ) → 1 ≤ length rest → Some rest ≡ behind found → whole found ≡ Err TooLong
+long_by_skip None rest le e = absurd cc
+long_by_skip (Some x) rest le e =
+    let same : rest ≡ x.1 = some_is rest x.1 e in
+    let some : eqb (length x.1) 0 ≡ false = ne_eqb (length x.1) 0 (λ k. omega (arith, k, le, ap length same)) in
+    rw some refl
+
+nothing_behind : (rest : List ℕ) (x : Tables × List ℕ) → length rest < 1 → Some rest ≡ behind (Some x) → whole (Some x) ≡ Ok x.0
+nothing_behind rest x lt e =
+    let same : rest ≡ x.1 = some_is rest x.1 e in
+    let none : eqb (length x.1) 0 ≡ true = eq-eqb (length x.1) 0 (omega (arith, lt, ap length same)) in
+    rw none refl
+
+pub whole_by_skip : (found : Option (Tables × List ℕ)) (rest : List ℕ) → length rest < 1 → Some rest ≡ behind found → (t : Tables) × (whole found ≡ Ok t)
+whole_by_skip None rest lt e = absurd cc
+whole_by_skip (Some x) rest lt e = (x.0, nothing_behind rest x lt e)
+
+pub read_by_skip : (found : Option (Tables × List ℕ)) (rest : List ℕ) (t : Tables) (more : List ℕ) → length rest < 1 → Some rest ≡ behind found → Some (t, more) ≡ found → whole found ≡ Ok t
+read_by_skip None rest t more lt e k = absurd cc
+read_by_skip (Some x) rest t more lt e k =
+    let same : x ≡ (t, more) = some_is x (t, more) (sym k) in
+    nothing_behind rest x lt e ∙ ap (λ (p : Tables × List ℕ). let read : Result Tables LoadFault = Ok p.0 in read) same
 
 -- ---- what reading says of the bytes
 
@@ -77,17 +77,17 @@ data Stage : List ℕ → Result Tables LoadFault → Type 0 where
   no_magic : {bytes : List ℕ} → take 4 bytes ≢ magic → Stage bytes (Err BadMagic)
   no_version : {bytes : List ℕ} → take 4 bytes ≡ magic → length bytes < 6 → Stage bytes (Err Truncated)
   other_version : {bytes : List ℕ} (version : ℕ) (rest : List ℕ) → version ≢ 1 → version < 65536 → bytes ≡ magic ++ (to_be_bytes w16 version ++ rest) → Stage bytes (Err BadVersion)
-  cut : {bytes : List ℕ} (body : List ℕ) → bytes ≡ head ++ body → tables_format.get body ≡ None → Stage bytes (Err Truncated)
+  cut : {bytes : List ℕ} (body : List ℕ) → bytes ≡ head ++ body → tables_layout.format.get body ≡ None → Stage bytes (Err Truncated)
   more : {bytes : List ℕ} (t : Tables) (rest : List ℕ) → rest ≢ [] → Holds bytes t rest → Stage bytes (Err TooLong)
   all : {bytes : List ℕ} (t : Tables) → Holds bytes t [] → Stage bytes (Ok t)
 
-stage_of_tables : (bytes body : List ℕ) → IsBytes body → bytes ≡ head ++ body → (found : Option (Tables × List ℕ)) → tables_format.get body ≡ found → Stage bytes (whole found)
+stage_of_tables : (bytes body : List ℕ) → IsBytes body → bytes ≡ head ++ body → (found : Option (Tables × List ℕ)) → tables_layout.format.get body ≡ found → Stage bytes (whole found)
 stage_of_tables bytes body fits e None k = cut body e k
 stage_of_tables bytes body fits e (Some (t, [])) k =
-    let p = tables_lawful.takes body t [] fits k in
+    let p = tables_layout.lawful.takes body t [] fits k in
     all t (p.1, e ∙ ap (λ (b : List ℕ). head ++ b) p.0.parts)
 stage_of_tables bytes body fits e (Some (t, x ∷ rest)) k =
-    let p = tables_lawful.takes body t (x ∷ rest) fits k in
+    let p = tables_layout.lawful.takes body t (x ∷ rest) fits k in
     let some : eqb (length (x ∷ rest)) 0 ≡ false = eqb-suc-zero (length rest) in
     rw some (more t (x ∷ rest) (λ e. absurd cc) (p.1, e ∙ ap (λ (b : List ℕ). head ++ b) p.0.parts))
 
@@ -95,7 +95,7 @@ some_found : {A : Type 0} (test : Bool) (x : A) → cond test None (Some x) ≡ 
 some_found true x e = refl
 some_found false x e = absurd cc
 
-stage_of_version : (bytes : List ℕ) → IsBytes bytes → bytes_eq (take 4 bytes) magic ≡ true → (found : Option (ℕ × List ℕ)) → (number w16).get (drop 4 bytes) ≡ found → Stage bytes (versioned found)
+stage_of_version : (bytes : List ℕ) → IsBytes bytes → bytes_eq (take 4 bytes) magic ≡ true → (found : Option (ℕ × List ℕ)) → (number w16).get (drop 4 bytes) ≡ found → Stage bytes (tables_in (body_at found))
 stage_of_version bytes fits e None k =
     let short : ltb (length (drop 4 bytes)) 2 ≡ true = some_found (ltb (length (drop 4 bytes)) 2) (from_be_bytes w16 (take 2 (drop 4 bytes)), drop 2 (drop 4 bytes)) k in
     let lt : length (drop 4 bytes) < 2 = ltb-true _ _ short in
@@ -108,12 +108,12 @@ stage_of_version bytes fits e (Some (version, body)) k =
       | inl is ↦
           let one : version ≡ 1 = eqb-true version 1 is in
           let front : bytes ≡ head ++ body = parts ∙ ap (λ v. magic ++ (to_be_bytes w16 v ++ body)) one in
-          rw is (stage_of_tables bytes body p.0.rest_fits front (tables_format.get body) refl)
+          rw is (stage_of_tables bytes body p.0.rest_fits front (tables_layout.format.get body) refl)
       | inr isnt ↦ rw isnt (other_version version body (eqb-false version 1 isnt) lt parts)
     ]
 
 stage_of : (bytes : List ℕ) → IsBytes bytes → Stage bytes (tables_read bytes)
-unfolding tables_read
+unfolding body_read
 stage_of bytes fits =
     elim (either (bytes_eq (take 4 bytes) magic)) [
       | inl is ↦ rw is (stage_of_version bytes fits is ((number w16).get (drop 4 bytes)) refl)
@@ -122,15 +122,15 @@ stage_of bytes fits =
 
 -- ---- what a fault says
 
-given_is : (fault other : LoadFault) → FaultGiven fault (Err other) → (other ≡ fault) ⊎ (Memory ≡ fault)
-given_is BadMagic other e = inl cc
-given_is BadVersion other e = inl cc
-given_is Truncated other e = inl cc
-given_is TooLong other e = inl cc
-given_is BadTable other e = inl cc
-given_is BadCode other e = inl cc
-given_is BadOrder other e = inl cc
-given_is Memory other e = inr refl
+given_is : (fault other : LoadFault) → FaultGiven fault (Err other) → other ≡ fault
+given_is BadMagic other e = cc
+given_is BadVersion other e = cc
+given_is Truncated other e = cc
+given_is TooLong other e = cc
+given_is BadTable other e = cc
+given_is BadCode other e = cc
+given_is BadOrder other e = cc
+given_is Memory other (t, e) = absurd cc
 
 given_ok : (fault : LoadFault) (t : Tables) → FaultGiven fault (Ok t) → Memory ≡ fault
 given_ok BadMagic t e = absurd cc
@@ -143,16 +143,12 @@ given_ok BadOrder t e = absurd cc
 given_ok Memory t e = refl
 
 refused_as : (bytes : List ℕ) (fault other : LoadFault) → FaultGiven fault (Err other) → IsRefused other bytes → IsRefused fault bytes
-refused_as bytes fault other e h =
-    elim (given_is fault other e) [
-      | inl same ↦ subst (λ (f : LoadFault). IsRefused f bytes) same h
-      | inr memory ↦ subst (λ (f : LoadFault). IsRefused f bytes) memory tt
-    ]
+refused_as bytes fault other e h = subst (λ (f : LoadFault). IsRefused f bytes) (given_is fault other e) h
 
-none_stand : (bytes body : List ℕ) → bytes ≡ head ++ body → tables_format.get body ≡ None → (t : Tables) (rest : List ℕ) → Holds bytes t rest → ⊥
+none_stand : (bytes body : List ℕ) → bytes ≡ head ++ body → tables_layout.format.get body ≡ None → (t : Tables) (rest : List ℕ) → Holds bytes t rest → ⊥
 none_stand bytes body e k t rest h =
-    let same : body ≡ tables_format.put t ++ rest = ap (drop 6) (sym e ∙ h.1) in
-    let z = sym k ∙ ap tables_format.get same ∙ tables_lawful.again t rest h.0 in absurd cc
+    let same : body ≡ tables_layout.format.put t ++ rest = ap (drop 6) (sym e ∙ h.1) in
+    let z = sym k ∙ ap tables_layout.format.get same ∙ tables_layout.lawful.again t rest h.0 in absurd cc
 
 refused_at : (bytes : List ℕ) (read : Result Tables LoadFault) → Stage bytes read → (fault : LoadFault) → FaultGiven fault read → IsRefused fault bytes
 refused_at bytes read (no_magic isnt) fault e = refused_as bytes fault BadMagic e isnt
@@ -160,7 +156,7 @@ refused_at bytes read (no_version front short) fault e = refused_as bytes fault 
 refused_at bytes read (other_version version rest other lt parts) fault e = refused_as bytes fault BadVersion e (version, rest, other, lt, parts)
 refused_at bytes read (cut body parts k) fault e = refused_as bytes fault Truncated e (ap (take 4) parts, inr (ap (take 6) parts, none_stand bytes body parts k))
 refused_at bytes read (more t rest some holds) fault e = refused_as bytes fault TooLong e (t, rest, some, holds)
-refused_at bytes read (all t holds) fault e = subst (λ (f : LoadFault). IsRefused f bytes) (given_ok fault t e) tt
+refused_at bytes read (all t holds) fault e = subst (λ (f : LoadFault). IsRefused f bytes) (given_ok fault t e) (t, holds)
 
 pub refused : (bytes : List ℕ) (fault : LoadFault) → IsBytes bytes → FaultGiven fault (tables_read bytes) → IsRefused fault bytes
 refused bytes fault fits e = refused_at bytes (tables_read bytes) (stage_of bytes fits) fault e
@@ -178,41 +174,69 @@ tables_stand bytes t fits e = holds_at bytes (tables_read bytes) (stage_of bytes
 
 -- ---- the faults of tables
 
-pub right_if_spelled : (bytes : List ℕ) (tale : Tale) (t : Tables) → Spells bytes tale → tables_read bytes ≡ Ok t → are_right t ≡ true
-right_if_spelled bytes tale t h e = ap are_right (ok_is t (tables_of tale) (sym e ∙ spelled_read bytes tale h)) ∙ tables_right tale h.tale
-
 pub table_fault : (bytes : List ℕ) (t : Tables) → IsBytes bytes → tables_read bytes ≡ Ok t → are_right t ≡ false → IsRefused BadTable bytes
 table_fault bytes t fits e h = (t, tables_stand bytes t fits e, h)
 
 pub code_fault : (bytes : List ℕ) (t : Tables) → IsBytes bytes → tables_read bytes ≡ Ok t → are_right t ≡ true → are_sound t ≡ false → IsRefused BadCode bytes
 code_fault bytes t fits e right unsound = (t, tables_stand bytes t fits e, right, unsound)
 
-pub sound_if_spelled : (bytes : List ℕ) (tale : Tale) (t : Tables) → Spells bytes tale → tables_read bytes ≡ Ok t → are_sound t ≡ true
-sound_if_spelled bytes tale t h e = ap are_sound (ok_is t (tables_of tale) (sym e ∙ spelled_read bytes tale h)) ∙ tables_sound tale h.tale
+pub memory_fault : (bytes : List ℕ) (t : Tables) → IsBytes bytes → tables_read bytes ≡ Ok t → IsRefused Memory bytes
+memory_fault bytes t fits e = (t, tables_stand bytes t fits e)
 
-pub spelled_by : (bytes : List ℕ) (tale : Tale) (t : Tables) → IsBytes bytes → tables_read bytes ≡ Ok t → IsTale tale → tables_of tale ≡ t → Spells bytes tale
-unfolding spelling
-spelled_by bytes tale t fits e h same =
+-- ---- stories
+
+-- right tables have no books, so none out of order
+no_books : (t : Tables) → are_right t ≡ true → eqb (length t.rules.books) 0 ≡ true
+unfolding are_right
+no_books t right =
+    let p = last_of_five (has_no_world t.world && has_no_rules t.rules && ltb (length t.strings) 65535) (are_distinct t.strings) (are_right_objects t) (eqb (length t.ways) (count_by is_of_room t.objects)) (list_all (is_right_exits (sizes_of t)) t.ways) right in
+    let q = three (has_no_world t.world) (has_no_rules t.rules) (ltb (length t.strings) 65535) p.0 in
+    (last_of_five (eqb (length t.rules.actions) 0) (eqb (length t.rules.grammar) 0) (eqb t.rules.rules 0) (eqb (length t.rules.books) 0) (eqb (length t.rules.scenes) 0) q.1).3
+
+pub right_ordered : (t : Tables) → are_right t ≡ true → are_ordered t ≡ true
+unfolding are_ordered
+right_ordered t right = no_books t right
+
+pub spelled_read : (bytes : List ℕ) (t : Tables) → Spells bytes t → tables_read bytes ≡ Ok t
+spelled_read bytes t h =
+    ap tables_read (h.spelled ∙ ap (λ (body : List ℕ). head ++ body) (sym (append-nil (tables_layout.format.put t)))) ∙ read_whole t [] h.story.fits
+
+pub same_story : (bytes : List ℕ) (t u : Tables) → Spells bytes t → Spells bytes u → t ≡ u
+same_story bytes t u h k = ok_is t u (sym (spelled_read bytes t h) ∙ spelled_read bytes u k)
+
+pub story_there : (bytes : List ℕ) (t : Tables) → IsBytes bytes → tables_read bytes ≡ Ok t → are_right t ≡ true → are_sound t ≡ true → Spells bytes t
+story_there bytes t fits e right sound =
     let holds = tables_stand bytes t fits e in
-    record { tale = h; spelled = holds.1 ∙ ap (λ (body : List ℕ). head ++ body) (append-nil (tables_format.put t)) ∙ ap (λ (t : Tables). head ++ tables_format.put t) (sym same) }
+    record { story = record { fits = holds.0; right = right; sound = sound; ordered = right_ordered t right }; spelled = holds.1 ∙ ap (λ (body : List ℕ). head ++ body) (append-nil (tables_layout.format.put t)) }
+
+-- the tables that are read of a story's bytes are the story's
+pub read_is : (bytes : List ℕ) (t u : Tables) → Spells bytes t → tables_read bytes ≡ Ok u → t ≡ u
+read_is bytes t u h e = ok_is t u (sym (spelled_read bytes t h) ∙ e)
+
+pub right_if_spelled : (bytes : List ℕ) (t u : Tables) → Spells bytes t → tables_read bytes ≡ Ok u → are_right u ≡ true
+right_if_spelled bytes t u h e = ap are_right (sym (read_is bytes t u h e)) ∙ h.story.right
+
+pub sound_if_spelled : (bytes : List ℕ) (t u : Tables) → Spells bytes t → tables_read bytes ≡ Ok u → are_sound u ≡ true
+sound_if_spelled bytes t u h e = ap are_sound (sym (read_is bytes t u h e)) ∙ h.story.sound
+
+pub only_memory : (bytes : List ℕ) (t : Tables) (fault : LoadFault) → Spells bytes t → FaultGiven fault (tables_read bytes) → fault ≡ Memory
+only_memory bytes t fault h e = sym (given_ok fault t (subst (FaultGiven fault) (spelled_read bytes t h) e))
 
 -- ---- a story, or a fault
 
-story_or_fault : (bytes : List ℕ) (t : Tables) → IsBytes bytes → tables_read bytes ≡ Ok t → ((tale : Tale) × Spells bytes tale) ⊎ ((fault : LoadFault) × (fault ≢ Memory) × IsRefused fault bytes)
+story_or_fault : (bytes : List ℕ) (t : Tables) → IsBytes bytes → tables_read bytes ≡ Ok t → ((t : Tables) × Spells bytes t) ⊎ ((fault : LoadFault) × (fault ≢ Memory) × IsRefused fault bytes)
 story_or_fault bytes t fits e =
     elim (either (are_right t)) [
       | inl right ↦
           elim (either (are_sound t)) [
-            | inl sound ↦
-                let there = tale_there t right sound (tables_stand bytes t fits e).0 in
-                inl (there.0, spelled_by bytes there.0 t fits e there.2 there.3)
+            | inl sound ↦ inl (t, story_there bytes t fits e right sound)
             | inr unsound ↦ inr (BadCode, λ e. absurd cc, code_fault bytes t fits e right unsound)
           ]
       | inr wrong ↦ inr (BadTable, λ e. absurd cc, table_fault bytes t fits e wrong)
     ]
 
-refused_or_read : (bytes : List ℕ) (read : Result Tables LoadFault) → IsBytes bytes → Stage bytes read → ((t : Tables) → tables_read bytes ≡ Ok t → ((tale : Tale) × Spells bytes tale) ⊎ ((fault : LoadFault) × (fault ≢ Memory) × IsRefused fault bytes))
-    → ((tale : Tale) × Spells bytes tale) ⊎ ((fault : LoadFault) × (fault ≢ Memory) × IsRefused fault bytes)
+refused_or_read : (bytes : List ℕ) (read : Result Tables LoadFault) → IsBytes bytes → Stage bytes read → ((t : Tables) → tables_read bytes ≡ Ok t → ((t : Tables) × Spells bytes t) ⊎ ((fault : LoadFault) × (fault ≢ Memory) × IsRefused fault bytes))
+    → ((t : Tables) × Spells bytes t) ⊎ ((fault : LoadFault) × (fault ≢ Memory) × IsRefused fault bytes)
 refused_or_read bytes read fits (no_magic isnt) f = inr (BadMagic, λ e. absurd cc, isnt)
 refused_or_read bytes read fits (no_version front short) f = inr (Truncated, λ e. absurd cc, (front, inl short))
 refused_or_read bytes read fits (other_version version rest other lt parts) f = inr (BadVersion, λ e. absurd cc, (version, rest, other, lt, parts))
@@ -220,22 +244,15 @@ refused_or_read bytes read fits (cut body parts k) f = inr (Truncated, λ e. abs
 refused_or_read bytes read fits (more t rest some holds) f = inr (TooLong, λ e. absurd cc, (t, rest, some, holds))
 refused_or_read bytes read fits (all t holds) f = f t (ap tables_read holds.1 ∙ read_whole t [] holds.0)
 
-pub story_or_refused : (bytes : List ℕ) → IsBytes bytes → ((tale : Tale) × Spells bytes tale) ⊎ ((fault : LoadFault) × (fault ≢ Memory) × IsRefused fault bytes)
+pub story_or_refused : (bytes : List ℕ) → IsBytes bytes → ((t : Tables) × Spells bytes t) ⊎ ((fault : LoadFault) × (fault ≢ Memory) × IsRefused fault bytes)
 story_or_refused bytes fits = refused_or_read bytes (tables_read bytes) fits (stage_of bytes fits) (λ t. story_or_fault bytes t fits)
 
 -- ---- a story isn't refused
 
-abbrev body_of : Tale → List ℕ
-body_of t = tables_format.put (tables_of t)
-
-spelled_as : (bytes : List ℕ) (t : Tale) → Spells bytes t → bytes ≡ head ++ body_of t
-unfolding spelling
-spelled_as bytes t h = h.spelled
-
-same_tables : (t u : Tables) (rest : List ℕ) → tables_format.fits t ≡ true → tables_format.fits u ≡ true → tables_format.put t ≡ tables_format.put u ++ rest → rest ≡ []
+same_tables : (t u : Tables) (rest : List ℕ) → tables_layout.format.fits t ≡ true → tables_layout.format.fits u ≡ true → tables_layout.format.put t ≡ tables_layout.format.put u ++ rest → rest ≡ []
 same_tables t u rest f g e =
-    let first : tables_format.get (tables_format.put t) ≡ Some (t, []) = ap tables_format.get (sym (append-nil (tables_format.put t))) ∙ tables_lawful.again t [] f in
-    let second = ap tables_format.get e ∙ tables_lawful.again u rest g in
+    let first : tables_layout.format.get (tables_layout.format.put t) ≡ Some (t, []) = ap tables_layout.format.get (sym (append-nil (tables_layout.format.put t))) ∙ tables_layout.lawful.again t [] f in
+    let second = ap tables_layout.format.get e ∙ tables_layout.lawful.again u rest g in
     sym (ap (λ (p : Tables × List ℕ). p.1) (some_is (t, []) (u, rest) (sym first ∙ second)))
 
 pub same_version : (version : ℕ) (rest body : List ℕ) → version < 65536 → to_be_bytes w16 version ++ rest ≡ to_be_bytes w16 1 ++ body → version ≡ 1
@@ -244,23 +261,23 @@ same_version version rest body lt e =
     let second = ap (number w16).get e ∙ number16_lawful.again 1 body refl in
     ap (λ (p : ℕ × List ℕ). p.0) (some_is (version, rest) (1, body) (sym first ∙ second))
 
-pub not_refused : (bytes : List ℕ) (t : Tale) (fault : LoadFault) → Spells bytes t → IsRefused fault bytes → fault ≡ Memory
-not_refused bytes t BadMagic h r = absurd (r (ap (take 4) (spelled_as bytes t h)))
+pub not_refused : (bytes : List ℕ) (t : Tables) (fault : LoadFault) → Spells bytes t → IsRefused fault bytes → fault ≡ Memory
+not_refused bytes t BadMagic h r = absurd (r (ap (take 4) (h.spelled)))
 not_refused bytes t BadVersion h (version, rest, other, lt, parts) =
-    let same : to_be_bytes w16 version ++ rest ≡ to_be_bytes w16 1 ++ body_of t = ap (drop 4) (sym parts ∙ spelled_as bytes t h) in
-    absurd (other (same_version version rest (body_of t) lt same))
+    let same : to_be_bytes w16 version ++ rest ≡ to_be_bytes w16 1 ++ tables_layout.format.put t = ap (drop 4) (sym parts ∙ h.spelled) in
+    absurd (other (same_version version rest (tables_layout.format.put t) lt same))
 not_refused bytes t Truncated h (front, inl short) =
-    let count : length bytes ≡ length (head ++ body_of t) = ap length (spelled_as bytes t h) in
-    let long : length (head ++ body_of t) ≡ 6 + length (body_of t) = length-append head (body_of t) in
+    let count : length bytes ≡ length (head ++ tables_layout.format.put t) = ap length (h.spelled) in
+    let long : length (head ++ tables_layout.format.put t) ≡ 6 + length (tables_layout.format.put t) = length-append head (tables_layout.format.put t) in
     absurd (omega (arith, count, long, short))
-not_refused bytes t Truncated h (front, inr no_tables) = absurd (no_tables.1 (tables_of t) [] (h.tale.fits, spelled_as bytes t h ∙ ap (λ (b : List ℕ). head ++ b) (sym (append-nil (body_of t)))))
+not_refused bytes t Truncated h (front, inr no_tables) = absurd (no_tables.1 t [] (h.story.fits, h.spelled ∙ ap (λ (b : List ℕ). head ++ b) (sym (append-nil (tables_layout.format.put t)))))
 not_refused bytes t TooLong h (u, rest, some, holds) =
-    absurd (some (same_tables (tables_of t) u rest h.tale.fits holds.0 (ap (drop 6) (sym (spelled_as bytes t h) ∙ holds.1))))
+    absurd (some (same_tables t u rest h.story.fits holds.0 (ap (drop 6) (sym (h.spelled) ∙ holds.1))))
 not_refused bytes t BadTable h (u, holds, wrong) =
     let read : tables_read bytes ≡ Ok u = ap tables_read holds.1 ∙ read_whole u [] holds.0 in
     let z : true ≡ false = sym (right_if_spelled bytes t u h read) ∙ wrong in absurd cc
 not_refused bytes t BadCode h (u, holds, right, unsound) =
     let read : tables_read bytes ≡ Ok u = ap tables_read holds.1 ∙ read_whole u [] holds.0 in
     let z : true ≡ false = sym (sound_if_spelled bytes t u h read) ∙ unsound in absurd cc
-not_refused bytes t BadOrder h r = absurd r
+not_refused bytes t BadOrder h (u, holds, right, sound, disordered) = let z : true ≡ false = sym (right_ordered u right) ∙ disordered in absurd cc
 not_refused bytes t Memory h r = refl

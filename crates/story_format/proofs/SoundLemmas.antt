@@ -1,20 +1,17 @@
 -- The codes of a tale are sound, and each of its codes and strings is named.
-use Rattle.std.proofs.Common.{◌≡◌, ℕ, ◌<◌, true, ◌&&◌, ltb, List, [], ◌∷◌, ◌++◌, length, map, Option, Some, None, refl, sym, ap, ◌∙◌, arith}
+use Rattle.std.proofs.Common.{◌≡◌, ℕ, ◌<◌, ◌≤◌, true, ltb, List, [], ◌∷◌, ◌++◌, length, map, Option, Some, None, refl, sym, ap, ◌∙◌, arith}
 use Rattle.std.specs.List.{list_all, flat_map}
 use Rattle.std.specs.Str.{bytes_eq}
 use Rattle.std.proofs.lemmas.Bool.{lt-ltb}
 use Rattle.std.proofs.lemmas.Nat.{from_be_bytes-to_be_bytes_2}
 use Rattle.std.proofs.lemmas.List.{map-append}
-use Rattle.world_meaning.specs.declared.tale.Object.{Object}
-use Rattle.world_meaning.specs.declared.tale.Tale.{Tale}
 use Rattle.object_words.specs.Mentions.{number_or_none, number_in}
-use Rattle.story_format.specs.Making.{texts_of, entry_strings, code_strings, strings_of, entries_of, code_of, codes_of, tables_of}
-use Rattle.story_format.specs.Shape.{IsTale}
+use Rattle.story_format.specs.Making.{Worded, texts_of, entry_strings, code_strings, strings_of, entries_of, code_of, codes_of, tables_with}
 use Rattle.story_format.specs.Checks.{strings_named}
 use Rattle.story_format.specs.Soundness.{saying, string_said, says_string, are_all_named, strings_read, are_sound}
 use Rattle.story_format.proofs.StoryLemmas.{both, both_are}
-use Rattle.story_format.proofs.RoundTrip.{passes_at, is_known, has_own_exits, is_tellable, all_in_strings, all_have}
-use Rattle.story_format.proofs.OrderLemmas.{text_is_itself, number_is_place, numbers_named, strings_all_named, codes_in_turn}
+use Rattle.story_format.proofs.Known.{passes_at, is_known, is_told, told_in_strings, text_is_itself}
+use Rattle.story_format.proofs.OrderLemmas.{number_is_place, numbers_named, strings_all_named, codes_in_turn}
 
 -- ---- the codes of a tale say strings
 
@@ -22,7 +19,7 @@ number_small : (o : Option ℕ) → number_or_none o < 65536
 number_small None = omega arith
 number_small (Some place) = omega arith
 
-said_back : (strings : List (List ℕ)) (text : List ℕ) → string_said (code_of strings text) ≡ number_in strings text
+pub said_back : (strings : List (List ℕ)) (text : List ℕ) → string_said (code_of strings text) ≡ number_in strings text
 unfolding number_in
 said_back strings text = from_be_bytes-to_be_bytes_2 (number_in strings text) (number_small _)
 
@@ -45,13 +42,12 @@ texts_say strings None later known few h = h
 texts_say strings (Some text) later known few h =
     both (says_string (length strings) (code_of strings text)) (list_all (says_string (length strings)) later) (code_says strings text (both_are (is_known strings text) true known).0 few) h
 
-codes_say : (strings : List (List ℕ)) (os : List Object) → list_all (is_tellable strings) os ≡ true → length strings < 65535 → list_all (says_string (length strings)) (flat_map (codes_of strings) os) ≡ true
+codes_say : (strings : List (List ℕ)) (ws : List Worded) → list_all (is_told strings) ws ≡ true → length strings < 65535 → list_all (says_string (length strings)) (flat_map (codes_of strings) ws) ≡ true
 codes_say strings [] h few = refl
-codes_say strings (o ∷ os) h few =
-    let t = both_are (is_tellable strings o) (list_all (is_tellable strings) os) h in
-    let u = both_are (is_known strings o.name) (list_all (is_known strings) (code_strings o) && has_own_exits o) t.0 in
-    let v = both_are (list_all (is_known strings) (code_strings o)) (has_own_exits o) u.1 in
-    texts_say strings o.description (flat_map (codes_of strings) os) v.0 few (codes_say strings os t.1 few)
+codes_say strings (w ∷ ws) h few =
+    let t = both_are (is_told strings w) (list_all (is_told strings) ws) h in
+    let u = both_are (is_known strings w.object.name) (list_all (is_known strings) (code_strings w)) t.0 in
+    texts_say strings w.object.description (flat_map (codes_of strings) ws) u.1 few (codes_say strings ws t.1 few)
 
 -- ---- the strings that codes say
 
@@ -59,27 +55,25 @@ texts_said : (strings texts : List (List ℕ)) → map string_said (map (code_of
 texts_said strings [] = refl
 texts_said strings (x ∷ texts) = ap (λ (n : ℕ). n ∷ map string_said (map (code_of strings) texts)) (said_back strings x) ∙ ap (λ (ns : List ℕ). number_in strings x ∷ ns) (texts_said strings texts)
 
-numbers_said : (strings : List (List ℕ)) (os : List Object) → map string_said (flat_map (codes_of strings) os) ≡ map (number_in strings) (flat_map code_strings os)
+numbers_said : (strings : List (List ℕ)) (ws : List Worded) → map string_said (flat_map (codes_of strings) ws) ≡ map (number_in strings) (flat_map code_strings ws)
 numbers_said strings [] = refl
-numbers_said strings (o ∷ os) =
-    map-append string_said (codes_of strings o) (flat_map (codes_of strings) os)
-    ∙ ap (λ (ns : List ℕ). ns ++ map string_said (flat_map (codes_of strings) os)) (texts_said strings (code_strings o))
-    ∙ ap (λ (ns : List ℕ). map (number_in strings) (code_strings o) ++ ns) (numbers_said strings os)
-    ∙ sym (map-append (number_in strings) (code_strings o) (flat_map code_strings os))
+numbers_said strings (w ∷ ws) =
+    map-append string_said (codes_of strings w) (flat_map (codes_of strings) ws)
+    ∙ ap (λ (ns : List ℕ). ns ++ map string_said (flat_map (codes_of strings) ws)) (texts_said strings (code_strings w))
+    ∙ ap (λ (ns : List ℕ). map (number_in strings) (code_strings w) ++ ns) (numbers_said strings ws)
+    ∙ sym (map-append (number_in strings) (code_strings w) (flat_map code_strings ws))
 
-numbers_read : (strings : List (List ℕ)) (os : List Object) → flat_map strings_named (entries_of strings 0 os) ++ map string_said (flat_map (codes_of strings) os) ≡ map (number_in strings) (flat_map entry_strings os ++ flat_map code_strings os)
-numbers_read strings os =
-    ap (λ (ns : List ℕ). ns ++ map string_said (flat_map (codes_of strings) os)) (numbers_named strings 0 os)
-    ∙ ap (λ (ns : List ℕ). map (number_in strings) (flat_map entry_strings os) ++ ns) (numbers_said strings os)
-    ∙ sym (map-append (number_in strings) (flat_map entry_strings os) (flat_map code_strings os))
+numbers_read : (strings : List (List ℕ)) (ws : List Worded) → flat_map strings_named (entries_of strings 0 ws) ++ map string_said (flat_map (codes_of strings) ws) ≡ map (number_in strings) (flat_map entry_strings ws ++ flat_map code_strings ws)
+numbers_read strings ws =
+    ap (λ (ns : List ℕ). ns ++ map string_said (flat_map (codes_of strings) ws)) (numbers_named strings 0 ws)
+    ∙ ap (λ (ns : List ℕ). map (number_in strings) (flat_map entry_strings ws) ++ ns) (numbers_said strings ws)
+    ∙ sym (map-append (number_in strings) (flat_map entry_strings ws) (flat_map code_strings ws))
 
-pub tables_sound : (t : Tale) → IsTale t → are_sound (tables_of t) ≡ true
-unfolding are_sound strings_read tables_of
-tables_sound t h =
-    let os = t.objects in
-    let strings = strings_of os in
-    let have = all_have os h.shape in
-    let say = codes_say strings os (all_in_strings os have.0) h.strings in
-    let turn = codes_in_turn strings os 0 (length (flat_map (codes_of strings) os)) (omega arith) (omega (arith, have.1)) in
-    let named : are_all_named (length strings) 0 (flat_map strings_named (entries_of strings 0 os) ++ map string_said (flat_map (codes_of strings) os)) ≡ true = ap (are_all_named (length strings) 0) (numbers_read strings os) ∙ strings_all_named os h.strings in
+pub tables_sound : (ws : List Worded) → length (strings_of ws) < 65535 → length ws ≤ 1000 → are_sound (tables_with ws) ≡ true
+unfolding are_sound strings_read tables_with
+tables_sound ws few short =
+    let strings = strings_of ws in
+    let say = codes_say strings ws (told_in_strings ws) few in
+    let turn = codes_in_turn strings ws 0 (length (flat_map (codes_of strings) ws)) (omega arith) (omega (arith, short)) in
+    let named : are_all_named (length strings) 0 (flat_map strings_named (entries_of strings 0 ws) ++ map string_said (flat_map (codes_of strings) ws)) ≡ true = ap (are_all_named (length strings) 0) (numbers_read strings ws) ∙ strings_all_named ws few in
     rw (say, turn) named

@@ -1,22 +1,25 @@
--- What tables 1 to 12 of a story say, test by test, whatever the codes are.
-use Rattle.std.specs.Prelude.{ℕ, ◌+◌, max, Bool, true, false, ◌&&◌, ◌||◌, ◌==◌, nat_le, nat_lt, List, [], ◌∷◌, length, take, drop, slice_get, Option, Some, None, codes, count_by, filter, map, not}
+-- What tables 1 to 12 of a story say together, test by test, whatever the codes are.
+use Rattle.std.specs.Prelude.{ℕ, ◌+◌, max, Bool, true, false, not, ◌&&◌, ◌==◌, nat_le, nat_lt, List, [], ◌∷◌, length, take, drop, slice_get, slice_index_or, Option, Some, None, codes, count_by, filter, map}
 use Rattle.std.specs.List.{list_all, flat_map}
 use Rattle.std.specs.Str.{bytes_eq}
+use Rattle.std.specs.Char.{to_ascii_lowercase}
 use Rattle.world_meaning.specs.declared.direction.Direction.{Direction}
-use Rattle.world_meaning.specs.Directions.{direction_name}
-use Rattle.story_format.specs.declared.tables.Entry.{Entry}
-use Rattle.story_format.specs.declared.tables.WorldCounts.{WorldCounts}
-use Rattle.story_format.specs.declared.tables.RuleCounts.{RuleCounts}
-use Rattle.story_format.specs.declared.tables.Tables.{Tables}
+use Rattle.world_meaning.specs.Directions.{all_directions, direction_name}
 use Rattle.object_words.specs.Mentions.{first_mentions}
-use Rattle.object_words.specs.Words.{all_directions, words_for}
-use Rattle.story_format.specs.Shape.{is_room_number, lead_to_rooms}
+use Rattle.object_words.specs.Words.{words_for}
+use Rattle.story_format.specs.declared.world_tables.WorldTables.{WorldTables}
+use Rattle.story_format.specs.declared.rule_tables.RuleTables.{RuleTables}
+use Rattle.story_format.specs.declared.tables.Entry.{Entry}
+use Rattle.story_format.specs.declared.tables.Tables.{Tables}
+use Rattle.story_format.specs.Sizes.{is_right_entry, is_right_exits, is_room_number, sizes_of}
 
-abbrev pub has_no_world : WorldCounts → Bool
-has_no_world c = (c.kinds == 0) && (c.flags == 0) && (c.numbers == 0) && (c.variables == 0)
+-- this language has no kinds, properties and variables of its own
+abbrev pub has_no_world : WorldTables → Bool
+has_no_world w = (length w.kinds == 0) && (length w.flags == 0) && (length w.numbers == 0) && (length w.variables == 0)
 
-abbrev pub has_no_rules : RuleCounts → Bool
-has_no_rules c = (c.actions == 0) && (c.grammar == 0) && (c.rules == 0) && (c.books == 0) && (c.scenes == 0)
+-- nor actions, grammar, rules and scenes
+abbrev pub has_no_rules : RuleTables → Bool
+has_no_rules r = (length r.actions == 0) && (length r.grammar == 0) && (r.rules == 0) && (length r.books == 0) && (length r.scenes == 0)
 
 -- no string twice
 unfoldable pub are_distinct : List (List ℕ) → Bool
@@ -30,23 +33,37 @@ is_text (Some string) text = bytes_eq string text
 unfoldable pub is_named : List (List ℕ) → ℕ → List ℕ → Bool
 is_named strings n text = is_text (slice_get strings n) text
 
-unfoldable pub are_named : List (List ℕ) → List ℕ → List (List ℕ) → Bool
-are_named strings [] [] = true
-are_named strings [] (text ∷ texts) = false
-are_named strings (n ∷ ns) [] = false
-are_named strings (n ∷ ns) (text ∷ texts) = is_named strings n text && are_named strings ns texts
+-- the first of the numbers name these texts, in order
+unfoldable pub begin_with : List (List ℕ) → List ℕ → List (List ℕ) → Bool
+begin_with strings ns [] = true
+begin_with strings [] (text ∷ texts) = false
+begin_with strings (n ∷ ns) (text ∷ texts) = is_named strings n text && begin_with strings ns texts
 
-abbrev pub words_are : List (List ℕ) → Entry → Option (List ℕ) → Bool
-words_are strings e None = false
-words_are strings e (Some name) = are_named strings e.words (words_for e.kind name)
+abbrev pub words_begin : List (List ℕ) → ℕ → Entry → Option (List ℕ) → Bool
+words_begin strings o e None = false
+words_begin strings o e (Some name) = begin_with strings e.words (words_for o name)
 
--- the words are those of the kind and the name, 32 at most
-unfoldable pub has_words : List (List ℕ) → Entry → Bool
-has_words strings e = nat_le (length e.words) 32 && words_are strings e (slice_get strings e.name)
+-- the words of object o begin with those of its number and name; the others are the author's
+unfoldable pub has_words : List (List ℕ) → ℕ → Entry → Bool
+has_words strings o e = words_begin strings o e (slice_get strings e.name)
 
--- what each entry says: an article, a description's code or none, and no properties
-unfoldable pub is_plain : ℕ → Entry → Bool
-is_plain code_count e = nat_le e.article 3 && ((e.description == 65535) || nat_lt e.description code_count) && (length e.properties == 0) && (length e.numbers == 0)
+unfoldable pub have_words : List (List ℕ) → ℕ → List Entry → Bool
+have_words strings o [] = true
+have_words strings o (e ∷ es) = has_words strings o e && have_words strings (o + 1) es
+
+-- no capital letter
+abbrev pub is_small_byte : ℕ → Bool
+is_small_byte byte = to_ascii_lowercase byte == byte
+
+abbrev pub is_small : List ℕ → Bool
+is_small text = list_all is_small_byte text
+
+-- each string that the words name is small, where it is told of each string whether it is
+abbrev pub is_small_at : List Bool → ℕ → Bool
+is_small_at small n = slice_index_or small n false
+
+abbrev pub has_small_words : List Bool → Entry → Bool
+has_small_words small e = list_all (is_small_at small) e.words
 
 unfoldable pub is_player_entry : List (List ℕ) → ℕ → Entry → Bool
 is_player_entry strings count e = (e.kind == 6) && is_named strings e.name (codes "yourself") && (e.article == 0) && (e.relation == 0) && is_room_number count e.holder
@@ -87,10 +104,14 @@ codes_named entries = filter is_some_code (map (λ e. e.description) entries)
 abbrev pub is_of_room : Entry → Bool
 is_of_room e = e.kind == 1
 
+-- the objects are those of a story, and named in order
+unfoldable pub are_right_objects : Tables → Bool
+are_right_objects t =
+    list_all (is_right_entry (sizes_of t)) t.objects && are_in_place t.strings t.objects && have_words t.strings 0 t.objects && list_all (has_small_words (map is_small t.strings)) t.objects
+    && are_named_in_order 0 (flat_map strings_named t.objects) && are_named_in_order 0 (codes_named t.objects)
+
 -- Tables 1 to 12 are those of a story.
 unfoldable pub are_right : Tables → Bool
 are_right t =
-    has_no_world t.world && has_no_rules t.rules && nat_lt (length t.strings) 65535 && are_distinct t.strings
-    && list_all (is_plain (length t.codes)) t.objects && are_in_place t.strings t.objects && list_all (has_words t.strings) t.objects
-    && are_named_in_order 0 (flat_map strings_named t.objects) && are_named_in_order 0 (codes_named t.objects)
-    && (length t.ways == count_by is_of_room t.objects) && list_all (lead_to_rooms (length t.objects)) t.ways
+    has_no_world t.world && has_no_rules t.rules && nat_lt (length t.strings) 65535 && are_distinct t.strings && are_right_objects t
+    && (length t.ways == count_by is_of_room t.objects) && list_all (is_right_exits (sizes_of t)) t.ways

@@ -5,7 +5,7 @@ use Rattle.std.specs.Int.{Width, w16, w32, byte_len, from_be_bytes, to_be_bytes}
 use Rattle.std.proofs.lemmas.Bool.{cases_lt, ltb-false, ltb-true, lt-ltb, le-ltb, eqb-true, eqb-false, ne_eqb, eq-eqb}
 use Rattle.std.proofs.lemmas.List.{take_at, drop_at, take-append-drop, length-append, length-take, get_or-drop, get_or-take, get_or_past}
 use Rattle.std.proofs.lemmas.Nat.{be_bytes_2, be_bytes_4, from_be_bytes-to_be_bytes_2, from_be_bytes-to_be_bytes_4}
-use Rattle.story_format.specs.Formats.{Format, and_then, byte_at, byte, number, pair, via, optional_of, optional_number, fits_optional, optional, get_many, exactly, counted, text, IsBytes, Takes, IsFormat}
+use Rattle.story_format.specs.Formats.{Format, and_then, skip_then, behind, byte_at, behind_byte, byte, number, pair, via, optional_of, optional_number, fits_optional, optional, get_many, skip_many, exactly, counted, text, IsBytes, Takes, IsFormat}
 
 pub IsBytes-drop : (n : ℕ) (bytes : List ℕ) → IsBytes bytes → IsBytes (drop n bytes)
 IsBytes-drop n bytes h i = rw get_or-drop (h (n + i))
@@ -46,6 +46,16 @@ both_are false b e = absurd cc
 either : (b : Bool) → (b ≡ true) ⊎ (b ≡ false)
 either true = inl refl
 either false = inr refl
+
+-- what is skipped where a test lets it through
+guarded_behind : {A : Type 0} (b : Bool) (x : A) (rest : List ℕ) → cond b None (Some rest) ≡ behind (cond b None (Some (x, rest)))
+guarded_behind true x rest = refl
+guarded_behind false x rest = refl
+
+-- what is behind a value that is seen otherwise
+behind_value : {A B : Type 0} (to : A → B) (found : Option (A × List ℕ)) → behind found ≡ behind (and_then found (λ a rest. Some (to a, rest)))
+behind_value to None = refl
+behind_value to (Some x) = refl
 
 -- ---- numbers
 
@@ -90,6 +100,7 @@ number_lawful : (w : Width) → IsWide w → IsFormat (number w)
 number_lawful w wide = record {
   takes = λ bytes n rest fits e. let t = number_takes w wide bytes n rest fits e in (t.0, lt-ltb n (256 ^ byte_len w) t.1);
   again = λ n rest h. number_again w wide n rest (ltb-true n (256 ^ byte_len w) h);
+  skips = λ bytes. guarded_behind (ltb (length bytes) (byte_len w)) (from_be_bytes w (take (byte_len w) bytes)) (drop (byte_len w) bytes);
 }
 
 pub number16_lawful : IsFormat (number w16)
@@ -107,10 +118,18 @@ byte_takes (b ∷ bytes) n rest fits e =
     let p = some_is (b, bytes) (n, rest) e in
     subst (λ (q : ℕ × List ℕ). Takes (b ∷ bytes) (q.0 ∷ []) q.1 × (ltb q.0 256 ≡ true)) p (record { parts = refl; rest_fits = IsBytes-rest b bytes fits }, lt-ltb b 256 (fits 0))
 
+byte_skips : (bytes : List ℕ) → behind_byte bytes ≡ behind (byte_at bytes)
+byte_skips [] = refl
+byte_skips (b ∷ bytes) = refl
+
 pub byte_lawful : IsFormat byte
-byte_lawful = record { takes = byte_takes; again = λ n rest h. refl }
+byte_lawful = record { takes = byte_takes; again = λ n rest h. refl; skips = byte_skips }
 
 -- ---- one behind the other
+
+pair_skips : {A B : Type 0} (g : Format B) → IsFormat g → (found : Option (A × List ℕ)) → skip_then (behind found) g.skip ≡ behind {A = A × B} (and_then found (λ a after. and_then (g.get after) (λ b rest. Some ((a, b), rest))))
+pair_skips {A} {B} g q None = refl
+pair_skips {A} {B} g q (Some x) = q.skips x.1 ∙ behind_value {A = B} {B = A × B} (λ b. (x.0, b)) (g.get x.1)
 
 pub pair_lawful : {A B : Type 0} (f : Format A) (g : Format B) → IsFormat f → IsFormat g → IsFormat (pair f g)
 pair_lawful {A} {B} f g p q = record {
@@ -124,6 +143,7 @@ pair_lawful {A} {B} f g p q = record {
   again = λ x rest h.
       let fits = both_are (f.fits x.0) (g.fits x.1) h in
       rw (append_assoc (f.put x.0) (g.put x.1) rest, p.again x.0 (g.put x.1 ++ rest) fits.0, q.again x.1 rest fits.1) refl;
+  skips = λ bytes. ap (λ (o : Option (List ℕ)). skip_then o g.skip) (p.skips bytes) ∙ pair_skips g q (f.get bytes);
 }
 
 pub via_lawful : {A B : Type 0} (to : A → B) (from : B → A) (f : Format A) → ((a : A) → from (to a) ≡ a) → ((b : B) → to (from b) ≡ b) → IsFormat f → IsFormat (via to from f)
@@ -134,6 +154,7 @@ via_lawful {A} {B} to from f back forth p = record {
       subst (λ (y : B × List ℕ). Takes bytes (f.put (from y.0)) y.1 × (f.fits (from y.0) ≡ true)) (some_is (to a.0.0, a.0.1) (x, rest) a.2)
       (rw (back a.0.0) first.0, ap f.fits (back a.0.0) ∙ first.1);
   again = λ x rest h. rw (p.again (from x) rest h, forth x) refl;
+  skips = λ bytes. p.skips bytes ∙ behind_value to (f.get bytes);
 }
 
 -- ---- none is 65,535
@@ -164,6 +185,7 @@ optional_lawful = record {
   again = λ x rest h.
       ap (λ (o : Option (ℕ × List ℕ)). and_then o (λ n rest. Some (optional_of n, rest))) (number_again w16 wide16 (optional_number x) rest (optional_below x h))
       ∙ ap (λ (o : Option ℕ). Some (o, rest)) (optional_forth x h);
+  skips = λ bytes. number16_lawful.skips bytes ∙ behind_value optional_of ((number w16).get bytes);
 }
 
 -- ---- many
@@ -188,12 +210,27 @@ many_again f p (x ∷ xs) rest h =
     let fits = both_are (f.fits x) (list_all f.fits xs) h in
     rw (append_assoc (f.put x) (flat_map f.put xs) rest, p.again x (flat_map f.put xs ++ rest) fits.0, many_again f p xs rest fits.1) refl
 
+many_skip_on : {A : Type 0} (f : Format A) (n : ℕ) → ((bytes : List ℕ) → skip_many f.skip n bytes ≡ behind (get_many f.get n bytes)) → (found : Option (A × List ℕ))
+    → skip_then (behind found) (skip_many f.skip n) ≡ behind (and_then found (λ x after. and_then (get_many f.get n after) (λ xs rest. Some (x ∷ xs, rest))))
+many_skip_on f n known None = refl
+many_skip_on f n known (Some x) = known x.1 ∙ behind_value (λ xs. x.0 ∷ xs) (get_many f.get n x.1)
+
+many_skips : {A : Type 0} (f : Format A) → IsFormat f → (n : ℕ) (bytes : List ℕ) → skip_many f.skip n bytes ≡ behind (get_many f.get n bytes)
+unfolding get_many skip_many
+many_skips f p zero bytes = refl
+many_skips f p (suc n) bytes = ap (λ (o : Option (List ℕ)). skip_then o (skip_many f.skip n)) (p.skips bytes) ∙ many_skip_on f n (many_skips f p n) (f.get bytes)
+
+counted_skips : {A : Type 0} (f : Format A) → IsFormat f → (found : Option (ℕ × List ℕ)) → and_then found (skip_many f.skip) ≡ behind (and_then found (get_many f.get))
+counted_skips f p None = refl
+counted_skips f p (Some x) = many_skips f p x.0 x.1
+
 pub exactly_lawful : {A : Type 0} (n : ℕ) (f : Format A) → IsFormat f → IsFormat (exactly n f)
 exactly_lawful n f p = record {
   takes = λ bytes xs rest fits e. let t = many_take f p n bytes xs rest fits e in (t.0, both (eqb (length xs) n) (list_all f.fits xs) (eq-eqb (length xs) n t.1) t.2);
   again = λ xs rest h.
       let fits = both_are (eqb (length xs) n) (list_all f.fits xs) h in
       rw (← eqb-true (length xs) n fits.0) (many_again f p xs rest fits.1);
+  skips = many_skips f p n;
 }
 
 pub counted_lawful : {A : Type 0} (count : Format ℕ) (f : Format A) → IsFormat count → IsFormat f → IsFormat (counted count f)
@@ -207,9 +244,14 @@ counted_lawful {A} count f c p = record {
   again = λ xs rest h.
       let fits = both_are (count.fits (length xs)) (list_all f.fits xs) h in
       rw (append_assoc (count.put (length xs)) (flat_map f.put xs) rest, c.again (length xs) (flat_map f.put xs ++ rest) fits.0) (many_again f p xs rest fits.1);
+  skips = λ bytes. counted_skips f p (count.get bytes);
 }
 
 -- ---- texts
+
+text_skips : (found : Option (ℕ × List ℕ)) → and_then found (λ n after. cond (ltb (length after) n) None (Some (drop n after))) ≡ behind (and_then found (λ n after. cond (ltb (length after) n) None (Some (take n after, drop n after))))
+text_skips None = refl
+text_skips (Some x) = guarded_behind (ltb (length x.1) x.0) (take x.0 x.1) (drop x.0 x.1)
 
 pub text_lawful : IsFormat text
 text_lawful = record {
@@ -230,4 +272,5 @@ text_lawful = record {
       let long : ltb (length (x ++ rest)) (length x) ≡ false = le-ltb _ _ (omega (arith, length-append x rest)) in
       ap (λ (o : Option (ℕ × List ℕ)). and_then o (λ n after. cond (ltb (length after) n) None (Some (take n after, drop n after)))) (ap (number w16).get (append_assoc (to_be_bytes w16 (length x)) x rest) ∙ number_again w16 wide16 (length x) (x ++ rest) (ltb-true _ _ h))
       ∙ rw (long, take_at x rest (length x) refl, drop_at x rest (length x) refl) refl;
+  skips = λ bytes. text_skips ((number w16).get bytes);
 }

@@ -13,24 +13,36 @@ use Rattle.world_meaning.specs.declared.tale.Tale.{Tale}
 use Rattle.story_format.specs.declared.tables.Entry.{Entry}
 use Rattle.story_format.specs.declared.tables.Tables.{Tables}
 use Rattle.object_words.specs.Mentions.{first_mentions, number_in}
-use Rattle.object_words.specs.Words.{object_words}
-use Rattle.story_format.specs.Layout.{tables_format}
+use Rattle.object_words.specs.Words.{words_for}
+
+-- an object, and the words that a command may name it by
+pub record Worded : Type 0 where
+  pub object : Object
+  pub words : List (List ℕ)
+
+abbrev pub worded_from : ℕ → List Object → List Worded
+worded_from o [] = []
+worded_from o (object ∷ objects) = record { object = object; words = words_for o object.name } ∷ worded_from (o + 1) objects
+
+-- the objects of a tale with their words, by number
+abbrev pub worded : List Object → List Worded
+worded objects = worded_from 0 objects
 
 abbrev pub texts_of : Option (List ℕ) → List (List ℕ)
 texts_of None = []
 texts_of (Some text) = text ∷ []
 
 -- the strings that an object's entry names
-unfoldable pub entry_strings : Object → List (List ℕ)
-entry_strings o = o.name ∷ object_words o
+unfoldable pub entry_strings : Worded → List (List ℕ)
+entry_strings w = w.object.name ∷ w.words
 
 -- the strings that its code names
-abbrev pub code_strings : Object → List (List ℕ)
-code_strings o = texts_of o.description
+abbrev pub code_strings : Worded → List (List ℕ)
+code_strings w = texts_of w.object.description
 
 -- the strings of a story: those that the objects' entries name, then those of the codes
-unfoldable pub strings_of : List Object → List (List ℕ)
-strings_of objects = first_mentions (flat_map entry_strings objects ++ flat_map code_strings objects)
+unfoldable pub strings_of : List Worded → List (List ℕ)
+strings_of ws = first_mentions (flat_map entry_strings ws ++ flat_map code_strings ws)
 
 abbrev pub article_number : Article → ℕ
 article_number articles.None = 0
@@ -58,52 +70,44 @@ abbrev pub code_number : ℕ → Option (List ℕ) → ℕ
 code_number next None = 65535
 code_number next (Some text) = min next 65535
 
-unfoldable pub entry_of : List (List ℕ) → ℕ → Object → Entry
-entry_of strings next o = record {
-  kind = o.kind;
-  name = number_in strings o.name;
-  article = article_number o.article;
-  description = code_number next o.description;
-  words = map (number_in strings) (object_words o);
-  relation = place_relation o.place;
-  holder = place_holder o.place;
+unfoldable pub entry_of : List (List ℕ) → ℕ → Worded → Entry
+entry_of strings next w = record {
+  kind = w.object.kind;
+  name = number_in strings w.object.name;
+  article = article_number w.object.article;
+  description = code_number next w.object.description;
+  words = map (number_in strings) w.words;
+  relation = place_relation w.object.place;
+  holder = place_holder w.object.place;
   properties = [];
   numbers = [];
 }
 
 -- an entry for each object; each description has the next code
-unfoldable pub entries_of : List (List ℕ) → ℕ → List Object → List Entry
+unfoldable pub entries_of : List (List ℕ) → ℕ → List Worded → List Entry
 entries_of strings next [] = []
-entries_of strings next (o ∷ os) = entry_of strings next o ∷ entries_of strings (next + length (code_strings o)) os
+entries_of strings next (w ∷ ws) = entry_of strings next w ∷ entries_of strings (next + length (code_strings w)) ws
 
 -- a description's code: say the text, and be done
 abbrev pub code_of : List (List ℕ) → List ℕ → List ℕ
 code_of strings text = (34 ∷ to_be_bytes w16 (number_in strings text)) ++ 55 ∷ []
 
-abbrev pub codes_of : List (List ℕ) → Object → List (List ℕ)
-codes_of strings o = map (code_of strings) (code_strings o)
+abbrev pub codes_of : List (List ℕ) → Worded → List (List ℕ)
+codes_of strings w = map (code_of strings) (code_strings w)
 
 -- the ways of a room
-abbrev pub ways_of : Object → List Exits
-ways_of o = if o.kind == 1 then o.exits ∷ [] else []
+abbrev pub ways_of : Worded → List Exits
+ways_of w = if w.object.kind == 1 then w.object.exits ∷ [] else []
 
-unfoldable pub tables_of : Tale → Tables
-tables_of t = record {
-  strings = strings_of t.objects;
-  world = record { kinds = 0; flags = 0; numbers = 0; variables = 0 };
-  objects = entries_of (strings_of t.objects) 0 t.objects;
-  ways = flat_map ways_of t.objects;
-  rules = record { actions = 0; grammar = 0; rules = 0; books = 0; scenes = 0 };
-  codes = flat_map (codes_of (strings_of t.objects)) t.objects;
+unfoldable pub tables_with : List Worded → Tables
+tables_with ws = record {
+  strings = strings_of ws;
+  world = record { kinds = []; flags = []; numbers = []; variables = [] };
+  objects = entries_of (strings_of ws) 0 ws;
+  ways = flat_map ways_of ws;
+  rules = record { actions = []; grammar = []; rules = 0; books = []; scenes = [] };
+  codes = flat_map (codes_of (strings_of ws)) ws;
 }
 
--- `I7ST`, and the version
-abbrev pub magic : List ℕ
-magic = 73 ∷ 55 ∷ 83 ∷ 84 ∷ []
-
-abbrev pub head : List ℕ
-head = magic ++ to_be_bytes w16 1
-
--- the bytes of a tale's story
-unfoldable pub spelling : Tale → List ℕ
-spelling t = head ++ tables_format.put (tables_of t)
+abbrev pub tables_of : Tale → Tables
+tables_of t = tables_with (worded t.objects)

@@ -1,5 +1,5 @@
--- The tales that a story file of this version can hold: the player, the directions and rooms.
-use Rattle.std.specs.Prelude.{◌≡◌, ℕ, ◌+◌, Bool, true, false, ◌&&◌, ◌==◌, nat_le, nat_lt, ◌<◌, List, [], ◌∷◌, length, take, drop, Option, Some, None, is_none, codes}
+-- The shape of a tale: the player, the directions and rooms.
+use Rattle.std.specs.Prelude.{ℕ, ◌+◌, Bool, true, false, ◌&&◌, ◌==◌, nat_le, List, [], ◌∷◌, length, take, drop, Option, Some, None, is_none, codes}
 use Rattle.std.specs.List.{list_all}
 use Rattle.std.specs.Str.{bytes_eq}
 use Rattle.world_meaning.specs.declared.article.Article.{Article}
@@ -10,26 +10,9 @@ use Rattle.world_meaning.specs.declared.place.Place.{Place}
 use Rattle.world_meaning.specs.declared.exits.Way.{Way}
 use Rattle.world_meaning.specs.declared.exits.Exits.{Exits}
 use Rattle.world_meaning.specs.declared.direction.Direction.{Direction}
-use Rattle.world_meaning.specs.Directions.{direction_name}
+use Rattle.world_meaning.specs.Directions.{all_directions, direction_name}
 use Rattle.world_meaning.specs.declared.tale.Object.{Object}
-use Rattle.world_meaning.specs.declared.tale.Tale.{Tale}
-use Rattle.object_words.specs.Words.{all_directions, object_words}
-use Rattle.story_format.specs.Making.{strings_of, tables_of}
-use Rattle.story_format.specs.Layout.{tables_format}
-
--- of n objects, this one is a room: they stand behind the player and the directions
-abbrev pub is_room_number : ℕ → ℕ → Bool
-is_room_number n o = nat_le 13 o && nat_lt o n
-
-abbrev pub is_room_or_none : ℕ → Option ℕ → Bool
-is_room_or_none n None = true
-is_room_or_none n (Some o) = is_room_number n o
-
-abbrev pub leads_to_room : ℕ → Way → Bool
-leads_to_room n w = is_none w.door && is_room_or_none n w.room
-
-abbrev pub lead_to_rooms : ℕ → Exits → Bool
-lead_to_rooms n e = (length e.ways == 12) && list_all (leads_to_room n) e.ways
+use Rattle.story_format.specs.Sizes.{is_room_number, lead_to_rooms}
 
 abbrev pub is_closed : Way → Bool
 is_closed w = is_none w.room && is_none w.door
@@ -75,15 +58,3 @@ has_shape [] = false
 has_shape (player ∷ others) =
     nat_le (length others) 999 && nat_le 12 (length others) && is_player (length others + 1) player && are_directions all_directions (take 12 others)
     && list_all (is_room (length others + 1)) (drop 12 others)
-
--- 32 words of each object at most
-unfoldable pub has_few_words : Object → Bool
-has_few_words o = nat_le (length (object_words o)) 32
-
--- A tale that a story file of this version can hold.
-pub record IsTale (t : Tale) : Type 0 where
-  pub shape : has_shape t.objects ≡ true
-  pub words : list_all has_few_words t.objects ≡ true
-  pub strings : length (strings_of t.objects) < 65535
-  -- each text and table is as short as its count can tell
-  pub fits : tables_format.fits (tables_of t) ≡ true

@@ -1,26 +1,34 @@
--- What a story's bytes are, and what a story tells.
-use Rattle.std.specs.Prelude.{◌≡◌, ℕ, Option, Some, None, List, slice_get}
-use Rattle.std.specs.Option.{IsSomeAnd}
-use Rattle.world_meaning.specs.declared.exits.Way.{Way}
-use Rattle.world_meaning.specs.declared.place.Rel.TheVariants.{In}
-use Rattle.world_meaning.specs.declared.tale.Tale.{Tale}
-use Rattle.story_format.specs.Making.{spelling}
-use Rattle.story_format.specs.Shape.{IsTale}
+-- What a story's bytes are.
+use Rattle.std.specs.Prelude.{◌≡◌, ℕ, Bool, true, ◌==◌, List, [], ◌∷◌, ◌++◌, length}
+use Rattle.std.specs.Int.{w16, to_be_bytes}
+use Rattle.story_format.specs.declared.tables.Tables.{Tables}
+use Rattle.story_format.specs.Layout.{tables_layout}
+use Rattle.story_format.specs.Checks.{are_right}
+use Rattle.story_format.specs.Soundness.{are_sound}
 
--- The bytes spell the story of this tale.
-pub record Spells (bytes : List ℕ) (t : Tale) : Type 0 where
-  pub tale : IsTale t
-  pub spelled : bytes ≡ spelling t
+-- `I7ST`, and the version
+abbrev pub magic : List ℕ
+magic = 73 ∷ 55 ∷ 83 ∷ 84 ∷ []
 
--- object o of the tale is a room
-abbrev pub IsRoom : Tale → ℕ → Type 0
-IsRoom t o = IsSomeAnd (slice_get t.objects o) (λ object. object.kind ≡ 1)
+abbrev pub head : List ℕ
+head = magic ++ to_be_bytes w16 1
 
--- what lies beyond a way
-abbrev pub room_beyond : Option Way → Option ℕ
-room_beyond None = None
-room_beyond (Some way) = way.room
+-- this language has no books, so that none is out of order
+unfoldable pub are_ordered : Tables → Bool
+are_ordered t = length t.rules.books == 0
 
--- the player stands in this room as the story begins
-abbrev pub StartsIn : Tale → ℕ → Type 0
-StartsIn t o = IsSomeAnd (slice_get t.objects 0) (λ player. player.place ≡ Some (record { relation = In; holder = o }))
+-- The tables are a story's.
+pub record IsStory (t : Tables) : Type 0 where
+  -- each number and count has room in its bytes
+  pub fits : tables_layout.format.fits t ≡ true
+  -- tables 1 to 12 say what a story says
+  pub right : are_right t ≡ true
+  -- the codes are sound, and everything is named
+  pub sound : are_sound t ≡ true
+  -- the books are in order
+  pub ordered : are_ordered t ≡ true
+
+-- The bytes spell the story of these tables.
+pub record Spells (bytes : List ℕ) (t : Tables) : Type 0 where
+  pub story : IsStory t
+  pub spelled : bytes ≡ head ++ tables_layout.format.put t

@@ -1,31 +1,46 @@
-//! What tables 1 to 12 say, whatever the codes are: each test is named after what it asks.
-ghost use Rattle.std.specs.Prelude.{◌≡◌, IfOk, true, length, count_by, map, filter};
+//! What tables 1 to 12 say together, whatever the codes are: each test is named after what it asks.
+ghost use Rattle.std.specs.Prelude.{◌≡◌, IfOk, count_by, map};
 ghost use Rattle.std.specs.List.{list_all, flat_map};
-ghost use Rattle.story_format.specs.Shape.{lead_to_rooms};
-ghost use Rattle.story_format.specs.Checks.{has_no_world, has_no_rules, are_distinct, is_named, are_named, has_words, is_plain, is_player_entry, is_direction_entry, is_room_entry, are_direction_entries, are_in_place, are_named_in_order, strings_named, codes_named, is_of_room, are_right};
+ghost use Rattle.story_format.specs.Sizes.{sizes_of};
+ghost use Rattle.story_format.specs.Checks.{has_no_world, has_no_rules, are_distinct, is_named, begin_with, has_words, have_words, is_small_byte, is_small, is_small_at, has_small_words, is_player_entry, is_direction_entry, is_room_entry, are_direction_entries, are_in_place, are_named_in_order, strings_named, codes_named, is_of_room, are_right_objects, are_right};
 
 use crate::making::{DIRECTION, PERSON, ROOM};
 use crate::place::NONE;
-use crate::shape::{is_room_number, lead_to_rooms};
-use crate::tables::{Entry, RuleCounts, Tables, WorldCounts};
+use crate::row::{Sizes, all_right, is_room_number};
+use crate::rule_tables::RuleTables;
+use crate::tables::{Entry, Tables};
+use crate::world_tables::WorldTables;
 use object_words::{Strings, words_for};
 use std::alloc::{AllocError, Global};
-use world_meaning::{Direction, Exits, ObjNo, TextBytes};
+use world_meaning::{Direction, ObjNo, TextBytes};
 
-fn has_no_world(counts: &WorldCounts) -> bool
-    ensures { result ≡ has_no_world counts.now }
+/// How many entries the tables have.
+fn sizes_of(tables: &Tables) -> Sizes
+    ensures { result ≡ sizes_of tables.now }
 {
-    counts.kinds == 0 && counts.flags == 0 && counts.numbers == 0 && counts.variables == 0
+    Sizes {
+        objects: tables.objects.as_slice().len(),
+        codes: tables.codes.as_slice().len(),
+    }
 }
 
-fn has_no_rules(counts: &RuleCounts) -> bool
-    ensures { result ≡ has_no_rules counts.now }
+fn has_no_world(world: &WorldTables) -> bool
+    ensures { result ≡ has_no_world world.now }
 {
-    counts.actions == 0
-        && counts.grammar == 0
-        && counts.rules == 0
-        && counts.books == 0
-        && counts.scenes == 0
+    world.kinds.as_slice().is_empty()
+        && world.flags.as_slice().is_empty()
+        && world.numbers.as_slice().is_empty()
+        && world.variables.as_slice().is_empty()
+}
+
+fn has_no_rules(rules: &RuleTables) -> bool
+    ensures { result ≡ has_no_rules rules.now }
+{
+    rules.actions.as_slice().is_empty()
+        && rules.grammar.as_slice().is_empty()
+        && rules.rules == 0
+        && rules.books.as_slice().is_empty()
+        && rules.scenes.as_slice().is_empty()
 }
 
 /// Whether no string stands twice.
@@ -50,100 +65,99 @@ fn is_named(strings: &[TextBytes], number: u16, text: &[u8]) -> bool
     }
 }
 
-#[tactic(auto, unfolding(crate::specs::Checks::are_named))]
-fn are_named(strings: &[TextBytes], numbers: &[u16], texts: &[Vec<u8>]) -> bool
-    ensures { result ≡ are_named strings.now numbers.now (map (λ text. text.items) texts.now) }
+/// Whether the first of the numbers name these texts, in order.
+#[tactic(auto, unfolding(crate::specs::Checks::begin_with))]
+fn begin_with(strings: &[TextBytes], numbers: &[u16], texts: &[Vec<u8>]) -> bool
+    ensures { result ≡ begin_with strings.now numbers.now (map (λ text. text.items) texts.now) }
 {
     let mut numbers = numbers;
     let mut texts = texts;
-    while let [number, others @ ..] = numbers {
-        match texts {
-            [text, after @ ..] if is_named(strings, *number, text.as_slice()) => texts = after,
+    while let [text, others @ ..] = texts {
+        match numbers {
+            [number, after @ ..] if is_named(strings, *number, text.as_slice()) => numbers = after,
             _ => return false,
         }
-        numbers = others;
+        texts = others;
     }
-    texts.is_empty()
+    true
 }
 
-/// Whether the words are those of the entry's kind and name, and few.
+/// Whether the words of an object begin with those of its number and name.
 #[tactic(auto, unfolding(crate::specs::Checks::has_words))]
-fn has_words(alloc: Global, strings: &[TextBytes], entry: &Entry) -> Result<bool, AllocError>
-    ensures { IfOk result (λ has. has ≡ has_words strings.now entry.now) }
+fn has_words(
+    alloc: Global,
+    strings: &[TextBytes],
+    number: usize,
+    entry: &Entry,
+) -> Result<bool, AllocError>
+    ensures { IfOk result (λ has. has ≡ has_words strings.now number entry.now) }
 {
-    let numbers = entry.words.as_slice();
-    if numbers.len() > 32 {
-        return Ok(false);
-    }
     let Some(name) = strings.get(entry.name as usize) else {
         return Ok(false);
     };
-    let words = words_for(alloc, entry.kind, name.as_slice())?;
-    Ok(are_named(strings, numbers, words.as_slice()))
+    let words = words_for(alloc, number, name.as_slice())?;
+    Ok(begin_with(strings, entry.words.as_slice(), words.as_slice()))
 }
 
-/// Whether two entries have the same kind, name and words.
-fn are_alike(entry: &Entry, other: &Entry) -> bool
-    ensures { result ≡ true → (entry.now.kind ≡ other.now.kind) × (entry.now.name ≡ other.now.name) × (entry.now.words ≡ other.now.words) }
-{
-    entry.kind == other.kind
-        && entry.name == other.name
-        && entry.words.as_slice() == other.words.as_slice()
-}
-
-/// Whether an entry has its words, where those before it do. If one of them, in this place, is like it,
-/// no words are made.
-fn has_words_like(
-    alloc: Global,
-    strings: &[TextBytes],
-    before: &[Entry],
-    place: usize,
-    entry: &Entry,
-) -> Result<bool, AllocError>
-    requires { list_all (has_words strings.now) before.now ≡ true }
-    ensures { IfOk result (λ has. has ≡ has_words strings.now entry.now) }
-{
-    match before.get(place) {
-        Some(other) if are_alike(entry, other) => Ok(true),
-        _ => has_words(alloc, strings, entry),
-    }
-}
-
-/// Whether each entry has its words. Those of a name are made once, however many entries have it.
+/// Whether the words of each object begin with those of its number and name.
+#[tactic(auto, unfolding(crate::specs::Checks::have_words))]
 fn have_words(alloc: Global, strings: &[TextBytes], entries: &[Entry]) -> Result<bool, AllocError>
-    ensures { IfOk result (λ have. have ≡ list_all (has_words strings.now) entries.now) }
+    ensures { IfOk result (λ have. have ≡ have_words strings.now 0 entries.now) }
 {
-    let mut places = vec![in alloc; 0usize; strings.len()]?;
-    let mut index = 0usize;
-    for entry in entries {
-        let name = entry.name as usize;
-        let (before, _) = entries.split_at(index);
-        let place = places.get(name).copied().unwrap_or(0);
-        if !has_words_like(alloc, strings, before, place, entry)? {
+    let mut number = 0usize;
+    let mut rest = entries;
+    while let [entry, after @ ..] = rest {
+        if !has_words(alloc, strings, number, entry)? {
             return Ok(false);
         }
-        if name < places.len() {
-            places[name] = index;
-        }
-        index += 1;
+        number += 1;
+        rest = after;
     }
     Ok(true)
 }
 
-#[tactic(auto, unfolding(crate::specs::Checks::is_plain))]
-fn is_plain(code_count: usize, entry: &Entry) -> bool
-    ensures { result ≡ is_plain code_count entry.now }
+fn is_small_byte(byte: u8) -> bool
+    ensures { result ≡ is_small_byte byte }
 {
-    entry.article <= 3
-        && (entry.description == NONE || (entry.description as usize) < code_count)
-        && entry.properties.as_slice().is_empty()
-        && entry.numbers.as_slice().is_empty()
+    byte.to_ascii_lowercase() == byte
 }
 
-fn are_plain(code_count: usize, entries: &[Entry]) -> bool
-    ensures { result ≡ list_all (is_plain code_count) entries.now }
+fn is_small(text: &[u8]) -> bool
+    ensures { result ≡ is_small text.now }
 {
-    entries.iter().all(|entry| is_plain(code_count, entry))
+    text.iter().all(|byte| is_small_byte(*byte))
+}
+
+/// Of each string, whether it has no capital letter.
+fn smallness(alloc: Global, strings: &[TextBytes]) -> Result<Vec<bool>, AllocError>
+    ensures { IfOk result (λ small. small.items ≡ map is_small strings.now) }
+{
+    strings
+        .iter()
+        .map(|string| is_small(string.as_slice()))
+        .collect(alloc)
+}
+
+fn is_small_at(small: &[bool], number: u16) -> bool
+    ensures { result ≡ is_small_at small.now number }
+{
+    match small.get(number as usize) {
+        Some(is_small) => *is_small,
+        None => false,
+    }
+}
+
+fn has_small_words(small: &[bool], entry: &Entry) -> bool
+    ensures { result ≡ has_small_words small.now entry.now }
+{
+    let words = entry.words.as_slice();
+    words.iter().all(|word| is_small_at(small, *word))
+}
+
+fn have_small_words(small: &[bool], entries: &[Entry]) -> bool
+    ensures { result ≡ list_all (has_small_words small.now) entries.now }
+{
+    entries.iter().all(|entry| has_small_words(small, entry))
 }
 
 #[tactic(auto, unfolding(crate::specs::Checks::is_player_entry))]
@@ -267,10 +281,21 @@ fn count_of_rooms(entries: &[Entry]) -> usize
     entries.iter().filter(|entry| entry.kind == ROOM).count()
 }
 
-fn all_lead_to_rooms(count: usize, ways: &[Exits]) -> bool
-    ensures { result ≡ list_all (lead_to_rooms count) ways.now }
+/// Whether the objects are those of a story, and name strings and codes in order.
+#[tactic(auto, unfolding(crate::specs::Checks::are_right_objects))]
+fn are_right_objects(alloc: Global, tables: &Tables) -> Result<bool, AllocError>
+    ensures { IfOk result (λ right. right ≡ are_right_objects tables.now) }
 {
-    ways.iter().all(|exits| lead_to_rooms(count, exits))
+    let strings = tables.strings.as_slice();
+    let entries = tables.objects.as_slice();
+    Ok(
+        all_right(sizes_of(tables), &tables.objects)
+            && are_in_place(strings, entries)
+            && have_words(alloc, strings, entries)?
+            && have_small_words(smallness(alloc, strings)?.as_slice(), entries)
+            && are_named_in_order(strings_named(alloc, entries)?.as_slice())
+            && are_named_in_order(codes_named(alloc, entries)?.as_slice()),
+    )
 }
 
 /// Whether tables 1 to 12 are those of a story.
@@ -279,19 +304,13 @@ pub fn are_right(alloc: Global, tables: &Tables) -> Result<bool, AllocError>
     ensures { IfOk result (λ right. right ≡ are_right tables.now) }
 {
     let strings = tables.strings.as_slice();
-    let entries = tables.objects.as_slice();
-    let ways = tables.ways.as_slice();
     Ok(
         has_no_world(&tables.world)
             && has_no_rules(&tables.rules)
             && strings.len() < 65535
             && are_distinct(alloc, strings)?
-            && are_plain(tables.codes.as_slice().len(), entries)
-            && are_in_place(strings, entries)
-            && have_words(alloc, strings, entries)?
-            && are_named_in_order(strings_named(alloc, entries)?.as_slice())
-            && are_named_in_order(codes_named(alloc, entries)?.as_slice())
-            && ways.len() == count_of_rooms(entries)
-            && all_lead_to_rooms(entries.len(), ways),
+            && are_right_objects(alloc, tables)?
+            && tables.ways.as_slice().len() == count_of_rooms(tables.objects.as_slice())
+            && all_right(sizes_of(tables), &tables.ways),
     )
 }

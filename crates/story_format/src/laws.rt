@@ -1,37 +1,29 @@
 //! What holds of stories whatever the bytes are.
-ghost use Rattle.std.specs.Prelude.{◌≡◌, ◌≢◌, ◌⊎◌, ℕ, List, Some, true};
+ghost use Rattle.std.specs.Prelude.{◌≡◌, ◌≢◌, ◌⊎◌, ℕ, List};
 ghost use Rattle.world_meaning.specs.declared.tale.Tale.{Tale};
 ghost use Rattle.story_format.specs.declared.fault.LoadFault.{LoadFault};
 ghost use Rattle.story_format.specs.declared.fault.LoadFault.TheVariants.{Memory};
 ghost use Rattle.story_format.specs.declared.tables.Tables.{Tables};
+ghost use Rattle.story_format.specs.Carrying.{Carries};
 ghost use Rattle.story_format.specs.Formats.{IsBytes};
-ghost use Rattle.story_format.specs.Layout.{tables_format};
-ghost use Rattle.story_format.specs.Making.{spelling, tables_of};
-ghost use Rattle.story_format.specs.Telling.{tale_told};
-ghost use Rattle.story_format.specs.Checks.{are_right};
-ghost use Rattle.story_format.specs.Soundness.{are_sound};
-ghost use Rattle.story_format.specs.Shape.{IsTale};
-ghost use Rattle.story_format.specs.Spells.{Spells};
+ghost use Rattle.story_format.specs.Holding.{IsHeld};
+ghost use Rattle.story_format.specs.Making.{tables_of};
+ghost use Rattle.story_format.specs.Spells.{IsStory, Spells};
 ghost use Rattle.story_format.specs.Refusals.{IsRefused};
 
 /// No story has two spellings.
 pub fn one_spelling()
-    ensures { (a b : List ℕ) (tale : Tale) → Spells a tale → Spells b tale → a ≡ b }
+    ensures { (a b : List ℕ) (tables : Tables) → Spells a tables → Spells b tables → a ≡ b }
 {}
 
 /// No bytes spell two stories.
 pub fn one_story()
-    ensures { (bytes : List ℕ) (tale other : Tale) → Spells bytes tale → Spells bytes other → tale ≡ other }
+    ensures { (bytes : List ℕ) (tables other : Tables) → Spells bytes tables → Spells bytes other → tables ≡ other }
 {}
 
-/// What is written of a tale spells its story, so that it loads as the same story.
-pub fn written_is_spelled()
-    ensures { (tale : Tale) → IsTale tale → Spells (spelling tale) tale }
-{}
-
-/// The bytes of a story are not refused.
+/// The bytes of a story are not refused, unless memory is.
 pub fn stories_stand()
-    ensures { (bytes : List ℕ) (tale : Tale) (fault : LoadFault) → Spells bytes tale → IsRefused fault bytes → fault ≡ Memory }
+    ensures { (bytes : List ℕ) (tables : Tables) (fault : LoadFault) → Spells bytes tables → IsRefused fault bytes → fault ≡ Memory }
 {}
 
 /// No bytes stand for two faults.
@@ -41,15 +33,15 @@ pub fn one_fault()
 
 /// Bytes spell a story, or stand for a fault.
 pub fn spelled_or_refused()
-    ensures { (bytes : List ℕ) → IsBytes bytes → ((tale : Tale) × Spells bytes tale) ⊎ ((fault : LoadFault) × (fault ≢ Memory) × IsRefused fault bytes) }
+    ensures { (bytes : List ℕ) → IsBytes bytes → ((tables : Tables) × Spells bytes tables) ⊎ ((fault : LoadFault) × (fault ≢ Memory) × IsRefused fault bytes) }
 {}
 
-/// Right tables with sound codes, if their counts can be told, are those of a tale, which they tell.
-pub fn tales_are_told()
-    ensures { (tables : Tables) → are_right tables ≡ true → are_sound tables ≡ true → tables_format.fits tables ≡ true → (tale : Tale) × (tale_told tables ≡ Some tale) × IsTale tale × (tables_of tale ≡ tables) }
+/// The tables of a tale that a story file holds are a story's.
+pub fn tales_are_stories()
+    ensures { (tale : Tale) → IsHeld tale → IsStory (tables_of tale) }
 {}
 
-/// The tables of a tale are right, its codes are sound, and they tell the tale.
-pub fn tales_pass_the_tests()
-    ensures { (tale : Tale) → IsTale tale → (are_right (tables_of tale) ≡ true) × (are_sound (tables_of tale) ≡ true) × (tale_told (tables_of tale) ≡ Some tale) }
+/// They say of each object what the tale says.
+pub fn story_carries_tale()
+    ensures { (tale : Tale) → IsHeld tale → Carries (tables_of tale) tale }
 {}

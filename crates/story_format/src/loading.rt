@@ -1,30 +1,41 @@
-//! Loading a story: its tables are read, tested, and told as a tale. Tables that pass the tests are those
-//! of a tale, so that no story has two spellings.
+//! Loading a story: its tables are skipped, so that the counts are known to be in place before memory is
+//! taken; then they are read and tested.
 ghost use Rattle.std.specs.Prelude.{◌≡◌, IfOk, IfErr, true};
 ghost use Rattle.std.specs.Result.{MatchResult};
-ghost use Rattle.story_format.specs.Layout.{tables_format};
-ghost use Rattle.story_format.specs.Making.{tables_of};
-ghost use Rattle.story_format.specs.Shape.{IsTale};
-ghost use Rattle.story_format.specs.Checks.{are_right};
-ghost use Rattle.story_format.specs.Soundness.{are_sound};
-ghost use Rattle.story_format.specs.Reading.{Gives, tables_read};
+ghost use Rattle.story_format.specs.Layout.{tables_layout};
+ghost use Rattle.story_format.specs.Reading.{Gives, tables_read, whole};
 ghost use Rattle.story_format.specs.Spells.{Spells};
 ghost use Rattle.story_format.specs.Refusals.{IsRefused};
 ghost use Rattle.story_format.specs.declared.fault.LoadFault.TheVariants.{Memory};
-ghost use Rattle.world_meaning.specs.declared.tale.Tale.{Tale};
+ghost use Rattle.story_format.specs.declared.tables.Tables.{Tables};
 
 use crate::checks::are_right;
 use crate::fault::LoadFault;
 use crate::field::Field;
+use crate::number::number16;
 use crate::soundness::are_sound;
 use crate::story::Story;
 use crate::tables::Tables;
-use crate::telling::tale_told;
 use crate::writing::{MAGIC, VERSION};
-use std::alloc::{AllocError, Global};
+use std::alloc::Global;
+
+/// The tables that the bytes are; memory is taken only where the counts are in place.
+fn tables_in(alloc: Global, body: &[u8]) -> Result<Tables, LoadFault>
+    ensures { Gives result (whole (tables_layout.format.get body.now)) }
+{
+    match Tables::skip(body) {
+        None => return Err(LoadFault::Truncated),
+        Some([_, ..]) => return Err(LoadFault::TooLong),
+        Some([]) => {}
+    }
+    match Tables::read(alloc, body)? {
+        None => Err(LoadFault::Truncated),
+        Some((tables, _)) => Ok(tables),
+    }
+}
 
 /// The tables of a story's bytes.
-#[tactic(auto, unfolding(crate::specs::Reading::tables_read))]
+#[tactic(auto, unfolding(crate::specs::Reading::body_read))]
 fn tables_read(alloc: Global, bytes: &[u8]) -> Result<Tables, LoadFault>
     ensures { Gives result (tables_read bytes.now) }
 {
@@ -35,42 +46,22 @@ fn tables_read(alloc: Global, bytes: &[u8]) -> Result<Tables, LoadFault>
     if front != MAGIC.as_slice() {
         return Err(LoadFault::BadMagic);
     }
-    let Some((version, rest)) = u16::read(alloc, rest)? else {
+    let Some((version, body)) = number16(rest) else {
         return Err(LoadFault::Truncated);
     };
     if version != VERSION {
         return Err(LoadFault::BadVersion);
     }
-    let Some((tables, rest)) = Tables::read(alloc, rest)? else {
-        return Err(LoadFault::Truncated);
-    };
-    if !rest.is_empty() {
-        return Err(LoadFault::TooLong);
-    }
-    Ok(tables)
+    tables_in(alloc, body)
 }
 
-/// The story of tables that are right and whose codes are sound.
-fn story_told(alloc: Global, tables: Tables) -> Result<Story, AllocError>
-    requires right { are_right tables ≡ true }
-    requires sound { are_sound tables ≡ true }
-    requires fits { tables_format.fits tables ≡ true }
-    ensures { IfOk result (λ story. IsTale story × (tables_of story ≡ tables)) }
-{
-    match tale_told(alloc, &tables)? {
-        Some(objects) => Ok(Story::new(tables.strings, objects)),
-        None => unreachable!(),
-    }
-}
-
-/// The story that the bytes spell. Hostile bytes too take time and memory in proportion to their number:
-/// what many objects share, as a name, is tested and kept once.
+/// The story that the bytes spell. What the counts tell is told before memory is taken.
 pub fn load(alloc: Global, bytes: &[u8]) -> Result<Story, LoadFault>
     // What is loaded is the story that the bytes spell.
     ensures found { IfOk result (Spells bytes.now) }
 
     // What spells a story is loaded, unless memory is refused.
-    ensures only { (tale : Tale) → Spells bytes.now tale → MatchResult result (λ story. story ≡ tale) (λ fault. fault ≡ Memory) }
+    ensures only { (tables : Tables) → Spells bytes.now tables → MatchResult result (λ story. story ≡ tables) (λ fault. fault ≡ Memory) }
 
     // Each refusal says what stands in the bytes.
     ensures refused { IfErr result (λ fault. IsRefused fault bytes.now) }
@@ -82,5 +73,5 @@ pub fn load(alloc: Global, bytes: &[u8]) -> Result<Story, LoadFault>
     if !are_sound(alloc, &tables)? {
         return Err(LoadFault::BadCode);
     }
-    Ok(story_told(alloc, tables)?)
+    Ok(Story::new(tables))
 }

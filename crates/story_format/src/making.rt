@@ -2,15 +2,25 @@
 ghost use Rattle.std.specs.Prelude.{◌≡◌, ◌++◌, List, [], ◌∷◌, length, IfOk, OnOk, fold, map};
 ghost use Rattle.std.specs.List.{flat_map};
 ghost use Rattle.object_words.specs.Mentions.{mention, number_in};
-ghost use Rattle.object_words.specs.Words.{object_words};
-ghost use Rattle.story_format.specs.Making.{article_number, relation_number, place_relation, place_holder, code_number, entry_strings, code_strings, strings_of, entry_of, entries_of, code_of, codes_of, ways_of, tables_of};
+ghost use Rattle.object_words.specs.Words.{words_for};
+ghost use Rattle.story_format.specs.Making.{worded_from, worded, article_number, relation_number, place_relation, place_holder, code_number, entry_strings, code_strings, strings_of, entry_of, entries_of, code_of, codes_of, ways_of, tables_with, tables_of};
+ghost use Rattle.story_format.specs.WordedViews.{worded_of, all_worded};
 
 use crate::place::NONE;
+use crate::rule_tables::RuleTables;
 use crate::table::{Listed, Table};
-use crate::tables::{Entry, RuleCounts, Tables, WorldCounts};
+use crate::tables::{Entry, Tables};
+use crate::world_tables::WorldTables;
 use object_words::{Strings, words_for};
 use std::alloc::{AllocError, Global};
 use world_meaning::{Article, Exits, Object, Place, Rel, Tale, TextBytes};
+
+/// An object, and the words that a command may name it by.
+#[derive(Drop)]
+pub struct Worded<'a> {
+    object: &'a Object,
+    words: Strings,
+}
 
 /// The kind of the directions.
 pub const DIRECTION: u8 = 2;
@@ -37,56 +47,83 @@ fn mention_all(alloc: Global, strings: &mut Strings, others: &Strings) -> Result
     Ok(())
 }
 
-#[tactic(auto, unfolding(crate::specs::Making::entry_strings), using(object_words::proofs::Folds::fold_both))]
-fn mention_entry(alloc: Global, strings: &mut Strings, object: &Object) -> Result<(), AllocError>
-    ensures { OnOk result (strings.new ≡ fold mention strings.old (entry_strings object.now)) }
+/// The objects with their words, by number.
+fn with_words<'a>(alloc: Global, objects: &'a [Object]) -> Result<Vec<Worded<'a>>, AllocError>
+    ensures { IfOk result (λ made. all_worded made.items ≡ worded objects.now) }
 {
-    strings.mention(alloc, object.name.as_slice())?;
-    let words = words_of(alloc, object)?;
-    mention_all(alloc, strings, &words)
+    let mut made = Vec::new(alloc);
+    let mut number = 0usize;
+    let mut rest = objects;
+    while let [object, after @ ..] = rest {
+        let words = words_for(alloc, number, object.name.as_slice())?;
+        made.push(Worded { object, words })?;
+        number += 1;
+        rest = after;
+    }
+    Ok(made)
+}
+
+#[tactic(auto, unfolding(crate::specs::Making::entry_strings), using(object_words::proofs::Folds::fold_both))]
+fn mention_entry(
+    alloc: Global,
+    strings: &mut Strings,
+    worded: &Worded<'_>,
+) -> Result<(), AllocError>
+    ensures { OnOk result (strings.new ≡ fold mention strings.old (entry_strings (worded_of worded.now))) }
+{
+    strings.mention(alloc, worded.object.name.as_slice())?;
+    mention_all(alloc, strings, &worded.words)
 }
 
 #[tactic(auto, using(object_words::proofs::Folds::fold_both))]
 fn mention_entries(
     alloc: Global,
     strings: &mut Strings,
-    objects: &[Object],
+    worded: &[Worded<'_>],
 ) -> Result<(), AllocError>
-    ensures { OnOk result (strings.new ≡ fold mention strings.old (flat_map entry_strings objects.now)) }
+    ensures { OnOk result (strings.new ≡ fold mention strings.old (flat_map entry_strings (all_worded worded.now))) }
 {
-    for object in objects {
-        mention_entry(alloc, strings, object)?;
+    let mut rest = worded;
+    while let [one, after @ ..] = rest {
+        mention_entry(alloc, strings, one)?;
+        rest = after;
     }
     Ok(())
 }
 
-fn mention_code(alloc: Global, strings: &mut Strings, object: &Object) -> Result<(), AllocError>
-    ensures { OnOk result (strings.new ≡ fold mention strings.old (code_strings object.now)) }
+fn mention_code(alloc: Global, strings: &mut Strings, worded: &Worded<'_>) -> Result<(), AllocError>
+    ensures { OnOk result (strings.new ≡ fold mention strings.old (code_strings (worded_of worded.now))) }
 {
-    match &object.description {
+    match &worded.object.description {
         None => Ok(()),
         Some(text) => strings.mention(alloc, text.as_slice()),
     }
 }
 
 #[tactic(auto, using(object_words::proofs::Folds::fold_both))]
-fn mention_codes(alloc: Global, strings: &mut Strings, objects: &[Object]) -> Result<(), AllocError>
-    ensures { OnOk result (strings.new ≡ fold mention strings.old (flat_map code_strings objects.now)) }
+fn mention_codes(
+    alloc: Global,
+    strings: &mut Strings,
+    worded: &[Worded<'_>],
+) -> Result<(), AllocError>
+    ensures { OnOk result (strings.new ≡ fold mention strings.old (flat_map code_strings (all_worded worded.now))) }
 {
-    for object in objects {
-        mention_code(alloc, strings, object)?;
+    let mut rest = worded;
+    while let [one, after @ ..] = rest {
+        mention_code(alloc, strings, one)?;
+        rest = after;
     }
     Ok(())
 }
 
 /// The strings of a story of these objects.
 #[tactic(auto, unfolding(crate::specs::Making::strings_of), using(object_words::proofs::Folds::fold_both))]
-pub fn strings_of(alloc: Global, objects: &[Object]) -> Result<Strings, AllocError>
-    ensures { IfOk result (λ strings. strings ≡ strings_of objects.now) }
+fn strings_of(alloc: Global, worded: &[Worded<'_>]) -> Result<Strings, AllocError>
+    ensures { IfOk result (λ strings. strings ≡ strings_of (all_worded worded.now)) }
 {
     let mut strings = Strings::new(alloc);
-    mention_entries(alloc, &mut strings, objects)?;
-    mention_codes(alloc, &mut strings, objects)?;
+    mention_entries(alloc, &mut strings, worded)?;
+    mention_codes(alloc, &mut strings, worded)?;
     Ok(strings)
 }
 
@@ -160,17 +197,17 @@ fn entry_of(
     alloc: Global,
     strings: &Strings,
     next: usize,
-    object: &Object,
+    worded: &Worded<'_>,
 ) -> Result<Entry, AllocError>
-    ensures { IfOk result (λ entry. entry ≡ entry_of strings.now next object.now) }
+    ensures { IfOk result (λ entry. entry ≡ entry_of strings.now next (worded_of worded.now)) }
 {
-    let words = words_of(alloc, object)?;
+    let object = worded.object;
     Ok(Entry {
         kind: object.kind.get(),
         name: strings.number_of(object.name.as_slice()),
         article: article_number(object.article),
         description: code_number(next, &object.description),
-        words: word_numbers(alloc, strings, &words)?,
+        words: word_numbers(alloc, strings, &worded.words)?,
         relation: place_relation(object.place),
         holder: place_holder(object.place),
         properties: Listed::new(Vec::new(alloc)),
@@ -182,16 +219,16 @@ fn entry_of(
 fn entries_of(
     alloc: Global,
     strings: &Strings,
-    objects: &[Object],
+    worded: &[Worded<'_>],
 ) -> Result<Table<Entry>, AllocError>
-    ensures { IfOk result (λ entries. entries ≡ entries_of strings.now 0 objects.now) }
+    ensures { IfOk result (λ entries. entries ≡ entries_of strings.now 0 (all_worded worded.now)) }
 {
     let mut entries = Vec::new(alloc);
     let mut next = 0usize;
-    let mut rest = objects;
-    while let [object, after @ ..] = rest {
-        entries.push(entry_of(alloc, strings, next, object)?)?;
-        if object.description.is_some() {
+    let mut rest = worded;
+    while let [one, after @ ..] = rest {
+        entries.push(entry_of(alloc, strings, next, one)?)?;
+        if one.object.description.is_some() {
             next += 1;
         }
         rest = after;
@@ -212,36 +249,33 @@ fn code_of(alloc: Global, strings: &Strings, text: &TextBytes) -> Result<TextByt
 fn codes_of(
     alloc: Global,
     strings: &Strings,
-    objects: &[Object],
+    worded: &[Worded<'_>],
 ) -> Result<Table<TextBytes>, AllocError>
-    ensures { IfOk result (λ codes. codes ≡ flat_map (codes_of strings.now) objects.now) }
+    ensures { IfOk result (λ codes. codes ≡ flat_map (codes_of strings.now) (all_worded worded.now)) }
 {
     let mut codes = Vec::new(alloc);
-    for object in objects {
-        if let Some(text) = &object.description {
+    let mut rest = worded;
+    while let [one, after @ ..] = rest {
+        if let Some(text) = &one.object.description {
             codes.push(code_of(alloc, strings, text)?)?;
         }
+        rest = after;
     }
     Ok(Table::new(codes))
 }
 
-fn ways_of(alloc: Global, objects: &[Object]) -> Result<Table<Exits>, AllocError>
-    ensures { IfOk result (λ ways. ways ≡ flat_map ways_of objects.now) }
+fn ways_of(alloc: Global, worded: &[Worded<'_>]) -> Result<Table<Exits>, AllocError>
+    ensures { IfOk result (λ ways. ways ≡ flat_map ways_of (all_worded worded.now)) }
 {
     let mut ways = Vec::new(alloc);
-    for object in objects {
-        if object.kind.get() == ROOM {
-            ways.push(object.exits)?;
+    let mut rest = worded;
+    while let [one, after @ ..] = rest {
+        if one.object.kind.get() == ROOM {
+            ways.push(one.object.exits)?;
         }
+        rest = after;
     }
     Ok(Table::new(ways))
-}
-
-/// The words of an object.
-pub fn words_of(alloc: Global, object: &Object) -> Result<Strings, AllocError>
-    ensures { IfOk result (λ words. words ≡ object_words object.now) }
-{
-    words_for(alloc, object.kind.get(), object.name.as_slice())
 }
 
 /// The table of these strings.
@@ -255,30 +289,44 @@ fn table_of(alloc: Global, strings: &Strings) -> Result<Table<TextBytes>, AllocE
     Ok(Table::new(all))
 }
 
+/// A table without entries.
+fn empty<F: Drop>(alloc: Global) -> Table<F>
+    ensures { result ≡ [] }
+{
+    Table::new(Vec::new(alloc))
+}
+
+/// The tables of objects with their words.
+#[tactic(auto, unfolding(crate::specs::Making::tables_with))]
+fn tables_with(alloc: Global, worded: &[Worded<'_>]) -> Result<Tables, AllocError>
+    ensures { IfOk result (λ tables. tables ≡ tables_with (all_worded worded.now)) }
+{
+    let strings = strings_of(alloc, worded)?;
+    Ok(Tables {
+        strings: table_of(alloc, &strings)?,
+        world: WorldTables {
+            kinds: empty(alloc),
+            flags: empty(alloc),
+            numbers: empty(alloc),
+            variables: empty(alloc),
+        },
+        objects: entries_of(alloc, &strings, worded)?,
+        ways: ways_of(alloc, worded)?,
+        rules: RuleTables {
+            actions: empty(alloc),
+            grammar: empty(alloc),
+            rules: 0,
+            books: empty(alloc),
+            scenes: empty(alloc),
+        },
+        codes: codes_of(alloc, &strings, worded)?,
+    })
+}
+
 /// The tables of a tale.
-#[tactic(auto, unfolding(crate::specs::Making::tables_of))]
 pub fn tables_of(alloc: Global, tale: &Tale) -> Result<Tables, AllocError>
     ensures { IfOk result (λ tables. tables ≡ tables_of tale.now) }
 {
-    let objects = tale.objects.as_slice();
-    let strings = strings_of(alloc, objects)?;
-    Ok(Tables {
-        strings: table_of(alloc, &strings)?,
-        world: WorldCounts {
-            kinds: 0,
-            flags: 0,
-            numbers: 0,
-            variables: 0,
-        },
-        objects: entries_of(alloc, &strings, objects)?,
-        ways: ways_of(alloc, objects)?,
-        rules: RuleCounts {
-            actions: 0,
-            grammar: 0,
-            rules: 0,
-            books: 0,
-            scenes: 0,
-        },
-        codes: codes_of(alloc, &strings, objects)?,
-    })
+    let worded = with_words(alloc, tale.objects.as_slice())?;
+    tables_with(alloc, worded.as_slice())
 }

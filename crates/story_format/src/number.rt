@@ -1,9 +1,33 @@
 //! Numbers: a byte, and numbers of two and four bytes, the highest byte first.
-ghost use Rattle.std.specs.Prelude.{◌≡◌};
+ghost use Rattle.std.specs.Prelude.{◌≡◌, nat_lt, length, drop, None, Some, if◌then◌else◌};
+ghost use Rattle.std.specs.Int.{w16};
+ghost use Rattle.story_format.specs.Formats.{left, number, seen};
 
 use crate::field::Field;
 use byteorder::{BigEndian, ByteOrder};
 use std::alloc::{AllocError, Global};
+
+/// The number of two bytes at the front, and the bytes behind it.
+pub fn number16(bytes: &[u8]) -> Option<(u16, &[u8])>
+    ensures { seen result ≡ (number w16).get bytes.now }
+{
+    if bytes.len() < 2 {
+        return None;
+    }
+    let (front, rest) = bytes.split_at(2);
+    Some((u16::from_be_bytes([front[0], front[1]]), rest))
+}
+
+/// The bytes behind the first so many.
+pub fn behind(count: usize, bytes: &[u8]) -> Option<&[u8]>
+    ensures { left result ≡ (if nat_lt (length bytes.now) count then None else Some (drop count bytes.now)) }
+{
+    if bytes.len() < count {
+        return None;
+    }
+    let (_, rest) = bytes.split_at(count);
+    Some(rest)
+}
 
 impl Field for u8 {
     ghost use Rattle.story_format.specs.Formats.{byte};
@@ -18,32 +42,32 @@ impl Field for u8 {
         }
     }
 
+    fn skip(bytes: &[u8]) -> Option<&[u8]> {
+        match bytes {
+            [] => None,
+            [_, rest @ ..] => Some(rest),
+        }
+    }
+
     fn write(&self, out: &mut Vec<u8>) -> Result<(), AllocError> {
         out.push(*self)?;
         Ok(())
-    }
-
-    fn fits(&self) -> bool {
-        let _value = *self;
-        true
     }
 
     ghost lawful = { byte_lawful };
 }
 
 impl Field for u16 {
-    ghost use Rattle.std.specs.Int.{w16};
-    ghost use Rattle.story_format.specs.Formats.{number};
     ghost use Rattle.story_format.specs.FormatLaws.{number16_lawful};
 
     ghost format = { number w16 };
 
     fn read(_alloc: Global, bytes: &[u8]) -> Result<Option<(u16, &[u8])>, AllocError> {
-        if bytes.len() < 2 {
-            return Ok(None);
-        }
-        let (front, rest) = bytes.split_at(2);
-        Ok(Some((u16::from_be_bytes([front[0], front[1]]), rest)))
+        Ok(number16(bytes))
+    }
+
+    fn skip(bytes: &[u8]) -> Option<&[u8]> {
+        behind(2, bytes)
     }
 
     fn write(&self, out: &mut Vec<u8>) -> Result<(), AllocError> {
@@ -52,17 +76,11 @@ impl Field for u16 {
         out.extend_from_slice(&bytes)
     }
 
-    fn fits(&self) -> bool {
-        let _value = *self;
-        true
-    }
-
     ghost lawful = { number16_lawful };
 }
 
 impl Field for u32 {
     ghost use Rattle.std.specs.Int.{w32};
-    ghost use Rattle.story_format.specs.Formats.{number};
     ghost use Rattle.story_format.specs.FormatLaws.{number32_lawful};
 
     ghost format = { number w32 };
@@ -78,15 +96,14 @@ impl Field for u32 {
         )))
     }
 
+    fn skip(bytes: &[u8]) -> Option<&[u8]> {
+        behind(4, bytes)
+    }
+
     fn write(&self, out: &mut Vec<u8>) -> Result<(), AllocError> {
         let mut bytes = [0; 4];
         BigEndian::write_u32(&mut bytes, *self);
         out.extend_from_slice(&bytes)
-    }
-
-    fn fits(&self) -> bool {
-        let _value = *self;
-        true
     }
 
     ghost lawful = { number32_lawful };

@@ -1,9 +1,9 @@
 //! What a story file says of places: numbers that may be none, and a room's ways.
 ghost use Rattle.std.specs.Prelude.{◌≡◌};
-ghost use Rattle.story_format.specs.Formats.{optional_of, optional_number, fits_optional};
+ghost use Rattle.story_format.specs.Formats.{optional_of, optional_number};
 
-use crate::field::Field;
-use crate::table::{fit_all, read_many, write_all};
+use crate::field::{Field, skip_fields};
+use crate::table::{read_many, skip_many, write_all};
 use std::alloc::{AllocError, Global};
 use world_meaning::{Exits, ObjNo, Way};
 
@@ -37,21 +37,11 @@ pub fn number_of(object: Option<ObjNo>) -> u16
     }
 }
 
-/// Whether the number isn't the one of none.
-fn is_told_apart(object: Option<ObjNo>) -> bool
-    ensures { result ≡ fits_optional object }
-{
-    match object {
-        None => true,
-        Some(object) => object.get() < NONE,
-    }
-}
-
-#[tactic(auto, unfolding(crate::specs::Layout::way_format))]
+#[tactic(auto, unfolding(crate::specs::Layout::way_layout))]
 impl Field for Way {
-    ghost use Rattle.story_format.specs.Layout.{way_format, way_lawful};
+    ghost use Rattle.story_format.specs.Layout.{way_layout};
 
-    ghost format = { way_format };
+    ghost format = { way_layout.format };
 
     fn read(alloc: Global, bytes: &[u8]) -> Result<Option<(Way, &[u8])>, AllocError> {
         let Some((room, rest)) = u16::read(alloc, bytes)? else {
@@ -67,23 +57,23 @@ impl Field for Way {
         Ok(Some((way, rest)))
     }
 
+    fn skip(bytes: &[u8]) -> Option<&[u8]> {
+        skip_fields!(bytes, u16, u16)
+    }
+
     fn write(&self, out: &mut Vec<u8>) -> Result<(), AllocError> {
         number_of(self.room).write(out)?;
         number_of(self.door).write(out)
     }
 
-    fn fits(&self) -> bool {
-        is_told_apart(self.room) && is_told_apart(self.door)
-    }
-
-    ghost lawful = { way_lawful };
+    ghost lawful = { way_layout.lawful };
 }
 
-#[tactic(auto, unfolding(crate::specs::Layout::exits_format))]
+#[tactic(auto, unfolding(crate::specs::Layout::exits_layout))]
 impl Field for Exits {
-    ghost use Rattle.story_format.specs.Layout.{exits_format, exits_lawful};
+    ghost use Rattle.story_format.specs.Layout.{exits_layout};
 
-    ghost format = { exits_format };
+    ghost format = { exits_layout.format };
 
     fn read(alloc: Global, bytes: &[u8]) -> Result<Option<(Exits, &[u8])>, AllocError> {
         let Some((all, rest)) = read_many(alloc, 12, bytes)? else {
@@ -94,13 +84,13 @@ impl Field for Exits {
         Ok(Some((Exits { ways }, rest)))
     }
 
+    fn skip(bytes: &[u8]) -> Option<&[u8]> {
+        skip_many::<Way>(12, bytes)
+    }
+
     fn write(&self, out: &mut Vec<u8>) -> Result<(), AllocError> {
         write_all(&self.ways, out)
     }
 
-    fn fits(&self) -> bool {
-        fit_all(&self.ways)
-    }
-
-    ghost lawful = { exits_lawful };
+    ghost lawful = { exits_layout.lawful };
 }

@@ -12,7 +12,7 @@ use std::alloc::{AllocError, Global};
 use world_meaning::TextBytes;
 
 /// The string that a code names behind its first byte.
-fn string_said(code: &[u8]) -> u16
+pub fn string_said(code: &[u8]) -> u16
     ensures { result ≡ string_said code.now }
 {
     match code {

@@ -1,59 +1,79 @@
 //! A story that was loaded, and what it says of its objects.
-ghost use Rattle.std.specs.Prelude.{◌≡◌, length};
+ghost use Rattle.std.specs.Prelude.{◌≡◌};
 ghost use Rattle.std.specs.Option.{option_map};
-ghost use Rattle.world_meaning.specs.Tale.{description_of, name_of, start_of, way_of};
+ghost use Rattle.story_format.specs.Facts.{description_of, exits_at, name_of, object_count_of, start_of, text_at, way_of};
 
-use crate::keeping::{KeptObject, text_at};
-use crate::table::Table;
+use crate::place::NONE;
+use crate::soundness::string_said;
+use crate::tables::Tables;
 use std::marker::Model;
-use world_meaning::{Direction, ObjNo, TextBytes};
+use world_meaning::{Direction, Exits, ObjNo, TextBytes};
 
-/// A story: the tale that it tells, which is one that a story file can hold. Each string is kept once,
-/// whoever has it.
+/// The number of the first room: the player and the directions stand before it.
+const FIRST_ROOM: u16 = 13;
+
+/// A story: its tables.
 #[derive(Debug, Drop)]
 pub struct Story {
-    strings: Table<TextBytes>,
-    objects: Vec<KeptObject>,
+    tables: Tables,
 }
 
 impl Model for Story {
-    ghost use Rattle.world_meaning.specs.declared.tale.Tale.{Tale};
-    ghost use Rattle.story_format.specs.Shape.{IsTale};
-    ghost use Rattle.story_format.specs.Keeping.{tale_kept};
+    ghost use Rattle.story_format.specs.declared.tables.Tables.{Tables};
+    ghost use Rattle.story_format.specs.Spells.{IsStory};
 
-    ghost Value = { Tale };
+    ghost Value = { Tables };
 
-    ghost view = { λ story. tale_kept story.strings story.objects.items };
+    ghost view = { λ story. story.tables };
 
-    ghost invariant = { λ story. IsTale (tale_kept story.strings story.objects.items) };
+    ghost invariant = { λ story. IsStory story.tables };
+}
+
+/// The string of a number; no bytes where there is no such string.
+fn text_at(strings: &[TextBytes], number: u16) -> &[u8]
+    ensures { result.now ≡ text_at strings.now number }
+{
+    match strings.get(number as usize) {
+        Some(text) => text.as_slice(),
+        None => &[],
+    }
+}
+
+/// The ways of a room.
+fn exits_at(ways: &[Exits], room: u16) -> Option<Exits>
+    ensures { result ≡ exits_at ways.now room }
+{
+    if room < FIRST_ROOM {
+        return None;
+    }
+    ways.get((room - FIRST_ROOM) as usize).copied()
 }
 
 impl Story {
-    ghost use Rattle.story_format.specs.Shape.{IsTale};
-    ghost use Rattle.story_format.specs.Keeping.{tale_kept};
+    ghost use Rattle.story_format.specs.Spells.{IsStory};
     ghost use Rattle.world_meaning.specs.Directions.{direction_number};
 
-    /// The story of a tale of which these objects are kept.
-    pub(crate) fn new(strings: Table<TextBytes>, objects: Vec<KeptObject>) -> Story
-        requires { IsTale (tale_kept strings objects.items) }
-        ensures { result ≡ tale_kept strings objects.items }
+    /// The story of these tables.
+    pub(crate) fn new(tables: Tables) -> Story
+        requires { IsStory tables }
+        ensures { result ≡ tables }
     {
-        Story { strings, objects }
+        Story { tables }
     }
 
     /// How many objects there are: the player, the directions and the rooms.
     pub fn object_count(&self) -> usize
-        ensures { result ≡ length self.now.objects }
+        ensures { result ≡ object_count_of self.now }
     {
-        self.objects.len()
+        self.tables.objects.as_slice().len()
     }
 
     /// The object's name, as it is printed; no bytes where there is no such object.
     pub fn name(&self, object: ObjNo) -> &[u8]
         ensures { result.now ≡ name_of self.now object }
     {
-        match self.objects.get(object.get() as usize) {
-            Some(object) => text_at(self.strings.as_slice(), object.name),
+        match self.tables.objects.as_slice().get(object.get() as usize) {
+            Some(entry) => text_at(self.tables.strings.as_slice(), entry.name),
             None => &[],
         }
     }
@@ -62,20 +82,29 @@ impl Story {
     pub fn description(&self, object: ObjNo) -> Option<&[u8]>
         ensures { option_map (λ text. text.now) result ≡ description_of self.now object }
     {
-        let text = self.objects.get(object.get() as usize)?.description?;
-        Some(text_at(self.strings.as_slice(), text))
+        let entry = self.tables.objects.as_slice().get(object.get() as usize)?;
+        if entry.description == NONE {
+            return None;
+        }
+        let code = self
+            .tables
+            .codes
+            .as_slice()
+            .get(entry.description as usize)?;
+        let text = string_said(code.as_slice());
+        Some(text_at(self.tables.strings.as_slice(), text))
     }
 
     /// The room beyond the way in that direction.
     pub fn way(&self, room: ObjNo, direction: Direction) -> Option<ObjNo>
         ensures { result ≡ way_of self.now room (direction_number direction) }
     {
-        let object = self.objects.get(room.get() as usize)?;
+        let exits = exits_at(self.tables.ways.as_slice(), room.get())?;
         let number = direction.number().get();
         if number == 0 {
             return None;
         }
-        let way = object.exits.ways.get(number as usize - 1)?;
+        let way = exits.ways.get(number as usize - 1)?;
         way.room
     }
 
@@ -83,11 +112,8 @@ impl Story {
     pub fn start(&self) -> ObjNo
         ensures { result ≡ start_of self.now }
     {
-        match self.objects.get(0) {
-            Some(player) => match player.place {
-                Some(place) => place.holder,
-                None => ObjNo::new(0),
-            },
+        match self.tables.objects.as_slice().get(0) {
+            Some(player) => ObjNo::new(player.holder),
             None => ObjNo::new(0),
         }
     }

@@ -1,9 +1,10 @@
 //! Lists of values: a table behind a count of two bytes, a list behind a count of one.
 ghost use Rattle.std.specs.Prelude.{◌≡◌, ◌++◌, IfOk, OnOk, IsTrue};
 ghost use Rattle.std.specs.List.{flat_map, list_all};
-ghost use Rattle.story_format.specs.Formats.{get_many, seen_all};
+ghost use Rattle.story_format.specs.Formats.{get_many, left, seen_all, skip_many};
 
 use crate::field::Field;
+use crate::number::number16;
 use std::alloc::{AllocError, Global};
 use std::marker::Model;
 
@@ -38,7 +39,7 @@ impl<F> Table<F> {
 }
 
 /// The items of a short list, in order.
-#[derive(Drop)]
+#[derive(Debug, Drop)]
 pub struct Listed<F> {
     all: Vec<F>,
 }
@@ -99,11 +100,18 @@ pub fn write_all<F: Field>(values: &[F], out: &mut Vec<u8>) -> Result<(), AllocE
     Ok(())
 }
 
-/// Whether each value can be written.
-pub fn fit_all<F: Field>(values: &[F]) -> bool
-    ensures { result ≡ list_all F.format.fits values.now }
+/// The bytes behind that many values, or `None` if they are cut.
+pub fn skip_many<F: Field>(count: usize, bytes: &[u8]) -> Option<&[u8]>
+    ensures { left result ≡ skip_many F.format.skip count bytes.now }
 {
-    values.iter().all(|value| value.fits())
+    let mut rest = bytes;
+    for _ in 0..count {
+        let Some(after) = F::skip(rest) else {
+            return None;
+        };
+        rest = after;
+    }
+    Some(rest)
 }
 
 impl<F: Field> Field for Table<F> {
@@ -114,7 +122,7 @@ impl<F: Field> Field for Table<F> {
     ghost format = { counted (number w16) F.format };
 
     fn read(alloc: Global, bytes: &[u8]) -> Result<Option<(Table<F>, &[u8])>, AllocError> {
-        let Some((count, rest)) = u16::read(alloc, bytes)? else {
+        let Some((count, rest)) = number16(bytes) else {
             return Ok(None);
         };
         let Some((all, rest)) = read_many(alloc, count as usize, rest)? else {
@@ -123,13 +131,14 @@ impl<F: Field> Field for Table<F> {
         Ok(Some((Table { all }, rest)))
     }
 
+    fn skip(bytes: &[u8]) -> Option<&[u8]> {
+        let (count, rest) = number16(bytes)?;
+        skip_many::<F>(count as usize, rest)
+    }
+
     fn write(&self, out: &mut Vec<u8>) -> Result<(), AllocError> {
         (self.all.len() as u16).write(out)?;
         write_all(self.all.as_slice(), out)
-    }
-
-    fn fits(&self) -> bool {
-        self.all.len() < 65536 && fit_all(self.all.as_slice())
     }
 
     ghost lawful = { counted_lawful (number w16) F.format number16_lawful F.lawful };
@@ -151,13 +160,16 @@ impl<F: Field> Field for Listed<F> {
         Ok(Some((Listed { all }, rest)))
     }
 
+    fn skip(bytes: &[u8]) -> Option<&[u8]> {
+        match bytes {
+            [] => None,
+            [count, rest @ ..] => skip_many::<F>(*count as usize, rest),
+        }
+    }
+
     fn write(&self, out: &mut Vec<u8>) -> Result<(), AllocError> {
         (self.all.len() as u8).write(out)?;
         write_all(self.all.as_slice(), out)
-    }
-
-    fn fits(&self) -> bool {
-        self.all.len() < 256 && fit_all(self.all.as_slice())
     }
 
     ghost lawful = { counted_lawful byte F.format byte_lawful F.lawful };

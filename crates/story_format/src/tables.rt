@@ -1,13 +1,15 @@
 //! The tables of a story file, each entry with its fields in the order of their bytes.
 ghost use Rattle.std.specs.Prelude.{◌≡◌};
 
-use crate::field::Field;
+use crate::field::{Field, read_fields, skip_fields, write_fields};
+use crate::rule_tables::RuleTables;
 use crate::table::{Listed, Table};
+use crate::world_tables::WorldTables;
 use std::alloc::{AllocError, Global};
 use world_meaning::{Exits, TextBytes};
 
 /// An object as table 6 has it.
-#[derive(Drop)]
+#[derive(Debug, Drop)]
 pub struct Entry {
     /// The kind's number.
     pub kind: u8,
@@ -25,284 +27,77 @@ pub struct Entry {
     pub holder: u16,
     /// The properties that are true of it.
     pub properties: Listed<u8>,
-    /// Its number properties.
+    /// Its number properties, as their two's complements.
     pub numbers: Listed<u32>,
 }
 
-#[tactic(auto, unfolding(crate::specs::Layout::entry_format))]
+#[tactic(auto, unfolding(crate::specs::Layout::entry_layout))]
 impl Field for Entry {
-    ghost use Rattle.story_format.specs.Layout.{entry_format, entry_lawful};
+    ghost use Rattle.story_format.specs.Layout.{entry_layout};
 
-    ghost format = { entry_format };
+    ghost format = { entry_layout.format };
 
     fn read(alloc: Global, bytes: &[u8]) -> Result<Option<(Entry, &[u8])>, AllocError> {
-        let Some((kind, rest)) = u8::read(alloc, bytes)? else {
-            return Ok(None);
-        };
-        let Some((name, rest)) = u16::read(alloc, rest)? else {
-            return Ok(None);
-        };
-        let Some((article, rest)) = u8::read(alloc, rest)? else {
-            return Ok(None);
-        };
-        let Some((description, rest)) = u16::read(alloc, rest)? else {
-            return Ok(None);
-        };
-        let Some((words, rest)) = Listed::<u16>::read(alloc, rest)? else {
-            return Ok(None);
-        };
-        let Some((relation, rest)) = u8::read(alloc, rest)? else {
-            return Ok(None);
-        };
-        let Some((holder, rest)) = u16::read(alloc, rest)? else {
-            return Ok(None);
-        };
-        let Some((properties, rest)) = Listed::<u8>::read(alloc, rest)? else {
-            return Ok(None);
-        };
-        let Some((numbers, rest)) = Listed::<u32>::read(alloc, rest)? else {
-            return Ok(None);
-        };
-        Ok(Some((
-            Entry {
-                kind,
-                name,
-                article,
-                description,
-                words,
-                relation,
-                holder,
-                properties,
-                numbers,
-            },
-            rest,
-        )))
+        read_fields!(Entry, alloc, bytes, kind: u8, name: u16, article: u8, description: u16, words: Listed<u16>, relation: u8, holder: u16, properties: Listed<u8>, numbers: Listed<u32>)
+    }
+
+    fn skip(bytes: &[u8]) -> Option<&[u8]> {
+        skip_fields!(bytes, u8, u16, u8, u16, Listed<u16>, u8, u16, Listed<u8>, Listed<u32>)
     }
 
     fn write(&self, out: &mut Vec<u8>) -> Result<(), AllocError> {
-        self.kind.write(out)?;
-        self.name.write(out)?;
-        self.article.write(out)?;
-        self.description.write(out)?;
-        self.words.write(out)?;
-        self.relation.write(out)?;
-        self.holder.write(out)?;
-        self.properties.write(out)?;
-        self.numbers.write(out)
+        write_fields!(
+            self,
+            out,
+            kind,
+            name,
+            article,
+            description,
+            words,
+            relation,
+            holder,
+            properties,
+            numbers
+        )
     }
 
-    fn fits(&self) -> bool {
-        self.kind.fits()
-            && self.name.fits()
-            && self.article.fits()
-            && self.description.fits()
-            && self.words.fits()
-            && self.relation.fits()
-            && self.holder.fits()
-            && self.properties.fits()
-            && self.numbers.fits()
-    }
-
-    ghost lawful = { entry_lawful };
-}
-
-/// How many entries tables 2 to 5 have: none in this version.
-#[derive(Drop)]
-pub struct WorldCounts {
-    /// Table 2.
-    pub kinds: u16,
-    /// Table 3, the either-or properties.
-    pub flags: u16,
-    /// Table 4, the number properties.
-    pub numbers: u16,
-    /// Table 5.
-    pub variables: u16,
-}
-
-#[tactic(auto, unfolding(crate::specs::Layout::world_counts_format))]
-impl Field for WorldCounts {
-    ghost use Rattle.story_format.specs.Layout.{world_counts_format, world_counts_lawful};
-
-    ghost format = { world_counts_format };
-
-    fn read(alloc: Global, bytes: &[u8]) -> Result<Option<(WorldCounts, &[u8])>, AllocError> {
-        let Some((kinds, rest)) = u16::read(alloc, bytes)? else {
-            return Ok(None);
-        };
-        let Some((flags, rest)) = u16::read(alloc, rest)? else {
-            return Ok(None);
-        };
-        let Some((numbers, rest)) = u16::read(alloc, rest)? else {
-            return Ok(None);
-        };
-        let Some((variables, rest)) = u16::read(alloc, rest)? else {
-            return Ok(None);
-        };
-        Ok(Some((
-            WorldCounts {
-                kinds,
-                flags,
-                numbers,
-                variables,
-            },
-            rest,
-        )))
-    }
-
-    fn write(&self, out: &mut Vec<u8>) -> Result<(), AllocError> {
-        self.kinds.write(out)?;
-        self.flags.write(out)?;
-        self.numbers.write(out)?;
-        self.variables.write(out)
-    }
-
-    fn fits(&self) -> bool {
-        self.kinds.fits() && self.flags.fits() && self.numbers.fits() && self.variables.fits()
-    }
-
-    ghost lawful = { world_counts_lawful };
-}
-
-/// How many entries tables 8 to 12 have: none in this version.
-#[derive(Drop)]
-pub struct RuleCounts {
-    /// Table 8.
-    pub actions: u16,
-    /// Table 9.
-    pub grammar: u16,
-    /// Table 10.
-    pub rules: u16,
-    /// Table 11.
-    pub books: u16,
-    /// Table 12.
-    pub scenes: u16,
-}
-
-#[tactic(auto, unfolding(crate::specs::Layout::rule_counts_format))]
-impl Field for RuleCounts {
-    ghost use Rattle.story_format.specs.Layout.{rule_counts_format, rule_counts_lawful};
-
-    ghost format = { rule_counts_format };
-
-    fn read(alloc: Global, bytes: &[u8]) -> Result<Option<(RuleCounts, &[u8])>, AllocError> {
-        let Some((actions, rest)) = u16::read(alloc, bytes)? else {
-            return Ok(None);
-        };
-        let Some((grammar, rest)) = u16::read(alloc, rest)? else {
-            return Ok(None);
-        };
-        let Some((rules, rest)) = u16::read(alloc, rest)? else {
-            return Ok(None);
-        };
-        let Some((books, rest)) = u16::read(alloc, rest)? else {
-            return Ok(None);
-        };
-        let Some((scenes, rest)) = u16::read(alloc, rest)? else {
-            return Ok(None);
-        };
-        Ok(Some((
-            RuleCounts {
-                actions,
-                grammar,
-                rules,
-                books,
-                scenes,
-            },
-            rest,
-        )))
-    }
-
-    fn write(&self, out: &mut Vec<u8>) -> Result<(), AllocError> {
-        self.actions.write(out)?;
-        self.grammar.write(out)?;
-        self.rules.write(out)?;
-        self.books.write(out)?;
-        self.scenes.write(out)
-    }
-
-    fn fits(&self) -> bool {
-        self.actions.fits()
-            && self.grammar.fits()
-            && self.rules.fits()
-            && self.books.fits()
-            && self.scenes.fits()
-    }
-
-    ghost lawful = { rule_counts_lawful };
+    ghost lawful = { entry_layout.lawful };
 }
 
 /// The tables of a story, 1 to 13.
-#[derive(Drop)]
+#[derive(Debug, Drop)]
 pub struct Tables {
     /// Table 1: names, words and texts.
     pub strings: Table<TextBytes>,
     /// Tables 2 to 5.
-    pub world: WorldCounts,
+    pub world: WorldTables,
     /// Table 6.
     pub objects: Table<Entry>,
     /// Table 7: each room's ways, in the order of the rooms.
     pub ways: Table<Exits>,
     /// Tables 8 to 12.
-    pub rules: RuleCounts,
+    pub rules: RuleTables,
     /// Table 13: what the story does, here the descriptions.
     pub codes: Table<TextBytes>,
 }
 
-#[tactic(auto, unfolding(crate::specs::Layout::tables_format))]
+#[tactic(auto, unfolding(crate::specs::Layout::tables_layout))]
 impl Field for Tables {
-    ghost use Rattle.story_format.specs.Layout.{tables_format, tables_lawful};
+    ghost use Rattle.story_format.specs.Layout.{tables_layout};
 
-    ghost format = { tables_format };
+    ghost format = { tables_layout.format };
 
     fn read(alloc: Global, bytes: &[u8]) -> Result<Option<(Tables, &[u8])>, AllocError> {
-        let Some((strings, rest)) = Table::<TextBytes>::read(alloc, bytes)? else {
-            return Ok(None);
-        };
-        let Some((world, rest)) = WorldCounts::read(alloc, rest)? else {
-            return Ok(None);
-        };
-        let Some((objects, rest)) = Table::<Entry>::read(alloc, rest)? else {
-            return Ok(None);
-        };
-        let Some((ways, rest)) = Table::<Exits>::read(alloc, rest)? else {
-            return Ok(None);
-        };
-        let Some((rules, rest)) = RuleCounts::read(alloc, rest)? else {
-            return Ok(None);
-        };
-        let Some((codes, rest)) = Table::<TextBytes>::read(alloc, rest)? else {
-            return Ok(None);
-        };
-        Ok(Some((
-            Tables {
-                strings,
-                world,
-                objects,
-                ways,
-                rules,
-                codes,
-            },
-            rest,
-        )))
+        read_fields!(Tables, alloc, bytes, strings: Table<TextBytes>, world: WorldTables, objects: Table<Entry>, ways: Table<Exits>, rules: RuleTables, codes: Table<TextBytes>)
+    }
+
+    fn skip(bytes: &[u8]) -> Option<&[u8]> {
+        skip_fields!(bytes, Table<TextBytes>, WorldTables, Table<Entry>, Table<Exits>, RuleTables, Table<TextBytes>)
     }
 
     fn write(&self, out: &mut Vec<u8>) -> Result<(), AllocError> {
-        self.strings.write(out)?;
-        self.world.write(out)?;
-        self.objects.write(out)?;
-        self.ways.write(out)?;
-        self.rules.write(out)?;
-        self.codes.write(out)
+        write_fields!(self, out, strings, world, objects, ways, rules, codes)
     }
 
-    fn fits(&self) -> bool {
-        self.strings.fits()
-            && self.world.fits()
-            && self.objects.fits()
-            && self.ways.fits()
-            && self.rules.fits()
-            && self.codes.fits()
-    }
-
-    ghost lawful = { tables_lawful };
+    ghost lawful = { tables_layout.lawful };
 }

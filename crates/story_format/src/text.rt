@@ -2,6 +2,7 @@
 ghost use Rattle.std.specs.Prelude.{◌≡◌};
 
 use crate::field::Field;
+use crate::number::{behind, number16};
 use std::alloc::{AllocError, Global};
 use world_meaning::TextBytes;
 
@@ -12,7 +13,7 @@ impl Field for TextBytes {
     ghost format = { text };
 
     fn read(alloc: Global, bytes: &[u8]) -> Result<Option<(TextBytes, &[u8])>, AllocError> {
-        let Some((len, rest)) = u16::read(alloc, bytes)? else {
+        let Some((len, rest)) = number16(bytes) else {
             return Ok(None);
         };
         let len = len as usize;
@@ -23,14 +24,15 @@ impl Field for TextBytes {
         Ok(Some((TextBytes::copied(alloc, text)?, rest)))
     }
 
+    fn skip(bytes: &[u8]) -> Option<&[u8]> {
+        let (len, rest) = number16(bytes)?;
+        behind(len as usize, rest)
+    }
+
     fn write(&self, out: &mut Vec<u8>) -> Result<(), AllocError> {
         let bytes = self.as_slice();
         (bytes.len() as u16).write(out)?;
         out.extend_from_slice(bytes)
-    }
-
-    fn fits(&self) -> bool {
-        self.as_slice().len() < 65536
     }
 
     ghost lawful = { text_lawful };

@@ -1,17 +1,23 @@
-use Rattle.std.proofs.Common.{refl, sym, ◌∙◌}
-use Rattle.story_file.specs.Compilations.IsRefused.{memory, too_much}
+use Rattle.std.proofs.Common.{refl}
+use Rattle.story_format.specs.Making.{tables_of}
+use Rattle.story_format.proofs.Carried.{tale_carried}
+use Rattle.story_file.specs.Compilations.IsRefused.{memory}
+use Rattle.story_file.proofs.Held.{tale_held}
 use Rattle.story_file.proofs.compiler.compile.Goals as goal
 
-pub returns-in-Ok-false : goal.returns-in-Ok-false
-returns-in-Ok-false c =
-    too_much (record {
-      tale = c.in_ok-tale.tale;
-      means = c.in_ok-tale.ensures.meant;
-      unheld = λ held. let wrong = sym c.in-Ok-false.field-0-test ∙ c.in-Ok-false.ensures.1 held in absurd cc;
-    }) refl
+pub write-requires : goal.write-requires
+write-requires c = let m = c.in_ok-tale.ensures.meant in tale_held m.sentences c.in_ok-tale.tale m.meant
 
-pub returns-in-Err : goal.returns-in-Err
-returns-in-Err c = memory refl
+pub returns-in-Ok : goal.returns-in-Ok
+returns-in-Ok c =
+    let m = c.in_ok-tale.ensures.meant in
+    record {
+      tale = c.in_ok-tale.tale;
+      means = m;
+      tables = tables_of c.in_ok-tale.tale;
+      carries = tale_carried c.in_ok-tale.tale (tale_held m.sentences c.in_ok-tale.tale m.meant);
+      spells = c.in-Ok.ensures;
+    }
 
 pub returns : goal.returns
 returns c = memory refl

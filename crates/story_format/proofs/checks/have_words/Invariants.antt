@@ -1,7 +1,9 @@
-use Rattle.std.proofs.Common.{◌≡◌, take, true}
-use Rattle.std.specs.List.{list_all}
-use Rattle.story_format.specs.Checks.{has_words}
+use Rattle.std.proofs.Common.{◌≡◌, ◌+◌, ◌≤◌, length}
+use Rattle.story_format.specs.Checks.{have_words}
 use Rattle.story_format.proofs.checks.have_words.Given as goal
 
-abbrev pub invariant-loop-entry : goal.invariant-loop-entry
-invariant-loop-entry l = record { done : list_all (has_words l.strings) (take l.entry-index l.entries) ≡ true; place : l.index ≡ l.entry-index }
+abbrev pub invariant-loop-rest : goal.invariant-loop-rest
+invariant-loop-rest l = record { same : have_words l.strings l.number l.rest ≡ have_words l.strings 0 l.entries; bound : l.number + length l.rest ≤ length l.entries }
+
+abbrev pub decreases-loop-rest : goal.decreases-loop-rest
+decreases-loop-rest l = length l.rest

@@ -1,45 +1,53 @@
 use Rattle.std.proofs.Common.{sym, ◌∙◌, arith}
 use Rattle.std.proofs.lemmas.Result.{err_from_is_err_and}
-use Rattle.story_format.specs.Spells.{Spells}
-use Rattle.story_format.proofs.ReadingLemmas.{only_memory, refused, same_tale, spelled_by, tables_stand, table_fault, code_fault, right_if_spelled, sound_if_spelled}
+use Rattle.story_format.proofs.ReadingLemmas.{code_fault, memory_fault, only_memory, read_is, refused, right_if_spelled, sound_if_spelled, story_there, table_fault}
 use Rattle.story_format.proofs.loading.load.Goals as goal
 
 pub returns-in_err-tables-clause-only : goal.returns-in_err-tables-clause-only
 returns-in_err-tables-clause-only c =
     let p = err_from_is_err_and c.from_residual.result c.from_residual.ensures.1 in
-    λ tale spells. rw p.1 (p.2 ∙ only_memory c.args.bytes.now tale c.in_err-tables.field-0.0 spells c.in_err-tables.ensures)
+    λ tables spells. rw p.1 (p.2 ∙ only_memory c.args.bytes.now tables c.in_err-tables.field-0.0 spells c.in_err-tables.ensures)
 
 pub returns-in_err-tables-clause-refused : goal.returns-in_err-tables-clause-refused
 returns-in_err-tables-clause-refused c =
     let p = err_from_is_err_and c.from_residual.result c.from_residual.ensures.1 in
     rw (p.1, p.2) (refused c.args.bytes.now c.in_err-tables.field-0.0 (λ i. omega (arith, c.type_inv.bytes i)) c.in_err-tables.ensures)
 
+pub returns-in_err-are_right-clause-refused : goal.returns-in_err-are_right-clause-refused
+returns-in_err-are_right-clause-refused c =
+    let p = err_from_is_err_and c.from_residual-in_err-are_right.result c.from_residual-in_err-are_right.ensures.1 in
+    rw (p.1, p.2) (memory_fault c.args.bytes.now c.in_ok-tables.tables (λ i. omega (arith, c.type_inv.bytes i)) c.in_ok-tables.ensures)
+
 pub returns-then-not-branch-clause-only : goal.returns-then-not-branch-clause-only
-returns-then-not-branch-clause-only c = λ tale spells.
-    let right = right_if_spelled c.args.bytes.now tale c.in_ok-tables.tables spells c.in_ok-tables.ensures in
+returns-then-not-branch-clause-only c = λ tables spells.
+    let right = right_if_spelled c.args.bytes.now tables c.in_ok-tables.tables spells c.in_ok-tables.ensures in
     let z = sym right ∙ sym c.in_ok-are_right.ensures ∙ c.if-not-branch.true in absurd cc
 
 pub returns-then-not-branch-clause-refused : goal.returns-then-not-branch-clause-refused
 returns-then-not-branch-clause-refused c =
     table_fault c.args.bytes.now c.in_ok-tables.tables (λ i. omega (arith, c.type_inv.bytes i)) c.in_ok-tables.ensures (sym c.in_ok-are_right.ensures ∙ c.if-not-branch.true)
 
+pub returns-in_err-are_sound-clause-refused : goal.returns-in_err-are_sound-clause-refused
+returns-in_err-are_sound-clause-refused c =
+    let p = err_from_is_err_and c.from_residual-in_err-are_sound.result c.from_residual-in_err-are_sound.ensures.1 in
+    rw (p.1, p.2) (memory_fault c.args.bytes.now c.in_ok-tables.tables (λ i. omega (arith, c.type_inv.bytes i)) c.in_ok-tables.ensures)
+
 pub returns-then-not-branch-2-clause-only : goal.returns-then-not-branch-2-clause-only
-returns-then-not-branch-2-clause-only c = λ tale spells.
-    let sound = sound_if_spelled c.args.bytes.now tale c.in_ok-tables.tables spells c.in_ok-tables.ensures in
+returns-then-not-branch-2-clause-only c = λ tables spells.
+    let sound = sound_if_spelled c.args.bytes.now tables c.in_ok-tables.tables spells c.in_ok-tables.ensures in
     let z = sym sound ∙ sym c.in_ok-are_sound.ensures ∙ c.if-not-branch-2.true in absurd cc
 
 pub returns-then-not-branch-2-clause-refused : goal.returns-then-not-branch-2-clause-refused
 returns-then-not-branch-2-clause-refused c =
     code_fault c.args.bytes.now c.in_ok-tables.tables (λ i. omega (arith, c.type_inv.bytes i)) c.in_ok-tables.ensures (sym c.in_ok-are_right.ensures ∙ c.if-not-branch.false) (sym c.in_ok-are_sound.ensures ∙ c.if-not-branch-2.true)
 
-pub story_told-requires-clause-fits : goal.story_told-requires-clause-fits
-story_told-requires-clause-fits c = (tables_stand c.args.bytes.now c.in_ok-tables.tables (λ i. omega (arith, c.type_inv.bytes i)) c.in_ok-tables.ensures).0
+pub new-requires : goal.new-requires
+new-requires c =
+    (story_there c.args.bytes.now c.in_ok-tables.tables (λ i. omega (arith, c.type_inv.bytes i)) c.in_ok-tables.ensures (sym c.in_ok-are_right.ensures ∙ c.if-not-branch.false) (sym c.in_ok-are_sound.ensures ∙ c.if-not-branch-2.false)).story
 
 pub returns-clause-found : goal.returns-clause-found
 returns-clause-found c =
-    spelled_by c.args.bytes.now c.in_ok-story_told.field-0 c.in_ok-tables.tables (λ i. omega (arith, c.type_inv.bytes i)) c.in_ok-tables.ensures c.in_ok-story_told.ensures.0 c.in_ok-story_told.ensures.1
+    rw c.new.ensures (story_there c.args.bytes.now c.in_ok-tables.tables (λ i. omega (arith, c.type_inv.bytes i)) c.in_ok-tables.ensures (sym c.in_ok-are_right.ensures ∙ c.if-not-branch.false) (sym c.in_ok-are_sound.ensures ∙ c.if-not-branch-2.false))
 
 pub returns-clause-only : goal.returns-clause-only
-returns-clause-only c = λ tale spells.
-    let found : Spells c.args.bytes.now c.in_ok-story_told.field-0 = spelled_by c.args.bytes.now c.in_ok-story_told.field-0 c.in_ok-tables.tables (λ i. omega (arith, c.type_inv.bytes i)) c.in_ok-tables.ensures c.in_ok-story_told.ensures.0 c.in_ok-story_told.ensures.1 in
-    same_tale c.args.bytes.now c.in_ok-story_told.field-0 tale found spells
+returns-clause-only c = λ tables spells. c.new.ensures ∙ sym (read_is c.args.bytes.now tables c.in_ok-tables.tables spells c.in_ok-tables.ensures)

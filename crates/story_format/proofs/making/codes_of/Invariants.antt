@@ -1,7 +1,11 @@
-use Rattle.std.proofs.Common.{◌≡◌, take}
+use Rattle.std.proofs.Common.{◌≡◌, ◌++◌, length}
 use Rattle.std.specs.List.{flat_map}
 use Rattle.story_format.specs.Making.{codes_of}
+use Rattle.story_format.specs.WordedViews.{all_worded}
 use Rattle.story_format.proofs.making.codes_of.Given as goal
 
-abbrev pub invariant-loop-object : goal.invariant-loop-object
-invariant-loop-object l = l.codes.items ≡ flat_map (codes_of l.strings) (take l.object-index l.objects)
+abbrev pub invariant-loop-rest : goal.invariant-loop-rest
+invariant-loop-rest l = l.codes.items ++ flat_map (codes_of l.strings) (all_worded l.rest) ≡ flat_map (codes_of l.strings) (all_worded l.worded)
+
+abbrev pub decreases-loop-rest : goal.decreases-loop-rest
+decreases-loop-rest l = length l.rest

@@ -1,9 +1,13 @@
-use Rattle.std.proofs.Common.{◌≡◌, take}
+use Rattle.std.proofs.Common.{◌≡◌, length}
 use Rattle.std.specs.Prelude.{fold}
 use Rattle.std.specs.List.{flat_map}
 use Rattle.object_words.specs.Mentions.{mention}
 use Rattle.story_format.specs.Making.{code_strings}
+use Rattle.story_format.specs.WordedViews.{all_worded}
 use Rattle.story_format.proofs.making.mention_codes.Given as goal
 
-abbrev pub invariant-loop-object : goal.invariant-loop-object
-invariant-loop-object l = l.strings ≡ fold mention l.initial.strings (flat_map code_strings (take l.object-index l.objects))
+abbrev pub invariant-loop-rest : goal.invariant-loop-rest
+invariant-loop-rest l = fold mention l.strings (flat_map code_strings (all_worded l.rest)) ≡ fold mention l.initial.strings (flat_map code_strings (all_worded l.worded))
+
+abbrev pub decreases-loop-rest : goal.decreases-loop-rest
+decreases-loop-rest l = length l.rest

@@ -1,0 +1,110 @@
+-- The strings of a tale hold what its objects name and say.
+use Rattle.std.proofs.Common.{◌≡◌, ℕ, suc, ◌+◌, ◌<◌, Bool, true, false, ◌&&◌, ◌||◌, ltb, List, [], ◌∷◌, ◌++◌, length, Some, refl, sym, ap, arith, inl, inr, ◌⊎◌}
+use Rattle.std.specs.Prelude.{slice_get, min, fold}
+use Rattle.std.specs.List.{list_any, list_all, flat_map, position_or_len}
+use Rattle.std.specs.Str.{bytes_eq}
+use Rattle.std.proofs.lemmas.Bool.{lt-ltb}
+use Rattle.std.proofs.lemmas.List.Folds.{list_any-append}
+use Rattle.std.proofs.lemmas.Slice.Eq.{bytes_eq-Decides}
+use Rattle.object_words.specs.Mentions.{mention, number_in}
+use Rattle.story_format.specs.Making.{Worded, entry_strings, code_strings, strings_of}
+use Rattle.story_format.proofs.StoryLemmas.{both}
+
+pub text_is_itself : (text : List ℕ) → bytes_eq text text ≡ true
+text_is_itself text = (bytes_eq-Decides text text).1 refl
+
+same_texts : (a b : List ℕ) → bytes_eq a b ≡ true → a ≡ b
+same_texts a b e = (bytes_eq-Decides a b).0 e
+
+pub either : (b : Bool) → (b ≡ true) ⊎ (b ≡ false)
+either true = inl refl
+either false = inr refl
+
+-- what stands at the first place that passes
+pub passes_at : (strings : List (List ℕ)) (text : List ℕ) → list_any (bytes_eq text) strings ≡ true
+    → (position_or_len (bytes_eq text) strings < length strings) × (slice_get strings (position_or_len (bytes_eq text) strings) ≡ Some text)
+passes_at [] text h = absurd cc
+passes_at (s ∷ ss) text h =
+    elim (either (bytes_eq text s)) [
+      | inl is ↦ rw is (omega arith, ap (λ (t : List ℕ). Some t) (sym (same_texts text s is)))
+      | inr isnt ↦
+          let later : list_any (bytes_eq text) ss ≡ true = rw isnt at h in
+          let t = passes_at ss text later in
+          let one : 1 + position_or_len (bytes_eq text) ss ≡ suc (position_or_len (bytes_eq text) ss) = omega arith in
+          rw (isnt, one) (omega (arith, t.0), t.1)
+    ]
+
+pub found_by_number : (strings : List (List ℕ)) (text : List ℕ) → list_any (bytes_eq text) strings ≡ true → length strings < 65535 → (number_in strings text < 65536) × (slice_get strings (number_in strings text) ≡ Some text)
+unfolding number_in
+found_by_number strings text h few =
+    let t = passes_at strings text h in
+    let inside : ltb (position_or_len (bytes_eq text) strings) (length strings) ≡ true = lt-ltb _ _ t.0 in
+    let small : min (position_or_len (bytes_eq text) strings) 65535 ≡ position_or_len (bytes_eq text) strings = omega (arith, t.0) in
+    rw (inside, small) (omega (arith, t.0), t.1)
+
+any_kept : (seen : List (List ℕ)) (text string : List ℕ) → list_any (bytes_eq text) seen ≡ true → list_any (bytes_eq text) (mention seen string) ≡ true
+any_kept seen text string h =
+    elim (either (list_any (bytes_eq string) seen)) [
+      | inl is ↦ rw is h
+      | inr isnt ↦ rw (isnt, list_any-append (bytes_eq text) seen (string ∷ []), h) refl
+    ]
+
+any_added : (seen : List (List ℕ)) (string : List ℕ) → list_any (bytes_eq string) (mention seen string) ≡ true
+any_added seen string =
+    elim (either (list_any (bytes_eq string) seen)) [
+      | inl is ↦ rw is is
+      | inr isnt ↦ rw (isnt, list_any-append (bytes_eq string) seen (string ∷ []), isnt, text_is_itself string) refl
+    ]
+
+fold_keeps : (strings seen : List (List ℕ)) (text : List ℕ) → list_any (bytes_eq text) seen ≡ true → list_any (bytes_eq text) (fold mention seen strings) ≡ true
+fold_keeps [] seen text h = h
+fold_keeps (s ∷ ss) seen text h = fold_keeps ss (mention seen s) text (any_kept seen text s h)
+
+pub fold_finds : (strings seen : List (List ℕ)) (text : List ℕ) → list_any (bytes_eq text) strings ≡ true → list_any (bytes_eq text) (fold mention seen strings) ≡ true
+fold_finds [] seen text h = absurd cc
+fold_finds (s ∷ ss) seen text h =
+    elim (either (bytes_eq text s)) [
+      | inl is ↦ fold_keeps ss (mention seen s) text (rw (same_texts text s is) (any_added seen s))
+      | inr isnt ↦ let later : list_any (bytes_eq text) ss ≡ true = rw isnt at h in fold_finds ss (mention seen s) text later
+    ]
+
+pub any_left : (p : List ℕ → Bool) (xs ys : List (List ℕ)) → list_any p xs ≡ true → list_any p (xs ++ ys) ≡ true
+any_left p xs ys h = rw (list_any-append p xs ys, h) refl
+
+or_right : (a b : Bool) → b ≡ true → (a || b) ≡ true
+or_right true b e = refl
+or_right false b e = e
+
+pub any_right : (p : List ℕ → Bool) (xs ys : List (List ℕ)) → list_any p ys ≡ true → list_any p (xs ++ ys) ≡ true
+any_right p xs ys h = rw (list_any-append p xs ys) (or_right (list_any p xs) (list_any p ys) h)
+
+-- ---- what each object has
+
+abbrev pub is_known : List (List ℕ) → List ℕ → Bool
+is_known strings text = list_any (bytes_eq text) strings
+
+-- its name and its description are known
+abbrev pub is_told : List (List ℕ) → Worded → Bool
+is_told strings w = is_known strings w.object.name && list_all (is_known strings) (code_strings w)
+
+pub texts_known : (whole strings : List (List ℕ)) → ((text : List ℕ) → list_any (bytes_eq text) strings ≡ true → is_known whole text ≡ true) → list_all (is_known whole) strings ≡ true
+texts_known whole [] f = refl
+texts_known whole (s ∷ ss) f =
+    both (is_known whole s) (list_all (is_known whole) ss) (f s (rw (text_is_itself s) refl)) (texts_known whole ss (λ text h. f text (or_right (bytes_eq text s) (list_any (bytes_eq text) ss) h)))
+
+all_told : (whole : List (List ℕ)) (ws : List Worded) → ((text : List ℕ) → list_any (bytes_eq text) (flat_map entry_strings ws) ≡ true → is_known whole text ≡ true)
+    → ((text : List ℕ) → list_any (bytes_eq text) (flat_map code_strings ws) ≡ true → is_known whole text ≡ true) → list_all (is_told whole) ws ≡ true
+unfolding entry_strings
+all_told whole [] f g = refl
+all_told whole (w ∷ ws) f g =
+    let named : is_known whole w.object.name ≡ true = f w.object.name (any_left (bytes_eq w.object.name) (entry_strings w) (flat_map entry_strings ws) (rw (text_is_itself w.object.name) refl)) in
+    let told : list_all (is_known whole) (code_strings w) ≡ true = texts_known whole (code_strings w) (λ text k. g text (any_left (bytes_eq text) (code_strings w) (flat_map code_strings ws) k)) in
+    both (is_told whole w) (list_all (is_told whole) ws) (both (is_known whole w.object.name) (list_all (is_known whole) (code_strings w)) named told)
+    (all_told whole ws (λ text k. f text (any_right (bytes_eq text) (entry_strings w) (flat_map entry_strings ws) k)) (λ text k. g text (any_right (bytes_eq text) (code_strings w) (flat_map code_strings ws) k)))
+
+pub told_in_strings : (ws : List Worded) → list_all (is_told (strings_of ws)) ws ≡ true
+unfolding strings_of
+told_in_strings ws =
+    all_told (strings_of ws) ws
+    (λ text k. fold_finds (flat_map entry_strings ws ++ flat_map code_strings ws) [] text (any_left (bytes_eq text) (flat_map entry_strings ws) (flat_map code_strings ws) k))
+    (λ text k. fold_finds (flat_map entry_strings ws ++ flat_map code_strings ws) [] text (any_right (bytes_eq text) (flat_map entry_strings ws) (flat_map code_strings ws) k))

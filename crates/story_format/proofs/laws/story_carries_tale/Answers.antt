@@ -1,0 +1,5 @@
+use Rattle.story_format.proofs.Carried.{tale_carried}
+use Rattle.story_format.proofs.laws.story_carries_tale.Goals as goal
+
+pub returns : goal.returns
+returns c = λ tale held. tale_carried tale held

@@ -1,0 +1,55 @@
+-- What a story's tables say of its objects, by number; nothing of a number that no object has.
+use Rattle.std.specs.Prelude.{ℕ, ◌-◌, ◌==◌, nat_lt, List, [], length, slice_get, slice_index_or, Option, Some, None, if◌then◌else◌}
+use Rattle.world_meaning.specs.Tale.{room_beyond}
+use Rattle.world_meaning.specs.declared.exits.Exits.{Exits}
+use Rattle.story_format.specs.declared.tables.Entry.{Entry}
+use Rattle.story_format.specs.declared.tables.Tables.{Tables}
+use Rattle.story_format.specs.Soundness.{string_said}
+
+abbrev pub object_count_of : Tables → ℕ
+object_count_of t = length t.objects
+
+-- the string of a number
+abbrev pub text_at : List (List ℕ) → ℕ → List ℕ
+text_at strings n = slice_index_or strings n []
+
+abbrev pub name_in : List (List ℕ) → Option Entry → List ℕ
+name_in strings None = []
+name_in strings (Some entry) = text_at strings entry.name
+
+-- an object's name, as it is printed
+abbrev pub name_of : Tables → ℕ → List ℕ
+name_of t o = name_in t.strings (slice_get t.objects o)
+
+-- the text that a code says
+abbrev pub said : List (List ℕ) → Option (List ℕ) → Option (List ℕ)
+said strings None = None
+said strings (Some code) = Some (text_at strings (string_said code))
+
+abbrev pub description_in : List (List ℕ) → List (List ℕ) → Option Entry → Option (List ℕ)
+description_in strings codes None = None
+description_in strings codes (Some entry) = if entry.description == 65535 then None else said strings (slice_get codes entry.description)
+
+-- what is said of an object when it is described
+abbrev pub description_of : Tables → ℕ → Option (List ℕ)
+description_of t o = description_in t.strings t.codes (slice_get t.objects o)
+
+-- the ways of a room: the rooms stand behind the player and the directions
+abbrev pub exits_at : List Exits → ℕ → Option Exits
+exits_at ways o = if nat_lt o 13 then None else slice_get ways (o - 13)
+
+abbrev pub way_in : Option Exits → ℕ → Option ℕ
+way_in None direction = None
+way_in (Some exits) direction = room_beyond (slice_get exits.ways (direction - 1))
+
+-- the room to which a direction, by its number, leads from a room
+abbrev pub way_of : Tables → ℕ → ℕ → Option ℕ
+way_of t room direction = way_in (exits_at t.ways room) direction
+
+abbrev pub holder_in : Option Entry → ℕ
+holder_in None = 0
+holder_in (Some entry) = entry.holder
+
+-- the room in which the player begins
+abbrev pub start_of : Tables → ℕ
+start_of t = holder_in (slice_get t.objects 0)

@@ -1,0 +1,39 @@
+-- A format together with the fact that it is one, so that each layout is written once.
+use Rattle.std.specs.Prelude.{◌≡◌, ℕ, List, Option}
+use Rattle.std.specs.Int.{w16, w32}
+use Rattle.story_format.specs.Formats.{Format, IsFormat, byte, number, pair, via, optional, exactly, counted, text}
+use Rattle.story_format.specs.FormatLaws.{byte_lawful, number16_lawful, number32_lawful, pair_lawful, via_lawful, optional_lawful, exactly_lawful, counted_lawful, text_lawful}
+
+pub record Layout (A : Type 0) : Type 0 where
+  pub format : Format A
+  pub lawful : IsFormat format
+
+abbrev pub u8s : Layout ℕ
+u8s = record { format = byte; lawful = byte_lawful }
+
+abbrev pub u16s : Layout ℕ
+u16s = record { format = number w16; lawful = number16_lawful }
+
+abbrev pub u32s : Layout ℕ
+u32s = record { format = number w32; lawful = number32_lawful }
+
+abbrev pub optionals : Layout (Option ℕ)
+optionals = record { format = optional; lawful = optional_lawful }
+
+abbrev pub texts : Layout (List ℕ)
+texts = record { format = text; lawful = text_lawful }
+
+abbrev pub then : {A B : Type 0} → Layout A → Layout B → Layout (A × B)
+then f g = record { format = pair f.format g.format; lawful = pair_lawful f.format g.format f.lawful g.lawful }
+
+abbrev pub as_record : {A B : Type 0} (to : A → B) (from : B → A) → ((a : A) → from (to a) ≡ a) → ((b : B) → to (from b) ≡ b) → Layout A → Layout B
+as_record to from back forth f = record { format = via to from f.format; lawful = via_lawful to from f.format back forth f.lawful }
+
+abbrev pub times : {A : Type 0} → ℕ → Layout A → Layout (List A)
+times n f = record { format = exactly n f.format; lawful = exactly_lawful n f.format f.lawful }
+
+abbrev pub list_of : {A : Type 0} → Layout A → Layout (List A)
+list_of f = record { format = counted byte f.format; lawful = counted_lawful byte f.format byte_lawful f.lawful }
+
+abbrev pub table_of : {A : Type 0} → Layout A → Layout (List A)
+table_of f = record { format = counted (number w16) f.format; lawful = counted_lawful (number w16) f.format number16_lawful f.lawful }

@@ -1,0 +1,166 @@
+//! Tables 8 to 12: actions, grammar, rules, books and scenes. This language has none of its own yet.
+ghost use Rattle.std.specs.Prelude.{◌≡◌};
+
+use crate::field::{Field, read_fields, skip_fields, write_fields};
+use crate::table::{Listed, Table};
+use std::alloc::{AllocError, Global};
+
+/// An action, as table 8 has it.
+#[derive(Debug, Drop)]
+pub struct ActionEntry {
+    /// How many nouns it has.
+    pub nouns: u8,
+    /// What the noun needs: 0 seen, 1 touched, 2 carried.
+    pub noun: u8,
+    /// What the second noun needs.
+    pub second: u8,
+    /// 1 it needs light, 2 it is out of world.
+    pub marks: u8,
+}
+
+#[tactic(auto, unfolding(crate::specs::Layout::action_layout))]
+impl Field for ActionEntry {
+    ghost use Rattle.story_format.specs.Layout.{action_layout};
+
+    ghost format = { action_layout.format };
+
+    fn read(alloc: Global, bytes: &[u8]) -> Result<Option<(ActionEntry, &[u8])>, AllocError> {
+        read_fields!(ActionEntry, alloc, bytes, nouns: u8, noun: u8, second: u8, marks: u8)
+    }
+
+    fn skip(bytes: &[u8]) -> Option<&[u8]> {
+        skip_fields!(bytes, u8, u8, u8, u8)
+    }
+
+    fn write(&self, out: &mut Vec<u8>) -> Result<(), AllocError> {
+        write_fields!(self, out, nouns, noun, second, marks)
+    }
+
+    ghost lawful = { action_layout.lawful };
+}
+
+/// A grammar line, as table 9 has it.
+#[derive(Debug, Drop)]
+pub struct GrammarLine {
+    /// The action that it means.
+    pub action: u8,
+    /// Its words, as strings; 65,534 something, 65,535 a direction.
+    pub words: Listed<u16>,
+}
+
+#[tactic(auto, unfolding(crate::specs::Layout::line_layout))]
+impl Field for GrammarLine {
+    ghost use Rattle.story_format.specs.Layout.{line_layout};
+
+    ghost format = { line_layout.format };
+
+    fn read(alloc: Global, bytes: &[u8]) -> Result<Option<(GrammarLine, &[u8])>, AllocError> {
+        read_fields!(GrammarLine, alloc, bytes, action: u8, words: Listed<u16>)
+    }
+
+    fn skip(bytes: &[u8]) -> Option<&[u8]> {
+        skip_fields!(bytes, u8, Listed<u16>)
+    }
+
+    fn write(&self, out: &mut Vec<u8>) -> Result<(), AllocError> {
+        write_fields!(self, out, action, words)
+    }
+
+    ghost lawful = { line_layout.lawful };
+}
+
+/// A book, as table 11 has it.
+#[derive(Debug, Drop)]
+pub struct Book {
+    /// Its rules, in order.
+    pub rules: Table<u16>,
+}
+
+#[tactic(auto, unfolding(crate::specs::Layout::book_layout))]
+impl Field for Book {
+    ghost use Rattle.story_format.specs.Layout.{book_layout};
+
+    ghost format = { book_layout.format };
+
+    fn read(alloc: Global, bytes: &[u8]) -> Result<Option<(Book, &[u8])>, AllocError> {
+        read_fields!(Book, alloc, bytes, rules: Table<u16>)
+    }
+
+    fn skip(bytes: &[u8]) -> Option<&[u8]> {
+        skip_fields!(bytes, Table<u16>)
+    }
+
+    fn write(&self, out: &mut Vec<u8>) -> Result<(), AllocError> {
+        write_fields!(self, out, rules)
+    }
+
+    ghost lawful = { book_layout.lawful };
+}
+
+/// A scene, as table 12 has it.
+#[derive(Debug, Drop)]
+pub struct SceneEntry {
+    /// 1 if it may happen again.
+    pub recurring: u8,
+    /// The code of what begins it.
+    pub begins: u16,
+    /// The code of what ends it.
+    pub ends: u16,
+}
+
+#[tactic(auto, unfolding(crate::specs::Layout::scene_layout))]
+impl Field for SceneEntry {
+    ghost use Rattle.story_format.specs.Layout.{scene_layout};
+
+    ghost format = { scene_layout.format };
+
+    fn read(alloc: Global, bytes: &[u8]) -> Result<Option<(SceneEntry, &[u8])>, AllocError> {
+        read_fields!(SceneEntry, alloc, bytes, recurring: u8, begins: u16, ends: u16)
+    }
+
+    fn skip(bytes: &[u8]) -> Option<&[u8]> {
+        skip_fields!(bytes, u8, u16, u16)
+    }
+
+    fn write(&self, out: &mut Vec<u8>) -> Result<(), AllocError> {
+        write_fields!(self, out, recurring, begins, ends)
+    }
+
+    ghost lawful = { scene_layout.lawful };
+}
+
+/// Tables 8 to 12.
+#[derive(Debug, Drop)]
+pub struct RuleTables {
+    /// Table 8.
+    pub actions: Table<ActionEntry>,
+    /// Table 9.
+    pub grammar: Table<GrammarLine>,
+    /// How many entries table 10 has.
+    pub rules: u16,
+    /// Table 11.
+    pub books: Table<Book>,
+    /// Table 12.
+    pub scenes: Table<SceneEntry>,
+}
+
+#[tactic(auto, unfolding(crate::specs::Layout::rules_layout))]
+impl Field for RuleTables {
+    ghost use Rattle.story_format.specs.Layout.{rules_layout};
+
+    ghost format = { rules_layout.format };
+
+    fn read(alloc: Global, bytes: &[u8]) -> Result<Option<(RuleTables, &[u8])>, AllocError> {
+        read_fields!(RuleTables, alloc, bytes, actions: Table<ActionEntry>, grammar: Table<GrammarLine>, rules: u16, books: Table<Book>, scenes: Table<SceneEntry>)
+    }
+
+    fn skip(bytes: &[u8]) -> Option<&[u8]> {
+        skip_fields!(bytes, Table<ActionEntry>, Table<GrammarLine>, u16, Table<Book>, Table<SceneEntry>)
+    }
+
+    fn write(&self, out: &mut Vec<u8>) -> Result<(), AllocError> {
+        write_fields!(self, out, actions, grammar, rules, books, scenes)
+    }
+
+    ghost lawful = { rules_layout.lawful };
+}
