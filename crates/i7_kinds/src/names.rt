@@ -5,7 +5,7 @@ ghost use Rattle.std.specs.Str.{str_to_ascii_lowercase};
 ghost use Rattle.i7_kinds.specs.Statements.{built_in_keys, key_of, named_by, number_in, number_of, with_name, with_names_of};
 ghost use Rattle.i7_kinds.specs.Views.{names_of};
 
-use i7_sentences::{Name, Assertion, Sentence};
+use i7_sentences::{Assertion, Name, Sentence};
 use object_words::Strings;
 use std::alloc::{AllocError, Global};
 use world_meaning::{Direction, is_spelled};
