@@ -6,8 +6,8 @@ use Rattle.std.specs.List.{position_or_len}
 use Rattle.std.specs.Str.{bytes_eq}
 use Rattle.std.proofs.lemmas.List.{length-append}
 use Rattle.i7_sentences.specs.declared.sentence.Sentence.{Sentence}
-use Rattle.i7_sentences.specs.declared.sentence.Saying.{Saying}
-use Rattle.i7_sentences.specs.declared.sentence.Saying.TheVariants.{Description, Room, Way}
+use Rattle.i7_sentences.specs.declared.sentence.Assertion.{Assertion}
+use Rattle.i7_sentences.specs.declared.sentence.Assertion.TheVariants.{Description, Room, Way}
 use Rattle.world_meaning.specs.Directions.{opposite_of}
 use Rattle.world_meaning.specs.declared.fault.FaultCode.{FaultCode}
 use Rattle.world_meaning.specs.declared.fault.FaultCode.TheVariants.{NoRoom, TooMany, Twice, TwoPlaces, WrongKind}
@@ -15,7 +15,10 @@ use Rattle.i7_kinds.specs.Bounds.{AreWithin, IsSmall, IsWithin, LeadWithin}
 use Rattle.i7_kinds.specs.Demands.{Lead, descriptions_of, first_target, line_at, second_description, second_target, taken_name, wrong_kind, implied_in, implied_leads, is_exit, lead_of, stated_in, stated_leads}
 use Rattle.i7_kinds.specs.Firsts.{first_of}
 use Rattle.i7_kinds.specs.Tales.{earlier, frame_refusal, no_room, object_too_many, refusal_at}
-use Rattle.i7_kinds.specs.Statements.{Fact, IsRoom, LeadsTo, NameAt, Named, Statement, Told, built_in_keys, fact_in, has_key, key_of, named_by, names_at, number_in, place_or, stated_by, statement_in, with_name, with_names_of}
+use Rattle.i7_kinds.specs.declared.statements.Numbered.{Numbered}
+use Rattle.i7_kinds.specs.declared.statements.Numbered.TheVariants as numbered
+use Rattle.i7_kinds.specs.declared.statements.NumberedSentence.{NumberedSentence}
+use Rattle.i7_kinds.specs.Statements.{NameAt, Named, built_in_keys, numbered_in, has_key, key_of, named_by, names_at, number_in, place_or, stated_by, statement_in, with_name, with_names_of}
 
 -- as many keys as objects
 abbrev pub IsCounted : Named → Type 0
@@ -58,14 +61,14 @@ position-within (k ∷ keys) key =
 pub number-within : (keys : List (List ℕ)) (key : List ℕ) → number_in keys key ≤ length keys
 number-within keys key = place-within (length keys) (position_or_len (bytes_eq key) keys) (position-within keys key) _
 
-pub saying-within : (named : Named) (saying : Saying) → IsWithin (length named.keys) (fact_in named saying)
-saying-within named (Description text) = tt
-saying-within named (Room name) = tt
-saying-within named (Way way) = (number-within named.keys (key_of way.subject.text), number-within named.keys (key_of way.room.text))
+pub assertion-within : (named : Named) (said : Assertion) → IsWithin (length named.keys) (numbered_in named said)
+assertion-within named (Description text) = tt
+assertion-within named (Room name) = tt
+assertion-within named (Way way) = (number-within named.keys (key_of way.subject.text), number-within named.keys (key_of way.room.text))
 
 pub all-within : (named : Named) (sentences : List Sentence) → AreWithin (length named.keys) (map (statement_in named) sentences)
 all-within named [] = tt
-all-within named (sentence ∷ sentences) = (saying-within named sentence.saying, all-within named sentences)
+all-within named (sentence ∷ sentences) = (assertion-within named sentence.said, all-within named sentences)
 
 -- the numbers of a source's statements
 pub source-within : (sentences : List Sentence) → AreWithin (13 + length (named_by sentences).mentions) (stated_by sentences)
@@ -84,26 +87,26 @@ small-lead lead leads room direction small others =
       | false ↦ λ other. rw other others
     ] refl
 
-pub stated-small-by : (most : ℕ) (fact : Fact) (line : ℕ) (statements : List Statement) (room direction : ℕ) → most ≤ 1000 → IsWithin most fact → IsSmall (first_target (stated_leads statements) room direction) → IsSmall (first_target (stated_in fact line ++ stated_leads statements) room direction)
-stated-small-by most (Told text) line statements room direction few within others = others
-stated-small-by most (IsRoom o) line statements room direction few within others = others
-stated-small-by most (LeadsTo subject towards from) line statements room direction few within others = small-lead (lead_of subject towards from line) (stated_leads statements) room direction (omega (arith, within.0, few)) others
+pub stated-small-by : (most : ℕ) (fact : Numbered) (line : ℕ) (statements : List NumberedSentence) (room direction : ℕ) → most ≤ 1000 → IsWithin most fact → IsSmall (first_target (stated_leads statements) room direction) → IsSmall (first_target (stated_in fact line ++ stated_leads statements) room direction)
+stated-small-by most (numbered.Description text) line statements room direction few within others = others
+stated-small-by most (numbered.Room o) line statements room direction few within others = others
+stated-small-by most (numbered.Way way) line statements room direction few within others = small-lead (lead_of way.subject way.direction way.room line) (stated_leads statements) room direction (omega (arith, within.0, few)) others
 
-pub implied-small-by : (most : ℕ) (fact : Fact) (line : ℕ) (statements : List Statement) (room direction : ℕ) → most ≤ 1000 → IsWithin most fact → IsSmall (first_target (implied_leads statements) room direction) → IsSmall (first_target (implied_in fact line ++ implied_leads statements) room direction)
-implied-small-by most (Told text) line statements room direction few within others = others
-implied-small-by most (IsRoom o) line statements room direction few within others = others
-implied-small-by most (LeadsTo subject towards from) line statements room direction few within others = small-lead (lead_of from (opposite_of towards) subject line) (implied_leads statements) room direction (omega (arith, within.1, few)) others
+pub implied-small-by : (most : ℕ) (fact : Numbered) (line : ℕ) (statements : List NumberedSentence) (room direction : ℕ) → most ≤ 1000 → IsWithin most fact → IsSmall (first_target (implied_leads statements) room direction) → IsSmall (first_target (implied_in fact line ++ implied_leads statements) room direction)
+implied-small-by most (numbered.Description text) line statements room direction few within others = others
+implied-small-by most (numbered.Room o) line statements room direction few within others = others
+implied-small-by most (numbered.Way way) line statements room direction few within others = small-lead (lead_of way.room (opposite_of way.direction) way.subject line) (implied_leads statements) room direction (omega (arith, within.1, few)) others
 
-pub stated-small : (most : ℕ) (statements : List Statement) (room direction : ℕ) → most ≤ 1000 → AreWithin most statements → IsSmall (first_target (stated_leads statements) room direction)
+pub stated-small : (most : ℕ) (statements : List NumberedSentence) (room direction : ℕ) → most ≤ 1000 → AreWithin most statements → IsSmall (first_target (stated_leads statements) room direction)
 stated-small most [] room direction few within = tt
-stated-small most (statement ∷ statements) room direction few within = stated-small-by most statement.fact statement.line statements room direction few within.0 (stated-small most statements room direction few within.1)
+stated-small most (statement ∷ statements) room direction few within = stated-small-by most statement.said statement.line statements room direction few within.0 (stated-small most statements room direction few within.1)
 
-pub implied-small : (most : ℕ) (statements : List Statement) (room direction : ℕ) → most ≤ 1000 → AreWithin most statements → IsSmall (first_target (implied_leads statements) room direction)
+pub implied-small : (most : ℕ) (statements : List NumberedSentence) (room direction : ℕ) → most ≤ 1000 → AreWithin most statements → IsSmall (first_target (implied_leads statements) room direction)
 implied-small most [] room direction few within = tt
-implied-small most (statement ∷ statements) room direction few within = implied-small-by most statement.fact statement.line statements room direction few within.0 (implied-small most statements room direction few within.1)
+implied-small most (statement ∷ statements) room direction few within = implied-small-by most statement.said statement.line statements room direction few within.0 (implied-small most statements room direction few within.1)
 
 -- a source of few objects leads within a story
-pub lead-within : (most : ℕ) (statements : List Statement) → most ≤ 1000 → AreWithin most statements → LeadWithin statements
+pub lead-within : (most : ℕ) (statements : List NumberedSentence) → most ≤ 1000 → AreWithin most statements → LeadWithin statements
 lead-within most statements few within room direction = small-first (first_target (stated_leads statements) room direction) (first_target (implied_leads statements) room direction) (stated-small most statements room direction few within) (implied-small most statements room direction few within)
 
 pub unmapped : {A B : Type 0} (f : A → B) (found : Option A) → option_map f found ≡ None → found ≡ None
@@ -128,7 +131,7 @@ pub few_objects : (mentions : List NameAt) → object_too_many mentions ≡ None
 few_objects mentions none = omega (arith, slice_get-none mentions 987 (unmapped line_at (slice_get mentions 987) none))
 
 -- where no refusal stands, no object is too many
-pub frame_few : (statements : List Statement) (mentions : List NameAt) → frame_refusal statements mentions ≡ None → 13 + length mentions ≤ 1000
+pub frame_few : (statements : List NumberedSentence) (mentions : List NameAt) → frame_refusal statements mentions ≡ None → 13 + length mentions ≤ 1000
 unfolding frame_refusal
 frame_few statements mentions none =
     let a = first_none_both (refusal_at Twice (earlier (taken_name mentions) (second_description (descriptions_of statements)))) _ none in
@@ -138,5 +141,5 @@ frame_few statements mentions none =
     few_objects mentions (unrefused TooMany (object_too_many mentions) d.0)
 
 -- so a source without refusal leads within a story
-pub frame_within : (statements : List Statement) (mentions : List NameAt) → AreWithin (13 + length mentions) statements → frame_refusal statements mentions ≡ None → LeadWithin statements
+pub frame_within : (statements : List NumberedSentence) (mentions : List NameAt) → AreWithin (13 + length mentions) statements → frame_refusal statements mentions ≡ None → LeadWithin statements
 frame_within statements mentions within none = lead-within (13 + length mentions) statements (frame_few statements mentions none) within

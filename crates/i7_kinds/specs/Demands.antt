@@ -6,7 +6,11 @@ use Rattle.world_meaning.specs.Spelling.{is_spelled}
 use Rattle.world_meaning.specs.Directions.{direction_number, opposite_of}
 use Rattle.world_meaning.specs.declared.direction.Direction.{Direction}
 use Rattle.i7_kinds.specs.Firsts.{first_of}
-use Rattle.i7_kinds.specs.Statements.{Fact, Told, IsRoom, LeadsTo, Statement, NameAt}
+use Rattle.i7_kinds.specs.Statements.{NameAt}
+use Rattle.i7_kinds.specs.declared.descriptions.Description.{Description}
+use Rattle.i7_kinds.specs.declared.statements.Numbered.{Numbered}
+use Rattle.i7_kinds.specs.declared.statements.Numbered.TheVariants as numbered
+use Rattle.i7_kinds.specs.declared.statements.NumberedSentence.{NumberedSentence}
 
 -- the names of kinds and properties, and the words that stand for an object or a number
 abbrev pub taken_names : List (List ℕ)
@@ -34,46 +38,41 @@ abbrev pub is_author : ℕ → Bool
 is_author o = not (nat_lt o first_of_author)
 
 -- the object that a statement is about
-abbrev pub subject_of : Fact → Option ℕ
-subject_of (Told text) = None
-subject_of (IsRoom o) = Some o
-subject_of (LeadsTo subject direction room) = Some subject
+abbrev pub subject_of : Numbered → Option ℕ
+subject_of (numbered.Description text) = None
+subject_of (numbered.Room o) = Some o
+subject_of (numbered.Way way) = Some way.subject
 
 -- C8: the player and the directions are no rooms, and a text alone needs a subject before it
-abbrev pub is_wrong : Option ℕ → Fact → Bool
-is_wrong before (Told text) = is_none before
-is_wrong before (IsRoom o) = nat_lt o first_of_author
-is_wrong before (LeadsTo subject direction room) = nat_lt subject first_of_author || nat_lt room first_of_author
+abbrev pub is_wrong : Option ℕ → Numbered → Bool
+is_wrong before (numbered.Description text) = is_none before
+is_wrong before (numbered.Room o) = nat_lt o first_of_author
+is_wrong before (numbered.Way way) = nat_lt way.subject first_of_author || nat_lt way.room first_of_author
 
-abbrev pub wrong_after : Option ℕ → List Statement → Option ℕ
+abbrev pub wrong_after : Option ℕ → List NumberedSentence → Option ℕ
 wrong_after before [] = None
 wrong_after before (statement ∷ statements) =
-    if is_wrong before statement.fact then Some statement.line else wrong_after (subject_of statement.fact) statements
+    if is_wrong before statement.said then Some statement.line else wrong_after (subject_of statement.said) statements
 
-abbrev pub wrong_kind : List Statement → Option ℕ
+abbrev pub wrong_kind : List NumberedSentence → Option ℕ
 wrong_kind statements = wrong_after None statements
 
--- a text that describes an object of the author's, and its line
-pub record Description : Type 0 where
-  pub object : ℕ
-  pub text : List ℕ
-  pub line : ℕ
+-- a text describes an object of the author's, at its line
+abbrev pub told_of : ℕ → Numbered → ℕ → List Description
+told_of o (numbered.Description text) line = record { object = o; text = text; line = line } ∷ []
+told_of o (numbered.Room room) line = []
+told_of o (numbered.Way way) line = []
 
-abbrev pub told_of : ℕ → Fact → ℕ → List Description
-told_of o (Told text) line = record { object = o; text = text; line = line } ∷ []
-told_of o (IsRoom room) line = []
-told_of o (LeadsTo subject direction room) line = []
-
-abbrev pub described_by : Option ℕ → Statement → List Description
+abbrev pub described_by : Option ℕ → NumberedSentence → List Description
 described_by None statement = []
-described_by (Some o) statement = if is_author o then told_of o statement.fact statement.line else []
+described_by (Some o) statement = if is_author o then told_of o statement.said statement.line else []
 
-abbrev pub described_after : Option ℕ → List Statement → List Description
+abbrev pub described_after : Option ℕ → List NumberedSentence → List Description
 described_after before [] = []
-described_after before (statement ∷ statements) = described_by before statement ++ described_after (subject_of statement.fact) statements
+described_after before (statement ∷ statements) = described_by before statement ++ described_after (subject_of statement.said) statements
 
 -- each text alone describes the author's object that the statement before it is about
-abbrev pub descriptions_of : List Statement → List Description
+abbrev pub descriptions_of : List NumberedSentence → List Description
 descriptions_of statements = described_after None statements
 
 -- an object's description: the first text that describes it
@@ -106,27 +105,27 @@ abbrev pub lead_of : ℕ → Direction → ℕ → ℕ → Lead
 lead_of subject direction room line = record { room = room; direction = direction_number direction; target = subject; line = line }
 
 -- the ways that statements state
-abbrev pub stated_in : Fact → ℕ → List Lead
-stated_in (Told text) line = []
-stated_in (IsRoom o) line = []
-stated_in (LeadsTo subject direction room) line = lead_of subject direction room line ∷ []
+abbrev pub stated_in : Numbered → ℕ → List Lead
+stated_in (numbered.Description text) line = []
+stated_in (numbered.Room o) line = []
+stated_in (numbered.Way way) line = lead_of way.subject way.direction way.room line ∷ []
 
 -- the ways back that they imply
-abbrev pub implied_in : Fact → ℕ → List Lead
-implied_in (Told text) line = []
-implied_in (IsRoom o) line = []
-implied_in (LeadsTo subject direction room) line = lead_of room (opposite_of direction) subject line ∷ []
+abbrev pub implied_in : Numbered → ℕ → List Lead
+implied_in (numbered.Description text) line = []
+implied_in (numbered.Room o) line = []
+implied_in (numbered.Way way) line = lead_of way.room (opposite_of way.direction) way.subject line ∷ []
 
-abbrev pub stated_by_one : Statement → List Lead
-stated_by_one statement = stated_in statement.fact statement.line
+abbrev pub stated_by_one : NumberedSentence → List Lead
+stated_by_one statement = stated_in statement.said statement.line
 
-abbrev pub implied_by_one : Statement → List Lead
-implied_by_one statement = implied_in statement.fact statement.line
+abbrev pub implied_by_one : NumberedSentence → List Lead
+implied_by_one statement = implied_in statement.said statement.line
 
-abbrev pub stated_leads : List Statement → List Lead
+abbrev pub stated_leads : List NumberedSentence → List Lead
 stated_leads statements = flat_map stated_by_one statements
 
-abbrev pub implied_leads : List Statement → List Lead
+abbrev pub implied_leads : List NumberedSentence → List Lead
 implied_leads statements = flat_map implied_by_one statements
 
 abbrev pub is_exit : ℕ → ℕ → Lead → Bool
@@ -140,7 +139,7 @@ abbrev pub first_target : List Lead → ℕ → ℕ → Option ℕ
 first_target leads room direction = option_map target_led (find (is_exit room direction) leads)
 
 -- where an exit leads: where a sentence says, else where the first that implies it does
-abbrev pub target_of : List Statement → ℕ → ℕ → Option ℕ
+abbrev pub target_of : List NumberedSentence → ℕ → ℕ → Option ℕ
 target_of statements room direction = first_of (first_target (stated_leads statements) room direction) (first_target (implied_leads statements) room direction)
 
 abbrev pub leads_to : ℕ → Option ℕ → Bool
@@ -154,5 +153,5 @@ abbrev pub line_of_lead : Lead → ℕ
 line_of_lead lead = lead.line
 
 -- C10: the first statement that leads an exit to a second target
-abbrev pub second_target : List Statement → Option ℕ
+abbrev pub second_target : List NumberedSentence → Option ℕ
 second_target statements = option_map line_of_lead (find (is_elsewhere (stated_leads statements)) (stated_leads statements))

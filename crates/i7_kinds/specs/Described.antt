@@ -1,8 +1,7 @@
 -- The compiler's descriptions as contracts see them.
 use Rattle.std.specs.Prelude.{List}
-use Rattle.i7_kinds.specs.Demands.{Description}
-use Rattle.i7_kinds.specs.Views.{told_descriptions}
+use Rattle.i7_kinds.specs.declared.descriptions.Description.{Description}
 use Rattle.i7_kinds.specs.declared.descriptions.Descriptions.{Descriptions}
 
 abbrev pub descriptions_in : Descriptions → List Description
-descriptions_in descriptions = told_descriptions descriptions.all.items
+descriptions_in descriptions = descriptions.all.items

@@ -5,11 +5,13 @@ use Rattle.std.specs.List.{list_any}
 use Rattle.std.specs.Str.{str_to_ascii_lowercase}
 use Rattle.world_meaning.specs.Spelling.{is_spelled}
 use Rattle.world_meaning.specs.Directions.{all_directions, direction_name}
-use Rattle.world_meaning.specs.declared.direction.Direction.{Direction}
 use Rattle.i7_sentences.specs.declared.name.Name.{Name}
-use Rattle.i7_sentences.specs.declared.sentence.Saying.{Saying}
-use Rattle.i7_sentences.specs.declared.sentence.Saying.TheVariants.{Description, Room, Way}
+use Rattle.i7_sentences.specs.declared.sentence.Assertion.{Assertion}
+use Rattle.i7_sentences.specs.declared.sentence.Assertion.TheVariants.{Description, Room, Way}
 use Rattle.i7_sentences.specs.declared.sentence.Sentence.{Sentence}
+use Rattle.i7_kinds.specs.declared.statements.Numbered.{Numbered}
+use Rattle.i7_kinds.specs.declared.statements.Numbered.TheVariants as numbered
+use Rattle.i7_kinds.specs.declared.statements.NumberedSentence.{NumberedSentence}
 
 -- names are compared in small letters; `player` and `yourself` are one
 abbrev pub key_of : List ℕ → List ℕ
@@ -21,13 +23,13 @@ pub record NameAt : Type 0 where
   pub line : ℕ
 
 -- the names that a sentence mentions, in the order of its words
-abbrev pub names_in : Saying → List Name
+abbrev pub names_in : Assertion → List Name
 names_in (Description text) = []
 names_in (Room name) = name ∷ []
 names_in (Way way) = if way.is_room_first then way.room ∷ way.subject ∷ [] else way.subject ∷ way.room ∷ []
 
 abbrev pub names_at : Sentence → List NameAt
-names_at sentence = map (λ name. record { name = name; line = sentence.line }) (names_in sentence.saying)
+names_at sentence = map (λ name. record { name = name; line = sentence.line }) (names_in sentence.said)
 
 -- the keys of the built-in objects, in the order of their numbers
 abbrev pub built_in_keys : List (List ℕ)
@@ -61,28 +63,18 @@ with_names_of named sentence = fold with_name named (names_at sentence)
 abbrev pub named_by : List Sentence → Named
 named_by sentences = fold with_names_of (record { keys = built_in_keys; mentions = [] }) sentences
 
--- what a sentence states
-pub data Fact : Type 0 where
-  Told : List ℕ → Fact
-  IsRoom : ℕ → Fact
-  LeadsTo : ℕ → Direction → ℕ → Fact
-
-pub record Statement : Type 0 where
-  pub fact : Fact
-  pub line : ℕ
-
 abbrev pub number_of : Named → Name → ℕ
 number_of named name = number_in named.keys (key_of name.text)
 
--- the subject lies in the direction of the room
-abbrev pub fact_in : Named → Saying → Fact
-fact_in named (Description text) = Told text
-fact_in named (Room name) = IsRoom (number_of named name)
-fact_in named (Way way) = LeadsTo (number_of named way.subject) way.direction (number_of named way.room)
+-- what a sentence asserts, objects by their numbers
+abbrev pub numbered_in : Named → Assertion → Numbered
+numbered_in named (Description text) = numbered.Description text
+numbered_in named (Room name) = numbered.Room (number_of named name)
+numbered_in named (Way way) = numbered.Way (record { subject = number_of named way.subject; direction = way.direction; room = number_of named way.room })
 
-abbrev pub statement_in : Named → Sentence → Statement
-statement_in named sentence = record { fact = fact_in named sentence.saying; line = sentence.line }
+abbrev pub statement_in : Named → Sentence → NumberedSentence
+statement_in named sentence = record { said = numbered_in named sentence.said; line = sentence.line }
 
 -- what all sentences state
-abbrev pub stated_by : List Sentence → List Statement
+abbrev pub stated_by : List Sentence → List NumberedSentence
 stated_by sentences = map (statement_in (named_by sentences)) sentences

@@ -17,10 +17,12 @@ use Rattle.world_meaning.specs.declared.tale.Tale.{Tale}
 use Rattle.i7_sentences.specs.declared.name.NameArticle.{NameArticle}
 use Rattle.i7_sentences.specs.declared.name.NameArticle.TheVariants as written
 use Rattle.i7_sentences.specs.declared.sentence.Sentence.{Sentence}
-use Rattle.i7_kinds.specs.Demands.{Description, taken_name, wrong_kind, descriptions_of, description_of, second_description, second_target, target_of, first_of_author, line_at, line_of_description}
+use Rattle.i7_kinds.specs.Demands.{taken_name, wrong_kind, descriptions_of, description_of, second_description, second_target, target_of, first_of_author, line_at, line_of_description}
 use Rattle.object_words.specs.Words.{words_for}
 use Rattle.i7_kinds.specs.Firsts.{first_of}
-use Rattle.i7_kinds.specs.Statements.{NameAt, Statement, named_by, stated_by}
+use Rattle.i7_kinds.specs.declared.descriptions.Description.{Description}
+use Rattle.i7_kinds.specs.declared.statements.NumberedSentence.{NumberedSentence}
+use Rattle.i7_kinds.specs.Statements.{NameAt, named_by, stated_by}
 
 -- the lower of two lines
 abbrev pub earlier : Option ℕ → Option ℕ → Option ℕ
@@ -67,7 +69,7 @@ abbrev pub way_to : Option ℕ → Way
 way_to target = record { room = target; door = None }
 
 -- where a room's twelve directions lead
-unfoldable pub exits_of : List Statement → ℕ → Exits
+unfoldable pub exits_of : List NumberedSentence → ℕ → Exits
 exits_of statements room = record { ways = map (λ d. way_to (target_of statements room (direction_number d))) all_directions }
 
 abbrev pub no_exits : Exits
@@ -84,7 +86,7 @@ abbrev pub direction_object : Direction → Object
 direction_object d = built_in 2 (direction_name d) None
 
 -- a room of the author's, by its number and its first mention
-unfoldable pub room_of : List Statement → ℕ → NameAt → Object
+unfoldable pub room_of : List NumberedSentence → ℕ → NameAt → Object
 room_of statements o at = record {
   kind = 1;
   name = at.name.text;
@@ -94,12 +96,12 @@ room_of statements o at = record {
   exits = exits_of statements o;
 }
 
-abbrev pub rooms_from : List Statement → ℕ → List NameAt → List Object
+abbrev pub rooms_from : List NumberedSentence → ℕ → List NameAt → List Object
 rooms_from statements o [] = []
 rooms_from statements o (at ∷ mentions) = room_of statements o at ∷ rooms_from statements (o + 1) mentions
 
 -- the objects by number: the player, the directions, the author's rooms
-unfoldable pub objects_of : List Statement → List NameAt → List Object
+unfoldable pub objects_of : List NumberedSentence → List NameAt → List Object
 objects_of statements mentions = player ∷ map direction_object all_directions ++ rooms_from statements first_of_author mentions
 
 -- a source without a room is refused at line 1
@@ -112,7 +114,7 @@ refusal_at code None = None
 refusal_at code (Some line) = Some (record { code = code; line = line })
 
 -- what the statements may not say together: each code is looked for in all of them before the next
-unfoldable pub frame_refusal : List Statement → List NameAt → Option Fault
+unfoldable pub frame_refusal : List NumberedSentence → List NameAt → Option Fault
 frame_refusal statements mentions =
     first_of (refusal_at Twice (earlier (taken_name mentions) (second_description (descriptions_of statements))))
     (first_of (refusal_at WrongKind (wrong_kind statements))
@@ -121,7 +123,7 @@ frame_refusal statements mentions =
     (refusal_at NoRoom (no_room mentions)))))
 
 -- what is too long
-unfoldable pub limit_refusal : List Statement → List NameAt → Option Fault
+unfoldable pub limit_refusal : List NumberedSentence → List NameAt → Option Fault
 limit_refusal statements mentions = refusal_at TooMany (earlier (name_too_long mentions) (text_too_long (descriptions_of statements)))
 
 abbrev pub or_refused : Option Fault → Tale → Result Tale Fault
@@ -129,7 +131,7 @@ or_refused None tale = Ok tale
 or_refused (Some fault) tale = Err fault
 
 -- the tale, unless a refusal stands
-abbrev pub judged : List Statement → List NameAt → Result Tale Fault
+abbrev pub judged : List NumberedSentence → List NameAt → Result Tale Fault
 judged statements mentions = or_refused (first_of (frame_refusal statements mentions) (limit_refusal statements mentions)) (record { objects = objects_of statements mentions })
 
 -- the tale of a source's sentences, or the refusal that stands

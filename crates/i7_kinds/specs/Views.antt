@@ -2,26 +2,11 @@
 use Rattle.std.specs.Prelude.{Bool, ◌==◌, ◌&&◌, if◌then◌else◌, List, [], ◌∷◌, ℕ, map, nat_eq, option_copied, Option, Some, None}
 use Rattle.std.specs.Borrow.{Bor}
 use Rattle.indexmap.specs.IndexMap.{IndexMap, get}
-use Rattle.i7_kinds.specs.Demands.{Description as Described}
-use Rattle.i7_kinds.specs.Statements.{Fact as Stated, Told, IsRoom, LeadsTo, Statement as StatementSaid, NameAt, Named}
+use Rattle.i7_kinds.specs.Statements.{NameAt, Named}
 use Rattle.i7_kinds.specs.declared.names.Names.{Names}
-use Rattle.i7_kinds.specs.declared.statements.Fact.{Fact}
-use Rattle.i7_kinds.specs.declared.statements.Fact.TheVariants as fact
 use Rattle.i7_kinds.specs.declared.descriptions.Description.{Description}
 use Rattle.i7_kinds.specs.declared.names.Mention.{Mention}
 use Rattle.i7_kinds.specs.declared.ways.Exit.{Exit}
-use Rattle.i7_kinds.specs.declared.statements.Statement.{Statement}
-
-abbrev pub fact_of : Fact → Stated
-fact_of (fact.Description text) = Told text.now
-fact_of (fact.Room number) = IsRoom number
-fact_of (fact.Way way) = LeadsTo way.subject way.direction way.room
-
-abbrev pub statement_of : Statement → StatementSaid
-statement_of statement = record { fact = fact_of statement.fact; line = statement.line }
-
-abbrev pub statements_of : List Statement → List StatementSaid
-statements_of statements = map statement_of statements
 
 abbrev pub mention_of : Mention → NameAt
 mention_of mention = record { name = mention.name.now; line = mention.line }
@@ -32,15 +17,9 @@ mentions_of mentions = map mention_of mentions
 abbrev pub names_of : Names → Named
 names_of names = record { keys = names.keys; mentions = mentions_of names.mentions.items }
 
-abbrev pub told_description : Description → Described
-told_description description = record { object = description.object; text = description.text.now; line = description.line }
-
-abbrev pub told_descriptions : List Description → List Described
-told_descriptions descriptions = map told_description descriptions
-
-abbrev pub found_descriptions : Option Description → List Described
+abbrev pub found_descriptions : Option Description → List Description
 found_descriptions None = []
-found_descriptions (Some description) = told_description description ∷ []
+found_descriptions (Some description) = description ∷ []
 
 -- the text that a map has for an object
 abbrev pub text_at : {S : Type 0} → IndexMap ℕ (Bor (List ℕ)) S → ℕ → Option (List ℕ)

@@ -2,54 +2,60 @@
 ghost use Rattle.std.specs.Prelude.{◌≡◌, ℕ, nat_eq, option_copied, IfOk, OnOk};
 ghost use Rattle.i7_kinds.specs.Demands.{described_by, description_of, descriptions_of, is_second, second_description, subject_of};
 ghost use Rattle.i7_kinds.specs.Firsts.{first_of, given};
-ghost use Rattle.i7_kinds.specs.Views.{fact_of, found_descriptions, statement_of, statements_of, text_at, told_description, told_descriptions};
+ghost use Rattle.i7_kinds.specs.Views.{found_descriptions, text_at};
 
+use crate::lent_text::LentText;
 use crate::names::FIRST_OF_AUTHOR;
-use crate::statements::{Fact, Statement};
+use crate::statements::{Numbered, NumberedSentence};
 use indexmap::IndexMap;
 use std::alloc::{AllocError, Global};
-use world_meaning::TextBytes;
 
 /// An object of the author's, and a text that describes it.
-#[derive(Clone, Copy, Debug)]
+#[derive(Debug, Drop)]
 pub struct Description<'a> {
     pub object: usize,
-    pub text: &'a TextBytes,
+    pub text: LentText<'a>,
     pub line: u32,
 }
 
 /// The number of the object that a sentence is about, if there is one.
-pub fn subject_of(fact: &Fact<'_>) -> Option<usize>
-    ensures { result ≡ subject_of (fact_of fact.now) }
+pub fn subject_of(fact: &Numbered<'_>) -> Option<usize>
+    ensures { result ≡ subject_of fact.now }
 {
     match fact {
-        Fact::Description(_) => None,
-        Fact::Room(number) => Some(*number),
-        Fact::Way(way) => Some(way.subject),
+        Numbered::Description(_) => None,
+        Numbered::Room(number) => Some(*number),
+        Numbered::Way(way) => Some(way.subject),
     }
 }
 
 /// What a statement behind one about this object, or about none, describes.
-fn described_by<'a>(before: Option<usize>, statement: &Statement<'a>) -> Option<Description<'a>>
-    ensures { found_descriptions result ≡ described_by before (statement_of statement.now) }
+fn described_by<'a>(
+    before: Option<usize>,
+    statement: &NumberedSentence<'a>,
+) -> Option<Description<'a>>
+    ensures { found_descriptions result ≡ described_by before statement.now }
 {
     let object = before?;
-    match statement.fact {
-        Fact::Description(text) if object >= FIRST_OF_AUTHOR => Some(Description {
+    if object < FIRST_OF_AUTHOR {
+        return None;
+    }
+    match &statement.said {
+        Numbered::Description(text) => Some(Description {
             object,
-            text,
+            text: LentText::new(text.as_slice()),
             line: statement.line,
         }),
-        Fact::Description(_) | Fact::Room(_) | Fact::Way(_) => None,
+        Numbered::Room(_) | Numbered::Way(_) => None,
     }
 }
 
 /// The descriptions that follow a statement about an object of the author's, in order.
 pub fn descriptions_of<'a>(
     alloc: Global,
-    statements: &[Statement<'a>],
+    statements: &[NumberedSentence<'a>],
 ) -> Result<Vec<Description<'a>>, AllocError>
-    ensures { IfOk result (λ found. told_descriptions found.items ≡ descriptions_of (statements_of statements.now)) }
+    ensures { IfOk result (λ found. found.items ≡ descriptions_of statements.now) }
 {
     let mut descriptions = Vec::new(alloc);
     let mut subject = None;
@@ -58,7 +64,7 @@ pub fn descriptions_of<'a>(
         if let Some(description) = described_by(subject, statement) {
             descriptions.push(description)?;
         }
-        subject = subject_of(&statement.fact);
+        subject = subject_of(&statement.said);
         rest = after;
     }
     Ok(descriptions)
@@ -68,19 +74,19 @@ pub fn descriptions_of<'a>(
 #[derive(Drop)]
 pub struct Descriptions<'a> {
     all: Vec<Description<'a>>,
-    firsts: IndexMap<usize, &'a TextBytes>,
-    ghost first: { (object : ℕ) → text_at firsts object ≡ description_of (told_descriptions all.items) object },
+    firsts: IndexMap<usize, &'a [u8]>,
+    ghost first: { (object : ℕ) → text_at firsts object ≡ description_of all.items object },
 }
 
 /// Gives an object its description, unless it has one.
 fn describe<'a>(
-    firsts: &mut IndexMap<usize, &'a TextBytes>,
+    firsts: &mut IndexMap<usize, &'a [u8]>,
     description: &Description<'a>,
 ) -> Result<(), AllocError>
-    ensures { OnOk result ((object : ℕ) → text_at firsts.new object ≡ first_of (text_at firsts.old object) (given nat_eq description.now.object description.now.text.now object)) }
+    ensures { OnOk result ((object : ℕ) → text_at firsts.new object ≡ first_of (text_at firsts.old object) (given nat_eq description.now.object description.now.text object)) }
 {
     if firsts.get(&description.object).is_none() {
-        firsts.insert(description.object, description.text)?;
+        firsts.insert(description.object, description.text.as_slice())?;
     }
     Ok(())
 }
@@ -89,8 +95,8 @@ fn describe<'a>(
 fn first_descriptions<'a>(
     alloc: Global,
     descriptions: &[Description<'a>],
-) -> Result<IndexMap<usize, &'a TextBytes>, AllocError>
-    ensures { IfOk result (λ firsts. (object : ℕ) → text_at firsts object ≡ description_of (told_descriptions descriptions.now) object) }
+) -> Result<IndexMap<usize, &'a [u8]>, AllocError>
+    ensures { IfOk result (λ firsts. (object : ℕ) → text_at firsts object ≡ description_of descriptions.now object) }
 {
     let mut firsts = IndexMap::new(alloc);
     let mut rest = descriptions;
@@ -105,8 +111,11 @@ impl<'a> Descriptions<'a> {
     ghost use Rattle.i7_kinds.specs.Described.{descriptions_in};
 
     /// The descriptions that the statements give.
-    pub fn new(alloc: Global, statements: &[Statement<'a>]) -> Result<Descriptions<'a>, AllocError>
-        ensures { IfOk result (λ found. descriptions_in found ≡ descriptions_of (statements_of statements.now)) }
+    pub fn new(
+        alloc: Global,
+        statements: &[NumberedSentence<'a>],
+    ) -> Result<Descriptions<'a>, AllocError>
+        ensures { IfOk result (λ found. descriptions_in found ≡ descriptions_of statements.now) }
     {
         let all = descriptions_of(alloc, statements)?;
         let firsts = first_descriptions(alloc, all.as_slice())?;
@@ -115,13 +124,13 @@ impl<'a> Descriptions<'a> {
 
     /// All of them, in order.
     pub fn all(&self) -> &[Description<'a>]
-        ensures { told_descriptions result.now ≡ descriptions_in self.now }
+        ensures { result.now ≡ descriptions_in self.now }
     {
         self.all.as_slice()
     }
 
     /// The object's first description.
-    pub fn of(&self, object: usize) -> Option<&'a TextBytes>
+    pub fn of(&self, object: usize) -> Option<&'a [u8]>
         ensures { option_copied result ≡ description_of (descriptions_in self.now) object }
     {
         self.firsts.get(&object).copied()
@@ -143,11 +152,11 @@ impl<'a> Descriptions<'a> {
 
     /// Whether the text isn't the object's first description.
     fn is_second(&self, description: &Description<'a>) -> bool
-        ensures { result ≡ is_second (descriptions_in self.now) (told_description description.now) }
+        ensures { result ≡ is_second (descriptions_in self.now) description.now }
     {
         match self.of(description.object) {
             None => true,
-            Some(first) => description.text.as_slice() != first.as_slice(),
+            Some(first) => description.text.as_slice() != first,
         }
     }
 }

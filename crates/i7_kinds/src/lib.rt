@@ -4,6 +4,7 @@
 
 mod descriptions;
 mod kinds;
+mod lent_text;
 mod limits;
 mod names;
 mod objects;

@@ -1,7 +1,7 @@
 //! The limits of a tale: objects, words of a name, bytes of a name or a text.
 ghost use Rattle.std.specs.Prelude.{◌≡◌, IfOk};
 ghost use Rattle.i7_kinds.specs.Tales.{is_too_long, name_too_long, object_too_many, text_too_long};
-ghost use Rattle.i7_kinds.specs.Views.{mentions_of, told_descriptions};
+ghost use Rattle.i7_kinds.specs.Views.{mentions_of};
 
 use crate::descriptions::Description;
 use crate::names::{FIRST_OF_AUTHOR, Mention};
@@ -54,7 +54,7 @@ pub fn name_too_long(alloc: Global, mentions: &[Mention<'_>]) -> Result<Option<u
 
 /// The line of the first description that is too long.
 pub fn text_too_long(descriptions: &[Description<'_>]) -> Option<u32>
-    ensures { result ≡ text_too_long (told_descriptions descriptions.now) }
+    ensures { result ≡ text_too_long descriptions.now }
 {
     let mut rest = descriptions;
     while let [description, after @ ..] = rest {

@@ -5,7 +5,7 @@ ghost use Rattle.std.specs.Str.{str_to_ascii_lowercase};
 ghost use Rattle.i7_kinds.specs.Statements.{built_in_keys, key_of, named_by, number_in, number_of, with_name, with_names_of};
 ghost use Rattle.i7_kinds.specs.Views.{names_of};
 
-use i7_sentences::{Name, Saying, Sentence};
+use i7_sentences::{Assertion, Name, Sentence};
 use object_words::Strings;
 use std::alloc::{AllocError, Global};
 use world_meaning::{Direction, is_spelled};
@@ -104,10 +104,10 @@ fn take_up_all<'a>(
     ensures { OnOk result (names_of names.new ≡ with_names_of (names_of names.old) sentence.now) }
 {
     let line = sentence.line;
-    match &sentence.saying {
-        Saying::Description(_) => Ok(()),
-        Saying::Room(name) => take_up(alloc, names, name, line),
-        Saying::Way(way) => {
+    match &sentence.said {
+        Assertion::Description(_) => Ok(()),
+        Assertion::Room(name) => take_up(alloc, names, name, line),
+        Assertion::Way(way) => {
             let (first, second) = if way.is_room_first {
                 (&way.room, &way.subject)
             } else {

@@ -1,17 +1,18 @@
 //! What the sentences of a source state, objects by their numbers.
 ghost use Rattle.std.specs.Prelude.{◌≡◌, IfOk, map};
-ghost use Rattle.i7_kinds.specs.Statements.{fact_in, statement_in};
-ghost use Rattle.i7_kinds.specs.Views.{fact_of, names_of, statement_of, statements_of};
+ghost use Rattle.i7_kinds.specs.Statements.{numbered_in, statement_in};
+ghost use Rattle.i7_kinds.specs.Views.{names_of};
 
+use crate::lent_text::LentText;
 use crate::names::Names;
-use i7_sentences::{Saying, Sentence};
+use i7_sentences::{Assertion, Sentence};
 use std::alloc::{AllocError, Global};
-use world_meaning::{Direction, TextBytes};
+use world_meaning::Direction;
 
-/// What a sentence states.
-#[derive(Clone, Copy, Debug)]
-pub enum Fact<'a> {
-    Description(&'a TextBytes),
+/// An assertion, objects by their numbers.
+#[derive(Debug, Drop)]
+pub enum Numbered<'a> {
+    Description(LentText<'a>),
     Room(usize),
     Way(NumberedWay),
 }
@@ -24,20 +25,24 @@ pub struct NumberedWay {
     pub room: usize,
 }
 
-/// A fact and the line of its sentence.
-#[derive(Clone, Copy, Debug)]
-pub struct Statement<'a> {
-    pub fact: Fact<'a>,
+/// What a sentence asserts, objects by their numbers, and its line.
+#[derive(Debug, Drop)]
+pub struct NumberedSentence<'a> {
+    pub said: Numbered<'a>,
     pub line: u32,
 }
 
-fn fact_in<'a>(alloc: Global, names: &Names<'_>, saying: &'a Saying) -> Result<Fact<'a>, AllocError>
-    ensures { IfOk result (λ fact. fact_of fact ≡ fact_in (names_of names.now) saying.now) }
+fn numbered_in<'a>(
+    alloc: Global,
+    names: &Names<'_>,
+    said: &'a Assertion,
+) -> Result<Numbered<'a>, AllocError>
+    ensures { IfOk result (λ numbered. numbered ≡ numbered_in (names_of names.now) said.now) }
 {
-    match saying {
-        Saying::Description(text) => Ok(Fact::Description(text)),
-        Saying::Room(name) => Ok(Fact::Room(names.number_of(alloc, name)?)),
-        Saying::Way(way) => Ok(Fact::Way(NumberedWay {
+    match said {
+        Assertion::Description(text) => Ok(Numbered::Description(LentText::new(text.as_slice()))),
+        Assertion::Room(name) => Ok(Numbered::Room(names.number_of(alloc, name)?)),
+        Assertion::Way(way) => Ok(Numbered::Way(NumberedWay {
             subject: names.number_of(alloc, &way.subject)?,
             direction: way.direction,
             room: names.number_of(alloc, &way.room)?,
@@ -49,11 +54,11 @@ fn statement_in<'a>(
     alloc: Global,
     names: &Names<'_>,
     sentence: &'a Sentence,
-) -> Result<Statement<'a>, AllocError>
-    ensures { IfOk result (λ statement. statement_of statement ≡ statement_in (names_of names.now) sentence.now) }
+) -> Result<NumberedSentence<'a>, AllocError>
+    ensures { IfOk result (λ statement. statement ≡ statement_in (names_of names.now) sentence.now) }
 {
-    Ok(Statement {
-        fact: fact_in(alloc, names, &sentence.saying)?,
+    Ok(NumberedSentence {
+        said: numbered_in(alloc, names, &sentence.said)?,
         line: sentence.line,
     })
 }
@@ -63,8 +68,8 @@ pub fn statements_in<'a>(
     alloc: Global,
     names: &Names<'_>,
     sentences: &'a [Sentence],
-) -> Result<Vec<Statement<'a>>, AllocError>
-    ensures { IfOk result (λ statements. statements_of statements.items ≡ map (statement_in (names_of names.now)) sentences.now) }
+) -> Result<Vec<NumberedSentence<'a>>, AllocError>
+    ensures { IfOk result (λ statements. statements.items ≡ map (statement_in (names_of names.now)) sentences.now) }
 {
     let mut statements = Vec::new(alloc);
     let mut rest = sentences;

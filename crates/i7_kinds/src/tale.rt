@@ -5,7 +5,7 @@ ghost use Rattle.i7_kinds.specs.Demands.{descriptions_of};
 ghost use Rattle.i7_kinds.specs.Described.{descriptions_in};
 ghost use Rattle.i7_kinds.specs.StatedWays.{stated};
 ghost use Rattle.i7_kinds.specs.Tales.{earlier, frame_refusal, judged, limit_refusal, no_room, refusal_at, tale_said};
-ghost use Rattle.i7_kinds.specs.Views.{mentions_of, statements_of};
+ghost use Rattle.i7_kinds.specs.Views.{mentions_of};
 
 use crate::descriptions::Descriptions;
 use crate::kinds::wrong_kind;
@@ -13,7 +13,7 @@ use crate::limits::{name_too_long, object_too_many, text_too_long};
 use crate::names::{Mention, names_of};
 use crate::objects::objects_of;
 use crate::reserved_names::taken_name;
-use crate::statements::{Statement, statements_in};
+use crate::statements::{NumberedSentence, statements_in};
 use crate::ways::Ways;
 use i7_sentences::Sentence;
 use std::alloc::{AllocError, Global};
@@ -57,13 +57,13 @@ fn no_room(mentions: &[Mention<'_>]) -> Option<u32>
 #[tactic(auto, unfolding(crate::specs::Tales::frame_refusal))]
 fn frame_refusal(
     mentions: &[Mention<'_>],
-    statements: &[Statement<'_>],
+    statements: &[NumberedSentence<'_>],
     descriptions: &Descriptions<'_>,
-    ways: &Ways<'_>,
+    ways: &Ways<'_, '_>,
 ) -> Option<Fault>
-    requires described { descriptions_in descriptions.now ≡ descriptions_of (statements_of statements.now) }
-    requires led { stated ways.now ≡ statements_of statements.now }
-    ensures { result ≡ frame_refusal (statements_of statements.now) (mentions_of mentions.now) }
+    requires described { descriptions_in descriptions.now ≡ descriptions_of statements.now }
+    requires led { stated ways.now ≡ statements.now }
+    ensures { result ≡ frame_refusal statements.now (mentions_of mentions.now) }
 {
     let twice = earlier(taken_name(mentions), descriptions.second());
     if let Some(fault) = refusal_at(FaultCode::Twice, twice) {
@@ -86,11 +86,11 @@ fn frame_refusal(
 fn limit_refusal(
     alloc: Global,
     mentions: &[Mention<'_>],
-    statements: &[Statement<'_>],
+    statements: &[NumberedSentence<'_>],
     descriptions: &Descriptions<'_>,
 ) -> Result<Option<Fault>, AllocError>
-    requires described { descriptions_in descriptions.now ≡ descriptions_of (statements_of statements.now) }
-    ensures { IfOk result (λ refusal. refusal ≡ limit_refusal (statements_of statements.now) (mentions_of mentions.now)) }
+    requires described { descriptions_in descriptions.now ≡ descriptions_of statements.now }
+    ensures { IfOk result (λ refusal. refusal ≡ limit_refusal statements.now (mentions_of mentions.now)) }
 {
     let name = name_too_long(alloc, mentions)?;
     let text = text_too_long(descriptions.all());
@@ -101,10 +101,10 @@ fn limit_refusal(
 fn judged(
     alloc: Global,
     mentions: &[Mention<'_>],
-    statements: &[Statement<'_>],
+    statements: &[NumberedSentence<'_>],
 ) -> Result<Result<Tale, Fault>, AllocError>
-    requires { AreWithin (13 + length (mentions_of mentions.now)) (statements_of statements.now) }
-    ensures { IfOk result (λ said. said ≡ judged (statements_of statements.now) (mentions_of mentions.now)) }
+    requires { AreWithin (13 + length (mentions_of mentions.now)) statements.now }
+    ensures { IfOk result (λ said. said ≡ judged statements.now (mentions_of mentions.now)) }
 {
     let descriptions = Descriptions::new(alloc, statements)?;
     let ways = Ways::new(alloc, statements)?;

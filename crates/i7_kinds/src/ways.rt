@@ -2,9 +2,9 @@
 ghost use Rattle.std.specs.Prelude.{◌≡◌, ℕ, IfOk, OnOk};
 ghost use Rattle.i7_kinds.specs.Demands.{first_target, implied_in, implied_leads, stated_in, stated_leads};
 ghost use Rattle.i7_kinds.specs.Firsts.{first_of};
-ghost use Rattle.i7_kinds.specs.Views.{fact_of, given_exit, statements_of, target_at};
+ghost use Rattle.i7_kinds.specs.Views.{given_exit, target_at};
 
-use crate::statements::{Fact, NumberedWay, Statement};
+use crate::statements::{Numbered, NumberedSentence, NumberedWay};
 use indexmap::IndexMap;
 use std::alloc::{AllocError, Global};
 use world_meaning::{Direction, ObjNo};
@@ -21,12 +21,12 @@ type Targets = IndexMap<Exit, usize>;
 
 /// The ways of a source's statements.
 #[derive(Drop)]
-pub struct Ways<'a> {
-    statements: &'a [Statement<'a>],
+pub struct Ways<'a, 'b> {
+    statements: &'a [NumberedSentence<'b>],
     stated: Targets,
     implied: Targets,
-    ghost stated_first: { (room direction : ℕ) → target_at stated room direction ≡ first_target (stated_leads (statements_of statements.now)) room direction },
-    ghost implied_first: { (room direction : ℕ) → target_at implied room direction ≡ first_target (implied_leads (statements_of statements.now)) room direction },
+    ghost stated_first: { (room direction : ℕ) → target_at stated room direction ≡ first_target (stated_leads statements.now) room direction },
+    ghost implied_first: { (room direction : ℕ) → target_at implied room direction ≡ first_target (implied_leads statements.now) room direction },
 }
 
 /// Gives an exit its target, unless it has one.
@@ -40,12 +40,12 @@ fn lead(targets: &mut Targets, exit: Exit, target: usize) -> Result<(), AllocErr
 }
 
 /// Leads where a statement says.
-fn lead_stated(targets: &mut Targets, statement: &Statement<'_>) -> Result<(), AllocError>
-    ensures { OnOk result ((room direction : ℕ) → target_at targets.new room direction ≡ first_of (target_at targets.old room direction) (first_target (stated_in (fact_of statement.now.fact) statement.now.line) room direction)) }
+fn lead_stated(targets: &mut Targets, statement: &NumberedSentence<'_>) -> Result<(), AllocError>
+    ensures { OnOk result ((room direction : ℕ) → target_at targets.new room direction ≡ first_of (target_at targets.old room direction) (first_target (stated_in statement.now.said statement.now.line) room direction)) }
 {
-    match statement.fact {
-        Fact::Description(_) | Fact::Room(_) => Ok(()),
-        Fact::Way(way) => {
+    match &statement.said {
+        Numbered::Description(_) | Numbered::Room(_) => Ok(()),
+        Numbered::Way(way) => {
             let exit = Exit {
                 room: way.room,
                 direction: way.direction.number(),
@@ -56,12 +56,12 @@ fn lead_stated(targets: &mut Targets, statement: &Statement<'_>) -> Result<(), A
 }
 
 /// Leads the way back of the one that a statement says.
-fn lead_back(targets: &mut Targets, statement: &Statement<'_>) -> Result<(), AllocError>
-    ensures { OnOk result ((room direction : ℕ) → target_at targets.new room direction ≡ first_of (target_at targets.old room direction) (first_target (implied_in (fact_of statement.now.fact) statement.now.line) room direction)) }
+fn lead_back(targets: &mut Targets, statement: &NumberedSentence<'_>) -> Result<(), AllocError>
+    ensures { OnOk result ((room direction : ℕ) → target_at targets.new room direction ≡ first_of (target_at targets.old room direction) (first_target (implied_in statement.now.said statement.now.line) room direction)) }
 {
-    match statement.fact {
-        Fact::Description(_) | Fact::Room(_) => Ok(()),
-        Fact::Way(way) => {
+    match &statement.said {
+        Numbered::Description(_) | Numbered::Room(_) => Ok(()),
+        Numbered::Way(way) => {
             let exit = Exit {
                 room: way.subject,
                 direction: way.direction.opposite().number(),
@@ -72,8 +72,8 @@ fn lead_back(targets: &mut Targets, statement: &Statement<'_>) -> Result<(), All
 }
 
 /// The targets that statements say.
-fn stated_targets(alloc: Global, statements: &[Statement<'_>]) -> Result<Targets, AllocError>
-    ensures { IfOk result (λ targets. (room direction : ℕ) → target_at targets room direction ≡ first_target (stated_leads (statements_of statements.now)) room direction) }
+fn stated_targets(alloc: Global, statements: &[NumberedSentence<'_>]) -> Result<Targets, AllocError>
+    ensures { IfOk result (λ targets. (room direction : ℕ) → target_at targets room direction ≡ first_target (stated_leads statements.now) room direction) }
 {
     let mut targets = IndexMap::new(alloc);
     let mut rest = statements;
@@ -85,8 +85,11 @@ fn stated_targets(alloc: Global, statements: &[Statement<'_>]) -> Result<Targets
 }
 
 /// The targets that statements imply.
-fn implied_targets(alloc: Global, statements: &[Statement<'_>]) -> Result<Targets, AllocError>
-    ensures { IfOk result (λ targets. (room direction : ℕ) → target_at targets room direction ≡ first_target (implied_leads (statements_of statements.now)) room direction) }
+fn implied_targets(
+    alloc: Global,
+    statements: &[NumberedSentence<'_>],
+) -> Result<Targets, AllocError>
+    ensures { IfOk result (λ targets. (room direction : ℕ) → target_at targets room direction ≡ first_target (implied_leads statements.now) room direction) }
 {
     let mut targets = IndexMap::new(alloc);
     let mut rest = statements;
@@ -97,14 +100,17 @@ fn implied_targets(alloc: Global, statements: &[Statement<'_>]) -> Result<Target
     Ok(targets)
 }
 
-impl<'a> Ways<'a> {
+impl<'a, 'b> Ways<'a, 'b> {
     ghost use Rattle.world_meaning.specs.Directions.{direction_number};
     ghost use Rattle.i7_kinds.specs.Demands.{is_elsewhere, lead_of, second_target, target_of};
     ghost use Rattle.i7_kinds.specs.StatedWays.{stated};
 
     /// The ways of these statements.
-    pub fn new(alloc: Global, statements: &'a [Statement<'a>]) -> Result<Ways<'a>, AllocError>
-        ensures { IfOk result (λ ways. stated ways ≡ statements_of statements.now) }
+    pub fn new(
+        alloc: Global,
+        statements: &'a [NumberedSentence<'b>],
+    ) -> Result<Ways<'a, 'b>, AllocError>
+        ensures { IfOk result (λ ways. stated ways ≡ statements.now) }
     {
         let stated = stated_targets(alloc, statements)?;
         let implied = implied_targets(alloc, statements)?;
@@ -135,8 +141,8 @@ impl<'a> Ways<'a> {
     {
         let mut rest = self.statements;
         while let [statement, after @ ..] = rest {
-            if let Fact::Way(way) = statement.fact {
-                if self.is_elsewhere(way, statement.line) {
+            if let Numbered::Way(way) = &statement.said {
+                if self.is_elsewhere(*way, statement.line) {
                     return Some(statement.line);
                 }
             }

@@ -16,7 +16,7 @@ readable source checked short text e = record { short = short; text = let P : Li
 
 pub uncut : (code : FaultCode) (line : ℕ) (source checked cut : List ℕ) → checked ≡ text_of source → cut ≡ text_of source → length source ≤ longest → IsText checked → Uncut code line cut → Stands code line source
 uncut Unclosed line source checked cut e d short text h = (readable source checked short text e, let P : List ℕ → Type 0 = λ t. IsUnclosedIn t line in subst P d h)
-uncut Memory line source checked cut e d short text h = h
+uncut Memory line source checked cut e d short text h = (short, h)
 uncut _ line source checked cut e d short text h = absurd h
 
 pub deep : (code : FaultCode) (line : ℕ) (source checked cut : List ℕ) (placed asked : List Placed) → checked ≡ text_of source → cut ≡ text_of source → asked ≡ placed → length source ≤ longest → IsText checked → IsPlaced cut placed → code ≡ BadIndent → IsTooDeep asked line → Stands code line source

@@ -29,13 +29,13 @@ pub record IsDeepIn (text : List ℕ) (line : ℕ) : Type 0 where
   pub parts : IsPlaced text placed
   pub deep : IsTooDeep placed line
 
--- a source is refused with that code at that line; memory may be refused at any source
+-- a source is refused with that code at that line; memory may be refused at any source within the limit
 abbrev pub Stands : FaultCode → ℕ → List ℕ → Type 0
 Stands TooLong line source = (longest < length source) × (line ≡ line_at source longest)
 Stands NotText line source = (length source ≤ longest) × IsNoText (text_of source) line
 Stands Unclosed line source = IsReadable source × IsUnclosedIn (text_of source) line
 Stands BadIndent line source = IsReadable source × IsDeepIn (text_of source) line
-Stands Memory line source = line ≡ 1
+Stands Memory line source = (length source ≤ longest) × (line ≡ 1)
 Stands _ line source = ⊥
 
 abbrev pub IsRefused : List ℕ → Fault → Type 0

@@ -23,7 +23,7 @@ use world_meaning::{Fault, FaultCode};
 /// The first of these that stands, with its lowest line: `TooLong` past 262,144 bytes, `NotText`
 /// for bytes that aren't UTF-8 and for control characters, `Unclosed` for a text or a comment
 /// without its end, `BadIndent` for a line that is deeper than the line before lets it be. `Memory`,
-/// at line 1, only where a growth was refused.
+/// at line 1, only where a growth was refused, and never for a source that is too long.
 pub fn lex(alloc: Global, source: &[u8]) -> Result<Lexed, Fault>
     ensures { MatchResult result (HasTokens source.now) (IsRefused source.now) }
 {

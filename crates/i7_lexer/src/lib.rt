@@ -13,8 +13,6 @@ mod lexer;
 mod placed;
 mod source;
 mod span;
-#[cfg(test)]
-mod tests;
 mod text;
 mod token;
 

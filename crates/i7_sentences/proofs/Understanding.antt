@@ -1,115 +1,88 @@
--- What is understood of a sentence is what it says.
-use Rattle.std.proofs.Common.{◌≡◌, ℕ, inl, inr, Bool, true, false, List, [], ◌∷◌, refl, ap, sym, ◌∙◌}
-use Rattle.std.specs.Prelude.{◌&&◌, Option, Some, None, if◌then◌else◌, is_none}
-use Rattle.std.specs.List.{list_all}
+-- What is heard of a part is what it says.
+use Rattle.std.proofs.Common.{◌≡◌, Bool, true, List, refl, ap, sym, ◌∙◌, subst}
+use Rattle.std.specs.Prelude.{Option, Some, None, is_none}
 use Rattle.std.specs.Bool.{Decides}
-use Rattle.std.proofs.lemmas.List.Sums.{AllPass-from_list_all, list_all-from_AllPass}
 use Rattle.i7_lexer.specs.declared.token.Token.{Token}
-use Rattle.i7_lexer.specs.declared.token.TokenKind.{TokenKind}
-use Rattle.i7_lexer.specs.declared.token.TokenKind.TheVariants.{Text, Word, Mark}
 use Rattle.i7_sentences.specs.Cuts.{Piece}
-use Rattle.i7_sentences.specs.Forms.{all_forms}
-use Rattle.i7_sentences.specs.Matching.{Choice, lowest_fit}
-use Rattle.i7_sentences.specs.Read.{has_bad_literal, is_sentence, is_unread, part_sense, sense_if}
-use Rattle.i7_sentences.specs.Sayings.{Says, SaysByForm, SaysByText}
-use Rattle.i7_sentences.specs.Senses.{Sense, Told, choice_sense, has_reserved_name, is_plain, is_word_kind, lone_sense, sense_of, text_sense}
-use Rattle.i7_sentences.specs.Sources.{HasBadLiteral, HasReservedName, PartSays, SaysNothing}
+use Rattle.i7_sentences.specs.Forms.{IsReading, all_forms}
+use Rattle.i7_sentences.specs.Matching.{Found, lowest_fit}
+use Rattle.i7_sentences.specs.Read.{has_bad_literal, has_reserved, heard_as, heard_by, heard_if, heard_in, is_reserving, is_sentence, is_unread}
+use Rattle.i7_sentences.specs.Assertions.{assertion_of, has_reserved_name}
+use Rattle.i7_sentences.specs.Sources.{HasBadLiteral, HasReservedName, Says, SaysNothing}
+use Rattle.i7_sentences.specs.declared.form.Form.{Form}
 use Rattle.i7_sentences.specs.declared.part.PartKind.{PartKind}
 use Rattle.i7_sentences.specs.declared.part.PartKind.TheVariants.{Title, Heading, Sentence as Said}
-use Rattle.i7_sentences.proofs.Choosing.{choice_reads, reading_chosen}
-use Rattle.i7_sentences.proofs.Fitting.{false-true}
-use Rattle.i7_sentences.proofs.FittingBack.{none-some, same_some}
+use Rattle.i7_sentences.specs.declared.reader.Heard.{Heard}
+use Rattle.i7_sentences.specs.declared.sentence.Assertion.{Assertion}
+use Rattle.i7_sentences.proofs.Choosing.{ReadAs, read_as}
+use Rattle.i7_sentences.proofs.Lists.{false-true}
+use Rattle.i7_sentences.proofs.Sameness.{never_both, reading_same}
 
-abbrev is_word : Token → Bool
-is_word token = is_word_kind token.kind
+pub none-some : {A : Type 0} (x : A) → None ≡ Some x → ⊥
+none-some x e = cc
 
-if_true : (b : Bool) (x y : Option Sense) → b ≡ true → (if b then x else y) ≡ x
-if_true b x y is = rw is refl
+pub same_some : {A : Type 0} (x y : A) → Some x ≡ Some y → x ≡ y
+same_some x y e = cc
 
-if_false : (b : Bool) (x y : Option Sense) → b ≡ false → (if b then x else y) ≡ y
-if_false b x y is = rw is refl
+-- what is found is the reading
+found_reading : (tokens : List Token) (found : Found) → lowest_fit all_forms tokens ≡ Some found → IsReading all_forms tokens found.form found.letters
+found_reading tokens found is = subst (ReadAs all_forms tokens) is (read_as all_forms tokens)
 
-by_words : (tokens : List Token) → list_all is_word tokens ≡ true → sense_of tokens ≡ choice_sense (lowest_fit all_forms tokens)
-by_words tokens words = if_true (list_all is_word tokens) (choice_sense (lowest_fit all_forms tokens)) (lone_sense tokens) words
+-- the reading is what is found
+reading_found : (tokens : List Token) (form : Form) (letters : List (List Token)) → IsReading all_forms tokens form letters → lowest_fit all_forms tokens ≡ Some (record { form = form; letters = letters })
+reading_found tokens form letters reading =
+    let Goal : Option Found → Type 0 = λ found. ReadAs all_forms tokens found → found ≡ Some (record { form = form; letters = letters })
+    in (elim (lowest_fit all_forms tokens) as Goal [
+      | None ↦ λ unread. absurd (never_both all_forms tokens form letters reading unread)
+      | Some found ↦ λ read.
+          let same = reading_same all_forms tokens found.form form found.letters letters read reading in
+          (λ i. Some (record { form = same.0 i; letters = same.1 i }))
+    ]) (read_as all_forms tokens)
 
-by_text : (tokens : List Token) → list_all is_word tokens ≡ false → sense_of tokens ≡ lone_sense tokens
-by_text tokens others = if_false (list_all is_word tokens) (choice_sense (lowest_fit all_forms tokens)) (lone_sense tokens) others
+-- what a part says, and whether a name in it holds a reserved word
+pub record IsHeard (part : Piece) (heard : Heard) : Type 0 where
+  pub says : Says part heard.said
+  pub reserved : has_reserved_name says.form says.letters ≡ heard.has_reserved_name
 
-form_says : (tokens : List Token) (sense : Sense) → SaysByForm tokens sense → sense_of tokens ≡ Some sense
-form_says tokens sense says =
-    let choice : Choice = record { form = says.form; letters = says.letters } in
-    by_words tokens (list_all-from_AllPass is_word tokens says.words)
-    ∙ ap choice_sense (reading_chosen tokens choice says.reading) ∙ says.makes
+heard_made : (reserved : Bool) (said : Option Assertion) (heard : Heard) → heard_as reserved said ≡ Some heard → (said ≡ Some heard.said) × (reserved ≡ heard.has_reserved_name)
+heard_made reserved None heard is = absurd (none-some heard is)
+heard_made reserved (Some said) heard is =
+    let same = same_some (record { said = said; has_reserved_name = reserved }) heard is in
+    (ap (λ h. Some h.said) same, ap (λ h. h.has_reserved_name) same)
 
-lone_text : (words : Option Sense) (kind : TokenKind) (text : List ℕ) → kind ≡ Text text → is_plain text ≡ true → (if is_word_kind kind && true then words else text_sense kind) ≡ Some (Told text)
-lone_text words kind text is_text plain = rw (is_text, plain) refl
+heard_found : (part : Piece) (heard : Heard) → part.kind ≡ Said → heard_by (lowest_fit all_forms part.tokens) ≡ Some heard → IsHeard part heard
+heard_found part heard kind is =
+    let Goal : Option Found → Type 0 = λ found. lowest_fit all_forms part.tokens ≡ found → heard_by found ≡ Some heard → IsHeard part heard
+    in (elim (lowest_fit all_forms part.tokens) as Goal [
+      | None ↦ λ none makes. absurd (none-some heard makes)
+      | Some found ↦ λ some makes.
+          let made = heard_made (has_reserved_name found.form found.letters) (assertion_of found.form found.letters) heard makes in
+          record {
+            says = record { kind = kind; form = found.form; letters = found.letters; reading = found_reading part.tokens found some; makes = made.0 };
+            reserved = made.1;
+          }
+    ]) refl is
 
-text_says : (tokens : List Token) (sense : Sense) → SaysByText tokens sense → sense_of tokens ≡ Some sense
-text_says tokens sense says =
-    ap sense_of says.alone
-    ∙ lone_text (choice_sense (lowest_fit all_forms (says.token ∷ []))) says.token.kind says.text says.is_text says.plain
-    ∙ ap (λ s. Some s) (sym says.tells)
+pub is_heard : (part : Piece) (heard : Heard) → heard_in part ≡ Some heard → IsHeard part heard
+unfolding heard_in
+is_heard part heard is =
+    let Goal : PartKind → Type 0 = λ kind. part.kind ≡ kind → heard_if (is_sentence kind) part.tokens ≡ Some heard → IsHeard part heard
+    in (elim (part.kind) as Goal [
+      | Title ↦ λ kind said. absurd (none-some heard said)
+      | Heading ↦ λ kind said. absurd (none-some heard said)
+      | Said ↦ λ kind said. heard_found part heard kind said
+    ]) refl is
 
-pub says_sense : (tokens : List Token) (sense : Sense) → Says tokens sense → sense_of tokens ≡ Some sense
-says_sense tokens sense (inl says) = form_says tokens sense says
-says_sense tokens sense (inr says) = text_says tokens sense says
+-- what a part says is heard
+heard_said : (part : Piece) (said : Assertion) (says : Says part said) → heard_in part ≡ Some (record { said = said; has_reserved_name = has_reserved_name says.form says.letters })
+unfolding heard_in
+heard_said part said says =
+    ap (λ kind. heard_if (is_sentence kind) part.tokens) says.kind
+    ∙ ap heard_by (reading_found part.tokens says.form says.letters says.reading)
+    ∙ ap (heard_as (has_reserved_name says.form says.letters)) says.makes
 
-form_said : (tokens : List Token) (sense : Sense) → list_all is_word tokens ≡ true → choice_sense (lowest_fit all_forms tokens) ≡ Some sense → SaysByForm tokens sense
-form_said tokens sense words is =
-    let Goal : Option Choice → Type 0 = λ choice. lowest_fit all_forms tokens ≡ choice → choice_sense choice ≡ Some sense → SaysByForm tokens sense
-    in elim (lowest_fit all_forms tokens) as Goal [
-      | None ↦ λ none makes. absurd (none-some sense makes)
-      | Some choice ↦ λ found makes. record {
-        words = AllPass-from_list_all is_word tokens words;
-        form = choice.form;
-        letters = choice.letters;
-        reading = choice_reads tokens choice found;
-        makes = makes;
-      }
-    ] refl is
-
-plain_said : (token : Token) (text : List ℕ) (sense : Sense) → token.kind ≡ Text text → text_sense (Text text) ≡ Some sense → SaysByText (token ∷ []) sense
-plain_said token text sense is_text is =
-    let Goal : Bool → Type 0 = λ plain. is_plain text ≡ plain → SaysByText (token ∷ []) sense
-    in elim (is_plain text) as Goal [
-      | true ↦ λ plain.
-          let told : text_sense (Text text) ≡ Some (Told text) = rw plain refl in
-          record { token = token; alone = refl; text = text; is_text = is_text; plain = plain; tells = sym (same_some (Told text) sense (sym told ∙ is)) }
-      | false ↦ λ plain.
-          let nothing : text_sense (Text text) ≡ None = rw plain refl in
-          absurd (none-some sense (sym nothing ∙ is))
-    ] refl
-
-text_said : (tokens : List Token) (sense : Sense) → lone_sense tokens ≡ Some sense → SaysByText tokens sense
-text_said [] sense is = absurd (none-some sense is)
-text_said (token ∷ []) sense is =
-    let Goal : TokenKind → Type 0 = λ kind. token.kind ≡ kind → text_sense kind ≡ Some sense → SaysByText (token ∷ []) sense
-    in elim (token.kind) as Goal [
-      | Text text ↦ λ is_text said. plain_said token text sense is_text said
-      | Word word ↦ λ is_word said. absurd (none-some sense said)
-      | Mark mark ↦ λ is_mark said. absurd (none-some sense said)
-    ] refl is
-text_said (token ∷ next ∷ more) sense is = absurd (none-some sense is)
-
-pub sense_said : (tokens : List Token) (sense : Sense) → sense_of tokens ≡ Some sense → Says tokens sense
-sense_said tokens sense is =
-    let Goal : Bool → Type 0 = λ words. list_all is_word tokens ≡ words → Says tokens sense
-    in elim (list_all is_word tokens) as Goal [
-      | true ↦ λ words. inl (form_said tokens sense words (sym (by_words tokens words) ∙ is))
-      | false ↦ λ others. inr (text_said tokens sense (sym (by_text tokens others) ∙ is))
-    ] refl
-
-pub part_says : (part : Piece) (sense : Sense) → PartSays part sense → part_sense part ≡ Some sense
-part_says part sense says = ap (λ kind. sense_if (is_sentence kind) part.tokens) says.0 ∙ says_sense part.tokens sense says.1
-
-pub part_said : (part : Piece) (sense : Sense) → part_sense part ≡ Some sense → PartSays part sense
-part_said part sense is =
-    let Goal : PartKind → Type 0 = λ kind. part.kind ≡ kind → sense_if (is_sentence kind) part.tokens ≡ Some sense → PartSays part sense
-    in elim (part.kind) as Goal [
-      | Title ↦ λ kind said. absurd (none-some sense said)
-      | Heading ↦ λ kind said. absurd (none-some sense said)
-      | Said ↦ λ kind said. (kind, sense_said part.tokens sense said)
-    ] refl is
+pub heard_is : (part : Piece) (heard : Heard) → IsHeard part heard → heard_in part ≡ Some heard
+heard_is part heard is = heard_said part heard.said is.says ∙ ap (λ reserved. Some (record { said = heard.said; has_reserved_name = reserved })) is.reserved
 
 pub bad_literal_decides : (part : Piece) → Decides (has_bad_literal part) (HasBadLiteral part)
 bad_literal_decides part = (λ h. h, λ h. h)
@@ -118,31 +91,28 @@ pub unread_decides : (part : Piece) → Decides (is_unread part) (SaysNothing pa
 unread_decides part = (unread, nothing)
   where
     unread : is_unread part ≡ true → SaysNothing part
-    unread is sense says = false-true (sym (ap (λ said. is_none said) (part_says part sense says)) ∙ is)
+    unread is said says = false-true (ap (λ heard. is_none heard) (sym (heard_said part said says)) ∙ is)
 
     nothing : SaysNothing part → is_unread part ≡ true
     nothing says_none =
-        let Goal : Option Sense → Type 0 = λ said. part_sense part ≡ said → is_unread part ≡ true
-        in elim (part_sense part) as Goal [
-          | None ↦ λ none. ap (λ said. is_none said) none
-          | Some sense ↦ λ some. absurd (says_none sense (part_said part sense some))
-        ] refl
+        let Goal : Option Heard → Type 0 = λ found. heard_in part ≡ found → is_none found ≡ true
+        in (elim (heard_in part) as Goal [
+          | None ↦ λ none. refl
+          | Some heard ↦ λ some. absurd (says_none heard.said (is_heard part heard some).says)
+        ]) refl
 
--- whether what is said has a reserved word in a name
-abbrev pub is_reserving : Option Sense → Bool
-is_reserving None = false
-is_reserving (Some sense) = has_reserved_name sense
-
-pub reserved_decides : (part : Piece) → Decides (is_reserving (part_sense part)) (HasReservedName part)
+pub reserved_decides : (part : Piece) → Decides (has_reserved part) (HasReservedName part)
 reserved_decides part = (there, reserving)
   where
-    there : is_reserving (part_sense part) ≡ true → HasReservedName part
+    there : has_reserved part ≡ true → HasReservedName part
     there is =
-        let Goal : Option Sense → Type 0 = λ said. part_sense part ≡ said → is_reserving said ≡ true → HasReservedName part
-        in elim (part_sense part) as Goal [
+        let Goal : Option Heard → Type 0 = λ found. heard_in part ≡ found → is_reserving found ≡ true → HasReservedName part
+        in (elim (heard_in part) as Goal [
           | None ↦ λ none holds. absurd (false-true holds)
-          | Some sense ↦ λ some holds. record { sense = sense; says = part_said part sense some; reserved = holds }
-        ] refl is
+          | Some heard ↦ λ some holds.
+              let is_so = is_heard part heard some in
+              record { said = heard.said; says = is_so.says; reserved = is_so.reserved ∙ holds }
+        ]) refl is
 
-    reserving : HasReservedName part → is_reserving (part_sense part) ≡ true
-    reserving name = ap is_reserving (part_says part name.sense name.says) ∙ name.reserved
+    reserving : HasReservedName part → has_reserved part ≡ true
+    reserving name = ap is_reserving (heard_said part name.said name.says) ∙ name.reserved

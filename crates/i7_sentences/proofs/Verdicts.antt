@@ -1,21 +1,31 @@
 -- What is read of tokens is what they spell, or the refusal that stands.
 use Rattle.std.proofs.Common.{◌≡◌, ◌≢◌, ◌⊎◌, inl, inr, ℕ, List, refl, ap, ◌∙◌, subst}
-use Rattle.std.specs.Prelude.{Option, Some, None, Result, Ok, Err, IfOk, IfErr, MatchResult, find, map, option_map}
+use Rattle.std.specs.Prelude.{Option, Some, None, Result, Ok, Err, IfOk, IfErr, MatchResult}
 use Rattle.std.specs.List.{filter_map}
 use Rattle.world_meaning.specs.declared.fault.Fault.{Fault}
 use Rattle.world_meaning.specs.declared.fault.FaultCode.{FaultCode}
 use Rattle.world_meaning.specs.declared.fault.FaultCode.TheVariants.{NumberOutOfRange, NotUnderstood, ReservedWord, Memory}
 use Rattle.i7_lexer.specs.declared.token.Token.{Token}
 use Rattle.i7_sentences.specs.Cuts.{Piece, parts_of}
-use Rattle.i7_sentences.specs.Read.{has_bad_literal, heard_in, is_unread, line_heard, line_of, or_refused, read_of, read_parts, reserves, sentence_of, sentences_of}
-use Rattle.i7_sentences.specs.Sources.{HasBadLiteral, HasReservedName, HasSentences, IsFirst, IsNowhere, IsRefused, SaysNothing, Stands}
+use Rattle.i7_sentences.specs.Read.{has_bad_literal, has_reserved, is_unread, lowest, or_refused, read_of, read_parts, sentence_in}
+use Rattle.i7_sentences.specs.Sources.{HasBadLiteral, HasReservedName, HasSentences, IsNowhere, IsRefused, SaysNothing, Stands}
 use Rattle.i7_sentences.specs.declared.sentence.Sentence.{Sentence}
-use Rattle.i7_sentences.proofs.Firsts.{first_found, first_line, none_found, nowhere_none}
-use Rattle.i7_sentences.proofs.Spelling.{are_heard, is_reserved_in, reserved_line, spelled}
+use Rattle.i7_sentences.proofs.Lowest.{lowest_found, lowest_line, none_found, nowhere_none}
+use Rattle.i7_sentences.proofs.Spelling.{are_said, spelled}
 use Rattle.i7_sentences.proofs.Understanding.{bad_literal_decides, reserved_decides, unread_decides}
 
 fault_at : FaultCode → ℕ → Fault
 fault_at code line = record { code = code; line = line }
+
+-- the sentences of parts in which nothing but a reserved word is looked for still, and so on
+abbrev said_of : List Piece → Result (List Sentence) Fault
+said_of parts = Ok (filter_map sentence_in parts)
+
+abbrev named_of : List Piece → Result (List Sentence) Fault
+named_of parts = or_refused ReservedWord (lowest has_reserved parts) (said_of parts)
+
+abbrev understood_of : List Piece → Result (List Sentence) Fault
+understood_of parts = or_refused NotUnderstood (lowest is_unread parts) (named_of parts)
 
 passed : (code : FaultCode) (line : Option ℕ) (next : Result (List Sentence) Fault) → line ≡ None → or_refused code line next ≡ next
 passed code line next none = rw none refl
@@ -24,48 +34,30 @@ stopped : (code : FaultCode) (line : Option ℕ) (at : ℕ) (next : Result (List
 unfolding fault_at
 stopped code line at next some = rw some refl
 
-in_range : (parts : List Piece) → IsNowhere HasBadLiteral parts → option_map line_of (find has_bad_literal parts) ≡ None
-in_range parts nowhere = ap (λ found. option_map line_of found) (nowhere_none HasBadLiteral has_bad_literal bad_literal_decides parts nowhere)
+past_literals : (parts : List Piece) → IsNowhere HasBadLiteral parts → read_parts parts ≡ understood_of parts
+past_literals parts nowhere = passed NumberOutOfRange (lowest has_bad_literal parts) (understood_of parts) (nowhere_none HasBadLiteral has_bad_literal bad_literal_decides parts nowhere)
 
-past_literals : (parts : List Piece) → IsNowhere HasBadLiteral parts → read_parts parts ≡ or_refused NotUnderstood (option_map line_of (find is_unread parts)) (sentences_of (filter_map heard_in parts))
-past_literals parts nowhere = passed NumberOutOfRange (option_map line_of (find has_bad_literal parts)) (or_refused NotUnderstood (option_map line_of (find is_unread parts)) (sentences_of (filter_map heard_in parts))) (in_range parts nowhere)
+past_unread : (parts : List Piece) → IsNowhere HasBadLiteral parts → IsNowhere SaysNothing parts → read_parts parts ≡ named_of parts
+past_unread parts nowhere read = past_literals parts nowhere ∙ passed NotUnderstood (lowest is_unread parts) (named_of parts) (nowhere_none SaysNothing is_unread unread_decides parts read)
 
-past_unread : (parts : List Piece) → IsNowhere HasBadLiteral parts → find is_unread parts ≡ None → read_parts parts ≡ sentences_of (filter_map heard_in parts)
-past_unread parts nowhere is =
-    past_literals parts nowhere
-    ∙ passed NotUnderstood (option_map line_of (find is_unread parts)) (sentences_of (filter_map heard_in parts)) (ap (λ found. option_map line_of found) is)
+past_names : (parts : List Piece) → IsNowhere HasBadLiteral parts → IsNowhere SaysNothing parts → IsNowhere HasReservedName parts → read_parts parts ≡ said_of parts
+past_names parts nowhere read free = past_unread parts nowhere read ∙ passed ReservedWord (lowest has_reserved parts) (said_of parts) (nowhere_none HasReservedName has_reserved reserved_decides parts free)
 
 -- tokens that spell sentences are read as these
 pub spelled_read : (tokens : List Token) (sentences : List Sentence) → HasSentences tokens sentences → read_of tokens ≡ Ok sentences
 spelled_read tokens sentences spells =
-    let heard = are_heard (parts_of tokens) sentences spells.said in
-    let free : option_map line_heard (find reserves (filter_map heard_in (parts_of tokens))) ≡ None =
-    reserved_line (parts_of tokens) heard.read ∙ ap (λ found. option_map line_of found) heard.free in
-    past_unread (parts_of tokens) spells.in_range heard.read
-    ∙ passed ReservedWord (option_map line_heard (find reserves (filter_map heard_in (parts_of tokens)))) (Ok (map sentence_of (filter_map heard_in (parts_of tokens)))) free
-    ∙ ap (λ ss. Ok ss) heard.heard
-
-literal_read : (parts : List Piece) (line : ℕ) → IsFirst HasBadLiteral parts line → read_parts parts ≡ Err (fault_at NumberOutOfRange line)
-literal_read parts line is =
-    stopped NumberOutOfRange (option_map line_of (find has_bad_literal parts)) line (or_refused NotUnderstood (option_map line_of (find is_unread parts)) (sentences_of (filter_map heard_in parts)))
-    (first_line HasBadLiteral has_bad_literal bad_literal_decides parts line is)
-
-unread_read : (parts : List Piece) (line : ℕ) → IsNowhere HasBadLiteral parts → IsFirst SaysNothing parts line → read_parts parts ≡ Err (fault_at NotUnderstood line)
-unread_read parts line nowhere is =
-    past_literals parts nowhere
-    ∙ stopped NotUnderstood (option_map line_of (find is_unread parts)) line (sentences_of (filter_map heard_in parts)) (first_line SaysNothing is_unread unread_decides parts line is)
-
-reserved_read : (parts : List Piece) (line : ℕ) → IsNowhere HasBadLiteral parts → IsNowhere SaysNothing parts → IsFirst HasReservedName parts line → read_parts parts ≡ Err (fault_at ReservedWord line)
-reserved_read parts line nowhere none_unread is =
-    let read = nowhere_none SaysNothing is_unread unread_decides parts none_unread in
-    past_unread parts nowhere read
-    ∙ stopped ReservedWord (option_map line_heard (find reserves (filter_map heard_in parts))) line (Ok (map sentence_of (filter_map heard_in parts)))
-    (reserved_line parts read ∙ first_line HasReservedName is_reserved_in reserved_decides parts line is)
+    let said = are_said (parts_of tokens) sentences spells.said in
+    past_names (parts_of tokens) spells.in_range said.read said.free ∙ ap (λ ss. Ok ss) said.said
 
 stands_read : (code : FaultCode) (line : ℕ) (parts : List Piece) → code ≢ Memory → Stands code line parts → read_parts parts ≡ Err (fault_at code line)
-stands_read NumberOutOfRange line parts not_memory stands = literal_read parts line stands
-stands_read NotUnderstood line parts not_memory stands = unread_read parts line stands.0 stands.1
-stands_read ReservedWord line parts not_memory stands = reserved_read parts line stands.0 stands.1 stands.2
+stands_read NumberOutOfRange line parts not_memory stands =
+    stopped NumberOutOfRange (lowest has_bad_literal parts) line (understood_of parts) (lowest_line HasBadLiteral has_bad_literal bad_literal_decides parts line stands)
+stands_read NotUnderstood line parts not_memory stands =
+    past_literals parts stands.0
+    ∙ stopped NotUnderstood (lowest is_unread parts) line (named_of parts) (lowest_line SaysNothing is_unread unread_decides parts line stands.1)
+stands_read ReservedWord line parts not_memory stands =
+    past_unread parts stands.0 stands.1
+    ∙ stopped ReservedWord (lowest has_reserved parts) line (said_of parts) (lowest_line HasReservedName has_reserved reserved_decides parts line stands.2)
 stands_read Memory line parts not_memory stands = absurd (not_memory refl)
 stands_read _ line parts not_memory stands = absurd stands
 
@@ -81,31 +73,31 @@ Verdict tokens = ((sentences : List Sentence) × HasSentences tokens sentences) 
 refused_as : (tokens : List Token) (code : FaultCode) (line : ℕ) → code ≢ Memory → Stands code line (parts_of tokens) → Verdict tokens
 refused_as tokens code line not_memory stands = inr (record { code = code; line = line }, not_memory, stands)
 
-verdict_named : (tokens : List Token) → IsNowhere HasBadLiteral (parts_of tokens) → find is_unread (parts_of tokens) ≡ None → Verdict tokens
+verdict_named : (tokens : List Token) → IsNowhere HasBadLiteral (parts_of tokens) → IsNowhere SaysNothing (parts_of tokens) → Verdict tokens
 verdict_named tokens nowhere read =
-    let Goal : Option Piece → Type 0 = λ found. find is_reserved_in (parts_of tokens) ≡ found → Verdict tokens
-    in elim (find is_reserved_in (parts_of tokens)) as Goal [
-      | None ↦ λ free. inl (map sentence_of (filter_map heard_in (parts_of tokens)), record { in_range = nowhere; said = spelled (parts_of tokens) read free })
-      | Some part ↦ λ found. refused_as tokens ReservedWord (line_of part) (λ e. cc)
-          (nowhere, none_found SaysNothing is_unread unread_decides (parts_of tokens) read, first_found HasReservedName is_reserved_in reserved_decides (parts_of tokens) part found)
+    let Goal : Option ℕ → Type 0 = λ found. lowest has_reserved (parts_of tokens) ≡ found → Verdict tokens
+    in elim (lowest has_reserved (parts_of tokens)) as Goal [
+      | None ↦ λ free. inl (filter_map sentence_in (parts_of tokens), record { in_range = nowhere; said = spelled (parts_of tokens) read (none_found HasReservedName has_reserved reserved_decides (parts_of tokens) free) })
+      | Some line ↦ λ found. refused_as tokens ReservedWord line (λ e. cc)
+          (nowhere, read, lowest_found HasReservedName has_reserved reserved_decides (parts_of tokens) line found)
     ] refl
 
 verdict_in_range : (tokens : List Token) → IsNowhere HasBadLiteral (parts_of tokens) → Verdict tokens
 verdict_in_range tokens nowhere =
-    let Goal : Option Piece → Type 0 = λ found. find is_unread (parts_of tokens) ≡ found → Verdict tokens
-    in elim (find is_unread (parts_of tokens)) as Goal [
-      | None ↦ λ read. verdict_named tokens nowhere read
-      | Some part ↦ λ found. refused_as tokens NotUnderstood (line_of part) (λ e. cc)
-          (nowhere, first_found SaysNothing is_unread unread_decides (parts_of tokens) part found)
+    let Goal : Option ℕ → Type 0 = λ found. lowest is_unread (parts_of tokens) ≡ found → Verdict tokens
+    in elim (lowest is_unread (parts_of tokens)) as Goal [
+      | None ↦ λ read. verdict_named tokens nowhere (none_found SaysNothing is_unread unread_decides (parts_of tokens) read)
+      | Some line ↦ λ found. refused_as tokens NotUnderstood line (λ e. cc)
+          (nowhere, lowest_found SaysNothing is_unread unread_decides (parts_of tokens) line found)
     ] refl
 
 pub verdict : (tokens : List Token) → Verdict tokens
 verdict tokens =
-    let Goal : Option Piece → Type 0 = λ found. find has_bad_literal (parts_of tokens) ≡ found → Verdict tokens
-    in elim (find has_bad_literal (parts_of tokens)) as Goal [
+    let Goal : Option ℕ → Type 0 = λ found. lowest has_bad_literal (parts_of tokens) ≡ found → Verdict tokens
+    in elim (lowest has_bad_literal (parts_of tokens)) as Goal [
       | None ↦ λ none. verdict_in_range tokens (none_found HasBadLiteral has_bad_literal bad_literal_decides (parts_of tokens) none)
-      | Some part ↦ λ found. refused_as tokens NumberOutOfRange (line_of part) (λ e. cc)
-          (first_found HasBadLiteral has_bad_literal bad_literal_decides (parts_of tokens) part found)
+      | Some line ↦ λ found. refused_as tokens NumberOutOfRange line (λ e. cc)
+          (lowest_found HasBadLiteral has_bad_literal bad_literal_decides (parts_of tokens) line found)
     ] refl
 
 ok-err : (read : Result (List Sentence) Fault) (sentences : List Sentence) (fault : Fault) → read ≡ Ok sentences → read ≡ Err fault → ⊥

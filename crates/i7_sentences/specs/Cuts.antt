@@ -1,14 +1,15 @@
 -- The parts of a source: its headings, its title and its sentences.
 use Rattle.std.specs.Prelude.{ℕ, ◌-◌, nat_lt, slice_index, length, Bool, true, false, not, ◌&&◌, ◌||◌, ◌==◌, List, [], ◌∷◌, ◌++◌, fold, codes, if◌then◌else◌}
-use Rattle.std.specs.List.{list_all}
+use Rattle.std.specs.List.{list_all, list_any}
 use Rattle.std.specs.Char.{is_ascii_uppercase}
 use Rattle.i7_lexer.specs.declared.token.Token.{Token}
 use Rattle.i7_lexer.specs.declared.token.TokenKind.{TokenKind}
 use Rattle.i7_lexer.specs.declared.token.TokenKind.TheVariants.{Text, Word, Mark}
 use Rattle.i7_lexer.specs.declared.token.Start.{Start}
 use Rattle.i7_lexer.specs.declared.token.Start.TheVariants.{Paragraph, Line, Within}
-use Rattle.i7_sentences.specs.Words.{word_of}
+use Rattle.i7_sentences.specs.Words.{is_text, word_of}
 use Rattle.world_meaning.specs.Spelling.{is_spelled}
+use Rattle.i7_sentences.specs.declared.cut.TheConstants.{HEADINGS}
 use Rattle.i7_sentences.specs.declared.part.PartKind.{PartKind}
 use Rattle.i7_sentences.specs.declared.part.PartKind.TheVariants.{Title, Heading, Sentence}
 
@@ -39,9 +40,7 @@ is_within_line (Line indent) = false
 is_within_line Within = true
 
 abbrev pub opens_heading : List ℕ → Bool
-opens_heading word =
-    is_spelled word (codes "volume") || is_spelled word (codes "book") || is_spelled word (codes "part")
-    || is_spelled word (codes "chapter") || is_spelled word (codes "section")
+opens_heading word = list_any (λ heading. is_spelled word heading.now) HEADINGS
 
 -- a heading is a paragraph of one line that begins with one of these words
 abbrev pub is_heading : List Token → Bool
@@ -90,17 +89,12 @@ abbrev pub is_stop_alone : List Token → Bool
 is_stop_alone [] = false
 is_stop_alone (first ∷ rest) = is_full_stop first
 
-abbrev pub is_text_kind : TokenKind → Bool
-is_text_kind (Text text) = true
-is_text_kind (Word word) = false
-is_text_kind (Mark mark) = false
-
 -- a text alone, or a text, `by` and something
 abbrev pub is_title : List Token → Bool
 is_title [] = false
-is_title (text ∷ []) = is_text_kind text.kind
+is_title (text ∷ []) = is_text text
 is_title (text ∷ by ∷ []) = false
-is_title (text ∷ by ∷ name ∷ names) = is_text_kind text.kind && is_spelled (word_of by) (codes "by")
+is_title (text ∷ by ∷ name ∷ names) = is_text text && is_spelled (word_of by) (codes "by")
 
 -- a part and what it is read as
 pub record Piece : Type 0 where

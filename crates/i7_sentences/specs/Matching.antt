@@ -1,64 +1,191 @@
--- Fitting a form to words from left to right: each letter ends where the fixed pieces behind it
--- first stand, the last one where they stand at the end. The forms are tried one by one.
-use Rattle.std.specs.Prelude.{ℕ, ◌+◌, ◌-◌, Bool, true, not, ◌&&◌, nat_lt, List, [], ◌∷◌, length, take, drop, Option, Some, None, option_map, if◌then◌else◌}
-use Rattle.std.specs.List.{list_all}
+-- Fitting from left to right: each letter ends at the nearest place from which the pieces behind it
+-- can fit. The places are told beforehand, from the words' end and from the last piece.
+use Rattle.std.specs.Prelude.{not, ◌≡◌, ℕ, ◌-◌, Bool, true, false, ◌&&◌, ◌||◌, List, [], ◌∷◌, ◌++◌, length, take, drop, get_or, Option, Some, None, is_some, option_map, if◌then◌else◌}
+use Rattle.std.specs.List.{list_any}
 use Rattle.i7_lexer.specs.declared.token.Token.{Token}
-use Rattle.i7_sentences.specs.Forms.{pieces_of, takes, is_letter, is_kept}
+use Rattle.i7_sentences.specs.Keywords.{is_sign}
+use Rattle.i7_sentences.specs.Automata.{accepts, step}
+use Rattle.i7_sentences.specs.Forms.{Variant, are_shorter}
+use Rattle.i7_sentences.specs.declared.keyword.Keyword.{Keyword}
+use Rattle.i7_sentences.specs.declared.class.Class.{Class}
+use Rattle.i7_sentences.specs.declared.class.State.{State}
+use Rattle.i7_sentences.specs.declared.class.State.TheVariants.{Start, Inside, Between, Beside}
 use Rattle.i7_sentences.specs.declared.form.Form.{Form}
 use Rattle.i7_sentences.specs.declared.form.Piece.{Piece}
+use Rattle.i7_sentences.specs.declared.form.Piece.TheVariants.{Word, Letter}
+use Rattle.i7_sentences.specs.declared.lookahead.Ahead.{Ahead}
 
-abbrev pub is_fixed : Piece → Bool
-is_fixed p = not (is_letter p)
+abbrev pub then_left : Option State → (State → Option ℕ) → Option ℕ
+then_left None ends = None
+then_left (Some state) ends = ends state
 
--- the tokens begin with the pieces up to the next letter
-abbrev pub stands : List Piece → List Token → Bool
-stands [] tokens = true
-stands (p ∷ form) [] = is_letter p
-stands (p ∷ form) (token ∷ tokens) = if is_letter p then true else (takes p token && stands form tokens)
+-- how many words are left behind a letter that is read so far: it ends as soon as it may and the
+-- pieces behind it can fit the words left
+abbrev pub nearest : Class → State → (List Token → Bool) → List Token → Option ℕ
+nearest class state can [] = if accepts state && can [] then Some 0 else None
+nearest class state can (token ∷ tokens) =
+    if accepts state && can (token ∷ tokens) then Some (length (token ∷ tokens))
+    else then_left (step class state token) (λ after. nearest class after can tokens)
 
--- the first place behind a first token where the pieces stand
-abbrev pub leftmost_from : ℕ → List Piece → List Token → Option ℕ
-leftmost_from place form [] = None
-leftmost_from place form (token ∷ tokens) =
-    if stands form tokens then Some place else leftmost_from (place + 1) form tokens
+-- how many words are left behind a word of the form
+abbrev pub behind_word : Keyword → List Token → Option ℕ
+behind_word keyword [] = None
+behind_word keyword (token ∷ tokens) = if is_sign keyword token then Some (length tokens) else None
 
--- the place where the pieces stand at the end
-abbrev pub rightmost : List Piece → List Token → Option ℕ
-rightmost form tokens =
-    if nat_lt (length form) (length tokens) && stands form (drop (length tokens - length form) tokens)
-    then Some (length tokens - length form) else None
+-- how many words are left behind a piece
+abbrev pub left_by : Piece → (List Token → Bool) → List Token → Option ℕ
+left_by (Word keyword) can tokens = behind_word keyword tokens
+left_by (Letter class) can tokens = nearest class Start can tokens
 
-abbrev pub letter_len : List Piece → List Token → Option ℕ
-letter_len form tokens = if list_all is_fixed form then rightmost form tokens else leftmost_from 1 form tokens
-
--- how many tokens a piece takes, with these pieces behind it
-abbrev pub taken : Piece → List Piece → List Token → Option ℕ
-taken p form [] = None
-taken p form (token ∷ tokens) =
-    if is_letter p then letter_len form (token ∷ tokens)
-    else if takes p token then Some 1 else None
+abbrev pub is_kept : Piece → Bool
+is_kept (Word keyword) = false
+is_kept (Letter class) = true
 
 abbrev pub with_taken : Bool → List Token → Option ℕ → (List Token → Option (List (List Token))) → Option (List (List Token))
 with_taken is_kept tokens None next = None
-with_taken is_kept tokens (Some n) next =
-    if is_kept then option_map (λ letters. take n tokens ∷ letters) (next (drop n tokens)) else next (drop n tokens)
+with_taken is_kept tokens (Some left) next =
+    if is_kept then option_map (λ letters. take (length tokens - left) tokens ∷ letters) (next (drop (length tokens - left) tokens))
+    else next (drop (length tokens - left) tokens)
 
--- the words for a form's letters and classes, if it fits
+-- the words for the letters of these pieces, if they fit
 abbrev pub first_fit : List Piece → List Token → Option (List (List Token))
 first_fit [] [] = Some []
 first_fit [] (token ∷ tokens) = None
-first_fit (p ∷ form) tokens = with_taken (is_kept p) tokens (taken p form tokens) (first_fit form)
+first_fit (piece ∷ pieces) tokens = with_taken (is_kept piece) tokens (left_by piece (λ rest. is_some (first_fit pieces rest)) tokens) (first_fit pieces)
 
--- a form that fits, and the words for its letters and classes
-pub record Choice : Type 0 where
+abbrev pub can_fit : List Piece → List Token → Bool
+can_fit pieces tokens = is_some (first_fit pieces tokens)
+
+-- whether the pieces can fit so many last words
+abbrev pub column_of : List Piece → List Token → List Bool
+column_of pieces [] = can_fit pieces [] ∷ []
+column_of pieces (token ∷ tokens) = column_of pieces tokens ++ can_fit pieces (token ∷ tokens) ∷ []
+
+-- a column's answer for so many words left
+abbrev pub looked : List Bool → ℕ → Bool
+looked column left = get_or column left false
+
+-- the column in front of a word of the form
+abbrev pub word_column : Keyword → List Bool → List Token → List Bool
+word_column keyword behind [] = false ∷ []
+word_column keyword behind (token ∷ tokens) = word_column keyword behind tokens ++ (is_sign keyword token && looked behind (length tokens)) ∷ []
+
+abbrev pub ahead_at : Ahead → State → Bool
+ahead_at ahead Start = ahead.start
+ahead_at ahead Inside = ahead.inside
+ahead_at ahead Between = ahead.between
+ahead_at ahead Beside = ahead.beside
+
+abbrev pub then_ahead : Ahead → Option State → Bool
+then_ahead ahead None = false
+then_ahead ahead (Some state) = ahead_at ahead state
+
+abbrev pub reaches : Class → Ahead → Bool → Token → State → Bool
+reaches class ahead can token state = (accepts state && can) || then_ahead ahead (step class state token)
+
+-- whether a letter that is read so far can end in the words left
+abbrev pub ahead_of_none : Bool → Ahead
+ahead_of_none can = record {
+  start = accepts Start && can;
+  inside = accepts Inside && can;
+  between = accepts Between && can;
+  beside = accepts Beside && can;
+}
+
+abbrev pub ahead_of_more : Class → Ahead → Bool → Token → Ahead
+ahead_of_more class ahead can token = record {
+  start = reaches class ahead can token Start;
+  inside = reaches class ahead can token Inside;
+  between = reaches class ahead can token Between;
+  beside = reaches class ahead can token Beside;
+}
+
+abbrev pub ahead_of : Class → List Bool → List Token → Ahead
+ahead_of class behind [] = ahead_of_none (looked behind 0)
+ahead_of class behind (token ∷ tokens) = ahead_of_more class (ahead_of class behind tokens) (looked behind (length (token ∷ tokens))) token
+
+-- the column in front of a letter
+abbrev pub letter_column : Class → List Bool → List Token → List Bool
+letter_column class behind [] = (ahead_of class behind []).start ∷ []
+letter_column class behind (token ∷ tokens) = letter_column class behind tokens ++ (ahead_of class behind (token ∷ tokens)).start ∷ []
+
+abbrev pub piece_column : Piece → List Bool → List Token → List Bool
+piece_column (Word keyword) behind tokens = word_column keyword behind tokens
+piece_column (Letter class) behind tokens = letter_column class behind tokens
+
+-- the column of no pieces
+abbrev pub end_column : List Token → List Bool
+end_column [] = true ∷ []
+end_column (token ∷ tokens) = end_column tokens ++ false ∷ []
+
+-- the column of these pieces, from that of the pieces behind the first
+abbrev pub first_column : List Piece → List Token → List Bool
+first_column [] tokens = end_column tokens
+first_column (piece ∷ pieces) tokens = piece_column piece (first_column pieces tokens) tokens
+
+-- the columns of the pieces behind each piece
+abbrev pub columns_of : List Piece → List Token → List (List Bool)
+columns_of [] tokens = []
+columns_of (piece ∷ pieces) tokens = columns_of pieces tokens ++ first_column pieces tokens ∷ []
+
+-- a variant that fits, and the words for its letters
+pub record Found : Type 0 where
   pub form : Form
   pub letters : List (List Token)
 
-abbrev pub or_later : Form → Option (List (List Token)) → Option Choice → Option Choice
-or_later form None later = later
-or_later form (Some letters) later = Some (record { form = form; letters = letters })
+abbrev pub found_as : Form → Option (List (List Token)) → Option Found
+found_as form letters = option_map (λ words. record { form = form; letters = words }) letters
 
--- the first of these forms that fits
-abbrev pub lowest_fit : List Form → List Token → Option Choice
-lowest_fit [] words = None
-lowest_fit (form ∷ forms) words = or_later form (first_fit (pieces_of form) words) (lowest_fit forms words)
+-- the later one only if its letters are shorter
+abbrev pub preferred : Option Found → Option Found → Option Found
+preferred None later = later
+preferred (Some first) None = Some first
+preferred (Some first) (Some later) = if are_shorter later.letters first.letters then Some later else Some first
+
+-- the fit with the shortest letters, of as short ones the first
+abbrev pub best_fit : List Variant → List Token → Option Found
+best_fit [] tokens = None
+best_fit (variant ∷ variants) tokens = preferred (found_as variant.form (first_fit variant.pieces tokens)) (best_fit variants tokens)
+
+abbrev pub or_later : Option Found → Option Found → Option Found
+or_later None later = later
+or_later (Some found) later = Some found
+
+-- the best fit of the lowest form that fits
+abbrev pub lowest_fit : List (List Variant) → List Token → Option Found
+lowest_fit [] tokens = None
+lowest_fit (variants ∷ forms) tokens = or_later (best_fit variants tokens) (lowest_fit forms tokens)
+
+-- the words stand at the end of others
+pub record IsEndOf (rest tokens : List Token) : Type 0 where
+  pub front : List Token
+  pub parts : tokens ≡ front ++ rest
+
+-- the letters so far, and then those of these pieces, if they fit
+abbrev pub letters_with : List (List Token) → List Piece → List Token → Option (List (List Token))
+letters_with so_far pieces tokens = option_map (λ more. so_far ++ more) (first_fit pieces tokens)
+
+-- the pieces fit no last words
+abbrev pub Never : List Piece → List Token → Type 0
+Never pieces tokens = (rest : List Token) → IsEndOf rest tokens → can_fit pieces rest ≡ false
+
+-- whether the column of these pieces, or of the last ones of them, is without a yes
+abbrev pub is_never : List Piece → List Token → Bool
+is_never [] tokens = false
+is_never (piece ∷ pieces) tokens = is_never pieces tokens || not (list_any (λ yes. yes) (first_column (piece ∷ pieces) tokens))
+
+-- whether the piece is a word of the form that stands nowhere among the words
+abbrev pub is_missing : List Token → Piece → Bool
+is_missing tokens (Word keyword) = not (list_any (is_sign keyword) tokens)
+is_missing tokens (Letter class) = false
+
+-- whether the first piece can take this token in front
+abbrev pub can_take : Piece → Token → Bool
+can_take (Word keyword) token = is_sign keyword token
+can_take (Letter class) token = is_some (step class Start token)
+
+-- whether the first piece can take the first token, if there are both
+abbrev pub can_begin : List Piece → List Token → Bool
+can_begin [] tokens = true
+can_begin (piece ∷ pieces) [] = false
+can_begin (piece ∷ pieces) (token ∷ tokens) = can_take piece token

@@ -1,17 +1,20 @@
--- Reading a source's tokens from the first to the last: each refusal is looked for in all parts before
--- the next, and the first part that shows it gives the line.
-use Rattle.std.specs.Prelude.{ℕ, Bool, true, false, ◌&&◌, List, [], ◌∷◌, Option, Some, None, is_none, find, map, option_map, Result, Ok, Err}
+-- Reading a source's parts from the first to the last.
+use Rattle.std.specs.Prelude.{ℕ, nat_lt, Bool, true, false, ◌&&◌, List, [], ◌∷◌, Option, Some, None, is_none, option_map, Result, Ok, Err, if◌then◌else◌}
 use Rattle.std.specs.List.{list_any, filter_map}
 use Rattle.world_meaning.specs.declared.fault.Fault.{Fault}
 use Rattle.world_meaning.specs.declared.fault.FaultCode.{FaultCode}
 use Rattle.world_meaning.specs.declared.fault.FaultCode.TheVariants.{NumberOutOfRange, NotUnderstood, ReservedWord}
 use Rattle.i7_lexer.specs.declared.token.Token.{Token}
 use Rattle.i7_sentences.specs.Cuts.{Piece, parts_of}
+use Rattle.i7_sentences.specs.Forms.{all_forms}
 use Rattle.i7_sentences.specs.Literals.{is_out_of_range}
-use Rattle.i7_sentences.specs.Senses.{Sense, sense_of, saying_of, has_reserved_name}
+use Rattle.i7_sentences.specs.Matching.{Found, lowest_fit}
+use Rattle.i7_sentences.specs.Assertions.{assertion_of, has_reserved_name}
 use Rattle.i7_sentences.specs.Words.{word_of}
 use Rattle.i7_sentences.specs.declared.part.PartKind.{PartKind}
 use Rattle.i7_sentences.specs.declared.part.PartKind.TheVariants.{Title, Heading, Sentence as Said}
+use Rattle.i7_sentences.specs.declared.reader.Heard.{Heard}
+use Rattle.i7_sentences.specs.declared.sentence.Assertion.{Assertion}
 use Rattle.i7_sentences.specs.declared.sentence.Sentence.{Sentence}
 
 abbrev pub line_in : List Token → ℕ
@@ -28,54 +31,66 @@ is_sentence Heading = false
 is_sentence Said = true
 
 -- a literal out of range; titles and headings hold none
-abbrev pub has_bad_literal : Piece → Bool
+unfoldable pub has_bad_literal : Piece → Bool
 has_bad_literal part = is_sentence part.kind && list_any (λ token. is_out_of_range (word_of token)) part.tokens
 
-abbrev pub sense_if : Bool → List Token → Option Sense
-sense_if true tokens = sense_of tokens
-sense_if false tokens = None
+abbrev pub heard_as : Bool → Option Assertion → Option Heard
+heard_as is_reserved None = None
+heard_as is_reserved (Some said) = Some (record { said = said; has_reserved_name = is_reserved })
 
--- what a part says; titles and headings aren't read yet
-abbrev pub part_sense : Piece → Option Sense
-part_sense part = sense_if (is_sentence part.kind) part.tokens
+abbrev pub heard_by : Option Found → Option Heard
+heard_by None = None
+heard_by (Some found) = heard_as (has_reserved_name found.form found.letters) (assertion_of found.form found.letters)
+
+abbrev pub heard_if : Bool → List Token → Option Heard
+heard_if true tokens = heard_by (lowest_fit all_forms tokens)
+heard_if false tokens = None
+
+-- what a part says, if it is understood; titles and headings aren't read yet
+unfoldable pub heard_in : Piece → Option Heard
+heard_in part = heard_if (is_sentence part.kind) part.tokens
 
 abbrev pub is_unread : Piece → Bool
-is_unread part = is_none (part_sense part)
+is_unread part = is_none (heard_in part)
 
--- what a part says, and its line
-pub record Heard : Type 0 where
-  pub sense : Sense
-  pub line : ℕ
+abbrev pub is_reserving : Option Heard → Bool
+is_reserving None = false
+is_reserving (Some heard) = heard.has_reserved_name
 
-abbrev pub heard_at : ℕ → Sense → Heard
-heard_at line sense = record { sense = sense; line = line }
+abbrev pub has_reserved : Piece → Bool
+has_reserved part = is_reserving (heard_in part)
 
-abbrev pub heard_in : Piece → Option Heard
-heard_in part = option_map (heard_at (line_of part)) (part_sense part)
+abbrev pub sentence_in : Piece → Option Sentence
+sentence_in part = option_map (λ heard. record { said = heard.said; line = line_of part }) (heard_in part)
 
-abbrev pub reserves : Heard → Bool
-reserves heard = has_reserved_name heard.sense
+-- the lower of two lines
+abbrev pub lower : Option ℕ → ℕ → Option ℕ
+lower None line = Some line
+lower (Some low) line = if nat_lt line low then Some line else Some low
 
-abbrev pub line_heard : Heard → ℕ
-line_heard heard = heard.line
+abbrev pub lower_if : Bool → Option ℕ → ℕ → Option ℕ
+lower_if true low line = lower low line
+lower_if false low line = low
 
-abbrev pub sentence_of : Heard → Sentence
-sentence_of heard = record { saying = saying_of heard.sense; line = heard.line }
+-- the lowest line of these parts that are so, if it is lower than the one so far
+abbrev pub lowest_from : (Piece → Bool) → Option ℕ → List Piece → Option ℕ
+lowest_from is_so low [] = low
+lowest_from is_so low (part ∷ parts) = lowest_from is_so (lower_if (is_so part) low (line_of part)) parts
+
+abbrev pub lowest : (Piece → Bool) → List Piece → Option ℕ
+lowest is_so parts = lowest_from is_so None parts
 
 -- refused at a line, if there is one
 abbrev pub or_refused : FaultCode → Option ℕ → Result (List Sentence) Fault → Result (List Sentence) Fault
 or_refused code None next = next
 or_refused code (Some line) next = Err (record { code = code; line = line })
 
--- the sentences of what was heard, or a reserved word in a name
-abbrev pub sentences_of : List Heard → Result (List Sentence) Fault
-sentences_of heard = or_refused ReservedWord (option_map line_heard (find reserves heard)) (Ok (map sentence_of heard))
-
--- the sentences of these parts: a literal out of range, then a part that isn't understood refuses them
+-- the sentences of these parts, or the refusal that stands
 abbrev pub read_parts : List Piece → Result (List Sentence) Fault
 read_parts parts =
-    or_refused NumberOutOfRange (option_map line_of (find has_bad_literal parts))
-    (or_refused NotUnderstood (option_map line_of (find is_unread parts)) (sentences_of (filter_map heard_in parts)))
+    or_refused NumberOutOfRange (lowest has_bad_literal parts)
+    (or_refused NotUnderstood (lowest is_unread parts)
+    (or_refused ReservedWord (lowest has_reserved parts) (Ok (filter_map sentence_in parts))))
 
 -- the sentences that tokens spell, or the refusal that stands
 abbrev pub read_of : List Token → Result (List Sentence) Fault

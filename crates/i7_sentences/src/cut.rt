@@ -1,14 +1,17 @@
 //! Cutting tokens into paragraphs, and these into headings and sentences.
 ghost use Rattle.std.specs.Prelude.{◌≡◌, ◌<◌, ◌≤◌, fold, length, not, IfOk, OnOk};
 ghost use Rattle.std.specs.List.{list_all};
-ghost use Rattle.i7_sentences.specs.Cuts.{cut, ends_sentence_kind, has_final_end, is_capitalised, is_final, is_full_stop, is_heading, is_same_paragraph, is_same_sentence, is_stop_alone, is_text_kind, is_title, is_within_line, kind_of, may_begin_kind, opens_heading, parts_of, with_paragraph, with_sentence};
+ghost use Rattle.i7_sentences.specs.Cuts.{cut, ends_sentence_kind, has_final_end, is_capitalised, is_final, is_full_stop, is_heading, is_same_paragraph, is_same_sentence, is_stop_alone, is_title, is_within_line, kind_of, may_begin_kind, opens_heading, parts_of, with_paragraph, with_sentence};
 ghost use Rattle.i7_sentences.specs.Pieces.{piece_len, pieces_of};
 
 use crate::part::{Part, PartKind};
-use crate::word::word_of;
+use crate::word::{is_text, word_of};
 use i7_lexer::{Start, Token, TokenKind};
 use std::alloc::{AllocError, Global};
 use world_meaning::is_spelled;
+
+/// The words that open a heading.
+pub const HEADINGS: [&[u8]; 5] = [b"volume", b"book", b"part", b"chapter", b"section"];
 
 /// Whether the next token belongs to the same paragraph.
 fn is_same_paragraph(token: &Token, next: &Token) -> bool
@@ -35,11 +38,7 @@ fn is_within_line(start: Start) -> bool
 fn opens_heading(word: &[u8]) -> bool
     ensures { result ≡ opens_heading word.now }
 {
-    is_spelled(word, b"volume")
-        || is_spelled(word, b"book")
-        || is_spelled(word, b"part")
-        || is_spelled(word, b"chapter")
-        || is_spelled(word, b"section")
+    HEADINGS.iter().any(|heading| is_spelled(word, heading))
 }
 
 /// Whether all tokens stand within their line.
@@ -131,16 +130,6 @@ fn is_stop_alone(piece: &[Token]) -> bool
     match piece {
         [] => false,
         [first, ..] => is_full_stop(first),
-    }
-}
-
-/// Whether the token is a text.
-fn is_text(token: &Token) -> bool
-    ensures { result ≡ is_text_kind token.now.kind }
-{
-    match &token.kind {
-        TokenKind::Text(_) => true,
-        TokenKind::Word(_) | TokenKind::Mark(_) => false,
     }
 }
 

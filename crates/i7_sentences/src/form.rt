@@ -1,43 +1,32 @@
-//! The sentence forms as data: fixed words and one-word classes, parted by open letters.
-ghost use Rattle.std.specs.Prelude.{◌≡◌};
-
-use crate::Keyword;
-use crate::literal::is_literal;
-use crate::word::{direction_of, word_of};
-use i7_lexer::Token;
+//! The sentence forms as data, the lowest first.
+use crate::form::Piece::{Letter, Word};
+use crate::{Class, Keyword};
 
 /// A piece of a sentence form.
 #[derive(Clone, Copy, Debug, PartialEq, Eq)]
 pub enum Piece {
-    /// One or more words of any sort.
-    Letter,
-    /// This word.
+    /// This word or mark.
     Word(Keyword),
-    /// The name of a direction, which the form's reader keeps.
-    Direction,
-    /// A literal number.
-    Number,
+    /// A letter, whose words the reader keeps.
+    Letter(Class),
 }
 
-impl Piece {
-    ghost use Rattle.i7_sentences.specs.Forms.{takes};
-
-    /// Whether a piece that is no letter takes this one token.
-    pub fn takes(self, token: &Token) -> bool
-        ensures { result ≡ takes self token.now }
-    {
-        match self {
-            Piece::Letter => false,
-            Piece::Word(keyword) => keyword.is_word(word_of(token)),
-            Piece::Direction => direction_of(word_of(token)).is_some(),
-            Piece::Number => is_literal(word_of(token)),
-        }
-    }
-}
-
-/// A sentence form made of words, the lowest first: where several fit, the lowest is the sentence's.
+/// The variants of the sentence forms.
 #[derive(Clone, Copy, Debug, PartialEq, Eq)]
 pub enum Form {
+    /// A text alone.
+    Description,
+    BeforeRule,
+    InsteadRule,
+    CheckRule,
+    CarryOutRule,
+    AfterRule,
+    ReportRule,
+    EveryTurnRule,
+    PlayBeginsRule,
+    SceneBeginsRule,
+    SceneEndsRule,
+    OwnRule,
     SceneBegins,
     SceneEnds,
     ListedFirst,
@@ -53,291 +42,205 @@ pub enum Form {
     Usually,
     Variable,
     PropertyIsNumber,
-    DoorWay,
-    /// `north of the hall is the garden`
-    WayFrom,
-    AboveFrom,
-    BelowFrom,
-    InsideFrom,
-    OutsideFrom,
+    /// `the gate is north of the hall and south of the garden`
+    DoorTo,
     /// `the garden is north of the hall`
     WayTo,
-    AboveTo,
-    BelowTo,
-    InsideTo,
-    OutsideTo,
+    /// `north of the hall is the garden`
+    WayFrom,
     Carries,
     Wears,
     InHolder,
     OnHolder,
-    /// `the hall and the yard are a room`
-    Rooms,
+    /// `the hall is a room`
     Room,
 }
 
-impl Form {
-    /// The forms, lowest first.
-    pub const ALL: [Form; 32] = [
-        Form::SceneBegins,
-        Form::SceneEnds,
-        Form::ListedFirst,
-        Form::ListedLast,
-        Form::NotListed,
+const WORDS: Piece = Letter(Class::Words);
+
+const NAMES: Piece = Letter(Class::Names);
+
+const SIDE: Piece = Letter(Class::Side);
+
+const HEAD: Piece = Letter(Class::Head);
+
+const BODY: Piece = Letter(Class::Body);
+
+const IS: Piece = Word(Keyword::Is);
+
+const A: Piece = Word(Keyword::A);
+
+const OF: Piece = Word(Keyword::Of);
+
+const IN: Piece = Word(Keyword::In);
+
+const AND: Piece = Word(Keyword::And);
+
+const WHEN: Piece = Word(Keyword::When);
+
+const BEGINS: Piece = Word(Keyword::Begins);
+
+const ENDS: Piece = Word(Keyword::Ends);
+
+const RULE: Piece = Word(Keyword::Rule);
+
+const RULES: Piece = Word(Keyword::Rules);
+
+const RULEBOOK: Piece = Word(Keyword::Rulebook);
+
+const LISTED: Piece = Word(Keyword::Listed);
+
+const SCENE: Piece = Word(Keyword::Scene);
+
+const NUMBER: Piece = Word(Keyword::Number);
+
+/// The forms, the lowest first. Each is its variants: where several fit a sentence, that with the
+/// shortest letters is read, and of equally short ones the first.
+pub const FORMS: [&[(Form, &[Piece])]; 26] = [
+    &[(Form::Description, &[Letter(Class::Text)])],
+    &[(Form::BeforeRule, &[Word(Keyword::Before), HEAD, BODY])],
+    &[(Form::InsteadRule, &[Word(Keyword::Instead), OF, HEAD, BODY])],
+    &[(Form::CheckRule, &[Word(Keyword::Check), HEAD, BODY])],
+    &[(
+        Form::CarryOutRule,
+        &[Word(Keyword::Carry), Word(Keyword::Out), HEAD, BODY],
+    )],
+    &[(Form::AfterRule, &[Word(Keyword::After), HEAD, BODY])],
+    &[(Form::ReportRule, &[Word(Keyword::Report), HEAD, BODY])],
+    &[
+        (
+            Form::EveryTurnRule,
+            &[Word(Keyword::Every), Word(Keyword::Turn), BODY],
+        ),
+        (
+            Form::EveryTurnRule,
+            &[Word(Keyword::Every), Word(Keyword::Turn), HEAD, BODY],
+        ),
+    ],
+    &[
+        (
+            Form::PlayBeginsRule,
+            &[WHEN, Word(Keyword::Play), BEGINS, BODY],
+        ),
+        (
+            Form::PlayBeginsRule,
+            &[WHEN, Word(Keyword::Play), BEGINS, HEAD, BODY],
+        ),
+    ],
+    &[
+        (Form::SceneBeginsRule, &[WHEN, WORDS, BEGINS, BODY]),
+        (Form::SceneBeginsRule, &[WHEN, WORDS, BEGINS, HEAD, BODY]),
+    ],
+    &[
+        (Form::SceneEndsRule, &[WHEN, WORDS, ENDS, BODY]),
+        (Form::SceneEndsRule, &[WHEN, WORDS, ENDS, HEAD, BODY]),
+    ],
+    &[
+        (Form::OwnRule, &[WORDS, RULE, BODY]),
+        (Form::OwnRule, &[WORDS, RULE, HEAD, BODY]),
+    ],
+    &[
+        (Form::SceneBegins, &[WORDS, BEGINS, WHEN, WORDS]),
+        (Form::SceneEnds, &[WORDS, ENDS, WHEN, WORDS]),
+    ],
+    &[
+        (
+            Form::ListedFirst,
+            &[
+                WORDS,
+                RULE,
+                IS,
+                LISTED,
+                Word(Keyword::First),
+                IN,
+                WORDS,
+                RULES,
+            ],
+        ),
+        (
+            Form::ListedLast,
+            &[
+                WORDS,
+                RULE,
+                IS,
+                LISTED,
+                Word(Keyword::Last),
+                IN,
+                WORDS,
+                RULES,
+            ],
+        ),
+        (
+            Form::NotListed,
+            &[
+                WORDS,
+                RULE,
+                IS,
+                Word(Keyword::Not),
+                LISTED,
+                IN,
+                Word(Keyword::Any),
+                RULEBOOK,
+            ],
+        ),
+    ],
+    &[(
         Form::Action,
-        Form::Rulebook,
-        Form::Scene,
-        Form::RecurringScene,
+        &[WORDS, IS, Word(Keyword::An), Word(Keyword::Action), WORDS],
+    )],
+    &[(Form::Rulebook, &[WORDS, RULES, IS, A, RULEBOOK])],
+    &[
+        (Form::Scene, &[WORDS, IS, A, SCENE]),
+        (
+            Form::RecurringScene,
+            &[WORDS, IS, A, Word(Keyword::Recurring), SCENE],
+        ),
+    ],
+    &[(
         Form::KindOfKind,
+        &[WORDS, IS, A, Word(Keyword::Kind), OF, WORDS],
+    )],
+    &[(
         Form::EitherOr,
+        &[WORDS, Word(Keyword::Can), Word(Keyword::Be), WORDS],
+    )],
+    &[(
         Form::NumberProperty,
-        Form::Usually,
+        &[
+            WORDS,
+            Word(Keyword::Has),
+            A,
+            NUMBER,
+            Word(Keyword::Called),
+            WORDS,
+        ],
+    )],
+    &[(Form::Usually, &[WORDS, IS, Word(Keyword::Usually), WORDS])],
+    &[(
         Form::Variable,
+        &[
+            WORDS,
+            IS,
+            A,
+            NUMBER,
+            Word(Keyword::That),
+            Word(Keyword::Varies),
+        ],
+    )],
+    &[(
         Form::PropertyIsNumber,
-        Form::DoorWay,
-        Form::WayFrom,
-        Form::AboveFrom,
-        Form::BelowFrom,
-        Form::InsideFrom,
-        Form::OutsideFrom,
-        Form::WayTo,
-        Form::AboveTo,
-        Form::BelowTo,
-        Form::InsideTo,
-        Form::OutsideTo,
-        Form::Carries,
-        Form::Wears,
-        Form::InHolder,
-        Form::OnHolder,
-        Form::Rooms,
-        Form::Room,
-    ];
-}
-
-impl Form {
-    ghost use Rattle.i7_sentences.specs.Forms.{pieces_of};
-
-    /// The form's pieces, in order.
-    pub fn pieces(self) -> &'static [Piece]
-        ensures { result.now ≡ pieces_of self }
-    {
-        match self {
-            Form::SceneBegins => &[
-                Piece::Letter,
-                Piece::Word(Keyword::Begins),
-                Piece::Word(Keyword::When),
-                Piece::Letter,
-            ],
-            Form::SceneEnds => &[
-                Piece::Letter,
-                Piece::Word(Keyword::Ends),
-                Piece::Word(Keyword::When),
-                Piece::Letter,
-            ],
-            Form::ListedFirst => &[
-                Piece::Letter,
-                Piece::Word(Keyword::Rule),
-                Piece::Word(Keyword::Is),
-                Piece::Word(Keyword::Listed),
-                Piece::Word(Keyword::First),
-                Piece::Word(Keyword::In),
-                Piece::Letter,
-                Piece::Word(Keyword::Rules),
-            ],
-            Form::ListedLast => &[
-                Piece::Letter,
-                Piece::Word(Keyword::Rule),
-                Piece::Word(Keyword::Is),
-                Piece::Word(Keyword::Listed),
-                Piece::Word(Keyword::Last),
-                Piece::Word(Keyword::In),
-                Piece::Letter,
-                Piece::Word(Keyword::Rules),
-            ],
-            Form::NotListed => &[
-                Piece::Letter,
-                Piece::Word(Keyword::Rule),
-                Piece::Word(Keyword::Is),
-                Piece::Word(Keyword::Not),
-                Piece::Word(Keyword::Listed),
-                Piece::Word(Keyword::In),
-                Piece::Word(Keyword::Any),
-                Piece::Word(Keyword::Rulebook),
-            ],
-            Form::Action => &[
-                Piece::Letter,
-                Piece::Word(Keyword::Is),
-                Piece::Word(Keyword::An),
-                Piece::Word(Keyword::Action),
-                Piece::Letter,
-            ],
-            Form::Rulebook => &[
-                Piece::Letter,
-                Piece::Word(Keyword::Rules),
-                Piece::Word(Keyword::Is),
-                Piece::Word(Keyword::A),
-                Piece::Word(Keyword::Rulebook),
-            ],
-            Form::Scene => &[
-                Piece::Letter,
-                Piece::Word(Keyword::Is),
-                Piece::Word(Keyword::A),
-                Piece::Word(Keyword::Scene),
-            ],
-            Form::RecurringScene => &[
-                Piece::Letter,
-                Piece::Word(Keyword::Is),
-                Piece::Word(Keyword::A),
-                Piece::Word(Keyword::Recurring),
-                Piece::Word(Keyword::Scene),
-            ],
-            Form::KindOfKind => &[
-                Piece::Letter,
-                Piece::Word(Keyword::Is),
-                Piece::Word(Keyword::A),
-                Piece::Word(Keyword::Kind),
-                Piece::Word(Keyword::Of),
-                Piece::Letter,
-            ],
-            Form::EitherOr => &[
-                Piece::Letter,
-                Piece::Word(Keyword::Can),
-                Piece::Word(Keyword::Be),
-                Piece::Letter,
-            ],
-            Form::NumberProperty => &[
-                Piece::Letter,
-                Piece::Word(Keyword::Has),
-                Piece::Word(Keyword::A),
-                Piece::Word(Keyword::Number),
-                Piece::Word(Keyword::Called),
-                Piece::Letter,
-            ],
-            Form::Usually => &[
-                Piece::Letter,
-                Piece::Word(Keyword::Is),
-                Piece::Word(Keyword::Usually),
-                Piece::Letter,
-            ],
-            Form::Variable => &[
-                Piece::Letter,
-                Piece::Word(Keyword::Is),
-                Piece::Word(Keyword::A),
-                Piece::Word(Keyword::Number),
-                Piece::Word(Keyword::That),
-                Piece::Word(Keyword::Varies),
-            ],
-            Form::PropertyIsNumber => &[
-                Piece::Letter,
-                Piece::Word(Keyword::Of),
-                Piece::Letter,
-                Piece::Word(Keyword::Is),
-                Piece::Number,
-            ],
-            Form::DoorWay => &[
-                Piece::Letter,
-                Piece::Word(Keyword::Is),
-                Piece::Direction,
-                Piece::Word(Keyword::Of),
-                Piece::Letter,
-                Piece::Word(Keyword::And),
-                Piece::Direction,
-                Piece::Word(Keyword::Of),
-                Piece::Letter,
-            ],
-            Form::WayFrom => &[
-                Piece::Direction,
-                Piece::Word(Keyword::Of),
-                Piece::Letter,
-                Piece::Word(Keyword::Is),
-                Piece::Letter,
-            ],
-            Form::AboveFrom => &[
-                Piece::Word(Keyword::Above),
-                Piece::Letter,
-                Piece::Word(Keyword::Is),
-                Piece::Letter,
-            ],
-            Form::BelowFrom => &[
-                Piece::Word(Keyword::Below),
-                Piece::Letter,
-                Piece::Word(Keyword::Is),
-                Piece::Letter,
-            ],
-            Form::InsideFrom => &[
-                Piece::Word(Keyword::Inside),
-                Piece::Word(Keyword::From),
-                Piece::Letter,
-                Piece::Word(Keyword::Is),
-                Piece::Letter,
-            ],
-            Form::OutsideFrom => &[
-                Piece::Word(Keyword::Outside),
-                Piece::Word(Keyword::From),
-                Piece::Letter,
-                Piece::Word(Keyword::Is),
-                Piece::Letter,
-            ],
-            Form::WayTo => &[
-                Piece::Letter,
-                Piece::Word(Keyword::Is),
-                Piece::Direction,
-                Piece::Word(Keyword::Of),
-                Piece::Letter,
-            ],
-            Form::AboveTo => &[
-                Piece::Letter,
-                Piece::Word(Keyword::Is),
-                Piece::Word(Keyword::Above),
-                Piece::Letter,
-            ],
-            Form::BelowTo => &[
-                Piece::Letter,
-                Piece::Word(Keyword::Is),
-                Piece::Word(Keyword::Below),
-                Piece::Letter,
-            ],
-            Form::InsideTo => &[
-                Piece::Letter,
-                Piece::Word(Keyword::Is),
-                Piece::Word(Keyword::Inside),
-                Piece::Word(Keyword::From),
-                Piece::Letter,
-            ],
-            Form::OutsideTo => &[
-                Piece::Letter,
-                Piece::Word(Keyword::Is),
-                Piece::Word(Keyword::Outside),
-                Piece::Word(Keyword::From),
-                Piece::Letter,
-            ],
-            Form::Carries => &[Piece::Letter, Piece::Word(Keyword::Carries), Piece::Letter],
-            Form::Wears => &[Piece::Letter, Piece::Word(Keyword::Wears), Piece::Letter],
-            Form::InHolder => &[
-                Piece::Word(Keyword::In),
-                Piece::Letter,
-                Piece::Word(Keyword::Is),
-                Piece::Letter,
-            ],
-            Form::OnHolder => &[
-                Piece::Word(Keyword::On),
-                Piece::Letter,
-                Piece::Word(Keyword::Is),
-                Piece::Letter,
-            ],
-            Form::Rooms => &[
-                Piece::Letter,
-                Piece::Word(Keyword::And),
-                Piece::Letter,
-                Piece::Word(Keyword::Is),
-                Piece::Word(Keyword::A),
-                Piece::Word(Keyword::Room),
-            ],
-            Form::Room => &[
-                Piece::Letter,
-                Piece::Word(Keyword::Is),
-                Piece::Word(Keyword::A),
-                Piece::Word(Keyword::Room),
-            ],
-        }
-    }
-}
+        &[WORDS, OF, WORDS, IS, Letter(Class::Number)],
+    )],
+    &[
+        (Form::DoorTo, &[WORDS, IS, SIDE, WORDS, AND, SIDE, WORDS]),
+        (Form::WayTo, &[WORDS, IS, SIDE, WORDS]),
+        (Form::WayFrom, &[SIDE, WORDS, IS, WORDS]),
+    ],
+    &[
+        (Form::Carries, &[WORDS, Word(Keyword::Carries), NAMES]),
+        (Form::Wears, &[WORDS, Word(Keyword::Wears), NAMES]),
+        (Form::InHolder, &[IN, WORDS, IS, NAMES]),
+        (Form::OnHolder, &[Word(Keyword::On), WORDS, IS, NAMES]),
+    ],
+    &[(Form::Room, &[NAMES, IS, A, Word(Keyword::Room)])],
+];

@@ -1,29 +1,43 @@
-//! The words that sentence forms are made of.
-ghost use Rattle.std.specs.Prelude.{◌≡◌};
+//! The words and marks that sentence forms are made of, and those that no name may hold.
+ghost use Rattle.std.specs.Prelude.{◌≡◌, map};
+ghost use Rattle.i7_sentences.specs.Keywords.{keyword_in, keyword_of, keyword_spelled};
 
+use i7_lexer::{Token, TokenKind};
 use world_meaning::is_spelled;
 
-/// A word that stands in a sentence form.
+/// A word or mark that stands in a sentence form or in no name.
 #[derive(Clone, Copy, Debug, PartialEq, Eq)]
 pub enum Keyword {
     A,
     Above,
     Action,
+    After,
     An,
     And,
     Any,
     Be,
+    Before,
     Begins,
     Below,
+    By,
     Called,
     Can,
     Carries,
+    Carry,
+    Check,
+    Close,
+    Colon,
+    Comma,
+    During,
     Ends,
+    Every,
     First,
     From,
     Has,
+    If,
     In,
     Inside,
+    Instead,
     /// `is` or `are`
     Is,
     Kind,
@@ -33,85 +47,162 @@ pub enum Keyword {
     Number,
     Of,
     On,
+    Open,
+    Or,
+    Out,
     Outside,
+    Play,
     Recurring,
+    Report,
     Room,
     Rule,
     Rulebook,
     Rules,
     Scene,
+    Some,
     That,
     The,
+    Turn,
     Usually,
     Varies,
     Wears,
     When,
 }
 
-impl Keyword {
-    ghost use Rattle.i7_sentences.specs.Words.{is_copula, is_keyword, keyword_spelling};
+/// The keywords with their spellings in small letters, those of no letter first, then those of one,
+/// and so on.
+pub const KEYWORDS: [&[(&[u8], Keyword)]; 10] = [
+    &[],
+    &[
+        (b"a", Keyword::A),
+        (b",", Keyword::Comma),
+        (b":", Keyword::Colon),
+        (b"(", Keyword::Open),
+        (b")", Keyword::Close),
+    ],
+    &[
+        (b"an", Keyword::An),
+        (b"be", Keyword::Be),
+        (b"by", Keyword::By),
+        (b"if", Keyword::If),
+        (b"in", Keyword::In),
+        (b"is", Keyword::Is),
+        (b"of", Keyword::Of),
+        (b"on", Keyword::On),
+        (b"or", Keyword::Or),
+    ],
+    &[
+        (b"and", Keyword::And),
+        (b"any", Keyword::Any),
+        (b"are", Keyword::Is),
+        (b"can", Keyword::Can),
+        (b"has", Keyword::Has),
+        (b"not", Keyword::Not),
+        (b"out", Keyword::Out),
+        (b"the", Keyword::The),
+    ],
+    &[
+        (b"ends", Keyword::Ends),
+        (b"from", Keyword::From),
+        (b"kind", Keyword::Kind),
+        (b"last", Keyword::Last),
+        (b"play", Keyword::Play),
+        (b"room", Keyword::Room),
+        (b"rule", Keyword::Rule),
+        (b"some", Keyword::Some),
+        (b"that", Keyword::That),
+        (b"turn", Keyword::Turn),
+        (b"when", Keyword::When),
+    ],
+    &[
+        (b"above", Keyword::Above),
+        (b"after", Keyword::After),
+        (b"below", Keyword::Below),
+        (b"carry", Keyword::Carry),
+        (b"check", Keyword::Check),
+        (b"every", Keyword::Every),
+        (b"first", Keyword::First),
+        (b"rules", Keyword::Rules),
+        (b"scene", Keyword::Scene),
+        (b"wears", Keyword::Wears),
+    ],
+    &[
+        (b"action", Keyword::Action),
+        (b"before", Keyword::Before),
+        (b"begins", Keyword::Begins),
+        (b"called", Keyword::Called),
+        (b"during", Keyword::During),
+        (b"inside", Keyword::Inside),
+        (b"listed", Keyword::Listed),
+        (b"number", Keyword::Number),
+        (b"report", Keyword::Report),
+        (b"varies", Keyword::Varies),
+    ],
+    &[
+        (b"carries", Keyword::Carries),
+        (b"instead", Keyword::Instead),
+        (b"outside", Keyword::Outside),
+        (b"usually", Keyword::Usually),
+    ],
+    &[(b"rulebook", Keyword::Rulebook)],
+    &[(b"recurring", Keyword::Recurring)],
+];
 
-    /// The keyword in small letters.
-    pub fn spelling(self) -> &'static [u8]
-        ensures { result.now ≡ keyword_spelling self }
-    {
-        match self {
-            Keyword::A => b"a",
-            Keyword::Above => b"above",
-            Keyword::Action => b"action",
-            Keyword::An => b"an",
-            Keyword::And => b"and",
-            Keyword::Any => b"any",
-            Keyword::Be => b"be",
-            Keyword::Begins => b"begins",
-            Keyword::Below => b"below",
-            Keyword::Called => b"called",
-            Keyword::Can => b"can",
-            Keyword::Carries => b"carries",
-            Keyword::Ends => b"ends",
-            Keyword::First => b"first",
-            Keyword::From => b"from",
-            Keyword::Has => b"has",
-            Keyword::In => b"in",
-            Keyword::Inside => b"inside",
-            Keyword::Is => b"is",
-            Keyword::Kind => b"kind",
-            Keyword::Last => b"last",
-            Keyword::Listed => b"listed",
-            Keyword::Not => b"not",
-            Keyword::Number => b"number",
-            Keyword::Of => b"of",
-            Keyword::On => b"on",
-            Keyword::Outside => b"outside",
-            Keyword::Recurring => b"recurring",
-            Keyword::Room => b"room",
-            Keyword::Rule => b"rule",
-            Keyword::Rulebook => b"rulebook",
-            Keyword::Rules => b"rules",
-            Keyword::Scene => b"scene",
-            Keyword::That => b"that",
-            Keyword::The => b"the",
-            Keyword::Usually => b"usually",
-            Keyword::Varies => b"varies",
-            Keyword::Wears => b"wears",
-            Keyword::When => b"when",
+/// The articles that may stand before a name.
+pub const ARTICLES: [Keyword; 4] = [Keyword::A, Keyword::An, Keyword::The, Keyword::Some];
+
+/// The other words that no name of an object may hold.
+pub const RESERVED: [Keyword; 16] = [
+    Keyword::Is,
+    Keyword::In,
+    Keyword::On,
+    Keyword::Of,
+    Keyword::By,
+    Keyword::From,
+    Keyword::And,
+    Keyword::Or,
+    Keyword::Not,
+    Keyword::Usually,
+    Keyword::Kind,
+    Keyword::Rule,
+    Keyword::Rules,
+    Keyword::If,
+    Keyword::When,
+    Keyword::During,
+];
+
+/// The keyword of the first of these rows that is spelled as the word is.
+fn keyword_in(rows: &[(&[u8], Keyword)], word: &[u8]) -> Option<Keyword>
+    ensures { result ≡ keyword_in word.now (map (λ row. record { spelling = row.0.now; keyword = row.1 }) rows.now) }
+{
+    let mut rest = rows;
+    while let [row, after @ ..] = rest {
+        if is_spelled(word, row.0) {
+            return Some(row.1);
         }
+        rest = after;
     }
+    None
+}
 
-    /// Whether the keyword is `is`, which reads `are` too.
-    fn is_copula(self) -> bool
-        ensures { result ≡ is_copula self }
-    {
-        match self {
-            Keyword::Is => true,
-            _ => false,
-        }
+/// The keyword that is spelled so, letter case aside.
+#[tactic(auto, using(crate::proofs::Keywords::rows_there), unfolding(crate::specs::Keywords::all_keywords, crate::specs::Keywords::keyword_spelled))]
+fn keyword_spelled(word: &[u8]) -> Option<Keyword>
+    ensures { result ≡ keyword_spelled word.now }
+{
+    match KEYWORDS.get(word.len()) {
+        None => None,
+        Some(rows) => keyword_in(rows, word),
     }
+}
 
-    /// Whether the word is this keyword, letter case aside.
-    pub fn is_word(self, word: &[u8]) -> bool
-        ensures { result ≡ is_keyword self word.now }
-    {
-        is_spelled(word, self.spelling()) || self.is_copula() && is_spelled(word, b"are")
+/// The keyword that a token is, if it is one; texts are none.
+pub fn keyword_of(token: &Token) -> Option<Keyword>
+    ensures { result ≡ keyword_of token.now }
+{
+    match &token.kind {
+        TokenKind::Text(_) => None,
+        TokenKind::Word(word) => keyword_spelled(word.as_slice()),
+        TokenKind::Mark(mark) => keyword_spelled(&[*mark]),
     }
 }

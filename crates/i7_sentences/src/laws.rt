@@ -1,12 +1,9 @@
 //! Laws of the definitions that the reader is proved against.
-ghost use Rattle.std.specs.Prelude.{◌≡◌, ◌≢◌, ◌⊎◌, None, Some, Bool, List};
+ghost use Rattle.std.specs.Prelude.{◌≡◌, ◌≢◌, ◌⊎◌, Bool, List};
 ghost use Rattle.i7_lexer.specs.declared.token.Token.{Token};
 ghost use Rattle.i7_sentences.specs.declared.form.Form.{Form};
-ghost use Rattle.i7_sentences.specs.declared.form.Piece.{Piece};
 ghost use Rattle.i7_sentences.specs.Cuts.{cut};
-ghost use Rattle.i7_sentences.specs.Forms.{all_forms, Fits, IsShortestFit};
-ghost use Rattle.i7_sentences.specs.Matching.{Choice, first_fit, lowest_fit};
-ghost use Rattle.i7_sentences.specs.Readings.{IsReading, IsUnread};
+ghost use Rattle.i7_sentences.specs.Forms.{IsReading, IsUnread, Variant};
 ghost use Rattle.i7_sentences.specs.Seams.{IsCut};
 ghost use Rattle.i7_sentences.specs.Sources.{HasSentences, IsRefused};
 ghost use Rattle.i7_sentences.specs.declared.sentence.Sentence.{Sentence};
@@ -20,28 +17,15 @@ pub fn cut_is_exact()
     ensures alone { (same : Token → Token → Bool) (tokens : List Token) (pieces : List (List Token)) → IsCut same tokens pieces → pieces ≡ cut same tokens }
 {}
 
-/// What is found from left to right is the fit with the shortest letters, and where nothing is found
-/// the form doesn't fit.
-pub fn first_fit_is_shortest()
-    ensures found { (form : List Piece) (words : List Token) (letters : List (List Token)) → first_fit form words ≡ Some letters → IsShortestFit form words letters }
-    ensures none { (form : List Piece) (words : List Token) (letters : List (List Token)) → first_fit form words ≡ None → Fits form words letters → ⊥ }
-{}
-
-/// The form that is found one by one is the reading, and where none is found the words are unread.
-pub fn choice_is_reading()
-    ensures found { (words : List Token) (choice : Choice) → lowest_fit all_forms words ≡ Some choice → IsReading words choice.form choice.letters }
-    ensures none { (words : List Token) → lowest_fit all_forms words ≡ None → IsUnread words }
-{}
-
-/// No words have two readings.
+/// No words have two readings, whatever the forms.
 pub fn one_reading()
-    ensures { (words : List Token) (f g : Form) (a b : List (List Token)) → IsReading words f a → IsReading words g b → (f ≡ g) × (a ≡ b) }
+    ensures { (forms : List (List Variant)) (words : List Token) (f g : Form) (a b : List (List Token)) → IsReading forms words f a → IsReading forms words g b → (f ≡ g) × (a ≡ b) }
 {}
 
-/// All words have a reading or are unread, and none both.
+/// All words have a reading or are unread, and none both, whatever the forms.
 pub fn read_or_unread()
-    ensures one { (words : List Token) → ((form : Form) × (letters : List (List Token)) × IsReading words form letters) ⊎ IsUnread words }
-    ensures never_both { (words : List Token) (form : Form) (letters : List (List Token)) → IsReading words form letters → IsUnread words → ⊥ }
+    ensures one { (forms : List (List Variant)) (words : List Token) → ((form : Form) × (letters : List (List Token)) × IsReading forms words form letters) ⊎ IsUnread forms words }
+    ensures never_both { (forms : List (List Variant)) (words : List Token) (form : Form) (letters : List (List Token)) → IsReading forms words form letters → IsUnread forms words → ⊥ }
 {}
 
 /// No tokens spell two lists of sentences.

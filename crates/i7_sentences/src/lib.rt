@@ -4,29 +4,32 @@
 //! shortest words for each of the form's letters, and the names in it are tested.
 #![tactic(auto)]
 
+mod assertion;
+mod class;
 mod cut;
 mod form;
 mod keyword;
 mod laws;
 mod literal;
+mod lookahead;
 mod matcher;
 mod name;
 mod part;
 mod reader;
 mod reading;
 mod sentence;
-mod shape;
-#[cfg(test)]
-mod tests;
+mod tagged;
 mod word;
 
-pub use form::{Form, Piece};
-pub use keyword::Keyword;
+pub use class::{Class, State};
+pub use cut::HEADINGS;
+pub use form::{FORMS, Form, Piece};
+pub use keyword::{ARTICLES, KEYWORDS, Keyword, RESERVED};
 pub use laws::{
-    choice_is_reading, cut_is_exact, first_fit_is_shortest, one_list_of_sentences, one_reading,
-    one_refusal, read_or_unread, spelled_or_refused,
+    cut_is_exact, one_list_of_sentences, one_reading, one_refusal, read_or_unread,
+    spelled_or_refused,
 };
 pub use name::{Name, NameArticle};
 pub use part::{Part, PartKind};
 pub use reader::read;
-pub use sentence::{Saying, Sentence, Way};
+pub use sentence::{Assertion, Sentence, Way};

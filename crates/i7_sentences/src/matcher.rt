@@ -1,20 +1,67 @@
-//! The matcher: the letters of a form in a sentence, each as short as it can be, tried once.
-ghost use Rattle.std.specs.Prelude.{◌≡◌, ◌≤◌, length, map, option_map, IfOk, IfSome};
-ghost use Rattle.std.specs.List.{list_all};
-ghost use Rattle.i7_sentences.specs.Forms.{is_kept, is_letter};
-ghost use Rattle.i7_sentences.specs.Matching.{first_fit, is_fixed, leftmost_from, letter_len, rightmost, stands, taken};
+//! Fitting pieces to words from left to right: each letter ends at the nearest place from which the
+//! pieces behind it can fit.
+ghost use Rattle.std.specs.Prelude.{◌≡◌, ◌≤◌, ◌++◌, ◌∷◌, [], length, map, option_map, IfNone, IfOk, IfSome, IsTrue, None, Some, false};
+ghost use Rattle.std.specs.List.{list_any};
+ghost use Rattle.i7_sentences.specs.Keywords.{is_sign};
+ghost use Rattle.i7_sentences.specs.Matching.{behind_word, can_begin, can_fit, can_take, columns_of, first_column, first_fit, is_kept, is_missing, IsEndOf, left_by, letters_with, looked, nearest};
 
-use crate::Piece;
-use i7_lexer::Token;
+use crate::class::State;
+use crate::lookahead::{columns, looked};
+use crate::tagged::Tagged;
+use crate::{Class, Keyword, Piece};
 use std::alloc::{AllocError, Global};
 
-/// Whether the piece is a letter.
-fn is_letter(piece: Piece) -> bool
-    ensures { result ≡ is_letter piece }
+/// How many words are left behind a letter that ends as near as it can.
+fn nearest(class: Class, behind: &[bool], tokens: &[Tagged<'_>]) -> Option<usize>
+    ensures left { result ≡ nearest class State.Start (λ rest. looked behind.now (length rest)) tokens.now }
+    ensures within { IfSome result (λ left. left ≤ length tokens.now) }
+{
+    let mut state = State::Start;
+    let mut rest = tokens;
+    while let [token, after @ ..] = rest {
+        if state.accepts() && looked(behind, rest.len()) {
+            return Some(rest.len());
+        }
+        match class.step(state, token) {
+            None => return None,
+            Some(next) => {
+                state = next;
+                rest = after;
+            }
+        }
+    }
+    if state.accepts() && looked(behind, 0) {
+        Some(0)
+    } else {
+        None
+    }
+}
+
+/// How many words are left behind a word of the form.
+fn behind_word(keyword: Keyword, tokens: &[Tagged<'_>]) -> Option<usize>
+    ensures left { result ≡ behind_word keyword tokens.now }
+    ensures within { IfSome result (λ left. left ≤ length tokens.now) }
+{
+    match tokens {
+        [] => None,
+        [token, after @ ..] => {
+            if token.is_sign(keyword) {
+                Some(after.len())
+            } else {
+                None
+            }
+        }
+    }
+}
+
+/// How many words are left behind a piece.
+fn left_by(piece: Piece, behind: &[bool], tokens: &[Tagged<'_>]) -> Option<usize>
+    ensures left { result ≡ left_by piece (λ rest. looked behind.now (length rest)) tokens.now }
+    ensures within { IfSome result (λ left. left ≤ length tokens.now) }
 {
     match piece {
-        Piece::Letter => true,
-        Piece::Word(_) | Piece::Direction | Piece::Number => false,
+        Piece::Word(keyword) => behind_word(keyword, tokens),
+        Piece::Letter(class) => nearest(class, behind, tokens),
     }
 }
 
@@ -23,127 +70,166 @@ fn is_kept(piece: Piece) -> bool
     ensures { result ≡ is_kept piece }
 {
     match piece {
-        Piece::Letter | Piece::Direction | Piece::Number => true,
         Piece::Word(_) => false,
+        Piece::Letter(_) => true,
     }
 }
 
-/// Whether the tokens begin with the pieces up to the next letter.
-fn stands(form: &[Piece], tokens: &[Token]) -> bool
-    ensures { result ≡ stands form.now tokens.now }
+/// How many words are left behind a piece, by the column that was told for the pieces behind it.
+fn left_behind(
+    piece: Piece,
+    after: &[Piece],
+    tokens: &[Tagged<'_>],
+    rest: &[Tagged<'_>],
+    told: &mut Vec<Vec<bool>>,
+) -> Option<usize>
+    requires told { map (λ column. column.items) told.old.items ≡ columns_of after.now tokens.now ++ first_column after.now tokens.now ∷ [] }
+    requires suffix { IsEndOf rest.now tokens.now }
+    ensures told { map (λ column. column.items) told.new.items ≡ columns_of after.now tokens.now }
+    ensures left { result ≡ left_by piece (can_fit after.now) rest.now }
+    ensures within { IfSome result (λ left. left ≤ length rest.now) }
 {
-    let mut pieces = form;
-    let mut rest = tokens;
-    while let [piece, more @ ..] = pieces {
-        match rest {
-            [] => return is_letter(*piece),
-            [token, after @ ..] => {
-                if is_letter(*piece) {
-                    return true;
-                }
-                if !piece.takes(token) {
-                    return false;
-                }
-                rest = after;
+    match told.pop() {
+        None => None,
+        Some(behind) => left_by(piece, behind.as_slice(), rest),
+    }
+}
+
+/// The words behind a piece, if it takes some; a letter's words are added to the letters.
+fn take_piece<'a, 'b>(
+    piece: Piece,
+    after: &[Piece],
+    tokens: &[Tagged<'_>],
+    rest: &'a [Tagged<'b>],
+    told: &mut Vec<Vec<bool>>,
+    letters: &mut Vec<&'a [Tagged<'b>]>,
+) -> Result<Option<&'a [Tagged<'b>]>, AllocError>
+    requires told { map (λ column. column.items) told.old.items ≡ columns_of after.now tokens.now ++ first_column after.now tokens.now ∷ [] }
+    requires suffix { IsEndOf rest.now tokens.now }
+    ensures told { map (λ column. column.items) told.new.items ≡ columns_of after.now tokens.now }
+    ensures suffix { IfOk result (λ behind. IfSome behind (λ others. IsEndOf others.now tokens.now)) }
+    ensures none { IfOk result (λ behind. IfNone behind (first_fit (piece ∷ after.now) rest.now ≡ None)) }
+    ensures some { IfOk result (λ behind. IfSome behind (λ others. letters_with (map (λ letter. letter.now) letters.new.items) after.now others.now ≡ letters_with (map (λ letter. letter.now) letters.old.items) (piece ∷ after.now) rest.now)) }
+{
+    match left_behind(piece, after, tokens, rest, told) {
+        None => Ok(None),
+        Some(left) => {
+            let (words, others) = rest.split_at(rest.len() - left);
+            if is_kept(piece) {
+                letters.push(words)?;
             }
+            Ok(Some(others))
         }
-        pieces = more;
     }
-    true
 }
 
-/// The first place behind a first token where the pieces stand.
-fn leftmost(form: &[Piece], tokens: &[Token]) -> Option<usize>
-    ensures place { result ≡ leftmost_from 1 form.now tokens.now }
-    ensures within { IfSome result (λ place. place ≤ length tokens.now) }
+/// Whether a piece can take the token in front.
+fn can_take(piece: Piece, token: &Tagged<'_>) -> bool
+    ensures { result ≡ can_take piece token.now }
 {
-    let mut place = 1;
+    match piece {
+        Piece::Word(keyword) => token.is_sign(keyword),
+        Piece::Letter(class) => class.step(State::Start, token).is_some(),
+    }
+}
+
+/// Whether the first piece can take the first token.
+fn can_begin(pieces: &[Piece], tokens: &[Tagged<'_>]) -> bool
+    ensures { result ≡ can_begin pieces.now tokens.now }
+{
+    match pieces {
+        [] => true,
+        [piece, ..] => match tokens {
+            [] => false,
+            [token, ..] => can_take(*piece, token),
+        },
+    }
+}
+
+/// Whether a token is this word or mark.
+fn stands_in(keyword: Keyword, tokens: &[Tagged<'_>]) -> bool
+    ensures { result ≡ list_any (is_sign keyword) tokens.now }
+{
     let mut rest = tokens;
-    while let [_, after @ ..] = rest {
+    while let [token, after @ ..] = rest {
+        if token.is_sign(keyword) {
+            return true;
+        }
         rest = after;
-        if stands(form, after) {
-            return Some(place);
+    }
+    false
+}
+
+/// Whether the piece is a word of the form that stands nowhere among the tokens.
+fn is_missing(piece: Piece, tokens: &[Tagged<'_>]) -> bool
+    ensures { result ≡ is_missing tokens.now piece }
+{
+    match piece {
+        Piece::Word(keyword) => !stands_in(keyword, tokens),
+        Piece::Letter(_) => false,
+    }
+}
+
+/// Whether a word of the form stands nowhere among the tokens.
+fn lacks_word(pieces: &[Piece], tokens: &[Tagged<'_>]) -> bool
+    ensures { result ≡ list_any (is_missing tokens.now) pieces.now }
+{
+    let mut rest = pieces;
+    while let [piece, after @ ..] = rest {
+        if is_missing(*piece, tokens) {
+            return true;
         }
-        place += 1;
+        rest = after;
     }
-    None
+    false
 }
 
-/// The place where the pieces stand at the tokens' end.
-fn rightmost(form: &[Piece], tokens: &[Token]) -> Option<usize>
-    ensures place { result ≡ rightmost form.now tokens.now }
-    ensures within { IfSome result (λ place. place ≤ length tokens.now) }
+/// Whether these pieces fit the words left; the words for their letters are added to those so far.
+fn fits_from<'a, 'b>(
+    pieces: &[Piece],
+    tokens: &[Tagged<'_>],
+    rest: &'a [Tagged<'b>],
+    told: &mut Vec<Vec<bool>>,
+    letters: &mut Vec<&'a [Tagged<'b>]>,
+) -> Result<bool, AllocError>
+    requires told { map (λ column. column.items) told.old.items ≡ columns_of pieces.now tokens.now }
+    requires suffix { IsEndOf rest.now tokens.now }
+    ensures fits { IfOk result (λ fits. IsTrue fits → letters_with (map (λ letter. letter.now) letters.old.items) pieces.now rest.now ≡ Some (map (λ letter. letter.now) letters.new.items)) }
+    ensures unfit { IfOk result (λ fits. fits ≡ false → first_fit pieces.now rest.now ≡ None) }
 {
-    if form.len() >= tokens.len() {
-        return None;
-    }
-    let place = tokens.len() - form.len();
-    let (_, end) = tokens.split_at(place);
-    if stands(form, end) { Some(place) } else { None }
-}
-
-/// Whether no letter is among the pieces.
-fn are_fixed(form: &[Piece]) -> bool
-    ensures { result ≡ list_all is_fixed form.now }
-{
-    form.iter().all(|piece| !is_letter(*piece))
-}
-
-/// The length of the letter in front of these pieces: the shortest with which they can fit.
-fn letter_len(form: &[Piece], tokens: &[Token]) -> Option<usize>
-    ensures len { result ≡ letter_len form.now tokens.now }
-    ensures within { IfSome result (λ place. place ≤ length tokens.now) }
-{
-    if are_fixed(form) {
-        rightmost(form, tokens)
-    } else {
-        leftmost(form, tokens)
+    match pieces {
+        [] => Ok(rest.is_empty()),
+        [piece, after @ ..] => match take_piece(*piece, after, tokens, rest, told, letters)? {
+            None => Ok(false),
+            Some(others) => Ok(fits_from(after, tokens, others, told, letters)?),
+        },
     }
 }
 
-/// How many tokens the piece takes, with these pieces behind it.
-fn taken(piece: Piece, form: &[Piece], tokens: &[Token]) -> Option<usize>
-    ensures count { result ≡ taken piece form.now tokens.now }
-    ensures within { IfSome result (λ count. count ≤ length tokens.now) }
-{
-    match tokens {
-        [] => None,
-        [first, ..] => {
-            if is_letter(piece) {
-                letter_len(form, tokens)
-            } else if piece.takes(first) {
-                Some(1)
-            } else {
-                None
-            }
-        }
-    }
-}
-
-/// The words for the letters and classes of a form that fits the tokens, each letter as short as it
-/// can be, the first before the second; or none where the form doesn't fit.
-pub fn fit<'a>(
+/// The words for the letters of pieces that fit the tokens, each letter as short as it can be, the
+/// first before the second; or none where the pieces don't fit.
+#[tactic(auto, using(crate::proofs::Columns::never_fits, crate::proofs::Missing::missing_fits, crate::proofs::Missing::never_begins))]
+pub fn fit<'a, 'b>(
     alloc: Global,
     pieces: &[Piece],
-    tokens: &'a [Token],
-) -> Result<Option<Vec<&'a [Token]>>, AllocError>
+    tokens: &'a [Tagged<'b>],
+) -> Result<Option<Vec<&'a [Tagged<'b>]>>, AllocError>
     ensures { IfOk result (λ found. option_map (λ letters. map (λ letter. letter.now) letters.items) found ≡ first_fit pieces.now tokens.now) }
 {
-    let mut letters = Vec::new(alloc);
-    let mut form = pieces;
-    let mut rest = tokens;
-    while let [piece, after @ ..] = form {
-        form = after;
-        match taken(*piece, after, rest) {
-            None => return Ok(None),
-            Some(count) => {
-                let (words, behind) = rest.split_at(count);
-                rest = behind;
-                if is_kept(*piece) {
-                    letters.push(words)?;
-                }
-            }
-        }
+    if !can_begin(pieces, tokens) {
+        return Ok(None);
     }
-    Ok(if rest.is_empty() { Some(letters) } else { None })
+    if lacks_word(pieces, tokens) {
+        return Ok(None);
+    }
+    let mut told = Vec::new(alloc);
+    if columns(alloc, pieces, tokens, &mut told)?.is_none() {
+        return Ok(None);
+    }
+    let mut letters = Vec::new(alloc);
+    if fits_from(pieces, tokens, tokens, &mut told, &mut letters)? {
+        Ok(Some(letters))
+    } else {
+        Ok(None)
+    }
 }

@@ -1,11 +1,15 @@
 //! Names as a sentence mentions them.
 ghost use Rattle.std.specs.Prelude.{◌≡◌, IfOk, OnOk};
-ghost use Rattle.i7_sentences.specs.Senses.{article_of, has_article, is_some_article, joined, name_of, name_words, rest_of, with_word};
+ghost use Rattle.std.specs.List.{list_any};
+ghost use Rattle.i7_sentences.specs.Classes.{is_joint};
+ghost use Rattle.i7_sentences.specs.Names.{article_of, has_article, is_reserved_name, is_single, is_some_article, joined, name_of, name_words, rest_of, with_word};
 
-use crate::word::{is_article, word_of};
-use i7_lexer::Token;
+use crate::Keyword;
+use crate::class::is_joint;
+use crate::tagged::Tagged;
+use crate::word::word_of;
 use std::alloc::{AllocError, Global};
-use world_meaning::{TextBytes, is_spelled};
+use world_meaning::TextBytes;
 
 /// The article that a sentence puts before a name.
 #[derive(Clone, Copy, Debug, PartialEq, Eq)]
@@ -24,18 +28,18 @@ pub struct Name {
 }
 
 /// Whether an article stands before a name; an article alone is the name.
-fn has_article(letter: &[Token]) -> bool
+fn has_article(letter: &[Tagged<'_>]) -> bool
     ensures { result ≡ has_article letter.now }
 {
     match letter {
         [] => false,
         [_] => false,
-        [first, _, ..] => is_article(word_of(first)),
+        [first, _, ..] => first.is_article(),
     }
 }
 
 /// The words behind the first.
-fn rest_of(letter: &[Token]) -> &[Token]
+fn rest_of<'a, 'b>(letter: &'a [Tagged<'b>]) -> &'a [Tagged<'b>]
     ensures { result.now ≡ rest_of letter.now }
 {
     match letter {
@@ -45,7 +49,7 @@ fn rest_of(letter: &[Token]) -> &[Token]
 }
 
 /// The words of a name without the one free article in front, unless it is all there is.
-pub fn name_words(letter: &[Token]) -> &[Token]
+fn name_words<'a, 'b>(letter: &'a [Tagged<'b>]) -> &'a [Tagged<'b>]
     ensures { result.now ≡ name_words letter.now }
 {
     if has_article(letter) {
@@ -56,17 +60,17 @@ pub fn name_words(letter: &[Token]) -> &[Token]
 }
 
 /// Whether the first word is `some`.
-fn is_some_article(letter: &[Token]) -> bool
+fn is_some_article(letter: &[Tagged<'_>]) -> bool
     ensures { result ≡ is_some_article letter.now }
 {
     match letter {
         [] => false,
-        [first, ..] => is_spelled(word_of(first), b"some"),
+        [first, ..] => first.is_sign(Keyword::Some),
     }
 }
 
 /// The article before a name.
-fn article_of(letter: &[Token]) -> NameArticle
+fn article_of(letter: &[Tagged<'_>]) -> NameArticle
     ensures { result ≡ article_of letter.now }
 {
     if !has_article(letter) {
@@ -79,18 +83,18 @@ fn article_of(letter: &[Token]) -> NameArticle
 }
 
 /// Adds a word, parted by one space from what is there.
-fn add_word(bytes: &mut Vec<u8>, word: &Token) -> Result<(), AllocError>
+fn add_word(bytes: &mut Vec<u8>, word: &Tagged<'_>) -> Result<(), AllocError>
     ensures { OnOk result (bytes.new.items ≡ with_word bytes.old.items word.now) }
 {
     if !bytes.is_empty() {
         bytes.push(b' ')?;
     }
-    bytes.extend_from_slice(word_of(word))?;
+    bytes.extend_from_slice(word_of(word.token()))?;
     Ok(())
 }
 
 /// The words as written, parted by one space.
-fn joined(alloc: Global, words: &[Token]) -> Result<TextBytes, AllocError>
+fn joined(alloc: Global, words: &[Tagged<'_>]) -> Result<TextBytes, AllocError>
     ensures { IfOk result (λ text. text ≡ joined words.now) }
 {
     let mut bytes = Vec::new(alloc);
@@ -103,11 +107,39 @@ fn joined(alloc: Global, words: &[Token]) -> Result<TextBytes, AllocError>
 }
 
 /// The name that these words mention.
-pub fn name_of(alloc: Global, letter: &[Token]) -> Result<Name, AllocError>
+pub fn name_of(alloc: Global, letter: &[Tagged<'_>]) -> Result<Name, AllocError>
     ensures { IfOk result (λ name. name ≡ name_of letter.now) }
 {
     Ok(Name {
         text: joined(alloc, name_words(letter))?,
         article: article_of(letter),
     })
+}
+
+/// Whether a token parts two names.
+fn has_joint(tokens: &[Tagged<'_>]) -> bool
+    ensures { result ≡ list_any is_joint tokens.now }
+{
+    let mut rest = tokens;
+    while let [token, after @ ..] = rest {
+        if is_joint(token) {
+            return true;
+        }
+        rest = after;
+    }
+    false
+}
+
+/// Whether a list of names is one name.
+pub fn is_single(letter: &[Tagged<'_>]) -> bool
+    ensures { result ≡ is_single letter.now }
+{
+    !has_joint(rest_of(letter))
+}
+
+/// Whether a name holds a reserved word, its free article aside.
+pub fn is_reserved_name(letter: &[Tagged<'_>]) -> bool
+    ensures { result ≡ is_reserved_name letter.now }
+{
+    name_words(letter).iter().any(|word| word.is_reserved())
 }

@@ -1,10 +1,10 @@
-//! What a sentence says.
+//! Sentences and what they assert.
 use crate::Name;
 use world_meaning::{Direction, TextBytes};
 
-/// What one sentence says.
+/// What one sentence asserts, its names as it mentions them.
 #[derive(Debug, Drop)]
-pub enum Saying {
+pub enum Assertion {
     /// A text that stands alone: the description of the room of the sentence before.
     Description(TextBytes),
     /// `the hall is a room`
@@ -26,6 +26,6 @@ pub struct Way {
 /// A sentence and the line, counted from 1, of its first token.
 #[derive(Debug, Drop)]
 pub struct Sentence {
-    pub saying: Saying,
+    pub said: Assertion,
     pub line: u32,
 }

@@ -1,6 +1,6 @@
-//! Words of a sentence: their bytes, directions, articles, reserved words.
+//! What a token is, its bytes, and the direction that a word names.
 ghost use Rattle.std.specs.Prelude.{◌≡◌, find};
-ghost use Rattle.i7_sentences.specs.Words.{direction_named, is_article, is_reserved, is_reserved_link, is_reserved_noun, names_direction, word_of};
+ghost use Rattle.i7_sentences.specs.Words.{direction_named, is_text, is_word, names_direction, word_of};
 
 use i7_lexer::{Token, TokenKind};
 use world_meaning::{Direction, is_spelled};
@@ -12,6 +12,26 @@ pub fn word_of(token: &Token) -> &[u8]
     match &token.kind {
         TokenKind::Word(word) => word.as_slice(),
         TokenKind::Text(_) | TokenKind::Mark(_) => &[],
+    }
+}
+
+/// Whether the token is a word.
+pub fn is_word(token: &Token) -> bool
+    ensures { result ≡ is_word token.now }
+{
+    match &token.kind {
+        TokenKind::Word(_) => true,
+        TokenKind::Text(_) | TokenKind::Mark(_) => false,
+    }
+}
+
+/// Whether the token is a text.
+pub fn is_text(token: &Token) -> bool
+    ensures { result ≡ is_text token.now }
+{
+    match &token.kind {
+        TokenKind::Text(_) => true,
+        TokenKind::Word(_) | TokenKind::Mark(_) => false,
     }
 }
 
@@ -41,50 +61,4 @@ pub fn direction_of(word: &[u8]) -> Option<Direction>
     ensures { result ≡ direction_named word.now }
 {
     first_named(word, &Direction::ALL)
-}
-
-/// Whether the word is `a`, `an`, `the` or `some`.
-pub fn is_article(word: &[u8]) -> bool
-    ensures { result ≡ is_article word.now }
-{
-    is_spelled(word, b"a")
-        || is_spelled(word, b"an")
-        || is_spelled(word, b"the")
-        || is_spelled(word, b"some")
-}
-
-/// Whether the word may stand in no name of an object.
-pub fn is_reserved(word: &[u8]) -> bool
-    ensures { result ≡ is_reserved word.now }
-{
-    is_article(word) || is_reserved_link(word) || is_reserved_noun(word)
-}
-
-/// Whether the word is one that joins others.
-fn is_reserved_link(word: &[u8]) -> bool
-    ensures { result ≡ is_reserved_link word.now }
-{
-    is_spelled(word, b"is")
-        || is_spelled(word, b"are")
-        || is_spelled(word, b"in")
-        || is_spelled(word, b"on")
-        || is_spelled(word, b"of")
-        || is_spelled(word, b"by")
-        || is_spelled(word, b"from")
-        || is_spelled(word, b"and")
-        || is_spelled(word, b"or")
-        || is_spelled(word, b"not")
-}
-
-/// Whether the word is one of those that rules and kinds are made with.
-fn is_reserved_noun(word: &[u8]) -> bool
-    ensures { result ≡ is_reserved_noun word.now }
-{
-    is_spelled(word, b"usually")
-        || is_spelled(word, b"kind")
-        || is_spelled(word, b"rule")
-        || is_spelled(word, b"rules")
-        || is_spelled(word, b"if")
-        || is_spelled(word, b"when")
-        || is_spelled(word, b"during")
 }

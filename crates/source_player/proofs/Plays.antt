@@ -5,23 +5,40 @@ use Rattle.world_meaning.specs.Games.{Game}
 use Rattle.world_meaning.specs.Session.{State, opened}
 use Rattle.story_player.specs.Runs.{BrokeOff, streams_of, most_input}
 use Rattle.story_player.specs.declared.playing.RunFault.{RunFault}
-use Rattle.world_meaning.specs.StandardGame.{game_of_tale}
+use Rattle.world_meaning.proofs.Agreement.{one_facts}
+use Rattle.world_meaning.specs.Facts.{Agree}
+use Rattle.world_meaning.specs.StandardGame.{game_of, game_of_tale}
+use Rattle.world_meaning.specs.Tale.{facts_of_tale}
 use Rattle.world_meaning.specs.declared.session.Ending.{Ending}
 use Rattle.world_meaning.specs.declared.tale.Tale.{Tale}
-use Rattle.story_format.proofs.ReadingLemmas.{not_refused, same_tale}
+use Rattle.story_format.proofs.ReadingLemmas.{not_refused, same_story}
 use Rattle.story_format.specs.Refusals.{IsRefused as IsNoStory}
 use Rattle.story_format.specs.declared.fault.LoadFault.{LoadFault}
 use Rattle.story_format.specs.declared.fault.LoadFault.TheVariants.{Memory}
+use Rattle.story_format.specs.Carrying.{Carries}
 use Rattle.story_format.specs.Spells.{Spells}
+use Rattle.story_format.specs.declared.tables.Tables.{Tables}
 use Rattle.story_file.specs.Compilations.{IsCompiled}
-use Rattle.story_player.specs.StoryGames.{game_of_story}
+use Rattle.story_player.specs.StoryGames.{facts_of_story, game_of_story}
 use Rattle.source_player.specs.SourceRuns.{BrokeOffGame, LeavesSource, LeavesStory, PlayedGame, PlayedSource, PlayedStory}
 use Rattle.source_player.specs.declared.source_run.SourceRunFault.{SourceRunFault}
 use Rattle.source_player.specs.declared.source_run.SourceRunFault.TheVariants.{Source, Story, Start, Run}
 
+-- tables that carry a tale have its facts
+pub carried : (story : Tables) (tale : Tale) → Carries story tale → Agree (facts_of_story story) (facts_of_tale tale)
+carried story tale carries = record {
+  count = carries.count;
+  name = carries.names;
+  description = carries.descriptions;
+  way = carries.ways;
+  start = carries.start;
+}
+
 -- the story's game is the tale's
-pub same_game : (source bytes : List ℕ) (compiled : IsCompiled source bytes) (story : Tale) → Spells bytes story → game_of_story story ≡ game_of_tale compiled.tale
-same_game source bytes compiled story spells = ap game_of_tale (same_tale bytes story compiled.tale spells compiled.spells)
+pub same_game : (source bytes : List ℕ) (compiled : IsCompiled source bytes) (story : Tables) → Spells bytes story → game_of_story story ≡ game_of_tale compiled.tale
+same_game source bytes compiled story spells =
+    ap game_of_story (same_story bytes story compiled.tables spells compiled.spells)
+    ∙ ap game_of (one_facts (facts_of_story compiled.tables) (facts_of_tale compiled.tale) (carried compiled.tables compiled.tale compiled.carries))
 
 pub played_source : (source bytes : List ℕ) (echo : Bool) (unread rest held now : Option (List ℕ)) (result : Result Ending SourceRunFault) → IsCompiled source bytes → IfOk result (PlayedStory bytes echo (streams_of unread held) (streams_of rest now)) → IfOk result (PlayedSource source echo (streams_of unread held) (streams_of rest now))
 played_source source bytes echo unread rest held now (Err fault) compiled played = tt
@@ -33,7 +50,7 @@ played_source source bytes echo unread rest held now (Ok ending) compiled played
 
 -- what was compiled is a story: of its faults only memory is left
 pub story_fault : (source bytes : List ℕ) (fault : LoadFault) → IsCompiled source bytes → IsNoStory fault bytes → fault ≡ Memory
-story_fault source bytes fault compiled refused = not_refused bytes compiled.tale fault compiled.spells refused
+story_fault source bytes fault compiled refused = not_refused bytes compiled.tables fault compiled.spells refused
 
 pub left_source : (source bytes : List ℕ) (echo : Bool) (unread rest held now : Option (List ℕ)) (result : Result Ending SourceRunFault) → IsCompiled source bytes → IfErr result (λ fault. LeavesStory fault bytes echo (streams_of unread held) (streams_of rest now)) → IfErr result (λ fault. LeavesSource fault source echo (streams_of unread held) (streams_of rest now))
 left_source source bytes echo unread rest held now (Ok ending) compiled left = tt

@@ -8,6 +8,7 @@ use Rattle.world_meaning.specs.declared.session.Ending.{Ending}
 use Rattle.world_meaning.specs.declared.tale.Tale.{Tale}
 use Rattle.story_format.specs.Refusals.{IsRefused as IsNoStory}
 use Rattle.story_format.specs.Spells.{Spells}
+use Rattle.story_format.specs.declared.tables.Tables.{Tables}
 use Rattle.story_format.specs.declared.fault.LoadFault.TheVariants as load
 use Rattle.story_file.specs.Compilations.{IsRefused, Means}
 use Rattle.story_player.specs.Breaks.{Blames}
@@ -32,12 +33,12 @@ pub record BrokeOffGame (fault : RunFault) (g : Game) (echo : Bool) (before afte
 
 -- Bytes that spell a story were played: its own game.
 pub record PlayedStory (bytes : List ℕ) (echo : Bool) (before after : Streams) (ending : Ending) : Type 0 where
-  pub story : Tale
+  pub story : Tables
   pub spells : Spells bytes story
   pub played : PlayedGame (game_of_story story) echo before after ending
 
 pub record BrokeOffStory (fault : RunFault) (bytes : List ℕ) (echo : Bool) (before after : Streams) : Type 0 where
-  pub story : Tale
+  pub story : Tables
   pub spells : Spells bytes story
   pub broke : BrokeOffGame fault (game_of_story story) echo before after
 

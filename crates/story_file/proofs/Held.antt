@@ -13,13 +13,17 @@ use Rattle.world_meaning.specs.declared.fault.Fault.{Fault}
 use Rattle.world_meaning.specs.declared.fault.FaultCode.TheVariants.{NoRoom, TooMany, Twice, TwoPlaces, WrongKind}
 use Rattle.world_meaning.specs.declared.tale.Tale.{Tale}
 use Rattle.i7_sentences.specs.declared.name.Name.{Name}
-use Rattle.i7_sentences.specs.declared.sentence.Saying.{Saying}
-use Rattle.i7_sentences.specs.declared.sentence.Saying.TheVariants.{Description, Room, Way}
+use Rattle.i7_sentences.specs.declared.sentence.Assertion.{Assertion}
+use Rattle.i7_sentences.specs.declared.sentence.Assertion.TheVariants.{Description, Room, Way}
 use Rattle.i7_sentences.specs.declared.sentence.Sentence.{Sentence}
 use Rattle.object_words.specs.Words.{more_words, words_for}
-use Rattle.i7_kinds.specs.Demands.{Description as Described, Lead, descriptions_of, description_of, first_target, implied_in, implied_leads, is_exit, is_wrong, lead_of, line_at, line_of_description, second_description, second_target, stated_in, stated_leads, subject_of, taken_name, target_of, wrong_after, wrong_kind}
+use Rattle.i7_kinds.specs.Demands.{Lead, descriptions_of, description_of, first_target, implied_in, implied_leads, is_exit, is_wrong, lead_of, line_at, line_of_description, second_description, second_target, stated_in, stated_leads, subject_of, taken_name, target_of, wrong_after, wrong_kind}
 use Rattle.i7_kinds.specs.Firsts.{first_of}
-use Rattle.i7_kinds.specs.Statements.{Fact, IsRoom, LeadsTo, NameAt, Named, Statement, Told, built_in_keys, fact_in, has_key, key_of, named_by, names_at, number_in, stated_by, statement_in, with_name, with_names_of}
+use Rattle.i7_kinds.specs.Statements.{NameAt, Named, built_in_keys, numbered_in, has_key, key_of, named_by, names_at, number_in, stated_by, statement_in, with_name, with_names_of}
+use Rattle.i7_kinds.specs.declared.descriptions.Description.{Description as Described}
+use Rattle.i7_kinds.specs.declared.statements.Numbered.{Numbered}
+use Rattle.i7_kinds.specs.declared.statements.Numbered.TheVariants as numbered
+use Rattle.i7_kinds.specs.declared.statements.NumberedSentence.{NumberedSentence}
 use Rattle.i7_kinds.specs.Tales.{direction_object, earlier, exits_of, frame_refusal, has_long_name, has_long_text, is_too_long, limit_refusal, name_too_long, no_room, object_too_many, objects_of, or_refused, refusal_at, room_of, rooms_from, tale_said, text_too_long, way_to}
 use Rattle.i7_kinds.proofs.Bounds.{counted-source, few_objects, first_none_both, unmapped, unrefused}
 use Rattle.story_format.specs.Holding.{has_few_words, has_short_texts, is_short, is_short_or_none, IsHeld}
@@ -96,10 +100,10 @@ number_there keys key h =
     rw inside t
 
 -- the objects of a fact are below this number
-abbrev is_below : ℕ → Fact → Bool
-is_below n (Told text) = true
-is_below n (IsRoom o) = true
-is_below n (LeadsTo subject direction room) = ltb subject n && ltb room n
+abbrev is_below : ℕ → Numbered → Bool
+is_below n (numbered.Description text) = true
+is_below n (numbered.Room o) = true
+is_below n (numbered.Way way) = ltb way.subject n && ltb way.room n
 
 two_there : (keys : List (List ℕ)) (a b : Name) → has_key keys (key_of a.text) ≡ true → has_key keys (key_of b.text) ≡ true → (ltb (number_in keys (key_of a.text)) (length keys) && ltb (number_in keys (key_of b.text)) (length keys)) ≡ true
 two_there keys a b h k = both (ltb (number_in keys (key_of a.text)) (length keys)) (ltb (number_in keys (key_of b.text)) (length keys)) (lt-ltb _ _ (number_there keys (key_of a.text) h)) (lt-ltb _ _ (number_there keys (key_of b.text) k))
@@ -113,19 +117,19 @@ way_below keys subject room false line h =
     let t = both_are (has_key keys (key_of subject.text)) (has_key keys (key_of room.text) && true) h in
     two_there keys subject room t.0 (both_are (has_key keys (key_of room.text)) true t.1).0
 
-saying_below : (named : Named) (saying : Saying) (line : ℕ) → has_names named.keys (record { saying = saying; line = line }) ≡ true → is_below (length named.keys) (fact_in named saying) ≡ true
-saying_below named (Description text) line h = refl
-saying_below named (Room name) line h = refl
-saying_below named (Way way) line h = way_below named.keys way.subject way.room way.is_room_first line h
+assertion_below : (named : Named) (said : Assertion) (line : ℕ) → has_names named.keys (record { said = said; line = line }) ≡ true → is_below (length named.keys) (numbered_in named said) ≡ true
+assertion_below named (Description text) line h = refl
+assertion_below named (Room name) line h = refl
+assertion_below named (Way way) line h = way_below named.keys way.subject way.room way.is_room_first line h
 
-abbrev are_below : ℕ → Statement → Bool
-are_below n statement = is_below n statement.fact
+abbrev are_below : ℕ → NumberedSentence → Bool
+are_below n statement = is_below n statement.said
 
 all_below : (named : Named) (sentences : List Sentence) → list_all (has_names named.keys) sentences ≡ true → list_all (are_below (length named.keys)) (map (statement_in named) sentences) ≡ true
 all_below named [] h = refl
 all_below named (sentence ∷ sentences) h =
     let t = both_are (has_names named.keys sentence) (list_all (has_names named.keys) sentences) h in
-    both (are_below (length named.keys) (statement_in named sentence)) (list_all (are_below (length named.keys)) (map (statement_in named) sentences)) (saying_below named sentence.saying sentence.line t.0) (all_below named sentences t.1)
+    both (are_below (length named.keys) (statement_in named sentence)) (list_all (are_below (length named.keys)) (map (statement_in named) sentences)) (assertion_below named sentence.said sentence.line t.0) (all_below named sentences t.1)
 
 source_below : (sentences : List Sentence) → list_all (are_below (13 + length (named_by sentences).mentions)) (stated_by sentences) ≡ true
 source_below sentences =
@@ -134,32 +138,32 @@ source_below sentences =
 -- ---- ways lead between rooms
 
 -- the objects of a fact are rooms
-abbrev is_of_rooms : ℕ → Fact → Bool
-is_of_rooms n (Told text) = true
-is_of_rooms n (IsRoom o) = true
-is_of_rooms n (LeadsTo subject direction room) = is_room_number n subject && is_room_number n room
+abbrev is_of_rooms : ℕ → Numbered → Bool
+is_of_rooms n (numbered.Description text) = true
+is_of_rooms n (numbered.Room o) = true
+is_of_rooms n (numbered.Way way) = is_room_number n way.subject && is_room_number n way.room
 
-abbrev are_of_rooms : ℕ → Statement → Bool
-are_of_rooms n statement = is_of_rooms n statement.fact
+abbrev are_of_rooms : ℕ → NumberedSentence → Bool
+are_of_rooms n statement = is_of_rooms n statement.said
 
-between : (n : ℕ) (before : Option ℕ) (fact : Fact) → is_wrong before fact ≡ false → is_below n fact ≡ true → is_of_rooms n fact ≡ true
-between n before (Told text) h k = refl
-between n before (IsRoom o) h k = refl
-between n before (LeadsTo subject direction room) h k =
-    let t = none_or (ltb subject 13) (ltb room 13) h in
-    let u = both_are (ltb subject n) (ltb room n) k in
-    both (is_room_number n subject) (is_room_number n room) (both (leb 13 subject) (ltb subject n) (le-leb _ _ (ltb-false _ _ t.0)) u.0) (both (leb 13 room) (ltb room n) (le-leb _ _ (ltb-false _ _ t.1)) u.1)
+between : (n : ℕ) (before : Option ℕ) (fact : Numbered) → is_wrong before fact ≡ false → is_below n fact ≡ true → is_of_rooms n fact ≡ true
+between n before (numbered.Description text) h k = refl
+between n before (numbered.Room o) h k = refl
+between n before (numbered.Way way) h k =
+    let t = none_or (ltb way.subject 13) (ltb way.room 13) h in
+    let u = both_are (ltb way.subject n) (ltb way.room n) k in
+    both (is_room_number n way.subject) (is_room_number n way.room) (both (leb 13 way.subject) (ltb way.subject n) (le-leb _ _ (ltb-false _ _ t.0)) u.0) (both (leb 13 way.room) (ltb way.room n) (le-leb _ _ (ltb-false _ _ t.1)) u.1)
 
 none_wrong : (wrong : Bool) (line : ℕ) (later : Option ℕ) → cond wrong (Some line) later ≡ None → (wrong ≡ false) × (later ≡ None)
 none_wrong true line later h = absurd cc
 none_wrong false line later h = (refl, h)
 
-all_of_rooms : (n : ℕ) (before : Option ℕ) (statements : List Statement) → wrong_after before statements ≡ None → list_all (are_below n) statements ≡ true → list_all (are_of_rooms n) statements ≡ true
+all_of_rooms : (n : ℕ) (before : Option ℕ) (statements : List NumberedSentence) → wrong_after before statements ≡ None → list_all (are_below n) statements ≡ true → list_all (are_of_rooms n) statements ≡ true
 all_of_rooms n before [] h k = refl
 all_of_rooms n before (statement ∷ statements) h k =
-    let t = none_wrong (is_wrong before statement.fact) statement.line (wrong_after (subject_of statement.fact) statements) h in
+    let t = none_wrong (is_wrong before statement.said) statement.line (wrong_after (subject_of statement.said) statements) h in
     let u = both_are (are_below n statement) (list_all (are_below n) statements) k in
-    both (are_of_rooms n statement) (list_all (are_of_rooms n) statements) (between n before statement.fact t.0 u.0) (all_of_rooms n (subject_of statement.fact) statements t.1 u.1)
+    both (are_of_rooms n statement) (list_all (are_of_rooms n) statements) (between n before statement.said t.0 u.0) (all_of_rooms n (subject_of statement.said) statements t.1 u.1)
 
 lead_room : (n : ℕ) (lead : Lead) (leads : List Lead) (room direction : ℕ) → is_room_number n lead.target ≡ true → is_room_or_none n (first_target leads room direction) ≡ true → is_room_or_none n (first_target (lead ∷ leads) room direction) ≡ true
 lead_room n lead leads room direction h k =
@@ -168,48 +172,48 @@ lead_room n lead leads room direction h k =
       | inr isnt ↦ rw isnt k
     ]
 
-stated_one : (n : ℕ) (fact : Fact) (line : ℕ) (leads : List Lead) (room direction : ℕ) → is_of_rooms n fact ≡ true → is_room_or_none n (first_target leads room direction) ≡ true → is_room_or_none n (first_target (stated_in fact line ++ leads) room direction) ≡ true
-stated_one n (Told text) line leads room direction h k = k
-stated_one n (IsRoom o) line leads room direction h k = k
-stated_one n (LeadsTo subject towards from) line leads room direction h k = lead_room n (lead_of subject towards from line) leads room direction (both_are (is_room_number n subject) (is_room_number n from) h).0 k
+stated_one : (n : ℕ) (fact : Numbered) (line : ℕ) (leads : List Lead) (room direction : ℕ) → is_of_rooms n fact ≡ true → is_room_or_none n (first_target leads room direction) ≡ true → is_room_or_none n (first_target (stated_in fact line ++ leads) room direction) ≡ true
+stated_one n (numbered.Description text) line leads room direction h k = k
+stated_one n (numbered.Room o) line leads room direction h k = k
+stated_one n (numbered.Way way) line leads room direction h k = lead_room n (lead_of way.subject way.direction way.room line) leads room direction (both_are (is_room_number n way.subject) (is_room_number n way.room) h).0 k
 
-implied_one : (n : ℕ) (fact : Fact) (line : ℕ) (leads : List Lead) (room direction : ℕ) → is_of_rooms n fact ≡ true → is_room_or_none n (first_target leads room direction) ≡ true → is_room_or_none n (first_target (implied_in fact line ++ leads) room direction) ≡ true
-implied_one n (Told text) line leads room direction h k = k
-implied_one n (IsRoom o) line leads room direction h k = k
-implied_one n (LeadsTo subject towards from) line leads room direction h k = lead_room n (lead_of from (opposite_of towards) subject line) leads room direction (both_are (is_room_number n subject) (is_room_number n from) h).1 k
+implied_one : (n : ℕ) (fact : Numbered) (line : ℕ) (leads : List Lead) (room direction : ℕ) → is_of_rooms n fact ≡ true → is_room_or_none n (first_target leads room direction) ≡ true → is_room_or_none n (first_target (implied_in fact line ++ leads) room direction) ≡ true
+implied_one n (numbered.Description text) line leads room direction h k = k
+implied_one n (numbered.Room o) line leads room direction h k = k
+implied_one n (numbered.Way way) line leads room direction h k = lead_room n (lead_of way.room (opposite_of way.direction) way.subject line) leads room direction (both_are (is_room_number n way.subject) (is_room_number n way.room) h).1 k
 
-stated_rooms : (n : ℕ) (statements : List Statement) (room direction : ℕ) → list_all (are_of_rooms n) statements ≡ true → is_room_or_none n (first_target (stated_leads statements) room direction) ≡ true
+stated_rooms : (n : ℕ) (statements : List NumberedSentence) (room direction : ℕ) → list_all (are_of_rooms n) statements ≡ true → is_room_or_none n (first_target (stated_leads statements) room direction) ≡ true
 stated_rooms n [] room direction h = refl
 stated_rooms n (statement ∷ statements) room direction h =
     let t = both_are (are_of_rooms n statement) (list_all (are_of_rooms n) statements) h in
-    stated_one n statement.fact statement.line (stated_leads statements) room direction t.0 (stated_rooms n statements room direction t.1)
+    stated_one n statement.said statement.line (stated_leads statements) room direction t.0 (stated_rooms n statements room direction t.1)
 
-implied_rooms : (n : ℕ) (statements : List Statement) (room direction : ℕ) → list_all (are_of_rooms n) statements ≡ true → is_room_or_none n (first_target (implied_leads statements) room direction) ≡ true
+implied_rooms : (n : ℕ) (statements : List NumberedSentence) (room direction : ℕ) → list_all (are_of_rooms n) statements ≡ true → is_room_or_none n (first_target (implied_leads statements) room direction) ≡ true
 implied_rooms n [] room direction h = refl
 implied_rooms n (statement ∷ statements) room direction h =
     let t = both_are (are_of_rooms n statement) (list_all (are_of_rooms n) statements) h in
-    implied_one n statement.fact statement.line (implied_leads statements) room direction t.0 (implied_rooms n statements room direction t.1)
+    implied_one n statement.said statement.line (implied_leads statements) room direction t.0 (implied_rooms n statements room direction t.1)
 
 either_room : (n : ℕ) (a b : Option ℕ) → is_room_or_none n a ≡ true → is_room_or_none n b ≡ true → is_room_or_none n (first_of a b) ≡ true
 either_room n None b h k = k
 either_room n (Some o) b h k = h
 
-targets_rooms : (n : ℕ) (statements : List Statement) → list_all (are_of_rooms n) statements ≡ true → (room direction : ℕ) → is_room_or_none n (target_of statements room direction) ≡ true
+targets_rooms : (n : ℕ) (statements : List NumberedSentence) → list_all (are_of_rooms n) statements ≡ true → (room direction : ℕ) → is_room_or_none n (target_of statements room direction) ≡ true
 targets_rooms n statements h room direction = either_room n (first_target (stated_leads statements) room direction) (first_target (implied_leads statements) room direction) (stated_rooms n statements room direction h) (implied_rooms n statements room direction h)
 
 ways_lead : (n : ℕ) (targets : Direction → Option ℕ) (ds : List Direction) → ((d : Direction) → is_room_or_none n (targets d) ≡ true) → list_all (leads_to_room n) (map (λ d. way_to (targets d)) ds) ≡ true
 ways_lead n targets [] h = refl
 ways_lead n targets (d ∷ ds) h = both (leads_to_room n (way_to (targets d))) (list_all (leads_to_room n) (map (λ d. way_to (targets d)) ds)) (h d) (ways_lead n targets ds h)
 
-room_is : (n : ℕ) (statements : List Statement) (o : ℕ) (at : NameAt) → list_all (are_of_rooms n) statements ≡ true → is_room n (room_of statements o at) ≡ true
+room_is : (n : ℕ) (statements : List NumberedSentence) (o : ℕ) (at : NameAt) → list_all (are_of_rooms n) statements ≡ true → is_room n (room_of statements o at) ≡ true
 unfolding is_room room_of exits_of
 room_is n statements o at h = ways_lead n (λ d. target_of statements o (direction_number d)) all_directions (λ d. targets_rooms n statements h o (direction_number d))
 
-rooms_are : (n : ℕ) (statements : List Statement) (o : ℕ) (mentions : List NameAt) → list_all (are_of_rooms n) statements ≡ true → list_all (is_room n) (rooms_from statements o mentions) ≡ true
+rooms_are : (n : ℕ) (statements : List NumberedSentence) (o : ℕ) (mentions : List NameAt) → list_all (are_of_rooms n) statements ≡ true → list_all (is_room n) (rooms_from statements o mentions) ≡ true
 rooms_are n statements o [] h = refl
 rooms_are n statements o (at ∷ mentions) h = both (is_room n (room_of statements o at)) (list_all (is_room n) (rooms_from statements (o + 1) mentions)) (room_is n statements o at h) (rooms_are n statements (o + 1) mentions h)
 
-rooms_counted : (statements : List Statement) (o : ℕ) (mentions : List NameAt) → length (rooms_from statements o mentions) ≡ length mentions
+rooms_counted : (statements : List NumberedSentence) (o : ℕ) (mentions : List NameAt) → length (rooms_from statements o mentions) ≡ length mentions
 rooms_counted statements o [] = refl
 rooms_counted statements o (at ∷ mentions) = ap suc (rooms_counted statements (o + 1) mentions)
 
@@ -217,7 +221,7 @@ some_room : (mentions : List NameAt) → no_room mentions ≡ None → 1 ≤ len
 some_room [] h = absurd cc
 some_room (at ∷ mentions) h = omega arith
 
-shape_held : (statements : List Statement) (mentions : List NameAt) → 13 + length mentions ≤ 1000 → 1 ≤ length mentions → list_all (are_of_rooms (13 + length mentions)) statements ≡ true → has_shape (objects_of statements mentions) ≡ true
+shape_held : (statements : List NumberedSentence) (mentions : List NameAt) → 13 + length mentions ≤ 1000 → 1 ≤ length mentions → list_all (are_of_rooms (13 + length mentions)) statements ≡ true → has_shape (objects_of statements mentions) ≡ true
 unfolding has_shape objects_of is_player are_directions is_direction
 shape_held statements mentions few some h =
     let rooms = rooms_from statements 13 mentions in
@@ -269,7 +273,7 @@ has_short_name at = not (has_long_name at)
 name_short : (name : List ℕ) → is_too_long name ≡ false → is_short name ≡ true
 name_short name h = short_if name (none_or (ltb 65535 (length name)) (ltb 32 (length (words_for 13 name))) h).0
 
-rooms_short : (statements : List Statement) (o : ℕ) (mentions : List NameAt) → list_all has_short_name mentions ≡ true → list_all (λ d. not (has_long_text d)) (descriptions_of statements) ≡ true → list_all has_short_texts (rooms_from statements o mentions) ≡ true
+rooms_short : (statements : List NumberedSentence) (o : ℕ) (mentions : List NameAt) → list_all has_short_name mentions ≡ true → list_all (λ d. not (has_long_text d)) (descriptions_of statements) ≡ true → list_all has_short_texts (rooms_from statements o mentions) ≡ true
 unfolding room_of
 rooms_short statements o [] h k = refl
 rooms_short statements o (at ∷ mentions) h k =
@@ -278,7 +282,7 @@ rooms_short statements o (at ∷ mentions) h k =
     (both (is_short at.name.text) (is_short_or_none (description_of (descriptions_of statements) o)) (name_short at.name.text (not_is (has_long_name at) t.0)) (description_short (descriptions_of statements) o k))
     (rooms_short statements (o + 1) mentions t.1 k)
 
-texts_held : (statements : List Statement) (mentions : List NameAt) → list_all has_short_name mentions ≡ true → list_all (λ d. not (has_long_text d)) (descriptions_of statements) ≡ true → list_all has_short_texts (objects_of statements mentions) ≡ true
+texts_held : (statements : List NumberedSentence) (mentions : List NameAt) → list_all has_short_name mentions ≡ true → list_all (λ d. not (has_long_text d)) (descriptions_of statements) ≡ true → list_all has_short_texts (objects_of statements mentions) ≡ true
 unfolding objects_of
 texts_held statements mentions h k = rooms_short statements 13 mentions h k
 
@@ -299,7 +303,7 @@ same_words o name le = rw (no_more o le) refl
 few_if : (n : ℕ) → ltb 32 n ≡ false → leb n 32 ≡ true
 few_if n h = le-leb _ _ (ltb-false _ _ h)
 
-rooms_few : (statements : List Statement) (o p : ℕ) (mentions : List NameAt) → 13 ≤ p → list_all has_short_name mentions ≡ true → list_all has_few_words (worded_from p (rooms_from statements o mentions)) ≡ true
+rooms_few : (statements : List NumberedSentence) (o p : ℕ) (mentions : List NameAt) → 13 ≤ p → list_all has_short_name mentions ≡ true → list_all has_few_words (worded_from p (rooms_from statements o mentions)) ≡ true
 unfolding room_of
 rooms_few statements o p [] le h = refl
 rooms_few statements o p (at ∷ mentions) le h =
@@ -308,7 +312,7 @@ rooms_few statements o p (at ∷ mentions) le h =
     both (leb (length (words_for p at.name.text)) 32) (list_all has_few_words (worded_from (p + 1) (rooms_from statements (o + 1) mentions))) (ap (λ (ws : List (List ℕ)). leb (length ws) 32) (same_words p at.name.text le) ∙ few)
     (rooms_few statements (o + 1) (p + 1) mentions (omega (arith, le)) t.1)
 
-words_held : (statements : List Statement) (mentions : List NameAt) → list_all has_short_name mentions ≡ true → list_all has_few_words (worded (objects_of statements mentions)) ≡ true
+words_held : (statements : List NumberedSentence) (mentions : List NameAt) → list_all has_short_name mentions ≡ true → list_all has_few_words (worded (objects_of statements mentions)) ≡ true
 unfolding objects_of words_for more_words
 words_held statements mentions h = rooms_few statements 13 13 mentions (omega arith) h
 
@@ -323,7 +327,7 @@ meant_none : (refusal : Option Fault) (t tale : Tale) → or_refused refusal t �
 meant_none None t tale h = (refl, cc)
 meant_none (Some fault) t tale h = absurd cc
 
-frame_parts : (statements : List Statement) (mentions : List NameAt) → frame_refusal statements mentions ≡ None → (wrong_kind statements ≡ None) × (object_too_many mentions ≡ None) × (no_room mentions ≡ None)
+frame_parts : (statements : List NumberedSentence) (mentions : List NameAt) → frame_refusal statements mentions ≡ None → (wrong_kind statements ≡ None) × (object_too_many mentions ≡ None) × (no_room mentions ≡ None)
 unfolding frame_refusal
 frame_parts statements mentions none =
     let a = first_none_both (refusal_at Twice (earlier (taken_name mentions) (second_description (descriptions_of statements)))) _ none in
@@ -332,13 +336,13 @@ frame_parts statements mentions none =
     let d = first_none_both (refusal_at TooMany (object_too_many mentions)) (refusal_at NoRoom (no_room mentions)) c.1 in
     (unrefused WrongKind (wrong_kind statements) b.0, unrefused TooMany (object_too_many mentions) d.0, unrefused NoRoom (no_room mentions) d.1)
 
-limit_parts : (statements : List Statement) (mentions : List NameAt) → limit_refusal statements mentions ≡ None → (list_all has_short_name mentions ≡ true) × (list_all (λ d. not (has_long_text d)) (descriptions_of statements) ≡ true)
+limit_parts : (statements : List NumberedSentence) (mentions : List NameAt) → limit_refusal statements mentions ≡ None → (list_all has_short_name mentions ≡ true) × (list_all (λ d. not (has_long_text d)) (descriptions_of statements) ≡ true)
 unfolding limit_refusal
 limit_parts statements mentions none =
     let t = earlier_none (name_too_long mentions) (text_too_long (descriptions_of statements)) (unrefused TooMany (earlier (name_too_long mentions) (text_too_long (descriptions_of statements))) none) in
     (none_found has_long_name mentions (unmapped line_at (find has_long_name mentions) t.0), none_found has_long_text (descriptions_of statements) (unmapped line_of_description (find has_long_text (descriptions_of statements)) t.1))
 
-objects_held : (statements : List Statement) (mentions : List NameAt) → list_all (are_below (13 + length mentions)) statements ≡ true → first_of (frame_refusal statements mentions) (limit_refusal statements mentions) ≡ None → IsHeld (record { objects = objects_of statements mentions })
+objects_held : (statements : List NumberedSentence) (mentions : List NameAt) → list_all (are_below (13 + length mentions)) statements ≡ true → first_of (frame_refusal statements mentions) (limit_refusal statements mentions) ≡ None → IsHeld (record { objects = objects_of statements mentions })
 objects_held statements mentions below none =
     let t = first_none_both (frame_refusal statements mentions) (limit_refusal statements mentions) none in
     let frame = frame_parts statements mentions t.0 in

@@ -8,7 +8,7 @@ ghost use Rattle.story_player.specs.Deeds.{deed_in, deed_of, look_text, room_aft
 ghost use Rattle.story_player.specs.StoryGames.{facts_of_story, game_of_story};
 ghost use Rattle.story_player.specs.Typed.{reading_typed};
 ghost use Rattle.story_player.specs.Worlds.{world_of};
-ghost use Rattle.world_meaning.specs.declared.tale.Tale.{Tale};
+ghost use Rattle.story_format.specs.declared.tables.Tables.{Tables};
 
 use crate::typed::Typed;
 use crate::{Reply, World, read_line, texts};
@@ -61,7 +61,7 @@ fn look_text(alloc: Global, story: &Story, room: ObjNo) -> Result<TextBytes, All
 
 /// What a line means as it was typed.
 fn read_typed(typed: Typed<'_>) -> Reading
-    ensures { (story : Tale) → result ≡ reading_typed (game_of_story story) typed.entry }
+    ensures { (story : Tables) → result ≡ reading_typed (game_of_story story) typed.entry }
 {
     match typed {
         Typed::Whole(line) => read_line(line),

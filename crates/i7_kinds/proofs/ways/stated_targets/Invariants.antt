@@ -1,11 +1,11 @@
 use Rattle.std.proofs.Common.{◌≡◌, ℕ, length}
 use Rattle.i7_kinds.specs.Demands.{first_target, stated_leads}
 use Rattle.i7_kinds.specs.Firsts.{first_of}
-use Rattle.i7_kinds.specs.Views.{statements_of, target_at}
+use Rattle.i7_kinds.specs.Views.{target_at}
 use Rattle.i7_kinds.proofs.ways.stated_targets.Given as goal
 
 abbrev pub invariant-loop-rest : goal.invariant-loop-rest
-invariant-loop-rest l = (room direction : ℕ) → first_of (target_at l.targets room direction) (first_target (stated_leads (statements_of l.rest)) room direction) ≡ first_target (stated_leads (statements_of l.statements)) room direction
+invariant-loop-rest l = (room direction : ℕ) → first_of (target_at l.targets room direction) (first_target (stated_leads l.rest) room direction) ≡ first_target (stated_leads l.statements) room direction
 
 abbrev pub decreases-loop-rest : goal.decreases-loop-rest
 decreases-loop-rest l = length l.rest

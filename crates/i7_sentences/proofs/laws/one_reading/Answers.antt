@@ -1,4 +1,4 @@
-use Rattle.i7_sentences.proofs.Choosing.{reading_same}
+use Rattle.i7_sentences.proofs.Sameness.{reading_same}
 use Rattle.i7_sentences.proofs.laws.one_reading.Goals as goal
 
 pub returns : goal.returns

@@ -1,6 +1,6 @@
 use Rattle.std.proofs.Common.{◌≡◌, length}
 use Rattle.std.specs.Prelude.{fold}
-use Rattle.i7_sentences.specs.Senses.{joined, with_word}
+use Rattle.i7_sentences.specs.Names.{joined, with_word}
 use Rattle.i7_sentences.proofs.name.joined.Given as goal
 
 abbrev pub invariant-loop-rest : goal.invariant-loop-rest

@@ -1,0 +1,95 @@
+-- Pieces that can't begin with the first word don't fit, nor do those with a word that stands nowhere.
+use Rattle.std.proofs.Common.{◌≡◌, Bool, true, false, List, [], ◌∷◌, ◌++◌, refl, ap, sym, ◌∙◌}
+use Rattle.std.specs.Prelude.{not, ◌||◌, Option, Some, None, is_some}
+use Rattle.std.specs.List.{list_any}
+use Rattle.i7_lexer.specs.declared.token.Token.{Token}
+use Rattle.i7_sentences.specs.Keywords.{is_sign}
+use Rattle.i7_sentences.specs.Forms.{Fits}
+use Rattle.i7_sentences.specs.Matching.{can_begin, first_fit, is_missing}
+use Rattle.i7_sentences.specs.Automata.{is_of, runs, step, then_runs}
+use Rattle.i7_sentences.specs.declared.class.Class.{Class}
+use Rattle.i7_sentences.specs.declared.class.State.{State}
+use Rattle.i7_sentences.specs.declared.class.State.TheVariants.{Start}
+use Rattle.i7_sentences.proofs.Automata.{runs_of}
+use Rattle.i7_sentences.specs.declared.keyword.Keyword.{Keyword}
+use Rattle.i7_sentences.specs.declared.form.Piece.{Piece}
+use Rattle.i7_sentences.specs.declared.form.Piece.TheVariants.{Word, Letter}
+use Rattle.i7_sentences.proofs.Lists.{false-true, nil-cons, same_head}
+use Rattle.i7_sentences.proofs.Fitting.{Fitted, fitted}
+
+-- what stands nowhere among words stands nowhere behind some of them
+nowhere_behind : (test : Token → Bool) (front rest : List Token) → list_any test (front ++ rest) ≡ false → list_any test rest ≡ false
+nowhere_behind test [] rest nowhere = nowhere
+nowhere_behind test (token ∷ front) rest nowhere =
+    let Goal : Bool → Type 0 = λ here. (here || list_any test (front ++ rest)) ≡ false → list_any test rest ≡ false
+    in (elim (test token) as Goal [
+      | true ↦ λ none. absurd (false-true (sym none))
+      | false ↦ λ none. nowhere_behind test front rest none
+    ]) nowhere
+
+missing_behind : (pieces : List Piece) (front rest : List Token) → list_any (is_missing (front ++ rest)) pieces ≡ true → list_any (is_missing rest) pieces ≡ true
+missing_behind [] front rest missing = missing
+missing_behind (Letter class ∷ pieces) front rest missing = missing_behind pieces front rest missing
+missing_behind (Word keyword ∷ pieces) front rest missing =
+    let Goal : Bool → Type 0 = λ stands. list_any (is_sign keyword) (front ++ rest) ≡ stands → (not stands || list_any (is_missing (front ++ rest)) pieces) ≡ true → list_any (is_missing rest) (Word keyword ∷ pieces) ≡ true in
+    let Here : Bool → Type 0 = λ stands. list_any (is_missing (front ++ rest)) pieces ≡ true → (not stands || list_any (is_missing rest) pieces) ≡ true
+    in (elim (list_any (is_sign keyword) (front ++ rest)) as Goal [
+      | true ↦ λ stands more. (elim (list_any (is_sign keyword) rest) as Here [
+        | true ↦ λ later. missing_behind pieces front rest later
+        | false ↦ λ later. refl
+      ]) more
+      | false ↦ λ stands more. rw (nowhere_behind (is_sign keyword) front rest stands) refl
+    ]) refl missing
+
+stands_first : (keyword : Keyword) (token : Token) (tokens : List Token) → is_sign keyword token ≡ true → list_any (is_sign keyword) (token ∷ tokens) ≡ true
+stands_first keyword token tokens is = rw is refl
+
+unfit : (pieces : List Piece) (tokens : List Token) (letters : List (List Token)) → list_any (is_missing tokens) pieces ≡ true → Fits pieces tokens letters → ⊥
+unfit [] tokens letters missing fits = false-true missing
+unfit (Letter class ∷ pieces) tokens letters missing fits =
+    unfit pieces fits.rest fits.others (missing_behind pieces fits.words fits.rest (ap (λ ts. list_any (is_missing ts) pieces) (sym fits.parts) ∙ missing)) fits.behind
+unfit (Word keyword ∷ pieces) tokens letters missing fits =
+    let stands : list_any (is_sign keyword) tokens ≡ true = ap (list_any (is_sign keyword)) fits.parts ∙ stands_first keyword fits.word fits.rest fits.is_word in
+    let others : list_any (is_missing tokens) pieces ≡ true = ap (λ here. not here || list_any (is_missing tokens) pieces) (sym stands) ∙ missing in
+    unfit pieces fits.rest letters (missing_behind pieces (fits.word ∷ []) fits.rest (ap (λ ts. list_any (is_missing ts) pieces) (sym fits.parts) ∙ others)) fits.behind
+
+pub missing_fits : (pieces : List Piece) (tokens : List Token) → list_any (is_missing tokens) pieces ≡ true → first_fit pieces tokens ≡ None
+missing_fits pieces tokens missing =
+    let Goal : Option (List (List Token)) → Type 0 = λ found. Fitted pieces tokens found → found ≡ None
+    in (elim (first_fit pieces tokens) as Goal [
+      | None ↦ λ none. refl
+      | Some letters ↦ λ found. absurd (unfit pieces tokens letters missing found.fits)
+    ]) (fitted pieces tokens)
+
+-- a letter's words begin with one that it can begin with
+letter_begins : (class : Class) (token : Token) (words : List Token) → is_of class (token ∷ words) ≡ true → is_some (step class Start token) ≡ true
+letter_begins class token words taken =
+    let Goal : Option State → Type 0 = λ next. then_runs next (λ after. runs class after words) ≡ true → is_some next ≡ true
+    in (elim (step class Start token) as Goal [
+      | None ↦ λ none. absurd (false-true none)
+      | Some state ↦ λ some. refl
+    ]) taken
+
+letter_taken : (class : Class) (token : Token) (tokens words rest : List Token) → token ∷ tokens ≡ words ++ rest → is_of class words ≡ true → is_some (step class Start token) ≡ true
+letter_taken class token tokens [] rest parts taken = absurd (false-true taken)
+letter_taken class token tokens (first ∷ words) rest parts taken =
+    ap (λ t. is_some (step class Start t)) (same_head token first tokens (words ++ rest) parts) ∙ letter_begins class first words taken
+
+begins : (pieces : List Piece) (tokens : List Token) (letters : List (List Token)) → Fits pieces tokens letters → can_begin pieces tokens ≡ true
+begins [] tokens letters fits = refl
+begins (Word keyword ∷ pieces) [] letters fits = absurd (nil-cons fits.word fits.rest fits.parts)
+begins (Word keyword ∷ pieces) (token ∷ tokens) letters fits = ap (is_sign keyword) (same_head token fits.word tokens fits.rest fits.parts) ∙ fits.is_word
+begins (Letter class ∷ pieces) [] letters fits = absurd (none_taken class fits.words fits.rest fits.parts (runs_of class fits.words fits.is_of_class))
+  where
+    none_taken : (class' : Class) (words rest : List Token) → [] ≡ words ++ rest → is_of class' words ≡ true → ⊥
+    none_taken class' [] rest parts taken = false-true taken
+    none_taken class' (first ∷ words) rest parts taken = nil-cons first (words ++ rest) parts
+begins (Letter class ∷ pieces) (token ∷ tokens) letters fits = letter_taken class token tokens fits.words fits.rest fits.parts (runs_of class fits.words fits.is_of_class)
+
+pub never_begins : (pieces : List Piece) (tokens : List Token) → can_begin pieces tokens ≡ false → first_fit pieces tokens ≡ None
+never_begins pieces tokens never =
+    let Goal : Option (List (List Token)) → Type 0 = λ found. Fitted pieces tokens found → found ≡ None
+    in (elim (first_fit pieces tokens) as Goal [
+      | None ↦ λ none. refl
+      | Some letters ↦ λ found. absurd (false-true (sym never ∙ begins pieces tokens letters found.fits))
+    ]) (fitted pieces tokens)

@@ -1,0 +1,86 @@
+-- The classes of words that a form's letters stand for.
+use Rattle.std.specs.Prelude.{◌≡◌, ◌≢◌, Bool, true, false, not, ◌&&◌, ◌||◌, List, [], ◌∷◌, ◌++◌, is_some}
+use Rattle.std.specs.List.{list_all}
+use Rattle.i7_lexer.specs.declared.token.Token.{Token}
+use Rattle.i7_sentences.specs.Words.{word_of, is_word, is_text, direction_named}
+use Rattle.i7_sentences.specs.Keywords.{is_sign}
+use Rattle.i7_sentences.specs.Literals.{is_literal}
+use Rattle.i7_sentences.specs.declared.keyword.Keyword.TheVariants as keyword
+use Rattle.i7_sentences.specs.declared.class.Class.{Class}
+use Rattle.i7_sentences.specs.declared.class.Class.TheVariants as class
+
+-- one or more such tokens
+abbrev pub IsRun : (Token → Bool) → List Token → Type 0
+IsRun test tokens = (tokens ≢ []) × (list_all test tokens ≡ true)
+
+-- one such token alone
+pub record IsAlone (test : Token → Bool) (tokens : List Token) : Type 0 where
+  pub token : Token
+  pub alone : tokens ≡ token ∷ []
+  pub passes : test token ≡ true
+
+-- what parts the names of a list: `,` or `and`
+unfoldable pub is_joint : Token → Bool
+is_joint token = is_sign keyword.Comma token || is_sign keyword.And token
+
+unfoldable pub is_name_word : Token → Bool
+is_name_word token = is_word token && not (is_joint token)
+
+-- a name in a list: words, of which none behind the first is `and`
+abbrev pub IsListed : List Token → Type 0
+IsListed [] = ⊥
+IsListed (first ∷ more) = (is_word first ≡ true) × (list_all is_name_word more ≡ true)
+
+-- names parted by `,` or `and`
+pub data IsNames : List Token → Type 0 where
+  one_name : (name : List Token) → IsListed name → IsNames name
+  more_names : (name names : List Token) (joint : Token) → IsListed name → is_joint joint ≡ true → IsNames names → IsNames (name ++ joint ∷ names)
+
+-- `above` or `below`
+unfoldable pub is_vertical : Token → Bool
+is_vertical token = is_sign keyword.Above token || is_sign keyword.Below token
+
+unfoldable pub is_direction : Token → Bool
+is_direction token = is_some (direction_named (word_of token))
+
+-- `inside` or `outside`
+unfoldable pub is_inner : Token → Bool
+is_inner token = is_sign keyword.Inside token || is_sign keyword.Outside token
+
+-- what stands behind a direction's name: `of`, and behind `inside` and `outside` also `from`
+unfoldable pub is_behind : Token → Token → Bool
+is_behind direction token = is_sign keyword.Of token || (is_inner direction && is_sign keyword.From token)
+
+-- `above`, `below`, a direction and `of`, `inside from` or `outside from`
+abbrev pub is_side : List Token → Bool
+is_side [] = false
+is_side (token ∷ []) = is_vertical token
+is_side (token ∷ next ∷ []) = not (is_vertical token) && is_direction token && is_behind token next
+is_side (token ∷ next ∷ third ∷ more) = false
+
+unfoldable pub is_number : Token → Bool
+is_number token = is_literal (word_of token)
+
+-- a word or a round bracket, as they stand in a rule's head
+unfoldable pub is_head_token : Token → Bool
+is_head_token token = is_word token || is_sign keyword.Open token || is_sign keyword.Close token
+
+-- what ends a rule's head: `,` or `:`
+unfoldable pub ends_head : Token → Bool
+ends_head token = is_sign keyword.Comma token || is_sign keyword.Colon token
+
+-- the mark that ends a rule's head, and something behind it
+abbrev pub is_body : List Token → Bool
+is_body [] = false
+is_body (mark ∷ []) = false
+is_body (mark ∷ first ∷ more) = ends_head mark
+
+-- a letter of the class may stand for these words
+abbrev pub IsOf : Class → List Token → Type 0
+IsOf class.Words tokens = IsRun is_word tokens
+IsOf class.Names tokens = IsNames tokens
+IsOf class.Side tokens = is_side tokens ≡ true
+IsOf class.Number tokens = IsAlone is_number tokens
+IsOf class.Text tokens = IsAlone is_text tokens
+IsOf class.Head tokens = IsRun is_head_token tokens
+IsOf class.Body tokens = is_body tokens ≡ true

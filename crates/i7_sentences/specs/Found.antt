@@ -1,0 +1,7 @@
+-- The found fit that a reading stands for.
+use Rattle.std.specs.Prelude.{map}
+use Rattle.i7_sentences.specs.Matching.{Found}
+use Rattle.i7_sentences.specs.declared.reading.Reading.{Reading}
+
+abbrev pub found_in : Reading → Found
+found_in reading = record { form = reading.form; letters = map (λ letter. letter.now) reading.letters.items }

@@ -1,0 +1,197 @@
+//! The classes of words that a form's letters stand for: each a small automaton over tokens.
+ghost use Rattle.std.specs.Prelude.{◌≡◌};
+ghost use Rattle.i7_sentences.specs.Automata.{accepts, alone_step, body_step, names_step, run_step, side_start, side_step, step};
+ghost use Rattle.i7_sentences.specs.Classes.{ends_head, is_head_token, is_inner, is_joint, is_name_word, is_vertical};
+
+use crate::Keyword;
+use crate::tagged::Tagged;
+
+/// What a letter stands for.
+#[derive(Clone, Copy, Debug, PartialEq, Eq)]
+pub enum Class {
+    /// One or more words.
+    Words,
+    /// Names, parted by `,` or `and`.
+    Names,
+    /// `above`, `below`, a direction and `of`, `inside from` or `outside from`.
+    Side,
+    /// One literal number.
+    Number,
+    /// One text.
+    Text,
+    /// Words and round brackets, as in a rule's head.
+    Head,
+    /// `,` or `:`, and what stands behind it.
+    Body,
+}
+
+/// How far the words of a letter are read.
+#[derive(Clone, Copy, Debug, PartialEq, Eq)]
+pub enum State {
+    /// At its first word.
+    Start,
+    /// Behind a word with which it may end.
+    Inside,
+    /// Behind a word with which it may not end.
+    Between,
+    /// Behind `inside` or `outside`, with which it may not end.
+    Beside,
+}
+
+/// Whether the token parts two names.
+#[tactic(auto, unfolding(crate::specs::Classes::is_joint))]
+pub fn is_joint(token: &Tagged<'_>) -> bool
+    ensures { result ≡ is_joint token.now }
+{
+    token.is_sign(Keyword::Comma) || token.is_sign(Keyword::And)
+}
+
+/// Whether the token is a word that may stand in a name of a list, behind its first.
+#[tactic(auto, unfolding(crate::specs::Classes::is_name_word))]
+fn is_name_word(token: &Tagged<'_>) -> bool
+    ensures { result ≡ is_name_word token.now }
+{
+    token.is_word() && !is_joint(token)
+}
+
+#[tactic(auto, unfolding(crate::specs::Classes::is_vertical))]
+fn is_vertical(token: &Tagged<'_>) -> bool
+    ensures { result ≡ is_vertical token.now }
+{
+    token.is_sign(Keyword::Above) || token.is_sign(Keyword::Below)
+}
+
+#[tactic(auto, unfolding(crate::specs::Classes::is_inner))]
+fn is_inner(token: &Tagged<'_>) -> bool
+    ensures { result ≡ is_inner token.now }
+{
+    token.is_sign(Keyword::Inside) || token.is_sign(Keyword::Outside)
+}
+
+#[tactic(auto, unfolding(crate::specs::Classes::is_head_token))]
+fn is_head_token(token: &Tagged<'_>) -> bool
+    ensures { result ≡ is_head_token token.now }
+{
+    token.is_word() || token.is_sign(Keyword::Open) || token.is_sign(Keyword::Close)
+}
+
+#[tactic(auto, unfolding(crate::specs::Classes::ends_head))]
+fn ends_head(token: &Tagged<'_>) -> bool
+    ensures { result ≡ ends_head token.now }
+{
+    token.is_sign(Keyword::Comma) || token.is_sign(Keyword::Colon)
+}
+
+/// The step of a letter of one or more such tokens.
+fn run_step(passes: bool) -> Option<State>
+    ensures { result ≡ run_step passes }
+{
+    if passes { Some(State::Inside) } else { None }
+}
+
+/// The step of a letter that is one token.
+fn alone_step(state: State, passes: bool) -> Option<State>
+    ensures { result ≡ alone_step state passes }
+{
+    match state {
+        State::Start => run_step(passes),
+        State::Inside | State::Between | State::Beside => None,
+    }
+}
+
+/// The step of names and what parts them.
+#[tactic(auto, unfolding(crate::specs::Automata::names_step))]
+fn names_step(state: State, token: &Tagged<'_>) -> Option<State>
+    ensures { result ≡ names_step state token.now }
+{
+    match state {
+        State::Start | State::Between => run_step(token.is_word()),
+        State::Inside => {
+            if is_joint(token) {
+                Some(State::Between)
+            } else {
+                run_step(is_name_word(token))
+            }
+        }
+        State::Beside => None,
+    }
+}
+
+/// The step at the first word of a side.
+fn side_start(token: &Tagged<'_>) -> Option<State>
+    ensures { result ≡ side_start token.now }
+{
+    if is_vertical(token) {
+        Some(State::Inside)
+    } else if !token.is_direction() {
+        None
+    } else if is_inner(token) {
+        Some(State::Beside)
+    } else {
+        Some(State::Between)
+    }
+}
+
+/// The step of the words that lead from a room to one beside it.
+#[tactic(auto, unfolding(crate::specs::Automata::side_step))]
+fn side_step(state: State, token: &Tagged<'_>) -> Option<State>
+    ensures { result ≡ side_step state token.now }
+{
+    match state {
+        State::Start => side_start(token),
+        State::Inside => None,
+        State::Between => run_step(token.is_sign(Keyword::Of)),
+        State::Beside => {
+            if token.is_sign(Keyword::Of) {
+                Some(State::Inside)
+            } else {
+                run_step(token.is_sign(Keyword::From))
+            }
+        }
+    }
+}
+
+/// The step of the mark that ends a rule's head, and of what stands behind it.
+#[tactic(auto, unfolding(crate::specs::Automata::body_step))]
+fn body_step(state: State, token: &Tagged<'_>) -> Option<State>
+    ensures { result ≡ body_step state token.now }
+{
+    match state {
+        State::Start => if ends_head(token) {
+            Some(State::Between)
+        } else {
+            None
+        },
+        State::Inside | State::Between => Some(State::Inside),
+        State::Beside => None,
+    }
+}
+
+impl State {
+    /// Whether a letter may end here.
+    pub fn accepts(self) -> bool
+        ensures { result ≡ accepts self }
+    {
+        match self {
+            State::Inside => true,
+            State::Start | State::Between | State::Beside => false,
+        }
+    }
+}
+
+impl Class {
+    /// How far a letter is read behind one more token, if it may go on with it.
+    pub fn step(self, state: State, token: &Tagged<'_>) -> Option<State>
+        ensures { result ≡ step self state token.now }
+    {
+        match self {
+            Class::Words => run_step(token.is_word()),
+            Class::Names => names_step(state, token),
+            Class::Side => side_step(state, token),
+            Class::Number => alone_step(state, token.is_number()),
+            Class::Text => alone_step(state, token.is_text()),
+            Class::Head => run_step(is_head_token(token)),
+            Class::Body => body_step(state, token),
+        }
+    }
+}

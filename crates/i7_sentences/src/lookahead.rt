@@ -1,0 +1,208 @@
+//! From where pieces can fit words: for each piece, from the last to the first, a column that tells of
+//! each count of words left whether the pieces from that one on can fit them.
+ghost use Rattle.std.specs.Prelude.{◌≡◌, true, ◌&&◌, ◌++◌, length, map, IfNone, IfOk, IfSome, OnSome};
+ghost use Rattle.std.specs.List.{list_any};
+ghost use Rattle.i7_sentences.specs.Keywords.{is_sign};
+ghost use Rattle.i7_sentences.specs.Matching.{ahead_at, ahead_of, ahead_of_more, ahead_of_none, columns_of, end_column, first_column, is_never, letter_column, looked, piece_column, reaches, then_ahead, word_column};
+
+use crate::class::State;
+use crate::tagged::Tagged;
+use crate::{Class, Keyword, Piece};
+use std::alloc::{AllocError, Global};
+
+/// Whether a letter that is read so far can end in the words left, with the pieces behind it.
+#[derive(Clone, Copy, Debug)]
+struct Ahead {
+    start: bool,
+    inside: bool,
+    between: bool,
+    beside: bool,
+}
+
+impl Ahead {
+    fn at(self, state: State) -> bool
+        ensures { result ≡ ahead_at self state }
+    {
+        match state {
+            State::Start => self.start,
+            State::Inside => self.inside,
+            State::Between => self.between,
+            State::Beside => self.beside,
+        }
+    }
+
+    fn then(self, state: Option<State>) -> bool
+        ensures { result ≡ then_ahead self state }
+    {
+        match state {
+            None => false,
+            Some(after) => self.at(after),
+        }
+    }
+
+    /// With no word left; `can` tells whether the pieces behind the letter can fit none.
+    fn of_none(can: bool) -> Ahead
+        ensures { result ≡ ahead_of_none can }
+    {
+        Ahead {
+            start: State::Start.accepts() && can,
+            inside: State::Inside.accepts() && can,
+            between: State::Between.accepts() && can,
+            beside: State::Beside.accepts() && can,
+        }
+    }
+
+    fn reaches(self, class: Class, can: bool, token: &Tagged<'_>, state: State) -> bool
+        ensures { result ≡ reaches class self can token.now state }
+    {
+        state.accepts() && can || self.then(class.step(state, token))
+    }
+
+    /// With one more word in front; `can` tells whether the pieces behind the letter can fit here.
+    fn of_more(self, class: Class, can: bool, token: &Tagged<'_>) -> Ahead
+        ensures { result ≡ ahead_of_more class self can token.now }
+    {
+        Ahead {
+            start: self.reaches(class, can, token, State::Start),
+            inside: self.reaches(class, can, token, State::Inside),
+            between: self.reaches(class, can, token, State::Between),
+            beside: self.reaches(class, can, token, State::Beside),
+        }
+    }
+}
+
+/// A column's answer for so many words left.
+pub fn looked(column: &[bool], left: usize) -> bool
+    ensures { result ≡ looked column.now left }
+{
+    column.get(left).copied().unwrap_or(false)
+}
+
+/// The column of no pieces, which fit no words alone.
+fn end_column(alloc: Global, tokens: &[Tagged<'_>]) -> Result<Vec<bool>, AllocError>
+    ensures { IfOk result (λ column. column.items ≡ end_column tokens.now) }
+{
+    let mut column = Vec::with_capacity(alloc, tokens.len() + 1)?;
+    column.push(true)?;
+    let mut place = tokens.len();
+    while place > 0 {
+        place -= 1;
+        let (_, rest) = tokens.split_at(place);
+        match rest {
+            [] => return Ok(column),
+            [_token, ..] => {
+                column.push(false)?;
+            }
+        }
+    }
+    Ok(column)
+}
+
+/// Whether the word is the token, with the pieces behind it.
+fn can_take(keyword: Keyword, token: &Tagged<'_>, behind: &[bool], left: usize) -> bool
+    ensures { result ≡ (is_sign keyword token.now && looked behind.now left) }
+{
+    token.is_sign(keyword) && looked(behind, left)
+}
+
+/// The column in front of a word of the form.
+fn word_column(
+    alloc: Global,
+    keyword: Keyword,
+    behind: &[bool],
+    tokens: &[Tagged<'_>],
+) -> Result<Vec<bool>, AllocError>
+    ensures { IfOk result (λ column. column.items ≡ word_column keyword behind.now tokens.now) }
+{
+    let mut column = Vec::with_capacity(alloc, tokens.len() + 1)?;
+    column.push(false)?;
+    let mut place = tokens.len();
+    while place > 0 {
+        place -= 1;
+        let (_, rest) = tokens.split_at(place);
+        match rest {
+            [] => return Ok(column),
+            [token, after @ ..] => {
+                column.push(can_take(keyword, token, behind, after.len()))?;
+            }
+        }
+    }
+    Ok(column)
+}
+
+/// The column in front of a letter.
+fn letter_column(
+    alloc: Global,
+    class: Class,
+    behind: &[bool],
+    tokens: &[Tagged<'_>],
+) -> Result<Vec<bool>, AllocError>
+    ensures { IfOk result (λ column. column.items ≡ letter_column class behind.now tokens.now) }
+{
+    let mut column = Vec::with_capacity(alloc, tokens.len() + 1)?;
+    let mut ahead = Ahead::of_none(looked(behind, 0));
+    column.push(ahead.start)?;
+    let mut place = tokens.len();
+    while place > 0 {
+        place -= 1;
+        let (_, rest) = tokens.split_at(place);
+        match rest {
+            [] => return Ok(column),
+            [token, ..] => {
+                ahead = ahead.of_more(class, looked(behind, rest.len()), token);
+                column.push(ahead.start)?;
+            }
+        }
+    }
+    Ok(column)
+}
+
+/// The column in front of a piece.
+fn piece_column(
+    alloc: Global,
+    piece: Piece,
+    behind: &[bool],
+    tokens: &[Tagged<'_>],
+) -> Result<Vec<bool>, AllocError>
+    ensures { IfOk result (λ column. column.items ≡ piece_column piece behind.now tokens.now) }
+{
+    match piece {
+        Piece::Word(keyword) => Ok(word_column(alloc, keyword, behind, tokens)?),
+        Piece::Letter(class) => Ok(letter_column(alloc, class, behind, tokens)?),
+    }
+}
+
+/// Whether the column has an answer yes.
+fn has_yes(column: &[bool]) -> bool
+    ensures { result ≡ list_any (λ yes. yes) column.now }
+{
+    column.iter().any(|yes| *yes)
+}
+
+/// The column of the pieces, or none if they can fit no last words; those of the pieces behind each
+/// piece are added.
+pub fn columns(
+    alloc: Global,
+    pieces: &[Piece],
+    tokens: &[Tagged<'_>],
+    told: &mut Vec<Vec<bool>>,
+) -> Result<Option<Vec<bool>>, AllocError>
+    ensures none { IfOk result (λ found. IfNone found (is_never pieces.now tokens.now ≡ true)) }
+    ensures own { IfOk result (λ found. IfSome found (λ column. column.items ≡ first_column pieces.now tokens.now)) }
+    ensures added { IfOk result (λ found. OnSome found (map (λ column. column.items) told.new.items ≡ map (λ column. column.items) told.old.items ++ columns_of pieces.now tokens.now)) }
+{
+    match pieces {
+        [] => Ok(Some(end_column(alloc, tokens)?)),
+        [piece, after @ ..] => match columns(alloc, after, tokens, told)? {
+            None => Ok(None),
+            Some(behind) => {
+                let column = piece_column(alloc, *piece, behind.as_slice(), tokens)?;
+                if !has_yes(column.as_slice()) {
+                    return Ok(None);
+                }
+                told.push(behind)?;
+                Ok(Some(column))
+            }
+        },
+    }
+}
