@@ -5,7 +5,7 @@ ghost use Rattle.i7_sentences.specs.Matching.{best_fit, first_fit, found_as, low
 ghost use Rattle.i7_sentences.specs.Found.{found_in};
 
 use crate::form::FORMS;
-use crate::matcher::fit;
+use crate::matcher::{fit, is_passed_over};
 use crate::tagged::Tagged;
 use crate::{Form, Piece};
 use std::alloc::{AllocError, Global};
@@ -86,6 +86,9 @@ fn best_fit<'a, 'b>(
     match variants {
         [] => Ok(None),
         [variant, after @ ..] => {
+            if is_passed_over(variant.1, tokens) {
+                return Ok(best_fit(alloc, after, tokens)?);
+            }
             let first = reading_as(alloc, variant.0, variant.1, tokens)?;
             let later = best_fit(alloc, after, tokens)?;
             Ok(preferred(first, later))
