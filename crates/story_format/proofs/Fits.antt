@@ -19,7 +19,7 @@ use Rattle.world_meaning.specs.declared.tale.Object.{Object}
 use Rattle.object_words.specs.Mentions.{mention, number_or_none, number_in}
 use Rattle.object_words.proofs.StringLemmas.{length_mapped}
 use Rattle.story_format.specs.Formats.{fits_optional}
-use Rattle.story_format.specs.Layout.{kind_layout, granted_layout, variable_layout, world_layout, entry_layout, way_layout, exits_layout, action_layout, line_layout, book_layout, scene_layout, rules_layout, tables_layout}
+use Rattle.story_format.specs.Layout.{kind_layout, granted_layout, variable_layout, world_layout, entry_layout, way_layout, exits_layout, action_layout, line_layout, rule_layout, book_layout, scene_layout, rules_layout, tables_layout}
 use Rattle.story_format.specs.Making.{Worded, worded, texts_of, entry_strings, code_strings, strings_of, article_number, relation_number, place_relation, place_holder, code_number, entry_of, entries_of, code_of, codes_of, ways_of, tables_with}
 use Rattle.story_format.specs.Holding.{has_few_words, has_short_texts, is_short, is_short_or_none}
 use Rattle.story_format.specs.Shape.{stands_in_room, is_in, is_direction, is_room, are_directions, has_shape}
@@ -233,7 +233,7 @@ all_codes_short strings (w ∷ ws) =
 -- ---- all of it
 
 pub tables_fit : (objects : List Object) → has_shape objects ≡ true → list_all has_short_texts objects ≡ true → list_all has_few_words (worded objects) ≡ true → tables_layout.format.fits (tables_with (worded objects)) ≡ true
-unfolding tables_layout tables_with world_layout kind_layout granted_layout variable_layout rules_layout action_layout line_layout book_layout scene_layout
+unfolding tables_layout tables_with world_layout kind_layout granted_layout variable_layout rules_layout action_layout line_layout rule_layout book_layout scene_layout
 tables_fit objects shape texts few_words =
     let ws = worded objects in
     let strings = strings_of ws in

@@ -191,7 +191,7 @@ unfolding are_right
 no_books t right =
     let p = last_of_five (has_no_world t.world && has_no_rules t.rules && ltb (length t.strings) 65535) (are_distinct t.strings) (are_right_objects t) (eqb (length t.ways) (count_by is_of_room t.objects)) (list_all (is_right_exits (sizes_of t)) t.ways) right in
     let q = three (has_no_world t.world) (has_no_rules t.rules) (ltb (length t.strings) 65535) p.0 in
-    (last_of_five (eqb (length t.rules.actions) 0) (eqb (length t.rules.grammar) 0) (eqb t.rules.rules 0) (eqb (length t.rules.books) 0) (eqb (length t.rules.scenes) 0) q.1).3
+    (last_of_five (eqb (length t.rules.actions) 0) (eqb (length t.rules.grammar) 0) (eqb (length t.rules.rules) 0) (eqb (length t.rules.books) 0) (eqb (length t.rules.scenes) 0) q.1).3
 
 pub right_ordered : (t : Tables) → are_right t ≡ true → are_ordered t ≡ true
 unfolding are_ordered

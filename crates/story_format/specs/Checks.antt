@@ -19,7 +19,7 @@ has_no_world w = (length w.kinds == 0) && (length w.flags == 0) && (length w.num
 
 -- nor actions, grammar, rules and scenes
 abbrev pub has_no_rules : RuleTables → Bool
-has_no_rules r = (length r.actions == 0) && (length r.grammar == 0) && (r.rules == 0) && (length r.books == 0) && (length r.scenes == 0)
+has_no_rules r = (length r.actions == 0) && (length r.grammar == 0) && (length r.rules == 0) && (length r.books == 0) && (length r.scenes == 0)
 
 -- no string twice
 unfoldable pub are_distinct : List (List ℕ) → Bool

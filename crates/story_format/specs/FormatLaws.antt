@@ -21,7 +21,7 @@ Takes-then : (a x b y c : List ℕ) → Takes a x b → Takes b y c → Takes a 
 Takes-then a x b y c p q = record { parts = p.parts ∙ ap (λ (t : List ℕ). x ++ t) q.parts ∙ sym (append_assoc x y c); rest_fits = q.rest_fits }
 
 -- the value of a step that found one
-and_then_some : {A B : Type 0} (o : Option (A × List ℕ)) (next : A → List ℕ → Option B) (y : B) → and_then o next ≡ Some y → (x : A × List ℕ) × (o ≡ Some x) × (next x.0 x.1 ≡ Some y)
+pub and_then_some : {A B : Type 0} (o : Option (A × List ℕ)) (next : A → List ℕ → Option B) (y : B) → and_then o next ≡ Some y → (x : A × List ℕ) × (o ≡ Some x) × (next x.0 x.1 ≡ Some y)
 and_then_some None next y e = absurd cc
 and_then_some (Some x) next y e = (x, refl, e)
 
@@ -30,20 +30,20 @@ guarded : {A : Type 0} (b : Bool) (x y : A) → cond b None (Some x) ≡ Some y 
 guarded true x y e = absurd cc
 guarded false x y e = (refl, cc)
 
-some_is : {A : Type 0} (x y : A) → Some x ≡ Some y → x ≡ y
+pub some_is : {A : Type 0} (x y : A) → Some x ≡ Some y → x ≡ y
 some_is x y e = cc
 
-both : (a b : Bool) → a ≡ true → b ≡ true → (a && b) ≡ true
+pub both : (a b : Bool) → a ≡ true → b ≡ true → (a && b) ≡ true
 both true true p q = refl
 both true false p q = absurd cc
 both false b p q = absurd cc
 
-both_are : (a b : Bool) → (a && b) ≡ true → (a ≡ true) × (b ≡ true)
+pub both_are : (a b : Bool) → (a && b) ≡ true → (a ≡ true) × (b ≡ true)
 both_are true true e = (refl, refl)
 both_are true false e = absurd cc
 both_are false b e = absurd cc
 
-either : (b : Bool) → (b ≡ true) ⊎ (b ≡ false)
+pub either : (b : Bool) → (b ≡ true) ⊎ (b ≡ false)
 either true = inl refl
 either false = inr refl
 
@@ -53,7 +53,7 @@ guarded_behind true x rest = refl
 guarded_behind false x rest = refl
 
 -- what is behind a value that is seen otherwise
-behind_value : {A B : Type 0} (to : A → B) (found : Option (A × List ℕ)) → behind found ≡ behind (and_then found (λ a rest. Some (to a, rest)))
+pub behind_value : {A B : Type 0} (to : A → B) (found : Option (A × List ℕ)) → behind found ≡ behind (and_then found (λ a rest. Some (to a, rest)))
 behind_value to None = refl
 behind_value to (Some x) = refl
 
@@ -109,7 +109,7 @@ number16_lawful = number_lawful w16 wide16
 pub number32_lawful : IsFormat (number w32)
 number32_lawful = number_lawful w32 wide32
 
-IsBytes-rest : (b : ℕ) (bytes : List ℕ) → IsBytes (b ∷ bytes) → IsBytes bytes
+pub IsBytes-rest : (b : ℕ) (bytes : List ℕ) → IsBytes (b ∷ bytes) → IsBytes bytes
 IsBytes-rest b bytes h i = h (suc i)
 
 byte_takes : (bytes : List ℕ) (n : ℕ) (rest : List ℕ) → IsBytes bytes → byte_at bytes ≡ Some (n, rest) → Takes bytes (n ∷ []) rest × (ltb n 256 ≡ true)

@@ -1,5 +1,5 @@
 -- The layout of a story's tables, field by field.
-use Rattle.std.specs.Prelude.{refl}
+use Rattle.std.proofs.Common.{◌≡◌, ℕ, refl, inl, inr, ◌⊎◌}
 use Rattle.world_meaning.specs.declared.exits.Way.{Way}
 use Rattle.world_meaning.specs.declared.exits.Exits.{Exits}
 use Rattle.story_format.specs.Layouts.{Layout, u8s, u16s, u32s, optionals, texts, then, as_record, times, list_of, table_of}
@@ -7,6 +7,14 @@ use Rattle.story_format.specs.declared.world_tables.KindEntry.{KindEntry}
 use Rattle.story_format.specs.declared.world_tables.Granted.{Granted}
 use Rattle.story_format.specs.declared.world_tables.Variable.{Variable}
 use Rattle.story_format.specs.declared.world_tables.WorldTables.{WorldTables}
+use Rattle.story_format.specs.Choices.{no_sort, nothings, sort}
+use Rattle.story_format.specs.declared.rule_entry.Aspect.{Aspect}
+use Rattle.story_format.specs.declared.rule_entry.Aspect.TheVariants as aspects
+use Rattle.story_format.specs.declared.rule_entry.KindAspect.{KindAspect}
+use Rattle.story_format.specs.declared.rule_entry.PropertySide.{PropertySide}
+use Rattle.story_format.specs.declared.rule_entry.RuleBody.{RuleBody}
+use Rattle.story_format.specs.declared.rule_entry.RuleBody.TheVariants as bodies
+use Rattle.story_format.specs.declared.rule_entry.RuleEntry.{RuleEntry}
 use Rattle.story_format.specs.declared.rule_tables.ActionEntry.{ActionEntry}
 use Rattle.story_format.specs.declared.rule_tables.GrammarLine.{GrammarLine}
 use Rattle.story_format.specs.declared.rule_tables.Book.{Book}
@@ -60,6 +68,75 @@ action_layout = as_record
 unfoldable pub line_layout : Layout GrammarLine
 line_layout = as_record (λ p. record { action = p.0; words = p.1 }) (λ l. (l.action, l.words)) (λ p. refl) (λ l. refl) (then u8s (list_of u16s))
 
+-- a property that an aspect asks, and which of its names
+unfoldable pub side_layout : Layout PropertySide
+side_layout = as_record (λ p. record { property = p.0; side = p.1 }) (λ s. (s.property, s.side)) (λ p. refl) (λ s. refl) (then u8s u8s)
+
+unfoldable pub kind_aspect_layout : Layout KindAspect
+kind_aspect_layout = as_record (λ p. record { kind = p.0; properties = p.1 }) (λ k. (k.kind, k.properties)) (λ p. refl) (λ k. refl) (then u8s (list_of side_layout))
+
+-- what a rule asks of a noun or a place: 0 nothing, 1 an object, 2 a kind
+abbrev pub AspectSorts : Type 0
+AspectSorts = Unit {0} ⊎ (ℕ ⊎ (KindAspect ⊎ ℕ))
+
+abbrev pub aspect_of : AspectSorts → Aspect
+aspect_of (inl u) = aspects.Anything
+aspect_of (inr (inl o)) = aspects.Object o
+aspect_of (inr (inr (inl k))) = aspects.Kind k
+aspect_of (inr (inr (inr tag))) = aspects.Unknown tag
+
+abbrev pub sort_of_aspect : Aspect → AspectSorts
+sort_of_aspect aspects.Anything = inl tt
+sort_of_aspect (aspects.Object o) = inr (inl o)
+sort_of_aspect (aspects.Kind k) = inr (inr (inl k))
+sort_of_aspect (aspects.Unknown tag) = inr (inr (inr tag))
+
+pub aspect_back : (s : AspectSorts) → sort_of_aspect (aspect_of s) ≡ s
+aspect_back (inl u) = refl
+aspect_back (inr (inl o)) = refl
+aspect_back (inr (inr (inl k))) = refl
+aspect_back (inr (inr (inr tag))) = refl
+
+pub aspect_forth : (a : Aspect) → aspect_of (sort_of_aspect a) ≡ a
+aspect_forth aspects.Anything = refl
+aspect_forth (aspects.Object o) = refl
+aspect_forth (aspects.Kind k) = refl
+aspect_forth (aspects.Unknown tag) = refl
+
+unfoldable pub aspect_layout : Layout Aspect
+aspect_layout = as_record aspect_of sort_of_aspect aspect_back aspect_forth (sort 0 nothings (sort 1 u16s (sort 2 kind_aspect_layout no_sort))).layout
+
+-- what a rule does: 0 a code, 1 a standard rule
+abbrev pub body_of : ℕ ⊎ (ℕ ⊎ ℕ) → RuleBody
+body_of (inl code) = bodies.Code code
+body_of (inr (inl rule)) = bodies.Standard rule
+body_of (inr (inr tag)) = bodies.Unknown tag
+
+abbrev pub sort_of_body : RuleBody → ℕ ⊎ (ℕ ⊎ ℕ)
+sort_of_body (bodies.Code code) = inl code
+sort_of_body (bodies.Standard rule) = inr (inl rule)
+sort_of_body (bodies.Unknown tag) = inr (inr tag)
+
+pub body_back : (s : ℕ ⊎ (ℕ ⊎ ℕ)) → sort_of_body (body_of s) ≡ s
+body_back (inl code) = refl
+body_back (inr (inl rule)) = refl
+body_back (inr (inr tag)) = refl
+
+pub body_forth : (b : RuleBody) → body_of (sort_of_body b) ≡ b
+body_forth (bodies.Code code) = refl
+body_forth (bodies.Standard rule) = refl
+body_forth (bodies.Unknown tag) = refl
+
+unfoldable pub body_layout : Layout RuleBody
+body_layout = as_record body_of sort_of_body body_back body_forth (sort 0 u16s (sort 1 u8s no_sort)).layout
+
+-- table 10: a rule
+unfoldable pub rule_layout : Layout RuleEntry
+rule_layout = as_record
+    (λ p. record { book = p.0; action = p.1.0; noun = p.1.1.0; second = p.1.1.1.0; place = p.1.1.1.1.0; scene = p.1.1.1.1.1.0; condition = p.1.1.1.1.1.1.0; body = p.1.1.1.1.1.1.1 })
+    (λ r. (r.book, (r.action, (r.noun, (r.second, (r.place, (r.scene, (r.condition, r.body)))))))) (λ p. refl) (λ r. refl)
+    (then u16s (then u8s (then aspect_layout (then aspect_layout (then aspect_layout (then u8s (then u16s body_layout)))))))
+
 -- table 11: a book's rules
 unfoldable pub book_layout : Layout Book
 book_layout = as_record (λ p. record { rules = p }) (λ b. b.rules) (λ p. refl) (λ b. refl) (table_of u16s)
@@ -73,7 +150,7 @@ unfoldable pub rules_layout : Layout RuleTables
 rules_layout = as_record
     (λ p. record { actions = p.0; grammar = p.1.0; rules = p.1.1.0; books = p.1.1.1.0; scenes = p.1.1.1.1 })
     (λ r. (r.actions, (r.grammar, (r.rules, (r.books, r.scenes))))) (λ p. refl) (λ r. refl)
-    (then (table_of action_layout) (then (table_of line_layout) (then u16s (then (table_of book_layout) (table_of scene_layout)))))
+    (then (table_of action_layout) (then (table_of line_layout) (then (table_of rule_layout) (then (table_of book_layout) (table_of scene_layout)))))
 
 -- the tables, 1 to 13
 unfoldable pub tables_layout : Layout Tables

@@ -1,6 +1,7 @@
 pub mod Formats
 pub mod FormatLaws
 pub mod Layouts
+pub mod Choices
 pub mod Layout
 pub mod Sizes
 pub mod Checks

@@ -105,7 +105,7 @@ tables_with ws = record {
   world = record { kinds = []; flags = []; numbers = []; variables = [] };
   objects = entries_of (strings_of ws) 0 ws;
   ways = flat_map ways_of ws;
-  rules = record { actions = []; grammar = []; rules = 0; books = []; scenes = [] };
+  rules = record { actions = []; grammar = []; rules = []; books = []; scenes = [] };
   codes = flat_map (codes_of (strings_of ws)) ws;
 }
 

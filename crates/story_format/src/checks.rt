@@ -38,7 +38,7 @@ fn has_no_rules(rules: &RuleTables) -> bool
 {
     rules.actions.as_slice().is_empty()
         && rules.grammar.as_slice().is_empty()
-        && rules.rules == 0
+        && rules.rules.as_slice().is_empty()
         && rules.books.as_slice().is_empty()
         && rules.scenes.as_slice().is_empty()
 }

@@ -11,6 +11,7 @@ mod making;
 mod number;
 mod place;
 mod row;
+mod rule_entry;
 mod rule_tables;
 mod soundness;
 mod story;

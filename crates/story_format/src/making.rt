@@ -315,7 +315,7 @@ fn tables_with(alloc: Global, worded: &[Worded<'_>]) -> Result<Tables, AllocErro
         rules: RuleTables {
             actions: empty(alloc),
             grammar: empty(alloc),
-            rules: 0,
+            rules: empty(alloc),
             books: empty(alloc),
             scenes: empty(alloc),
         },

@@ -2,6 +2,7 @@
 ghost use Rattle.std.specs.Prelude.{◌≡◌};
 
 use crate::field::{Field, read_fields, skip_fields, write_fields};
+use crate::rule_entry::RuleEntry;
 use crate::table::{Listed, Table};
 use std::alloc::{AllocError, Global};
 
@@ -136,8 +137,8 @@ pub struct RuleTables {
     pub actions: Table<ActionEntry>,
     /// Table 9.
     pub grammar: Table<GrammarLine>,
-    /// How many entries table 10 has.
-    pub rules: u16,
+    /// Table 10.
+    pub rules: Table<RuleEntry>,
     /// Table 11.
     pub books: Table<Book>,
     /// Table 12.
@@ -151,11 +152,11 @@ impl Field for RuleTables {
     ghost format = { rules_layout.format };
 
     fn read(alloc: Global, bytes: &[u8]) -> Result<Option<(RuleTables, &[u8])>, AllocError> {
-        read_fields!(RuleTables, alloc, bytes, actions: Table<ActionEntry>, grammar: Table<GrammarLine>, rules: u16, books: Table<Book>, scenes: Table<SceneEntry>)
+        read_fields!(RuleTables, alloc, bytes, actions: Table<ActionEntry>, grammar: Table<GrammarLine>, rules: Table<RuleEntry>, books: Table<Book>, scenes: Table<SceneEntry>)
     }
 
     fn skip(bytes: &[u8]) -> Option<&[u8]> {
-        skip_fields!(bytes, Table<ActionEntry>, Table<GrammarLine>, u16, Table<Book>, Table<SceneEntry>)
+        skip_fields!(bytes, Table<ActionEntry>, Table<GrammarLine>, Table<RuleEntry>, Table<Book>, Table<SceneEntry>)
     }
 
     fn write(&self, out: &mut Vec<u8>) -> Result<(), AllocError> {

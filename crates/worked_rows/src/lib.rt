@@ -14,4 +14,6 @@ mod reports;
 #[cfg(test)]
 mod sentences;
 #[cfg(test)]
+mod story_files;
+#[cfg(test)]
 mod streams;
