@@ -2,3 +2,4 @@ pub mod Bounds
 pub mod Exits
 pub mod Firsts
 pub mod Rooms
+pub mod FewWords

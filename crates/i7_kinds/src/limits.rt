@@ -1,5 +1,6 @@
 //! The limits of a tale: objects, words of a name, bytes of a name or a text.
-ghost use Rattle.std.specs.Prelude.{◌≡◌, IfOk};
+ghost use Rattle.std.specs.Prelude.{◌≡◌, IfOk, count_by};
+ghost use Rattle.object_words.specs.Words.{is_blank};
 ghost use Rattle.i7_kinds.specs.Tales.{is_too_long, name_too_long, object_too_many, text_too_long};
 ghost use Rattle.i7_kinds.specs.Views.{mentions_of};
 
@@ -27,12 +28,24 @@ pub fn object_too_many(mentions: &[Mention<'_>]) -> Option<u32>
     }
 }
 
-/// Whether a name has too many words or bytes.
+/// How many blanks a name has.
+fn blanks(name: &[u8]) -> usize
+    ensures { result ≡ count_by is_blank name.now }
+{
+    name.iter().filter(|byte| **byte == b' ').count()
+}
+
+/// Whether a name has too many words or bytes. The words are made only where the blanks are so many that
+/// they may be too many.
+#[tactic(auto, using(crate::proofs::FewWords::few_blanks))]
 fn is_too_long(alloc: Global, name: &[u8]) -> Result<bool, AllocError>
     ensures { IfOk result (λ long. long ≡ is_too_long name.now) }
 {
     if name.len() > MOST_BYTES {
         return Ok(true);
+    }
+    if blanks(name) < MOST_WORDS {
+        return Ok(false);
     }
     let words = words_for(alloc, FIRST_OF_AUTHOR, name)?;
     Ok(words.len() > MOST_WORDS)

@@ -71,6 +71,10 @@ pub best_is : (variants : List Variant) (tokens : List Token) → BestOf variant
 best_is [] tokens = All-nil (IsUnfit tokens)
 best_is (v ∷ variants) tokens = best_more v variants tokens (first_fit v.pieces tokens) (best_fit variants tokens) (fitted v.pieces tokens) (best_is variants tokens)
 
+-- a variant that doesn't fit is nothing
+pub passed_best : (v : Variant) (variants : List Variant) (tokens : List Token) → first_fit v.pieces tokens ≡ None → best_fit (v ∷ variants) tokens ≡ best_fit variants tokens
+passed_best v variants tokens none = rw none refl
+
 abbrev pub ReadAs : List (List Variant) → List Token → Option Found → Type 0
 ReadAs forms tokens None = IsUnread forms tokens
 ReadAs forms tokens (Some found) = IsReading forms tokens found.form found.letters

@@ -1,6 +1,6 @@
 //! Fitting pieces to words from left to right: each letter ends at the nearest place from which the
 //! pieces behind it can fit.
-ghost use Rattle.std.specs.Prelude.{◌≡◌, ◌≤◌, ◌++◌, ◌∷◌, [], length, map, option_map, IfNone, IfOk, IfSome, IsTrue, None, Some, false};
+ghost use Rattle.std.specs.Prelude.{◌≡◌, true, ◌≤◌, ◌++◌, ◌∷◌, [], length, map, option_map, IfNone, IfOk, IfSome, IsTrue, None, Some, false};
 ghost use Rattle.std.specs.List.{list_any};
 ghost use Rattle.i7_sentences.specs.Keywords.{is_sign};
 ghost use Rattle.i7_sentences.specs.Matching.{behind_word, can_begin, can_fit, can_take, columns_of, first_column, first_fit, is_kept, is_missing, IsEndOf, left_by, letters_with, looked, nearest};
@@ -206,9 +206,18 @@ fn fits_from<'a, 'b>(
     }
 }
 
+/// Whether it is seen without columns that the pieces don't fit: they can't begin with the first token,
+/// or one of their words stands nowhere.
+#[tactic(auto, using(crate::proofs::Missing::missing_fits, crate::proofs::Missing::never_begins))]
+pub fn is_passed_over(pieces: &[Piece], tokens: &[Tagged<'_>]) -> bool
+    ensures { result ≡ true → first_fit pieces.now tokens.now ≡ None }
+{
+    !can_begin(pieces, tokens) || lacks_word(pieces, tokens)
+}
+
 /// The words for the letters of pieces that fit the tokens, each letter as short as it can be, the
 /// first before the second; or none where the pieces don't fit.
-#[tactic(auto, using(crate::proofs::Columns::never_fits, crate::proofs::Missing::missing_fits, crate::proofs::Missing::never_begins))]
+#[tactic(auto, using(crate::proofs::Columns::never_fits))]
 pub fn fit<'a, 'b>(
     alloc: Global,
     pieces: &[Piece],
@@ -216,12 +225,6 @@ pub fn fit<'a, 'b>(
 ) -> Result<Option<Vec<&'a [Tagged<'b>]>>, AllocError>
     ensures { IfOk result (λ found. option_map (λ letters. map (λ letter. letter.now) letters.items) found ≡ first_fit pieces.now tokens.now) }
 {
-    if !can_begin(pieces, tokens) {
-        return Ok(None);
-    }
-    if lacks_word(pieces, tokens) {
-        return Ok(None);
-    }
     let mut told = Vec::new(alloc);
     if columns(alloc, pieces, tokens, &mut told)?.is_none() {
         return Ok(None);

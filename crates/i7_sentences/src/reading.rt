@@ -1,11 +1,11 @@
 //! The reading of a sentence: the lowest form that fits, with the shortest letters.
-ghost use Rattle.std.specs.Prelude.{◌≡◌, map, option_map, IfOk};
+ghost use Rattle.std.specs.Prelude.{◌≡◌, ◌≤◌, length, map, option_map, IfOk};
 ghost use Rattle.i7_sentences.specs.Forms.{all_forms, are_shorter};
 ghost use Rattle.i7_sentences.specs.Matching.{best_fit, first_fit, found_as, lowest_fit, preferred};
 ghost use Rattle.i7_sentences.specs.Found.{found_in};
 
 use crate::form::FORMS;
-use crate::matcher::fit;
+use crate::matcher::{fit, is_passed_over};
 use crate::tagged::Tagged;
 use crate::{Form, Piece};
 use std::alloc::{AllocError, Global};
@@ -75,6 +75,25 @@ fn reading_as<'a, 'b>(
     }
 }
 
+/// The variants from the first on that isn't passed over.
+#[tactic(auto, using(crate::proofs::Choosing::passed_best))]
+fn without_unfit<'a, 'b>(
+    variants: &'a [(Form, &'b [Piece])],
+    tokens: &[Tagged<'_>],
+) -> &'a [(Form, &'b [Piece])]
+    ensures same { best_fit (map (λ variant. record { form = variant.0; pieces = variant.1.now }) result.now) tokens.now ≡ best_fit (map (λ variant. record { form = variant.0; pieces = variant.1.now }) variants.now) tokens.now }
+    ensures within { length result.now ≤ length variants.now }
+{
+    let mut rest = variants;
+    while let [variant, after @ ..] = rest {
+        if !is_passed_over(variant.1, tokens) {
+            return rest;
+        }
+        rest = after;
+    }
+    rest
+}
+
 /// The fit of a form with the shortest letters, of as short ones the first.
 fn best_fit<'a, 'b>(
     alloc: Global,
@@ -87,7 +106,7 @@ fn best_fit<'a, 'b>(
         [] => Ok(None),
         [variant, after @ ..] => {
             let first = reading_as(alloc, variant.0, variant.1, tokens)?;
-            let later = best_fit(alloc, after, tokens)?;
+            let later = best_fit(alloc, without_unfit(after, tokens), tokens)?;
             Ok(preferred(first, later))
         }
     }
@@ -103,8 +122,11 @@ fn lowest_fit<'a, 'b>(
 {
     let mut rest = forms;
     while let [form, after @ ..] = rest {
-        if let Some(reading) = best_fit(alloc, form, tokens)? {
-            return Ok(Some(reading));
+        let variants = without_unfit(form, tokens);
+        if !variants.is_empty() {
+            if let Some(reading) = best_fit(alloc, variants, tokens)? {
+                return Ok(Some(reading));
+            }
         }
         rest = after;
     }
