@@ -10,3 +10,4 @@ pub mod TableLemmas
 pub mod Fits
 pub mod Stories
 pub mod Carried
+pub mod RoomLemmas

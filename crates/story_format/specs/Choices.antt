@@ -1,5 +1,5 @@
 -- Values of several sorts, told apart by their first byte: what stands behind it is the sort's.
-use Rattle.std.proofs.Common.{◌≡◌, ℕ, ◌+◌, ◌<◌, Bool, true, false, cond, not, ◌&&◌, ltb, eqb, List, [], ◌∷◌, ◌++◌, length, get_or, Option, Some, None, refl, sym, ap, subst, ◌∙◌, inl, inr, ◌⊎◌}
+use Rattle.std.proofs.Common.{◌≡◌, ℕ, Bool, true, false, cond, not, ◌&&◌, eqb, List, [], ◌∷◌, ◌++◌, get_or, Option, Some, None, refl, sym, ap, subst, ◌∙◌, inl, inr, ◌⊎◌}
 use Rattle.std.proofs.lemmas.Bool.{eqb-true, eq-eqb}
 use Rattle.story_format.specs.Formats.{Format, and_then, behind, IsBytes, Takes, IsFormat}
 use Rattle.story_format.specs.FormatLaws.{IsBytes-rest, and_then_some, behind_value, some_is, both, both_are, either}

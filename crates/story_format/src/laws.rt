@@ -1,11 +1,13 @@
 //! What holds of stories whatever the bytes are.
-ghost use Rattle.std.specs.Prelude.{◌≡◌, ◌≢◌, ◌⊎◌, ℕ, List};
+ghost use Rattle.std.specs.Prelude.{◌≡◌, ◌≢◌, ◌⊎◌, ℕ, List, true};
 ghost use Rattle.world_meaning.specs.declared.tale.Tale.{Tale};
 ghost use Rattle.story_format.specs.declared.fault.LoadFault.{LoadFault};
 ghost use Rattle.story_format.specs.declared.fault.LoadFault.TheVariants.{Memory};
 ghost use Rattle.story_format.specs.declared.tables.Tables.{Tables};
 ghost use Rattle.story_format.specs.Carrying.{Carries};
+ghost use Rattle.story_format.specs.Facts.{object_count_of, start_of, way_of};
 ghost use Rattle.story_format.specs.Formats.{IsBytes};
+ghost use Rattle.story_format.specs.Sizes.{is_room_number, is_room_or_none};
 ghost use Rattle.story_format.specs.Holding.{IsHeld};
 ghost use Rattle.story_format.specs.Making.{tables_of};
 ghost use Rattle.story_format.specs.Spells.{IsStory, Spells};
@@ -44,4 +46,10 @@ pub fn tales_are_stories()
 /// They say of each object what the tale says.
 pub fn story_carries_tale()
     ensures { (tale : Tale) → IsHeld tale → Carries (tables_of tale) tale }
+{}
+
+/// A story begins in one of its rooms, and each way leads to one of them or nowhere.
+pub fn stories_lead_to_rooms()
+    ensures start { (tables : Tables) → IsStory tables → is_room_number (object_count_of tables) (start_of tables) ≡ true }
+    ensures ways { (tables : Tables) (room direction : ℕ) → IsStory tables → is_room_or_none (object_count_of tables) (way_of tables room direction) ≡ true }
 {}

@@ -23,8 +23,8 @@ mod writing;
 
 pub use fault::LoadFault;
 pub use laws::{
-    one_fault, one_spelling, one_story, spelled_or_refused, stories_stand, story_carries_tale,
-    tales_are_stories,
+    one_fault, one_spelling, one_story, spelled_or_refused, stories_lead_to_rooms, stories_stand,
+    story_carries_tale, tales_are_stories,
 };
 pub use loading::load;
 pub use story::Story;
