@@ -42,13 +42,13 @@ pub fn run_story<R: Read, W: Write>(
     ensures played { IfOk result (PlayedStory bytes.now echo
         (streams R.remaining W.contents reader.old writer.old)
         (streams R.remaining W.contents reader.new writer.new)
-       ) }
+        ) }
 
     // A fault says why not, and a fault in front of the run leaves reader and writer as they were.
     ensures left { IfErr result (λ fault. LeavesStory fault bytes.now echo
         (streams R.remaining W.contents reader.old writer.old)
         (streams R.remaining W.contents reader.new writer.new)
-       ) }
+        ) }
     ensures untouched { IfErr result (λ fault. is_of_run fault ≡ false → (reader.new ≡ reader.old) × (writer.new ≡ writer.old)) }
 
     // The run's fault is the reader's exactly where the reader has failed, and the writer's alike.
@@ -86,13 +86,13 @@ pub fn run_source<R: Read, W: Write>(
     ensures played { IfOk result (PlayedSource source.now echo
         (streams R.remaining W.contents reader.old writer.old)
         (streams R.remaining W.contents reader.new writer.new)
-       ) }
+        ) }
 
     // A fault says why not, and a fault in front of the run leaves reader and writer as they were.
     ensures left { IfErr result (λ fault. LeavesSource fault source.now echo
         (streams R.remaining W.contents reader.old writer.old)
         (streams R.remaining W.contents reader.new writer.new)
-       ) }
+        ) }
     ensures untouched { IfErr result (λ fault. is_of_run fault ≡ false → (reader.new ≡ reader.old) × (writer.new ≡ writer.old)) }
 
     // The run's fault is the reader's exactly where the reader has failed, and the writer's alike.

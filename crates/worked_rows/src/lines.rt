@@ -13,10 +13,34 @@ const ROWS: &[Row] = &[
     (b"e", b"You can't go that way.\n", ReplyKind::Kept, 13, 4),
     (b"", b"I beg your pardon?\n", ReplyKind::Free, 13, 4),
     (b" \t ", b"I beg your pardon?\n", ReplyKind::Free, 13, 4),
-    (b"xyzzy", b"I don't know that verb.\n", ReplyKind::Free, 13, 4),
-    (b"go lamp", b"You can't see any such thing.\n", ReplyKind::Free, 13, 4),
-    (b"go", b"I didn't understand that sentence.\n", ReplyKind::Free, 13, 4),
-    (b"look foo", b"I didn't understand that sentence.\n", ReplyKind::Free, 13, 4),
+    (
+        b"xyzzy",
+        b"I don't know that verb.\n",
+        ReplyKind::Free,
+        13,
+        4,
+    ),
+    (
+        b"go lamp",
+        b"You can't see any such thing.\n",
+        ReplyKind::Free,
+        13,
+        4,
+    ),
+    (
+        b"go",
+        b"I didn't understand that sentence.\n",
+        ReplyKind::Free,
+        13,
+        4,
+    ),
+    (
+        b"look foo",
+        b"I didn't understand that sentence.\n",
+        ReplyKind::Free,
+        13,
+        4,
+    ),
     (b"go the north", b"Garden\n", ReplyKind::Kept, 14, 5),
     (b"n", b"You can't go that way.\n", ReplyKind::Kept, 14, 6),
     (b"SOUTH", b"Hall\nA bare hall.\n", ReplyKind::Kept, 13, 7),
@@ -53,13 +77,19 @@ fn a_line_is_read_up_to_255_bytes_and_32_words(rt: HostRuntime) -> Result<(), Fa
     }
     assert_eq!(rt; session.line(line.as_slice()).kind(), ReplyKind::Kept);
     line.push(b' ')?;
-    assert_eq!(rt; session.line(line.as_slice()).text(), b"That line is too long.\n".as_slice());
+    assert_eq!(rt;
+        session.line(line.as_slice()).text(),
+        b"That line is too long.\n".as_slice()
+    );
     let mut words = Vec::new(alloc);
     for _ in 0..32 {
         words.extend_from_slice(b"n ")?;
     }
     assert_eq!(rt; session.line(words.as_slice()).kind(), ReplyKind::Kept);
     words.extend_from_slice(b"n")?;
-    assert_eq!(rt; session.line(words.as_slice()).text(), b"That line is too long.\n".as_slice());
+    assert_eq!(rt;
+        session.line(words.as_slice()).text(),
+        b"That line is too long.\n".as_slice()
+    );
     Ok(())
 }

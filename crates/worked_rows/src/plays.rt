@@ -29,7 +29,13 @@ fn a_story_file_is_played(rt: HostRuntime) -> Result<(), Fail> {
     let story = compile(alloc, TWO_ROOMS)?;
     let mut commands = Watched::new(b"s\nn\n".as_slice());
     let mut transcript = Watched::new(Vec::new(alloc));
-    let ending = run_story(alloc, story.as_slice(), &mut commands, &mut transcript, false)?;
+    let ending = run_story(
+        alloc,
+        story.as_slice(),
+        &mut commands,
+        &mut transcript,
+        false,
+    )?;
     assert_eq!(rt; ending, Ending::EndOfInput);
     let written = b"Hall\nA bare hall.\n\n>You can't go that way.\n\n>Garden\n\n>";
     assert_eq!(rt; transcript.into_inner().as_slice(), written.as_slice());
@@ -82,7 +88,11 @@ fn long_names_and_texts_are_played_up_to_their_limit(rt: HostRuntime) -> Result<
         (65_535, 1),
         (65_535, 65_535),
     ] {
-        assert_eq!(rt; opening_of(alloc, name, text)?, Ok(name + text + 4), "{name} {text}");
+        assert_eq!(rt;
+            opening_of(alloc, name, text)?,
+            Ok(name + text + 4),
+            "{name} {text}"
+        );
     }
     assert_eq!(rt; opening_of(alloc, 1, 65_536)?, Err(too_many));
     assert_eq!(rt; opening_of(alloc, 65_536, 1)?, Err(too_many));

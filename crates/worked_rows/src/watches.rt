@@ -6,7 +6,10 @@ use story_player::Watched;
 
 #[test]
 fn a_reader_is_asked_again_after_a_failure(rt: HostRuntime) -> Result<(), Fail> {
-    let mut reader = Watched::new(Fitful { calls: 0, fails_at: 2 });
+    let mut reader = Watched::new(Fitful {
+        calls: 0,
+        fails_at: 2,
+    });
     let mut byte = [0u8; 1];
     assert_eq!(rt; reader.read(&mut byte)?, 1);
     assert!(rt; !reader.has_failed());
@@ -22,7 +25,10 @@ fn a_reader_is_asked_again_after_a_failure(rt: HostRuntime) -> Result<(), Fail> 
 
 #[test]
 fn a_writer_is_asked_again_after_a_failure(rt: HostRuntime) -> Result<(), Fail> {
-    let mut writer = Watched::new(Fitful { calls: 0, fails_at: 2 });
+    let mut writer = Watched::new(Fitful {
+        calls: 0,
+        fails_at: 2,
+    });
     assert_eq!(rt; writer.write(b"Hall")?, 1);
     assert!(rt; !writer.has_failed());
     assert!(rt; writer.write(b"Hall").is_err());
@@ -36,7 +42,10 @@ fn a_writer_is_asked_again_after_a_failure(rt: HostRuntime) -> Result<(), Fail> 
 
 #[test]
 fn a_flush_is_handed_on(rt: HostRuntime) -> Result<(), Fail> {
-    let mut writer = Watched::new(Fitful { calls: 0, fails_at: 2 });
+    let mut writer = Watched::new(Fitful {
+        calls: 0,
+        fails_at: 2,
+    });
     writer.flush()?;
     assert!(rt; !writer.has_failed());
     assert!(rt; writer.flush().is_err());
@@ -48,11 +57,17 @@ fn a_flush_is_handed_on(rt: HostRuntime) -> Result<(), Fail> {
 
 #[test]
 fn whole_calls_tell_their_failures(rt: HostRuntime) -> Result<(), Fail> {
-    let mut reader = Watched::new(Fitful { calls: 0, fails_at: 2 });
+    let mut reader = Watched::new(Fitful {
+        calls: 0,
+        fails_at: 2,
+    });
     let mut bytes = [0u8; 3];
     assert!(rt; reader.read_exact(&mut bytes).is_err());
     assert!(rt; reader.has_failed());
-    let mut writer = Watched::new(Fitful { calls: 0, fails_at: 2 });
+    let mut writer = Watched::new(Fitful {
+        calls: 0,
+        fails_at: 2,
+    });
     assert!(rt; writer.write_all(b"Hall").is_err());
     assert!(rt; writer.has_failed());
     Ok(())
