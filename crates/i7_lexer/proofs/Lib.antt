@@ -10,7 +10,7 @@ mod Cutting
 mod Depths
 mod Verdicts
 mod Readings
-mod LawLemmas
+pub mod LawLemmas
 mod FoldingLaws
 mod Lines
 mod Totality

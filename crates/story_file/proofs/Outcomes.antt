@@ -1,0 +1,43 @@
+-- A source has one outcome: its tokens are one list, and so its sentences, and so its tale.
+use Rattle.std.proofs.Common.{◌≡◌, ◌≢◌, ℕ, List, Ok, Err, ap, subst, sym, ◌∙◌}
+use Rattle.std.specs.Prelude.{Result}
+use Rattle.world_meaning.specs.declared.fault.Fault.{Fault}
+use Rattle.world_meaning.specs.declared.fault.FaultCode.TheVariants.{Memory}
+use Rattle.world_meaning.specs.declared.tale.Tale.{Tale}
+use Rattle.i7_lexer.proofs.LawLemmas.{spelled-refused, tokens-same}
+use Rattle.i7_lexer.specs.declared.token.Token.{Token}
+use Rattle.i7_sentences.proofs.Verdicts.{sentences_same, spelled_refused}
+use Rattle.i7_sentences.specs.Sources.{HasSentences, IsRefused as IsUnread}
+use Rattle.i7_sentences.specs.declared.sentence.Sentence.{Sentence}
+use Rattle.i7_kinds.specs.Tales.{tale_said}
+use Rattle.story_file.specs.Compilations.{IsCompiled, IsRefused, Means, Says, memory, unmeant, unread, unspelled}
+
+pub same_sentences : (source : List ℕ) (v w : List Sentence) → Says source v → Says source w → v ≡ w
+same_sentences source v w first second =
+    let tokens : first.tokens ≡ second.tokens = tokens-same source first.tokens second.tokens first.spells second.spells in
+    sentences_same second.tokens v w (subst (λ ts. HasSentences ts v) tokens first.reads) second.reads
+
+abbrev pub said : Tale → Result Tale Fault
+said tale = Ok tale
+
+pub same_ok : (tale other : Tale) → said tale ≡ said other → tale ≡ other
+same_ok tale other same = cc
+
+pub same_tale : (source : List ℕ) (tale other : Tale) → Means source tale → Means source other → tale ≡ other
+same_tale source tale other first second =
+    same_ok tale other (sym first.meant ∙ ap tale_said (same_sentences source first.sentences second.sentences first.says second.says) ∙ second.meant)
+
+pub ok_not_err : (tale : Tale) (fault : Fault) → Ok tale ≡ Err fault → ⊥
+ok_not_err tale fault same = absurd cc
+
+pub not_both : (source bytes : List ℕ) (fault : Fault) → fault.code ≢ Memory → IsCompiled source bytes → IsRefused source fault → ⊥
+not_both source bytes fault other compiled (unspelled refused) =
+    other (spelled-refused fault.code fault.line source compiled.means.says.tokens compiled.means.says.spells refused)
+not_both source bytes fault other compiled (unread refused) =
+    let says = compiled.means.says in
+    let tokens : refused.tokens ≡ says.tokens = tokens-same source refused.tokens says.tokens refused.spells says.spells in
+    spelled_refused says.tokens compiled.means.sentences fault says.reads other (subst (λ ts. IsUnread ts fault) tokens refused.unread)
+not_both source bytes fault other compiled (unmeant refused) =
+    let sentences = same_sentences source compiled.means.sentences refused.sentences compiled.means.says refused.says in
+    ok_not_err compiled.tale fault (sym compiled.means.meant ∙ ap tale_said sentences ∙ refused.refused)
+not_both source bytes fault other compiled (memory is) = other (ap (λ f. f.code) is)

@@ -1,0 +1,5 @@
+use Rattle.story_file.proofs.Outcomes.{not_both}
+use Rattle.story_file.proofs.laws.never_compiled_and_refused.Goals as goal
+
+pub returns : goal.returns
+returns c = not_both

@@ -1,0 +1,5 @@
+use Rattle.story_file.proofs.Outcomes.{same_tale}
+use Rattle.story_file.proofs.laws.one_tale.Goals as goal
+
+pub returns : goal.returns
+returns c = same_tale
