@@ -1,6 +1,6 @@
 -- What the sentences may not say together: each refusal's line is that of the first statement that
 -- shows it together with those before it.
-use Rattle.std.specs.Prelude.{ℕ, Bool, false, not, ◌&&◌, ◌||◌, ◌==◌, nat_lt, List, [], ◌∷◌, ◌++◌, flat_map, find, Option, Some, None, is_none, option_map, codes, bytes_eq, if◌then◌else◌}
+use Rattle.std.specs.Prelude.{ℕ, Bool, false, not, ◌&&◌, ◌||◌, ◌==◌, nat_lt, List, [], ◌∷◌, ◌++◌, flat_map, find, Option, Some, None, is_none, option_map, map, bytes_eq, if◌then◌else◌}
 use Rattle.std.specs.List.{list_any}
 use Rattle.world_meaning.specs.Spelling.{is_spelled}
 use Rattle.world_meaning.specs.Directions.{direction_number, opposite_of}
@@ -10,15 +10,12 @@ use Rattle.i7_kinds.specs.Statements.{NameAt}
 use Rattle.i7_kinds.specs.declared.descriptions.Description.{Description}
 use Rattle.i7_kinds.specs.declared.statements.Numbered.{Numbered}
 use Rattle.i7_kinds.specs.declared.statements.Numbered.TheVariants as numbered
+use Rattle.i7_kinds.specs.declared.reserved_names.TheConstants.{TAKEN}
 use Rattle.i7_kinds.specs.declared.statements.NumberedSentence.{NumberedSentence}
 
 -- the names of kinds and properties, and the words that stand for an object or a number
 abbrev pub taken_names : List (List ℕ)
-taken_names =
-    codes "noun" ∷ codes "second noun" ∷ codes "location" ∷ codes "nothing" ∷ codes "something" ∷ codes "turn count"
-    ∷ codes "thing" ∷ codes "room" ∷ codes "direction" ∷ codes "door" ∷ codes "container" ∷ codes "supporter" ∷ codes "person" ∷ codes "device" ∷ codes "man" ∷ codes "woman"
-    ∷ codes "open" ∷ codes "closed" ∷ codes "openable" ∷ codes "unopenable" ∷ codes "transparent" ∷ codes "opaque" ∷ codes "lit" ∷ codes "unlit" ∷ codes "lighted" ∷ codes "dark"
-    ∷ codes "scenery" ∷ codes "fixed in place" ∷ codes "portable" ∷ codes "wearable" ∷ codes "described" ∷ codes "undescribed" ∷ codes "switched on" ∷ codes "switched off" ∷ codes "visited" ∷ codes "unvisited" ∷ []
+taken_names = map (λ name. name.now) TAKEN
 
 abbrev pub is_taken : List ℕ → Bool
 is_taken name = list_any (is_spelled name) taken_names

@@ -9,7 +9,7 @@ use crate::names::Mention;
 use world_meaning::is_spelled;
 
 /// The names of built-in kinds and properties, and the words that stand for an object or a number.
-const TAKEN: [&[u8]; 36] = [
+pub const TAKEN: [&[u8]; 36] = [
     b"noun",
     b"second noun",
     b"location",
