@@ -72,7 +72,7 @@ fn a_line_is_read_up_to_255_bytes_and_32_words(rt: HostRuntime) -> Result<(), Fa
     let alloc = rt.alloc();
     let mut session = two_rooms(alloc)?;
     let mut line = Vec::from_slice(alloc, b"look")?;
-    while line.len() < 255 {
+    for _ in 4..255 {
         line.push(b' ')?;
     }
     assert_eq!(rt; session.line(line.as_slice()).kind(), ReplyKind::Kept);

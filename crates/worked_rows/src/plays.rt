@@ -79,20 +79,16 @@ fn long_names_and_texts_are_played_up_to_their_limit(rt: HostRuntime) -> Result<
         line: 1,
     };
     // behind the name and the text stand a break each, and then a break and a prompt
-    for (name, text) in [
-        (1usize, 33_000usize),
-        (1, 40_000),
-        (33_000, 1),
-        (60_000, 1),
-        (1, 65_535),
-        (65_535, 1),
-        (65_535, 65_535),
+    for (name, text, whole) in [
+        (1usize, 33_000usize, 33_005usize),
+        (1, 40_000, 40_005),
+        (33_000, 1, 33_005),
+        (60_000, 1, 60_005),
+        (1, 65_535, 65_540),
+        (65_535, 1, 65_540),
+        (65_535, 65_535, 131_074),
     ] {
-        assert_eq!(rt;
-            opening_of(alloc, name, text)?,
-            Ok(name + text + 4),
-            "{name} {text}"
-        );
+        assert_eq!(rt; opening_of(alloc, name, text)?, Ok(whole), "{name} {text}");
     }
     assert_eq!(rt; opening_of(alloc, 1, 65_536)?, Err(too_many));
     assert_eq!(rt; opening_of(alloc, 65_536, 1)?, Err(too_many));
