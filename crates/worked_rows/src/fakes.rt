@@ -84,3 +84,17 @@ impl Write for Transcript<'_> {
         Ok(())
     }
 }
+
+/// Takes all bytes, and can't be flushed.
+#[derive(Drop)]
+pub struct Unflushed;
+
+impl Write for Unflushed {
+    fn write(&mut self, buf: &[u8]) -> io::Result<usize> {
+        Ok(buf.len())
+    }
+
+    fn flush(&mut self) -> io::Result<()> {
+        Err(Error::from(ErrorKind::Other))
+    }
+}
