@@ -9,7 +9,8 @@ use Rattle.std.proofs.lemmas.List.{length-append, append-nil}
 use Rattle.std.proofs.lemmas.List.Splits.{length-slice_split}
 use Rattle.std.proofs.lemmas.List.Sums.{sum_by-cons}
 use Rattle.object_words.specs.Mentions.{mention}
-use Rattle.object_words.specs.Words.{is_blank, is_word, blank_words, lowered, more_words, words_for}
+use Rattle.object_words.specs.Words.{is_blank, is_word, blank_words, more_words, words_for}
+use Rattle.world_meaning.specs.Spelling.{lowered}
 use Rattle.i7_kinds.specs.Tales.{is_too_long}
 
 either : (b : Bool) → (b ≡ true) ⊎ (b ≡ false)

@@ -1,3 +1,4 @@
 pub mod Folds
+pub mod MentionLemmas
 pub mod StringLemmas
 pub mod WordLemmas

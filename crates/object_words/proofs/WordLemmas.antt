@@ -5,6 +5,7 @@ use Rattle.std.specs.List.{position_or_len, slice_split}
 use Rattle.std.proofs.lemmas.Bool.{ltb-true, ltb-false}
 use Rattle.std.proofs.Math.Dec.{eqb-suc-zero}
 use Rattle.std.proofs.lemmas.List.Splits.{slice_split-cons_yes, slice_split-cons_no}
+use Rattle.world_meaning.proofs.Bools.{either}
 use Rattle.object_words.specs.Mentions.{mention}
 use Rattle.object_words.specs.Words.{is_blank, is_word, blank_words}
 use Rattle.object_words.proofs.Folds.{fold_both}
@@ -16,10 +17,6 @@ place_of_some p xs k false e = absurd cc
 place_of_none : (n : ℕ) (test : Bool) → None ≡ cond test (Some n) None → test ≡ false
 place_of_none n true e = absurd cc
 place_of_none n false e = refl
-
-either : (b : Bool) → (b ≡ true) ⊎ (b ≡ false)
-either true = inl refl
-either false = inr refl
 
 split_place : {A : Type 0} (p : A → Bool) (xs : List A) (k : ℕ) → k ≡ position_or_len p xs → k < length xs → slice_split p xs ≡ take k xs ∷ slice_split p (drop 1 (drop k xs))
 split_place p [] k e lt = absurd (omega arith)

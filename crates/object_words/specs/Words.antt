@@ -1,9 +1,9 @@
 -- The words that a command may name an object by.
-use Rattle.std.specs.Prelude.{ℕ, ◌-◌, Bool, not, ◌==◌, List, [], ◌∷◌, ◌++◌, length, map, filter, slice_get, Option, Some, None, if◌then◌else◌, codes}
+use Rattle.std.specs.Prelude.{ℕ, ◌-◌, Bool, not, ◌==◌, List, [], ◌∷◌, ◌++◌, length, filter, slice_get, Option, Some, None, if◌then◌else◌, codes}
 use Rattle.std.specs.List.{slice_split}
-use Rattle.std.specs.Char.{to_ascii_lowercase}
 use Rattle.world_meaning.specs.declared.direction.Direction.{Direction}
 use Rattle.world_meaning.specs.Directions.{all_directions, short_word}
+use Rattle.world_meaning.specs.Spelling.{lowered}
 use Rattle.object_words.specs.Mentions.{first_mentions}
 
 abbrev pub is_blank : ℕ → Bool
@@ -15,9 +15,6 @@ is_word bytes = not (length bytes == 0)
 -- what stands between the blanks of a text
 abbrev pub blank_words : List ℕ → List (List ℕ)
 blank_words bytes = filter is_word (slice_split is_blank bytes)
-
-abbrev pub lowered : List ℕ → List ℕ
-lowered bytes = map to_ascii_lowercase bytes
 
 -- the short word of a direction
 abbrev pub short_words : Option Direction → List (List ℕ)

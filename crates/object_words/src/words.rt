@@ -2,20 +2,11 @@
 ghost use Rattle.std.specs.Prelude.{◌≡◌, [], ◌∷◌, IfOk, OnOk, fold, filter, position, slice_get};
 ghost use Rattle.world_meaning.specs.Directions.{all_directions};
 ghost use Rattle.object_words.specs.Mentions.{mention};
-ghost use Rattle.object_words.specs.Words.{is_blank, is_word, blank_words, lowered, more_words, words_for, player_words};
+ghost use Rattle.object_words.specs.Words.{is_blank, is_word, blank_words, more_words, words_for, player_words};
 
 use crate::strings::Strings;
 use std::alloc::{AllocError, Global};
-use world_meaning::Direction;
-
-/// The text with small ASCII letters.
-fn lowered_text(alloc: Global, text: &[u8]) -> Result<Vec<u8>, AllocError>
-    ensures { IfOk result (λ bytes. bytes.items ≡ lowered text.now) }
-{
-    text.iter()
-        .map(|byte| byte.to_ascii_lowercase())
-        .collect(alloc)
-}
+use world_meaning::{Direction, lowered};
 
 /// The place of the first blank.
 fn first_blank(bytes: &[u8]) -> Option<usize>
@@ -85,7 +76,7 @@ fn mention_more_words(alloc: Global, words: &mut Strings, number: usize) -> Resu
 pub fn words_for(alloc: Global, number: usize, name: &[u8]) -> Result<Strings, AllocError>
     ensures { IfOk result (λ words. words ≡ words_for number name.now) }
 {
-    let small = lowered_text(alloc, name)?;
+    let small = lowered(alloc, name)?;
     let mut words = Strings::new(alloc);
     mention_words(alloc, &mut words, small.as_slice())?;
     mention_more_words(alloc, &mut words, number)?;

@@ -4,7 +4,7 @@ use Rattle.std.specs.Prelude.{Result, IfErr, IfOk}
 use Rattle.world_meaning.specs.Games.{Game}
 use Rattle.world_meaning.specs.Session.{State, opened}
 use Rattle.story_player.specs.Runs.{BrokeOff, streams_of, most_input}
-use Rattle.story_player.specs.declared.playing.RunFault.{RunFault}
+use Rattle.story_player.specs.declared.fault.RunFault.{RunFault}
 use Rattle.world_meaning.proofs.Agreement.{one_facts}
 use Rattle.world_meaning.specs.Facts.{Agree}
 use Rattle.world_meaning.specs.StandardGame.{game_of, game_of_tale}

@@ -14,7 +14,7 @@ use Rattle.story_file.specs.Compilations.{IsRefused, Means}
 use Rattle.story_player.specs.Breaks.{Blames}
 use Rattle.story_player.specs.Runs.{BrokeOff, Played, Streams, streams_of, most_input}
 use Rattle.story_player.specs.StoryGames.{game_of_story}
-use Rattle.story_player.specs.declared.playing.RunFault.{RunFault}
+use Rattle.story_player.specs.declared.fault.RunFault.{RunFault}
 use Rattle.story_player.specs.declared.session.StartFault.TheVariants as start
 use Rattle.source_player.specs.declared.source_run.SourceRunFault.{SourceRunFault}
 use Rattle.source_player.specs.declared.source_run.SourceRunFault.TheVariants.{Source, Story, Start, Run}

@@ -1,30 +1,31 @@
 //! Telling what went wrong: a line and a status.
-ghost use Rattle.std.specs.Prelude.{◌≡◌};
+ghost use Rattle.std.specs.Prelude.{◌≡◌, OnOk, Some};
+ghost use Rattle.std.specs.Io.KnownBytes.{Appends};
+ghost use Rattle.source_player.specs.FaultTexts.{line_of};
 ghost use Rattle.source_player.specs.Statuses.{is_memory, plain_status, status_of};
 
-use std::io::Write;
+use std::fmt;
+use std::io::{self, Write};
 use story_file::LoadFault;
 use story_player::RunFault;
-use thiserror::Error;
 use world_meaning::{Fault, FaultCode};
 
 /// What the program can't do, with the path of the file that it speaks of.
-#[derive(Debug, Drop, Error)]
+#[derive(Debug, Drop)]
 pub enum ProgramFault<'a> {
     /// The program's words are faulty, or ask for help.
-    #[error("{0}")]
     Words(String),
-    #[error("{0}: cannot be read")]
+    /// A file can't be read.
     CannotRead(&'a str),
-    #[error("{0}: cannot be written")]
+    /// A file can't be written.
     CannotWrite(&'a str),
-    #[error("{0}:{1}")]
+    /// A source is refused.
     Source(&'a str, Fault),
-    #[error("{0}: {1}")]
+    /// A story is refused.
     Story(&'a str, LoadFault),
-    #[error("i7story: {0}")]
+    /// Reading commands or writing the transcript failed.
     Stream(RunFault),
-    #[error("i7story: out of memory")]
+    /// Memory was refused.
     Memory,
 }
 
@@ -59,24 +60,50 @@ impl ProgramFault<'_> {
     }
 }
 
+/// What is wrong, behind the path of the file or the program's name; the program's words as they are.
+impl fmt::Display for ProgramFault<'_> {
+    ghost use Rattle.source_player.specs.FaultTexts.{program_text};
+
+    ghost output = { λ fault. Some (program_text fault) };
+
+    fn fmt<W: fmt::Write>(&self, f: &mut fmt::Formatter<W>) -> fmt::Result {
+        match self {
+            ProgramFault::Words(text) => write!(f, "{text}"),
+            ProgramFault::CannotRead(path) => write!(f, "{path}: cannot be read"),
+            ProgramFault::CannotWrite(path) => write!(f, "{path}: cannot be written"),
+            ProgramFault::Source(path, fault) => write!(f, "{path}:{fault}"),
+            ProgramFault::Story(path, fault) => write!(f, "{path}: {fault}"),
+            ProgramFault::Stream(fault) => write!(f, "i7story: {fault}"),
+            ProgramFault::Memory => write!(f, "i7story: out of memory"),
+        }
+    }
+}
+
+/// Writes the fault's line, where the writer takes it: nothing where the transcript can't be written,
+/// which the status alone tells.
+pub fn tell<W: Write>(fault: &ProgramFault<'_>, writer: &mut W) -> io::Result<()>
+    ensures { OnOk result (Appends (W.contents writer.old) (W.contents writer.new) (line_of fault.now)) }
+{
+    if fault.is_memory() {
+        return writeln!(writer, "{}", ProgramFault::Memory);
+    }
+    match fault {
+        ProgramFault::Stream(RunFault::Write) => Ok(()),
+        ProgramFault::Words(text) => write!(writer, "{text}"),
+        _ => writeln!(writer, "{fault}"),
+    }
+}
+
 /// Writes the fault's line, and answers the status with which the program ends: 1 a source that is
-/// refused, 2 a story that is refused, 3 a file or a stream, 4 memory, 5 the program's words. That the
-/// transcript can't be written is told by the status alone.
+/// refused, 2 a story that is refused, 3 a file or a stream, 4 memory, 5 the program's words. A writer that
+/// fails changes no status.
 pub fn report<W: Write>(fault: &ProgramFault<'_>, writer: &mut W) -> u8
     ensures { result ≡ status_of fault.now }
 {
+    let _ = tell(fault, writer);
     if fault.is_memory() {
-        let _ = writeln!(writer, "{}", ProgramFault::Memory);
-        return 4;
+        4
+    } else {
+        fault.plain_status()
     }
-    match fault {
-        ProgramFault::Stream(RunFault::Write) => {}
-        ProgramFault::Words(text) => {
-            let _ = write!(writer, "{text}");
-        }
-        _ => {
-            let _ = writeln!(writer, "{fault}");
-        }
-    }
-    fault.plain_status()
 }

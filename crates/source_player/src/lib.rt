@@ -5,5 +5,5 @@
 mod faults;
 mod source_run;
 
-pub use faults::{ProgramFault, report};
+pub use faults::{ProgramFault, report, tell};
 pub use source_run::{Play, SourceRunFault, play_bytes, run_source, run_story};

@@ -7,6 +7,7 @@ use Rattle.std.specs.Str.{bytes_eq}
 use Rattle.std.proofs.lemmas.Bool.{ltb-false, lt-ltb, le-leb, ne_eqb}
 use Rattle.std.proofs.lemmas.List.Folds.{list_any-append}
 use Rattle.std.proofs.lemmas.Option.{slice_get_past}
+use Rattle.world_meaning.proofs.Bools.{both, both_are, either}
 use Rattle.world_meaning.specs.Directions.{all_directions, direction_number, opposite_of}
 use Rattle.world_meaning.specs.declared.direction.Direction.{Direction}
 use Rattle.world_meaning.specs.declared.fault.Fault.{Fault}
@@ -30,8 +31,7 @@ use Rattle.story_format.specs.Holding.{has_few_words, has_short_texts, is_short,
 use Rattle.story_format.specs.Making.{worded, worded_from}
 use Rattle.story_format.specs.Shape.{are_directions, has_shape, is_direction, is_player, is_room}
 use Rattle.story_format.specs.Sizes.{is_room_number, is_room_or_none, leads_to_room}
-use Rattle.story_format.proofs.StoryLemmas.{both, both_are}
-use Rattle.story_format.proofs.Known.{either, text_is_itself, passes_at}
+use Rattle.story_format.proofs.Known.{text_is_itself, passes_at}
 
 none_or : (a b : Bool) → (a || b) ≡ false → (a ≡ false) × (b ≡ false)
 none_or true b h = absurd cc

@@ -40,4 +40,4 @@ not_both source bytes fault other compiled (unread refused) =
 not_both source bytes fault other compiled (unmeant refused) =
     let sentences = same_sentences source compiled.means.sentences refused.sentences compiled.means.says refused.says in
     ok_not_err compiled.tale fault (sym compiled.means.meant ∙ ap tale_said sentences ∙ refused.refused)
-not_both source bytes fault other compiled (memory is) = other (ap (λ f. f.code) is)
+not_both source bytes fault other compiled (memory short is) = other (ap (λ f. f.code) is)

@@ -1,10 +1,10 @@
 -- Which story file a source has, and which refusal.
-use Rattle.std.specs.Prelude.{◌≡◌, ℕ, List, Ok, Err}
+use Rattle.std.specs.Prelude.{◌≡◌, ℕ, ◌≤◌, List, length, Ok, Err}
 use Rattle.world_meaning.specs.declared.fault.Fault.{Fault}
 use Rattle.world_meaning.specs.declared.fault.FaultCode.TheVariants.{Memory}
 use Rattle.world_meaning.specs.declared.tale.Tale.{Tale}
 use Rattle.i7_lexer.specs.Readings.{HasTokens}
-use Rattle.i7_lexer.specs.Refusals.{IsRefused as IsUnspelled}
+use Rattle.i7_lexer.specs.Refusals.{IsRefused as IsUnspelled, longest}
 use Rattle.i7_lexer.specs.declared.token.Token.{Token}
 use Rattle.i7_sentences.specs.Sources.{HasSentences, IsRefused as IsUnread}
 use Rattle.i7_sentences.specs.declared.sentence.Sentence.{Sentence}
@@ -46,9 +46,9 @@ pub record IsUnmeant (source : List ℕ) (fault : Fault) : Type 0 where
   pub says : Says source sentences
   pub refused : tale_said sentences ≡ Err fault
 
--- A source is refused: by its bytes, its tokens or its sentences; or memory was refused.
+-- A source is refused: by its bytes, its tokens or its sentences; or, within the limit, memory was refused.
 pub data IsRefused : List ℕ → Fault → Type 0 where
   unspelled : {source : List ℕ} {fault : Fault} → IsUnspelled source fault → IsRefused source fault
   unread : {source : List ℕ} {fault : Fault} → IsUnreadSource source fault → IsRefused source fault
   unmeant : {source : List ℕ} {fault : Fault} → IsUnmeant source fault → IsRefused source fault
-  memory : {source : List ℕ} {fault : Fault} → fault ≡ record { code = Memory; line = 1 } → IsRefused source fault
+  memory : {source : List ℕ} {fault : Fault} → length source ≤ longest → fault ≡ record { code = Memory; line = 1 } → IsRefused source fault

@@ -5,6 +5,7 @@ use Rattle.std.specs.List.{list_all, flat_map}
 use Rattle.std.proofs.lemmas.Bool.{ne_eqb, ltb-true, ltb-false, eqb-true}
 use Rattle.std.proofs.lemmas.List.{length-append, take-append-drop, take-map, drop-map}
 use Rattle.std.proofs.lemmas.Option.{get_or_from_slice_get}
+use Rattle.world_meaning.proofs.Bools.{both_are, either}
 use Rattle.world_meaning.specs.Tale.{description_in as told_description, name_in as told_name, holder_in as told_holder, place_in as told_place, room_beyond, way_in as told_way}
 use Rattle.world_meaning.specs.declared.direction.Direction.{Direction}
 use Rattle.world_meaning.specs.Directions.{all_directions}
@@ -21,8 +22,8 @@ use Rattle.story_format.specs.Holding.{IsHeld}
 use Rattle.story_format.specs.Making.{Worded, worded, texts_of, code_strings, strings_of, place_holder, code_number, entry_of, entries_of, code_of, codes_of, ways_of, tables_with, tables_of}
 use Rattle.story_format.specs.Shape.{is_closed, are_closed, stands_in_room, is_direction, is_room, are_directions, has_shape}
 use Rattle.story_format.specs.Soundness.{string_said}
-use Rattle.story_format.proofs.StoryLemmas.{both_are, parts, player_parts, direction_parts, room_parts, get_dropped}
-use Rattle.story_format.proofs.Known.{either, found_by_number, is_known, is_told, told_in_strings}
+use Rattle.story_format.proofs.StoryLemmas.{parts, player_parts, direction_parts, room_parts, get_dropped}
+use Rattle.story_format.proofs.Known.{found_by_number, is_known, is_told, told_in_strings}
 use Rattle.story_format.proofs.OrderLemmas.{at_most_one}
 use Rattle.story_format.proofs.SoundLemmas.{said_back}
 use Rattle.story_format.proofs.TableLemmas.{entries_counted, objects_back, objects_in}

@@ -6,6 +6,7 @@ use Rattle.std.proofs.Math.Dec.{eqb-suc-zero}
 use Rattle.std.proofs.lemmas.Bool.{lt-ltb, ne_eqb}
 use Rattle.std.proofs.lemmas.List.{length-append}
 use Rattle.std.proofs.lemmas.Slice.Eq.{bytes_eq-Decides}
+use Rattle.world_meaning.proofs.Bools.{either}
 use Rattle.story_format.specs.declared.fault.LoadFault.{LoadFault}
 use Rattle.story_format.specs.declared.fault.LoadFault.TheVariants.{BadMagic, BadVersion, Truncated, TooLong, BadTable, BadCode, BadOrder, Memory}
 use Rattle.story_format.specs.declared.tables.Tables.{Tables}
@@ -15,7 +16,7 @@ use Rattle.story_format.specs.Spells.{magic, head}
 use Rattle.story_format.specs.Checks.{are_right}
 use Rattle.story_format.specs.Reading.{whole, body_at, body_read, tables_in, tables_read}
 use Rattle.story_format.specs.Refusals.{IsRefused}
-use Rattle.story_format.proofs.ReadingLemmas.{either, read_whole, right_ordered, same_version}
+use Rattle.story_format.proofs.ReadingLemmas.{read_whole, right_ordered, same_version}
 
 -- the fault of what was read
 abbrev fault_told : Result Tables LoadFault → LoadFault

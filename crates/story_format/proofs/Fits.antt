@@ -6,6 +6,7 @@ use Rattle.std.specs.Str.{bytes_eq}
 use Rattle.std.proofs.lemmas.Bool.{lt-ltb, ltb-true, leb-true, eqb-true}
 use Rattle.std.proofs.lemmas.List.{length-append, take-append-drop}
 use Rattle.std.proofs.lemmas.List.Folds.{list_all-append}
+use Rattle.world_meaning.proofs.Bools.{both, both_are, either}
 use Rattle.world_meaning.specs.declared.article.Article.{Article}
 use Rattle.world_meaning.specs.declared.article.Article.TheVariants as articles
 use Rattle.world_meaning.specs.declared.place.Rel.{Rel}
@@ -24,8 +25,7 @@ use Rattle.story_format.specs.Making.{Worded, worded, texts_of, entry_strings, c
 use Rattle.story_format.specs.Holding.{has_few_words, has_short_texts, is_short, is_short_or_none}
 use Rattle.story_format.specs.Shape.{stands_in_room, is_in, is_direction, is_room, are_directions, has_shape}
 use Rattle.story_format.specs.Sizes.{is_room_number, is_room_or_none, leads_to_room, lead_to_rooms}
-use Rattle.story_format.proofs.StoryLemmas.{both, both_are, all_weaker, parts, player_parts, direction_parts, room_parts}
-use Rattle.story_format.proofs.Known.{either}
+use Rattle.story_format.proofs.StoryLemmas.{all_weaker, parts, player_parts, direction_parts, room_parts}
 use Rattle.story_format.proofs.OrderLemmas.{at_most_one, mention_new, mention_old}
 use Rattle.story_format.proofs.WordFacts.{all_mentioned, is_good}
 use Rattle.story_format.proofs.TableLemmas.{all_good_words, all_may, codes_few, entries_counted, good_words, leads_with_words, object_leads_on, objects_back, objects_in, rooms_lead}

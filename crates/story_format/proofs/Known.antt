@@ -6,19 +6,16 @@ use Rattle.std.specs.Str.{bytes_eq}
 use Rattle.std.proofs.lemmas.Bool.{lt-ltb}
 use Rattle.std.proofs.lemmas.List.Folds.{list_any-append}
 use Rattle.std.proofs.lemmas.Slice.Eq.{bytes_eq-Decides}
+use Rattle.world_meaning.proofs.Bools.{either}
+use Rattle.world_meaning.proofs.Bools.{both}
 use Rattle.object_words.specs.Mentions.{mention, number_in}
 use Rattle.story_format.specs.Making.{Worded, entry_strings, code_strings, strings_of}
-use Rattle.story_format.proofs.StoryLemmas.{both}
 
 pub text_is_itself : (text : List ℕ) → bytes_eq text text ≡ true
 text_is_itself text = (bytes_eq-Decides text text).1 refl
 
-same_texts : (a b : List ℕ) → bytes_eq a b ≡ true → a ≡ b
+pub same_texts : (a b : List ℕ) → bytes_eq a b ≡ true → a ≡ b
 same_texts a b e = (bytes_eq-Decides a b).0 e
-
-pub either : (b : Bool) → (b ≡ true) ⊎ (b ≡ false)
-either true = inl refl
-either false = inr refl
 
 -- what stands at the first place that passes
 pub passes_at : (strings : List (List ℕ)) (text : List ℕ) → list_any (bytes_eq text) strings ≡ true

@@ -11,3 +11,4 @@ pub mod Fits
 pub mod Stories
 pub mod Carried
 pub mod RoomLemmas
+pub mod Telling

@@ -5,14 +5,14 @@ use Rattle.std.specs.List.{list_any, flat_map, position_or_len}
 use Rattle.std.specs.Str.{bytes_eq}
 use Rattle.std.proofs.lemmas.Bool.{lt-ltb, ne_eqb, eq-eqb, eqb-true, le-leb}
 use Rattle.std.proofs.lemmas.List.{length-append, append-nil}
+use Rattle.world_meaning.proofs.Bools.{both, both_are, either}
 use Rattle.object_words.specs.Mentions.{mention, first_mentions, number_in}
 use Rattle.story_format.specs.Making.{Worded, texts_of, entry_strings, code_strings, strings_of, code_number, entry_of, entries_of, codes_of, code_of}
 use Rattle.story_format.specs.Checks.{are_distinct, are_named_in_order, strings_named, codes_named, is_some_code}
 use Rattle.story_format.specs.Soundness.{are_in_turn, are_all_named}
 use Rattle.object_words.proofs.StringLemmas.{length_mapped}
-use Rattle.story_format.proofs.StoryLemmas.{both, both_are}
 use Rattle.object_words.proofs.Folds.{fold_both}
-use Rattle.story_format.proofs.Known.{either, passes_at, text_is_itself}
+use Rattle.story_format.proofs.Known.{passes_at, text_is_itself}
 
 -- ---- no string twice
 

@@ -2,6 +2,7 @@
 use Rattle.std.proofs.Common.{◌≡◌, ℕ, ◌+◌, ◌-◌, true, ◌&&◌, leb, ltb, eqb, List, [], ◌∷◌, length, map, take, drop, Option, Some, None, refl, ap, ◌∙◌, arith, inl, inr}
 use Rattle.std.specs.Prelude.{slice_get, codes, count_by}
 use Rattle.std.specs.List.{list_all, flat_map}
+use Rattle.world_meaning.proofs.Bools.{both_are, either}
 use Rattle.world_meaning.specs.Directions.{all_directions}
 use Rattle.world_meaning.specs.Tale.{room_beyond}
 use Rattle.world_meaning.specs.declared.exits.Exits.{Exits}
@@ -13,8 +14,7 @@ use Rattle.story_format.specs.Checks.{has_no_world, has_no_rules, are_distinct, 
 use Rattle.story_format.specs.Facts.{holder_in, object_count_of, start_of, way_in, way_of}
 use Rattle.story_format.specs.Sizes.{is_right_entry, is_right_exits, is_room_number, is_room_or_none, leads_to_room, sizes_of}
 use Rattle.story_format.specs.Spells.{IsStory}
-use Rattle.story_format.proofs.Known.{either}
-use Rattle.story_format.proofs.StoryLemmas.{all_at, both_are, last_of_five}
+use Rattle.story_format.proofs.StoryLemmas.{all_at, last_of_five}
 
 right_parts : (t : Tables) → are_right t ≡ true → (are_right_objects t ≡ true) × (list_all (is_right_exits (sizes_of t)) t.ways ≡ true)
 unfolding are_right

@@ -5,11 +5,11 @@ use Rattle.std.specs.Str.{bytes_eq}
 use Rattle.std.proofs.lemmas.Bool.{lt-ltb}
 use Rattle.std.proofs.lemmas.Nat.{from_be_bytes-to_be_bytes_2}
 use Rattle.std.proofs.lemmas.List.{map-append}
+use Rattle.world_meaning.proofs.Bools.{both, both_are}
 use Rattle.object_words.specs.Mentions.{number_or_none, number_in}
 use Rattle.story_format.specs.Making.{Worded, texts_of, entry_strings, code_strings, strings_of, entries_of, code_of, codes_of, tables_with}
 use Rattle.story_format.specs.Checks.{strings_named}
 use Rattle.story_format.specs.Soundness.{saying, string_said, says_string, are_all_named, strings_read, are_sound}
-use Rattle.story_format.proofs.StoryLemmas.{both, both_are}
 use Rattle.story_format.proofs.Known.{passes_at, is_known, is_told, told_in_strings, text_is_itself}
 use Rattle.story_format.proofs.OrderLemmas.{number_is_place, numbers_named, strings_all_named, codes_in_turn}
 

@@ -4,20 +4,12 @@ use Rattle.std.specs.Prelude.{slice_get, is_none, codes}
 use Rattle.std.specs.List.{list_all}
 use Rattle.std.specs.Str.{bytes_eq}
 use Rattle.std.proofs.lemmas.Bool.{leb-true}
+use Rattle.world_meaning.proofs.Bools.{both, both_are}
 use Rattle.world_meaning.specs.declared.direction.Direction.{Direction}
 use Rattle.world_meaning.specs.Directions.{all_directions, direction_name}
 use Rattle.world_meaning.specs.declared.tale.Object.{Object}
 use Rattle.story_format.specs.Shape.{are_closed, stands_in_room, is_player, is_direction, is_room, are_directions, has_shape, has_no_article}
 use Rattle.story_format.specs.Sizes.{lead_to_rooms}
-
-pub both_are : (a b : Bool) → (a && b) ≡ true → (a ≡ true) × (b ≡ true)
-both_are true true e = (refl, refl)
-both_are true false e = absurd cc
-both_are false b e = absurd cc
-
-pub both : (a b : Bool) → a ≡ true → b ≡ true → (a && b) ≡ true
-both true b p q = q
-both false b p q = absurd cc
 
 pub all_at : {A : Type 0} (p : A → Bool) (xs : List A) (i : ℕ) (x : A) → list_all p xs ≡ true → slice_get xs i ≡ Some x → p x ≡ true
 all_at p [] i x h e = absurd cc

@@ -10,6 +10,7 @@ use Rattle.std.proofs.lemmas.List.Folds.{list_all-append}
 use Rattle.std.proofs.lemmas.List.Sums.{sum_by-cons}
 use Rattle.std.proofs.lemmas.Option.{slice_get-map, get_or_from_slice_get}
 use Rattle.std.proofs.lemmas.Slice.Eq.{bytes_eq-Decides}
+use Rattle.world_meaning.proofs.Bools.{both, both_are, either}
 use Rattle.world_meaning.specs.declared.article.Article.{Article}
 use Rattle.world_meaning.specs.declared.article.Article.TheVariants as articles
 use Rattle.world_meaning.specs.declared.place.Rel.{Rel}
@@ -29,8 +30,8 @@ use Rattle.story_format.specs.Holding.{has_few_words, has_short_texts, is_short,
 use Rattle.story_format.specs.Shape.{has_no_article, is_in, stands_in_room, is_player, is_direction, is_room, are_directions, has_shape}
 use Rattle.story_format.specs.Sizes.{are_different, is_among, is_right_entry, is_right_exits, is_room_number, lead_to_rooms}
 use Rattle.story_format.specs.Checks.{is_named, begin_with, has_words, have_words, is_small, is_small_at, has_small_words, is_of_room, is_player_entry, is_direction_entry, is_room_entry, are_direction_entries, are_in_place, are_right_objects, are_right}
-use Rattle.story_format.proofs.StoryLemmas.{both, both_are, all_weaker, parts, player_parts, direction_parts, room_parts}
-use Rattle.story_format.proofs.Known.{either, text_is_itself, found_by_number, is_known, texts_known, any_left, any_right, fold_finds}
+use Rattle.story_format.proofs.StoryLemmas.{all_weaker, parts, player_parts, direction_parts, room_parts}
+use Rattle.story_format.proofs.Known.{text_is_itself, found_by_number, is_known, texts_known, any_left, any_right, fold_finds}
 use Rattle.story_format.proofs.OrderLemmas.{at_most_one, strings_distinct, strings_in_order, codes_in_order}
 use Rattle.story_format.proofs.WordFacts.{differ, is_good, words_differ, words_good}
 

@@ -9,16 +9,18 @@ use Rattle.std.proofs.lemmas.List.Folds.{list_all-append}
 use Rattle.std.proofs.lemmas.List.Splits.{slice_split-cons_yes, slice_split-cons_no}
 use Rattle.std.proofs.lemmas.Slice.Eq.{bytes_eq-Decides}
 use Rattle.std.proofs.lemmas.Str.Ascii.{lowercase-lowercase}
+use Rattle.world_meaning.proofs.Bools.{both, both_are, either}
 use Rattle.world_meaning.specs.declared.direction.Direction.{Direction}
 use Rattle.world_meaning.specs.declared.direction.Direction.TheVariants as direction
 use Rattle.world_meaning.specs.Directions.{all_directions}
 use Rattle.object_words.specs.Mentions.{mention}
-use Rattle.object_words.specs.Words.{is_word, is_blank, blank_words, lowered, short_words, more_words, words_for}
+use Rattle.object_words.specs.Words.{is_word, is_blank, blank_words, short_words, more_words, words_for}
+use Rattle.world_meaning.specs.Spelling.{lowered}
 use Rattle.object_words.proofs.StringLemmas.{length_mapped}
 use Rattle.story_format.specs.Checks.{is_small_byte, is_small}
 use Rattle.story_format.specs.Holding.{is_short}
-use Rattle.story_format.proofs.StoryLemmas.{both, both_are, all_weaker}
-use Rattle.story_format.proofs.Known.{either, text_is_itself}
+use Rattle.story_format.proofs.StoryLemmas.{all_weaker}
+use Rattle.story_format.proofs.Known.{text_is_itself}
 use Rattle.story_format.proofs.OrderLemmas.{mention_new, mention_old}
 
 -- ---- what all mentioned strings are

@@ -5,6 +5,7 @@ use Rattle.std.specs.Str.{bytes_eq}
 use Rattle.std.specs.Char.{to_ascii_lowercase}
 use Rattle.world_meaning.specs.declared.direction.Direction.{Direction}
 use Rattle.world_meaning.specs.Directions.{all_directions, direction_name}
+use Rattle.world_meaning.specs.Kinds.{direction_kind, person_kind, room_kind}
 use Rattle.object_words.specs.Mentions.{first_mentions}
 use Rattle.object_words.specs.Words.{words_for}
 use Rattle.story_format.specs.declared.world_tables.WorldTables.{WorldTables}
@@ -66,13 +67,13 @@ abbrev pub has_small_words : List Bool → Entry → Bool
 has_small_words small e = list_all (is_small_at small) e.words
 
 unfoldable pub is_player_entry : List (List ℕ) → ℕ → Entry → Bool
-is_player_entry strings count e = (e.kind == 6) && is_named strings e.name (codes "yourself") && (e.article == 0) && (e.relation == 0) && is_room_number count e.holder
+is_player_entry strings count e = (e.kind == person_kind) && is_named strings e.name (codes "yourself") && (e.article == 0) && (e.relation == 0) && is_room_number count e.holder
 
 unfoldable pub is_direction_entry : List (List ℕ) → Direction → Entry → Bool
-is_direction_entry strings d e = (e.kind == 2) && is_named strings e.name (direction_name d) && (e.article == 0) && (e.relation == 255) && (e.holder == 65535)
+is_direction_entry strings d e = (e.kind == direction_kind) && is_named strings e.name (direction_name d) && (e.article == 0) && (e.relation == 255) && (e.holder == 65535)
 
 unfoldable pub is_room_entry : Entry → Bool
-is_room_entry e = (e.kind == 1) && (e.relation == 255) && (e.holder == 65535)
+is_room_entry e = (e.kind == room_kind) && (e.relation == 255) && (e.holder == 65535)
 
 unfoldable pub are_direction_entries : List (List ℕ) → List Direction → List Entry → Bool
 are_direction_entries strings [] [] = true
@@ -102,7 +103,7 @@ abbrev pub codes_named : List Entry → List ℕ
 codes_named entries = filter is_some_code (map (λ e. e.description) entries)
 
 abbrev pub is_of_room : Entry → Bool
-is_of_room e = e.kind == 1
+is_of_room e = e.kind == room_kind
 
 -- the objects are those of a story, and named in order
 unfoldable pub are_right_objects : Tables → Bool

@@ -7,7 +7,9 @@ pub mod Sizes
 pub mod Checks
 pub mod Soundness
 pub mod Facts
+pub mod FaultTexts
 pub mod Spells
+pub mod Telling
 pub mod Reading
 pub mod Refusals
 pub mod Making

@@ -10,6 +10,7 @@ use Rattle.world_meaning.specs.declared.place.Place.{Place}
 use Rattle.world_meaning.specs.declared.exits.Exits.{Exits}
 use Rattle.world_meaning.specs.declared.tale.Object.{Object}
 use Rattle.world_meaning.specs.declared.tale.Tale.{Tale}
+use Rattle.world_meaning.specs.Kinds.{room_kind}
 use Rattle.story_format.specs.declared.tables.Entry.{Entry}
 use Rattle.story_format.specs.declared.tables.Tables.{Tables}
 use Rattle.object_words.specs.Mentions.{first_mentions, number_in}
@@ -97,7 +98,7 @@ codes_of strings w = map (code_of strings) (code_strings w)
 
 -- the ways of a room
 abbrev pub ways_of : Worded → List Exits
-ways_of w = if w.object.kind == 1 then w.object.exits ∷ [] else []
+ways_of w = if w.object.kind == room_kind then w.object.exits ∷ [] else []
 
 unfoldable pub tables_with : List Worded → Tables
 tables_with ws = record {

@@ -12,6 +12,7 @@ use Rattle.world_meaning.specs.declared.exits.Exits.{Exits}
 use Rattle.world_meaning.specs.declared.direction.Direction.{Direction}
 use Rattle.world_meaning.specs.Directions.{all_directions, direction_name}
 use Rattle.world_meaning.specs.declared.tale.Object.{Object}
+use Rattle.world_meaning.specs.Kinds.{direction_kind, person_kind, room_kind}
 use Rattle.story_format.specs.Sizes.{is_room_number, lead_to_rooms}
 
 abbrev pub is_closed : Way → Bool
@@ -38,13 +39,13 @@ stands_in_room n None = false
 stands_in_room n (Some place) = is_in place.relation && is_room_number n place.holder
 
 unfoldable pub is_player : ℕ → Object → Bool
-is_player n o = (o.kind == 6) && bytes_eq o.name (codes "yourself") && has_no_article o.article && stands_in_room n o.place && are_closed o.exits
+is_player n o = (o.kind == person_kind) && bytes_eq o.name (codes "yourself") && has_no_article o.article && stands_in_room n o.place && are_closed o.exits
 
 unfoldable pub is_direction : Direction → Object → Bool
-is_direction d o = (o.kind == 2) && bytes_eq o.name (direction_name d) && has_no_article o.article && is_none o.place && are_closed o.exits
+is_direction d o = (o.kind == direction_kind) && bytes_eq o.name (direction_name d) && has_no_article o.article && is_none o.place && are_closed o.exits
 
 unfoldable pub is_room : ℕ → Object → Bool
-is_room n o = (o.kind == 1) && is_none o.place && lead_to_rooms n o.exits
+is_room n o = (o.kind == room_kind) && is_none o.place && lead_to_rooms n o.exits
 
 unfoldable pub are_directions : List Direction → List Object → Bool
 are_directions [] [] = true

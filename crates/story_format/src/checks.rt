@@ -4,7 +4,6 @@ ghost use Rattle.std.specs.List.{list_all, flat_map};
 ghost use Rattle.story_format.specs.Sizes.{sizes_of};
 ghost use Rattle.story_format.specs.Checks.{has_no_world, has_no_rules, are_distinct, is_named, begin_with, has_words, have_words, is_small_byte, is_small, is_small_at, has_small_words, is_player_entry, is_direction_entry, is_room_entry, are_direction_entries, are_in_place, are_named_in_order, strings_named, codes_named, is_of_room, are_right_objects, are_right};
 
-use crate::making::{DIRECTION, PERSON, ROOM};
 use crate::place::NONE;
 use crate::row::{Sizes, all_right, is_room_number};
 use crate::rule_tables::RuleTables;
@@ -12,7 +11,7 @@ use crate::tables::{Entry, Tables};
 use crate::world_tables::WorldTables;
 use object_words::{Strings, words_for};
 use std::alloc::{AllocError, Global};
-use world_meaning::{Direction, ObjNo, TextBytes};
+use world_meaning::{Direction, KindNo, ObjNo, TextBytes};
 
 /// How many entries the tables have.
 fn sizes_of(tables: &Tables) -> Sizes
@@ -164,7 +163,7 @@ fn have_small_words(small: &[bool], entries: &[Entry]) -> bool
 fn is_player_entry(strings: &[TextBytes], count: usize, entry: &Entry) -> bool
     ensures { result ≡ is_player_entry strings.now count entry.now }
 {
-    entry.kind == PERSON
+    entry.kind == KindNo::PERSON.get()
         && is_named(strings, entry.name, b"yourself")
         && entry.article == 0
         && entry.relation == 0
@@ -175,7 +174,7 @@ fn is_player_entry(strings: &[TextBytes], count: usize, entry: &Entry) -> bool
 fn is_direction_entry(strings: &[TextBytes], direction: Direction, entry: &Entry) -> bool
     ensures { result ≡ is_direction_entry strings.now direction entry.now }
 {
-    entry.kind == DIRECTION
+    entry.kind == KindNo::DIRECTION.get()
         && is_named(strings, entry.name, direction.name())
         && entry.article == 0
         && entry.relation == 255
@@ -186,7 +185,7 @@ fn is_direction_entry(strings: &[TextBytes], direction: Direction, entry: &Entry
 fn is_room_entry(entry: &Entry) -> bool
     ensures { result ≡ is_room_entry entry.now }
 {
-    entry.kind == ROOM && entry.relation == 255 && entry.holder == NONE
+    entry.kind == KindNo::ROOM.get() && entry.relation == 255 && entry.holder == NONE
 }
 
 #[tactic(auto, unfolding(crate::specs::Checks::are_direction_entries))]
@@ -278,7 +277,10 @@ pub fn codes_named(alloc: Global, entries: &[Entry]) -> Result<Vec<u16>, AllocEr
 fn count_of_rooms(entries: &[Entry]) -> usize
     ensures { result ≡ count_by is_of_room entries.now }
 {
-    entries.iter().filter(|entry| entry.kind == ROOM).count()
+    entries
+        .iter()
+        .filter(|entry| entry.kind == KindNo::ROOM.get())
+        .count()
 }
 
 /// Whether the objects are those of a story, and name strings and codes in order.

@@ -12,6 +12,7 @@ ghost use Rattle.story_format.specs.Holding.{IsHeld};
 ghost use Rattle.story_format.specs.Making.{tables_of};
 ghost use Rattle.story_format.specs.Spells.{IsStory, Spells};
 ghost use Rattle.story_format.specs.Refusals.{IsRefused};
+ghost use Rattle.story_format.specs.Telling.{AreToldAlike};
 
 /// No story has two spellings.
 pub fn one_spelling()
@@ -52,4 +53,10 @@ pub fn story_carries_tale()
 pub fn stories_lead_to_rooms()
     ensures start { (tables : Tables) → IsStory tables → is_room_number (object_count_of tables) (start_of tables) ≡ true }
     ensures ways { (tables : Tables) (room direction : ℕ) → IsStory tables → is_room_or_none (object_count_of tables) (way_of tables room direction) ≡ true }
+{}
+
+/// Stories that say the same of their objects, text by text, are one: a renumbering of a story's strings or
+/// codes is no other story.
+pub fn told_alike_are_one()
+    ensures { (story other : Tables) → IsStory story → IsStory other → AreToldAlike story other → story ≡ other }
 {}

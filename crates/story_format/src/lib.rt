@@ -24,7 +24,7 @@ mod writing;
 pub use fault::LoadFault;
 pub use laws::{
     one_fault, one_spelling, one_story, spelled_or_refused, stories_lead_to_rooms, stories_stand,
-    story_carries_tale, tales_are_stories,
+    story_carries_tale, tales_are_stories, told_alike_are_one,
 };
 pub use loading::load;
 pub use story::Story;

@@ -13,7 +13,7 @@ use crate::tables::{Entry, Tables};
 use crate::world_tables::WorldTables;
 use object_words::{Strings, words_for};
 use std::alloc::{AllocError, Global};
-use world_meaning::{Article, Exits, Object, Place, Rel, Tale, TextBytes};
+use world_meaning::{Article, Exits, KindNo, Object, Place, Rel, Tale, TextBytes};
 
 /// An object, and the words that a command may name it by.
 #[derive(Drop)]
@@ -21,15 +21,6 @@ pub struct Worded<'a> {
     object: &'a Object,
     words: Strings,
 }
-
-/// The kind of the directions.
-pub const DIRECTION: u8 = 2;
-
-/// The kind of the player.
-pub const PERSON: u8 = 6;
-
-/// The kind of the rooms.
-pub const ROOM: u8 = 1;
 
 /// The byte that says a string.
 pub const SAY: u8 = 0x22;
@@ -270,7 +261,7 @@ fn ways_of(alloc: Global, worded: &[Worded<'_>]) -> Result<Table<Exits>, AllocEr
     let mut ways = Vec::new(alloc);
     let mut rest = worded;
     while let [one, after @ ..] = rest {
-        if one.object.kind.get() == ROOM {
+        if one.object.kind == KindNo::ROOM {
             ways.push(one.object.exits)?;
         }
         rest = after;

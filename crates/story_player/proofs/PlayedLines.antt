@@ -12,8 +12,8 @@ use Rattle.world_meaning.specs.Games.{Game}
 use Rattle.story_player.specs.Runs.{AreAnswered, BrokeOff, IsFront, has_break, streams_of}
 use Rattle.story_player.specs.Steps.{Answered, BrokeAnswer, BrokeTyping, IsTyping, PlayedLast, PlayedLine, WroteFront, last_part, last_state, shown, typed_part}
 use Rattle.story_player.specs.Typed.{IsGone, Typing, is_untyped, typed_reading}
-use Rattle.story_player.specs.declared.playing.RunFault.{RunFault}
-use Rattle.story_player.specs.declared.playing.RunFault.TheVariants.{Write}
+use Rattle.story_player.specs.declared.fault.RunFault.{RunFault}
+use Rattle.story_player.specs.declared.fault.RunFault.TheVariants.{Write}
 use Rattle.story_player.specs.declared.typed.Gone.{Gone}
 use Rattle.story_player.specs.declared.typed.Gone.TheVariants.{Nothing, Blanks, Words}
 use Rattle.story_player.proofs.Fronts.{front-append, front-behind, front_first}

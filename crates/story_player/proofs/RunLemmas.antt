@@ -11,8 +11,8 @@ use Rattle.world_meaning.specs.declared.session.Ending.{Ending}
 use Rattle.world_meaning.specs.Games.{Game}
 use Rattle.story_player.specs.Runs.{AreAnswered, AreKnown, AreWholeLines, BrokeOff, IsFront, Played, Streams, streams_of, most_input}
 use Rattle.story_player.specs.Steps.{PlayedLast, PlayedLine, WroteFront}
-use Rattle.story_player.specs.declared.playing.RunFault.{RunFault}
-use Rattle.story_player.specs.declared.playing.RunFault.TheVariants.{Write}
+use Rattle.story_player.specs.declared.fault.RunFault.{RunFault}
+use Rattle.story_player.specs.declared.fault.RunFault.TheVariants.{Write}
 use Rattle.story_player.proofs.Fronts.{front-append, front-behind}
 use Rattle.story_player.proofs.LineLemmas.{lines-line}
 use Rattle.story_player.proofs.Transcripts.{behind-append, behind_lines-append, exchange, exchanges-append, exchanges-line, exchanges-over, line_part, played-append, told-append}

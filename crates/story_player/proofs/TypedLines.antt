@@ -12,7 +12,7 @@ use Rattle.world_meaning.specs.Games.{Game}
 use Rattle.story_player.specs.Runs.{IsFront, has_break, streams_of}
 use Rattle.story_player.specs.Steps.{BrokeTyping, IsTyping, WroteFront, shown}
 use Rattle.story_player.specs.Typed.{Typing, flushed, gone_with, is_full, typed_with}
-use Rattle.story_player.specs.declared.playing.RunFault.TheVariants.{Read, Write, InputTooLong}
+use Rattle.story_player.specs.declared.fault.RunFault.TheVariants.{Read, Write, InputTooLong}
 use Rattle.story_player.proofs.Fronts.{front-append, front-behind, front_first, front_nothing, front_self, front_trans}
 use Rattle.story_player.proofs.LineLemmas.{break-append, lines-last, lines-line, strip-front}
 use Rattle.story_player.proofs.Readings.{gone-more}

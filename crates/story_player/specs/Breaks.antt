@@ -1,7 +1,7 @@
 -- Which of a reader and a writer has failed where a run broke off.
 use Rattle.std.specs.Prelude.{◌≡◌, Bool, true, false}
-use Rattle.story_player.specs.declared.playing.RunFault.{RunFault}
-use Rattle.story_player.specs.declared.playing.RunFault.TheVariants.{Read, Write, InputTooLong}
+use Rattle.story_player.specs.declared.fault.RunFault.{RunFault}
+use Rattle.story_player.specs.declared.fault.RunFault.TheVariants.{Read, Write, InputTooLong}
 
 -- the reader's fault exactly where the reader has failed, the writer's exactly where the writer has
 abbrev pub Blames : RunFault → Bool → Bool → Type 0

@@ -1,5 +1,6 @@
 pub mod Breaks
 pub mod Deeds
+pub mod FaultTexts
 pub mod ReplyTexts
 pub mod Runs
 pub mod Sessions

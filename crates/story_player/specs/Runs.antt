@@ -7,8 +7,8 @@ use Rattle.world_meaning.specs.Games.{Game}
 use Rattle.world_meaning.specs.Session.{State}
 use Rattle.world_meaning.specs.Transcript.{IsPlay, behind_lines, exchanges, played}
 use Rattle.story_player.specs.Watches.{watched_inner}
-use Rattle.story_player.specs.declared.playing.RunFault.{RunFault}
-use Rattle.story_player.specs.declared.playing.RunFault.TheVariants.{Write, InputTooLong}
+use Rattle.story_player.specs.declared.fault.RunFault.{RunFault}
+use Rattle.story_player.specs.declared.fault.RunFault.TheVariants.{Write, InputTooLong}
 use Rattle.story_player.specs.declared.watched.Watched.{Watched}
 
 -- the bytes that a reader has left and that a writer holds, as far as they are known

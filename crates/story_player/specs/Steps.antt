@@ -8,8 +8,8 @@ use Rattle.world_meaning.specs.Transcript.{behind_lines, echoed, played, while_g
 use Rattle.world_meaning.specs.Games.{Game}
 use Rattle.story_player.specs.Runs.{AreAnswered, IsFront, Streams, has_break}
 use Rattle.story_player.specs.Typed.{IsGone, Typing, is_untyped, typed_reading}
-use Rattle.story_player.specs.declared.playing.RunFault.{RunFault}
-use Rattle.story_player.specs.declared.playing.RunFault.TheVariants.{InputTooLong}
+use Rattle.story_player.specs.declared.fault.RunFault.{RunFault}
+use Rattle.story_player.specs.declared.fault.RunFault.TheVariants.{InputTooLong}
 
 -- of these bytes some in front were written
 pub record WroteFront (held now : Option (List ℕ)) (bytes : List ℕ) : Type 0 where

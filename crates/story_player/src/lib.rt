@@ -1,6 +1,7 @@
 //! The player of a story: it reads typed lines, changes the world and prints the transcript.
 #![tactic(auto)]
 
+mod fault;
 mod playing;
 mod reading;
 mod reply;
@@ -10,7 +11,8 @@ mod typed;
 mod watched;
 mod world;
 
-pub use playing::{RunFault, run};
+pub use fault::RunFault;
+pub use playing::run;
 pub use reading::read_line;
 pub use reply::Reply;
 pub use session::{Session, StartFault};

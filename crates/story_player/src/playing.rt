@@ -11,25 +11,11 @@ ghost use Rattle.story_player.specs.Steps.{Answered, AnsweredLast, BrokeAnswer, 
 ghost use Rattle.story_player.specs.Typed.{flushed, nothing_typed, typed_reading, typed_with};
 ghost use Rattle.story_player.specs.Watches.{watched_failed, watched_inner};
 
+use crate::fault::RunFault;
 use crate::typed::TypedLine;
 use crate::{Reply, Session, Watched};
 use std::io::{Read, Write};
-use thiserror::Error;
 use world_meaning::Ending;
-
-/// Why playing breaks off.
-#[derive(Clone, Copy, Debug, Drop, PartialEq, Eq, Error)]
-pub enum RunFault {
-    /// A read failed.
-    #[error("V1 Read")]
-    Read,
-    /// A write failed, or took no byte.
-    #[error("V2 Write")]
-    Write,
-    /// The commands have more bytes than are read.
-    #[error("V3 InputTooLong")]
-    InputTooLong,
-}
 
 /// The most bytes of commands that are read.
 const MOST_INPUT: u32 = 16_777_216;

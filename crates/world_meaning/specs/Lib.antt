@@ -2,7 +2,9 @@ pub mod Acting
 pub mod Consulting
 pub mod Directions
 pub mod Facts
+pub mod Faults
 pub mod Games
+pub mod Kinds
 pub mod Progress
 pub mod Reading
 pub mod Rulebooks

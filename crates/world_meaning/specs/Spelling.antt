@@ -1,6 +1,10 @@
 -- Words are compared without the case of ASCII letters.
 use Rattle.std.specs.Prelude.{ℕ, Bool, List}
-use Rattle.std.specs.Str.{str_eq_ignore_ascii_case}
+use Rattle.std.specs.Str.{str_eq_ignore_ascii_case, str_to_ascii_lowercase}
 
 abbrev pub is_spelled : List ℕ → List ℕ → Bool
 is_spelled word spelling = str_eq_ignore_ascii_case word spelling
+
+-- the text in small ASCII letters
+abbrev pub lowered : List ℕ → List ℕ
+lowered text = str_to_ascii_lowercase text

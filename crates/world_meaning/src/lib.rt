@@ -24,6 +24,6 @@ pub use numbers::{KindNo, ObjNo};
 pub use place::{Place, Rel};
 pub use reading::{Action, Reading};
 pub use session::{Abandon, Ending, ReplyKind};
-pub use spelling::is_spelled;
+pub use spelling::{is_spelled, lowered};
 pub use tale::{Object, Objects, Tale};
 pub use text::TextBytes;

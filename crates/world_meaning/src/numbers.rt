@@ -18,6 +18,9 @@ impl Model for ObjNo {
 }
 
 impl ObjNo {
+    /// The first object of the author's: behind the player and the directions.
+    pub const FIRST_OF_AUTHOR: ObjNo = ObjNo(13);
+
     /// The object of this number.
     pub const fn new(number: u16) -> ObjNo
         ensures { result ≡ number }
@@ -48,6 +51,15 @@ impl Model for KindNo {
 }
 
 impl KindNo {
+    /// The kind of rooms.
+    pub const ROOM: KindNo = KindNo(1);
+
+    /// The kind of the twelve directions.
+    pub const DIRECTION: KindNo = KindNo(2);
+
+    /// The kind of persons.
+    pub const PERSON: KindNo = KindNo(6);
+
     /// The kind of this number.
     pub const fn new(number: u8) -> KindNo
         ensures { result ≡ number }

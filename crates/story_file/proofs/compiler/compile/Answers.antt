@@ -20,4 +20,4 @@ returns-in-Ok c =
     }
 
 pub returns : goal.returns
-returns c = memory refl
+returns c = memory c.in_ok-tale.ensures.meant.says.spells.readable.short refl

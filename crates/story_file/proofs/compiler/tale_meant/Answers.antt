@@ -23,5 +23,5 @@ returns-in_err-tale-clause-refused c =
         says = record { tokens = c.in_ok-lexed.lexed; spells = c.in_ok-lexed.ensures; reads = c.in_ok-sentences.ensures };
         refused = ap tale_said (sym c.as_slice.ensures.value) ∙ refused;
       })
-      | inr is ↦ memory is
+      | inr is ↦ memory c.in_ok-lexed.ensures.readable.short is
     ])

@@ -65,3 +65,51 @@ fn faults_have_a_line_and_a_status(rt: HostRuntime) -> Result<(), Fail> {
     }
     Ok(())
 }
+
+/// Each code of a source's refusal, as it is told.
+const CODES: &[(FaultCode, &str)] = &[
+    (FaultCode::TooLong, "C1 TooLong"),
+    (FaultCode::NotText, "C2 NotText"),
+    (FaultCode::Unclosed, "C3 Unclosed"),
+    (FaultCode::BadIndent, "C4 BadIndent"),
+    (FaultCode::NotUnderstood, "C5 NotUnderstood"),
+    (FaultCode::ReservedWord, "C6 ReservedWord"),
+    (FaultCode::UnknownName, "C7 UnknownName"),
+    (FaultCode::WrongKind, "C8 WrongKind"),
+    (FaultCode::Twice, "C9 Twice"),
+    (FaultCode::TwoPlaces, "C10 TwoPlaces"),
+    (FaultCode::Cycle, "C11 Cycle"),
+    (FaultCode::TooMany, "C12 TooMany"),
+    (FaultCode::NoRoom, "C13 NoRoom"),
+    (FaultCode::NumberOutOfRange, "C15 NumberOutOfRange"),
+];
+
+/// Each fault of a story file, as it is told.
+const STORY_FAULTS: &[(LoadFault, &str)] = &[
+    (LoadFault::BadMagic, "L1 BadMagic"),
+    (LoadFault::BadVersion, "L2 BadVersion"),
+    (LoadFault::Truncated, "L3 Truncated"),
+    (LoadFault::TooLong, "L4 TooLong"),
+    (LoadFault::BadTable, "L5 BadTable"),
+    (LoadFault::BadCode, "L6 BadCode"),
+    (LoadFault::BadOrder, "L7 BadOrder"),
+];
+
+#[test]
+fn each_code_is_told_by_its_number_and_its_name(rt: HostRuntime) -> Result<(), Fail> {
+    let alloc = rt.alloc();
+    for (code, name) in CODES {
+        let mut written = Vec::new(alloc);
+        let fault = ProgramFault::Source("x.i7", refusal(*code, 7));
+        assert_eq!(rt; report(&fault, &mut written), 1);
+        let line = format!(in alloc; "x.i7:7: {name}\n")?;
+        assert_eq!(rt; written.as_slice(), line.as_bytes());
+    }
+    for (fault, name) in STORY_FAULTS {
+        let mut written = Vec::new(alloc);
+        assert_eq!(rt; report(&ProgramFault::Story("x", *fault), &mut written), 2);
+        let line = format!(in alloc; "x: {name}\n")?;
+        assert_eq!(rt; written.as_slice(), line.as_bytes());
+    }
+    Ok(())
+}

@@ -1,13 +1,10 @@
 //! The two-room story, and readers and writers that fail where they are told.
+use sample_stories::TWO_ROOMS;
 use std::alloc::Global;
 use std::io::{self, Error, ErrorKind, Read, Write};
 use std::test::Fail;
 use story_file::{compile, load};
 use story_player::Session;
-
-/// A Hall with a description, and a Garden north of it.
-pub const TWO_ROOMS: &[u8] =
-    b"The Hall is a room. \"A bare hall.\"\n\nThe Garden is north of the Hall.\n";
 
 /// The two-room story at its beginning.
 pub fn two_rooms(alloc: Global) -> Result<Session, Fail> {
@@ -85,16 +82,40 @@ impl Write for Transcript<'_> {
     }
 }
 
-/// Takes all bytes, and can't be flushed.
+/// Counts its calls, moves a byte at each, and fails at one of them.
 #[derive(Drop)]
-pub struct Unflushed;
+pub struct Fitful {
+    pub calls: u32,
+    pub fails_at: u32,
+}
 
-impl Write for Unflushed {
+impl Fitful {
+    /// One more call, which may fail.
+    fn call(&mut self) -> io::Result<()> {
+        self.calls = self.calls.saturating_add(1);
+        if self.calls == self.fails_at {
+            return Err(Error::from(ErrorKind::Other));
+        }
+        Ok(())
+    }
+}
+
+impl Read for Fitful {
+    fn read(&mut self, buf: &mut [u8]) -> io::Result<usize> {
+        self.call()?;
+        let count = buf.len().min(1);
+        buf[..count].fill(b'x');
+        Ok(count)
+    }
+}
+
+impl Write for Fitful {
     fn write(&mut self, buf: &[u8]) -> io::Result<usize> {
-        Ok(buf.len())
+        self.call()?;
+        Ok(buf.len().min(1))
     }
 
     fn flush(&mut self) -> io::Result<()> {
-        Err(Error::from(ErrorKind::Other))
+        self.call()
     }
 }

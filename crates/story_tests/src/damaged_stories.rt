@@ -1,5 +1,5 @@
 //! Story files with bytes changed, cut off or added.
-use crate::fakes::TWO_ROOMS;
+use sample_stories::TWO_ROOMS;
 use std::alloc::Global;
 use std::test::Fail;
 use story_file::{LoadFault, compile, load};

@@ -1,8 +1,9 @@
 //! Sessions over streams that fail, that never end or that move a byte at a time.
-use crate::fakes::{Commands, Repeated, TWO_ROOMS, Transcript, Unflushed, WhenFull, two_rooms};
+use crate::fakes::{Commands, Repeated, Transcript, WhenFull, two_rooms};
+use sample_stories::TWO_ROOMS;
 use source_player::run_source;
 use std::alloc::Global;
-use std::io::{BufReader, Read, Write};
+use std::io::{BufReader, Read};
 use std::test::Fail;
 use story_player::{RunFault, Session, Watched, run};
 use world_meaning::{Ending, ObjNo};
@@ -137,15 +138,5 @@ fn the_size_of_the_pieces_is_no_matter(rt: HostRuntime) -> Result<(), Fail> {
         assert_eq!(rt; ending, Ending::EndOfInput);
         assert_eq!(rt; taken.as_slice(), whole.as_slice());
     }
-    Ok(())
-}
-
-#[test]
-fn a_failed_flush_is_a_failure(rt: HostRuntime) -> Result<(), Fail> {
-    let mut writer = Watched::new(Unflushed);
-    assert_eq!(rt; writer.write(b"Hall")?, 4);
-    assert!(rt; !writer.has_failed());
-    assert!(rt; writer.flush().is_err());
-    assert!(rt; writer.has_failed());
     Ok(())
 }

@@ -1,0 +1,7 @@
+//! Tests of what the lexer and the reader of sentences answer.
+#![tactic(auto)]
+
+#[cfg(test)]
+mod lexing;
+#[cfg(test)]
+mod sentences;

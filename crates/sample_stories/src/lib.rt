@@ -1,0 +1,6 @@
+//! Sources that the crates of tests play.
+#![tactic(auto)]
+
+/// A Hall with a description, and a Garden north of it.
+pub const TWO_ROOMS: &[u8] =
+    b"The Hall is a room. \"A bare hall.\"\n\nThe Garden is north of the Hall.\n";
