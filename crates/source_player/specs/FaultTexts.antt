@@ -13,10 +13,10 @@ use Rattle.source_player.specs.Statuses.{is_memory}
 -- what is wrong, behind the path of the file or the program's name
 abbrev pub program_text : ProgramFault → List ℕ
 program_text (Words text) = string_bytes text
-program_text (CannotRead path) = path ++ codes ": cannot be read"
-program_text (CannotWrite path) = path ++ codes ": cannot be written"
-program_text (Source path fault) = path ++ codes ":" ++ fault_text fault
-program_text (Story path fault) = path ++ codes ": " ++ load_text fault
+program_text (CannotRead path) = path.now ++ codes ": cannot be read"
+program_text (CannotWrite path) = path.now ++ codes ": cannot be written"
+program_text (Source path fault) = path.now ++ codes ":" ++ fault_text fault
+program_text (Story path fault) = path.now ++ codes ": " ++ load_text fault
 program_text (Stream fault) = codes "i7story: " ++ run_text fault
 program_text Memory = codes "i7story: out of memory"
 

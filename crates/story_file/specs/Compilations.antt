@@ -1,7 +1,7 @@
 -- Which story file a source has, and which refusal.
 use Rattle.std.specs.Prelude.{◌≡◌, ℕ, ◌≤◌, List, length, Ok, Err}
 use Rattle.world_meaning.specs.declared.fault.Fault.{Fault}
-use Rattle.world_meaning.specs.declared.fault.FaultCode.TheVariants.{Memory}
+use Rattle.world_meaning.specs.Faults.{out_of_memory}
 use Rattle.world_meaning.specs.declared.tale.Tale.{Tale}
 use Rattle.i7_lexer.specs.Readings.{HasTokens}
 use Rattle.i7_lexer.specs.Refusals.{IsRefused as IsUnspelled, longest}
@@ -51,4 +51,4 @@ pub data IsRefused : List ℕ → Fault → Type 0 where
   unspelled : {source : List ℕ} {fault : Fault} → IsUnspelled source fault → IsRefused source fault
   unread : {source : List ℕ} {fault : Fault} → IsUnreadSource source fault → IsRefused source fault
   unmeant : {source : List ℕ} {fault : Fault} → IsUnmeant source fault → IsRefused source fault
-  memory : {source : List ℕ} {fault : Fault} → length source ≤ longest → fault ≡ record { code = Memory; line = 1 } → IsRefused source fault
+  memory : {source : List ℕ} {fault : Fault} → length source ≤ longest → fault ≡ out_of_memory → IsRefused source fault

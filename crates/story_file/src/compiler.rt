@@ -7,13 +7,7 @@ use i7_lexer::lex;
 use i7_sentences::read;
 use std::alloc::Global;
 use story_format::write;
-use world_meaning::{Fault, FaultCode, Tale};
-
-/// Memory was refused.
-const OUT_OF_MEMORY: Fault = Fault {
-    code: FaultCode::Memory,
-    line: 1,
-};
+use world_meaning::{Fault, Tale};
 
 /// The tale that the source's sentences mean.
 fn tale_meant(alloc: Global, source: &[u8]) -> Result<Tale, Fault>
@@ -35,6 +29,6 @@ pub fn compile(alloc: Global, source: &[u8]) -> Result<Vec<u8>, Fault>
     let tale = tale_meant(alloc, source)?;
     match write(alloc, &tale) {
         Ok(bytes) => Ok(bytes),
-        Err(_) => Err(OUT_OF_MEMORY),
+        Err(_) => Err(Fault::OUT_OF_MEMORY),
     }
 }

@@ -203,7 +203,9 @@ impl Session {
 
     /// Answers a line as it was typed.
     pub(crate) fn typed(&mut self, typed: Typed<'_>) -> Reply
-        ensures answer { record { spoken = result; state = state_of self.new } ≡ answer_to (game_of self.old) (refusal_of result.kind) (state_of self.old) (reading_typed (game_of self.old) typed.entry) }
+        ensures answer { record { spoken = result; state = state_of self.new } ≡
+            answer_to (game_of self.old) (refusal_of result.kind) (state_of self.old)
+            (reading_typed (game_of self.old) typed.entry) }
         ensures game { game_of self.new ≡ game_of self.old }
     {
         self.answer(read_typed(typed))
