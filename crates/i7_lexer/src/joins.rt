@@ -15,7 +15,7 @@ use world_meaning::TextBytes;
 pub(crate) fn tokens_of(alloc: Global, placed: &[Placed<'_>]) -> Result<Vec<Token>, AllocError>
     ensures { IfOk result (λ tokens. tokens.items ≡ tokens_of placed.now) }
 {
-    let mut tokens = Vec::new(alloc);
+    let mut tokens = Vec::with_capacity(alloc, placed.len())?;
     let mut rest = placed;
     while let [first, after @ ..] = rest {
         let count = joined_len(first, after);
