@@ -2,7 +2,6 @@
 //! pieces behind it can fit.
 ghost use Rattle.std.specs.Prelude.{◌≡◌, true, ◌≤◌, ◌++◌, ◌∷◌, [], length, map, option_map, IfNone, IfOk, IfSome, IsTrue, None, Some, false};
 ghost use Rattle.std.specs.List.{list_any};
-ghost use Rattle.i7_sentences.specs.Keywords.{is_sign};
 ghost use Rattle.i7_sentences.specs.Matching.{behind_word, can_begin, can_fit, can_take, columns_of, first_column, first_fit, is_kept, is_missing, IsEndOf, left_by, letters_with, looked, nearest};
 
 use crate::class::State;
@@ -123,7 +122,7 @@ fn take_piece<'a, 'b>(
     }
 }
 
-/// Whether a piece can take the token in front.
+/// Whether a piece can begin with the token.
 fn can_take(piece: Piece, token: &Tagged<'_>) -> bool
     ensures { result ≡ can_take piece token.now }
 {
@@ -146,32 +145,22 @@ fn can_begin(pieces: &[Piece], tokens: &[Tagged<'_>]) -> bool
     }
 }
 
-/// Whether a token is this word or mark.
-fn stands_in(keyword: Keyword, tokens: &[Tagged<'_>]) -> bool
-    ensures { result ≡ list_any (is_sign keyword) tokens.now }
-{
-    let mut rest = tokens;
-    while let [token, after @ ..] = rest {
-        if token.is_sign(keyword) {
-            return true;
-        }
-        rest = after;
-    }
-    false
-}
-
-/// Whether the piece is a word of the form that stands nowhere among the tokens.
+/// Whether the piece can begin with none of the tokens.
 fn is_missing(piece: Piece, tokens: &[Tagged<'_>]) -> bool
     ensures { result ≡ is_missing tokens.now piece }
 {
-    match piece {
-        Piece::Word(keyword) => !stands_in(keyword, tokens),
-        Piece::Letter(_) => false,
+    let mut rest = tokens;
+    while let [token, after @ ..] = rest {
+        if can_take(piece, token) {
+            return false;
+        }
+        rest = after;
     }
+    true
 }
 
-/// Whether a word of the form stands nowhere among the tokens.
-fn lacks_word(pieces: &[Piece], tokens: &[Tagged<'_>]) -> bool
+/// Whether one of the pieces can begin with none of the tokens.
+fn lacks_piece(pieces: &[Piece], tokens: &[Tagged<'_>]) -> bool
     ensures { result ≡ list_any (is_missing tokens.now) pieces.now }
 {
     let mut rest = pieces;
@@ -207,12 +196,12 @@ fn fits_from<'a, 'b>(
 }
 
 /// Whether it is seen without columns that the pieces don't fit: they can't begin with the first token,
-/// or one of their words stands nowhere.
+/// or one of them can begin with none.
 #[tactic(auto, using(crate::proofs::Missing::missing_fits, crate::proofs::Missing::never_begins))]
 pub fn is_passed_over(pieces: &[Piece], tokens: &[Tagged<'_>]) -> bool
     ensures { result ≡ true → first_fit pieces.now tokens.now ≡ None }
 {
-    !can_begin(pieces, tokens) || lacks_word(pieces, tokens)
+    !can_begin(pieces, tokens) || lacks_piece(pieces, tokens)
 }
 
 /// The words for the letters of pieces that fit the tokens, each letter as short as it can be, the

@@ -1,10 +1,9 @@
 use Rattle.std.proofs.Common.{◌≡◌, length}
-use Rattle.std.specs.List.{list_any}
 use Rattle.i7_sentences.specs.Matching.{is_missing}
-use Rattle.i7_sentences.proofs.matcher.lacks_word.Given as goal
+use Rattle.i7_sentences.proofs.matcher.is_missing.Given as goal
 
 abbrev pub invariant-loop-rest : goal.invariant-loop-rest
-invariant-loop-rest l = list_any (is_missing l.tokens) l.rest ≡ list_any (is_missing l.tokens) l.pieces
+invariant-loop-rest l = is_missing l.rest l.piece ≡ is_missing l.tokens l.piece
 
 abbrev pub decreases-loop-rest : goal.decreases-loop-rest
 decreases-loop-rest l = length l.rest
