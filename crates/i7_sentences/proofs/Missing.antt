@@ -1,16 +1,18 @@
 -- Pieces that can't begin with the first word don't fit, nor do those of which one can begin with none.
 use Rattle.std.proofs.Common.{◌≡◌, Bool, true, false, List, [], ◌∷◌, ◌++◌, refl, ap, sym, ◌∙◌}
 use Rattle.std.specs.Prelude.{not, ◌||◌, Option, Some, None, is_some}
-use Rattle.std.specs.List.{list_any}
+use denote.Enum.Bare.{sameb}
+use Rattle.std.specs.List.{cons_option, list_any}
 use Rattle.i7_lexer.specs.declared.token.Token.{Token}
-use Rattle.i7_sentences.specs.Keywords.{is_sign}
+use Rattle.i7_sentences.specs.Keywords.{is_among, is_same, is_sign, keyword_of, signs_of}
 use Rattle.i7_sentences.specs.Forms.{Fits}
-use Rattle.i7_sentences.specs.Matching.{can_begin, can_take, first_fit, is_missing}
+use Rattle.i7_sentences.specs.Matching.{can_begin, can_take, first_fit, is_absent, is_missing}
 use Rattle.i7_sentences.specs.Automata.{is_of, runs, step, then_runs}
 use Rattle.i7_sentences.specs.declared.class.Class.{Class}
 use Rattle.i7_sentences.specs.declared.class.State.{State}
 use Rattle.i7_sentences.specs.declared.class.State.TheVariants.{Start}
 use Rattle.i7_sentences.proofs.Automata.{runs_of}
+use Rattle.i7_sentences.specs.contracts.keyword.Keyword.{the_type}
 use Rattle.i7_sentences.specs.declared.keyword.Keyword.{Keyword}
 use Rattle.i7_sentences.specs.declared.form.Piece.{Piece}
 use Rattle.i7_sentences.specs.declared.form.Piece.TheVariants.{Word, Letter}
@@ -42,6 +44,32 @@ missing_behind (piece ∷ pieces) front rest missing =
 
 stands_first : (piece : Piece) (token : Token) (tokens : List Token) → can_take piece token ≡ true → list_any (can_take piece) (token ∷ tokens) ≡ true
 stands_first piece token tokens is = rw is refl
+
+-- a word or mark stands among the tokens where it is among their signs
+among_is : (keyword : Keyword) (tokens : List Token) → is_among keyword (signs_of tokens) ≡ list_any (is_sign keyword) tokens
+unfolding is_sign
+among_is keyword [] = refl
+among_is keyword (token ∷ tokens) =
+    let Goal : Option Keyword → Type 0 = λ found. is_among keyword (cons_option found (signs_of tokens)) ≡ (is_same found keyword || list_any (is_sign keyword) tokens)
+    in elim (keyword_of token) as Goal [
+      | None ↦ among_is keyword tokens
+      | Some sign ↦ ap (λ later. sameb the_type sign keyword || later) (among_is keyword tokens)
+    ]
+
+or_more : (a b c : Bool) → (b ≡ true → c ≡ true) → (a || b) ≡ true → (a || c) ≡ true
+or_more true b c turn one = refl
+or_more false b c turn one = turn one
+
+or_last : (a b : Bool) → b ≡ true → (a || b) ≡ true
+or_last true b one = refl
+or_last false b one = one
+
+absent_missing : (pieces : List Piece) (tokens : List Token) → list_any (is_absent (signs_of tokens)) pieces ≡ true → list_any (is_missing tokens) pieces ≡ true
+absent_missing [] tokens absent = absent
+absent_missing (Letter class ∷ pieces) tokens absent = or_last (is_missing tokens (Letter class)) (list_any (is_missing tokens) pieces) (absent_missing pieces tokens absent)
+absent_missing (Word keyword ∷ pieces) tokens absent =
+    or_more (not (list_any (is_sign keyword) tokens)) (list_any (is_absent (signs_of tokens)) pieces) (list_any (is_missing tokens) pieces) (absent_missing pieces tokens)
+    (ap (λ here. not here || list_any (is_absent (signs_of tokens)) pieces) (sym (among_is keyword tokens)) ∙ absent)
 
 -- a letter's words begin with one that it can begin with
 letter_begins : (class : Class) (token : Token) (words : List Token) → is_of class (token ∷ words) ≡ true → is_some (step class Start token) ≡ true
@@ -103,3 +131,6 @@ never_begins pieces tokens never =
       | None ↦ λ none. refl
       | Some letters ↦ λ found. absurd (false-true (sym never ∙ begins pieces tokens letters found.fits))
     ]) (fitted pieces tokens)
+
+pub absent_fits : (pieces : List Piece) (tokens : List Token) (signs : List Keyword) → signs ≡ signs_of tokens → list_any (is_absent signs) pieces ≡ true → first_fit pieces tokens ≡ None
+absent_fits pieces tokens signs same absent = missing_fits pieces tokens (absent_missing pieces tokens (ap (λ these. list_any (is_absent these) pieces) (sym same) ∙ absent))

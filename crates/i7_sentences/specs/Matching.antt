@@ -3,7 +3,7 @@
 use Rattle.std.specs.Prelude.{not, ◌≡◌, ℕ, ◌-◌, Bool, true, false, ◌&&◌, ◌||◌, List, [], ◌∷◌, ◌++◌, length, take, drop, get_or, Option, Some, None, is_some, option_map, if◌then◌else◌}
 use Rattle.std.specs.List.{list_any}
 use Rattle.i7_lexer.specs.declared.token.Token.{Token}
-use Rattle.i7_sentences.specs.Keywords.{is_sign}
+use Rattle.i7_sentences.specs.Keywords.{is_among, is_sign}
 use Rattle.i7_sentences.specs.Automata.{accepts, step}
 use Rattle.i7_sentences.specs.Forms.{Variant, are_shorter}
 use Rattle.i7_sentences.specs.declared.keyword.Keyword.{Keyword}
@@ -190,6 +190,11 @@ can_take (Letter class) token = is_some (step class Start token)
 -- whether the piece can begin with none of the words
 abbrev pub is_missing : List Token → Piece → Bool
 is_missing tokens piece = not (list_any (can_take piece) tokens)
+
+-- whether the piece is a word or mark of the form's own that isn't one of these
+abbrev pub is_absent : List Keyword → Piece → Bool
+is_absent signs (Word keyword) = not (is_among keyword signs)
+is_absent signs (Letter class) = false
 
 -- whether the first piece can take the first token, if there are both
 abbrev pub can_begin : List Piece → List Token → Bool

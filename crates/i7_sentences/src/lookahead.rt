@@ -1,6 +1,6 @@
 //! From where pieces can fit words: for each piece, from the last to the first, a column that tells of
 //! each count of words left whether the pieces from that one on can fit them.
-ghost use Rattle.std.specs.Prelude.{◌≡◌, true, ◌&&◌, ◌++◌, length, map, IfNone, IfOk, IfSome, OnSome};
+ghost use Rattle.std.specs.Prelude.{◌≡◌, true, false, ◌&&◌, ◌++◌, length, map, IfNone, IfOk, IfSome, OnSome};
 ghost use Rattle.std.specs.List.{list_any};
 ghost use Rattle.i7_sentences.specs.Keywords.{is_sign};
 ghost use Rattle.i7_sentences.specs.Matching.{ahead_at, ahead_of, ahead_of_more, ahead_of_none, ahead_of_run, columns_of, end_column, first_column, is_never, letter_column, looked, piece_column, reaches, then_ahead, word_column};
@@ -184,7 +184,7 @@ fn has_yes(column: &[bool]) -> bool
 
 /// The column of the pieces, or none if they can fit no last words; those of the pieces behind each
 /// piece are added.
-pub fn columns(
+fn columns(
     alloc: Global,
     pieces: &[Piece],
     tokens: &[Tagged<'_>],
@@ -205,6 +205,29 @@ pub fn columns(
                 }
                 told.push(behind)?;
                 Ok(Some(column))
+            }
+        },
+    }
+}
+
+/// Adds the columns of the pieces behind each piece; false where those behind the first can fit no last
+/// words.
+pub fn columns_behind(
+    alloc: Global,
+    pieces: &[Piece],
+    tokens: &[Tagged<'_>],
+    told: &mut Vec<Vec<bool>>,
+) -> Result<bool, AllocError>
+    ensures none { IfOk result (λ can. can ≡ false → is_never pieces.now tokens.now ≡ true) }
+    ensures added { IfOk result (λ can. can ≡ true → map (λ column. column.items) told.new.items ≡ map (λ column. column.items) told.old.items ++ columns_of pieces.now tokens.now) }
+{
+    match pieces {
+        [] => Ok(true),
+        [_, after @ ..] => match columns(alloc, after, tokens, told)? {
+            None => Ok(false),
+            Some(behind) => {
+                told.push(behind)?;
+                Ok(true)
             }
         },
     }
