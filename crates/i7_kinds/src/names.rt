@@ -88,8 +88,9 @@ fn take_up<'a>(
     ensures { OnOk result (names_of names.new ≡ with_name (names_of names.old) (record { name = name.now; line = line })) }
 {
     let key = key_of(alloc, name.text.as_slice())?;
-    if !names.keys.contains(key.as_slice()) {
-        names.keys.mention(alloc, key.as_slice())?;
+    let before = names.keys.len();
+    names.keys.mention(alloc, key.as_slice())?;
+    if names.keys.len() != before {
         names.mentions.push(Mention { name, line })?;
     }
     Ok(())

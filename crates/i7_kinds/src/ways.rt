@@ -1,6 +1,6 @@
 //! Ways: those that sentences state, and the ways back that they imply.
 ghost use Rattle.std.specs.Prelude.{◌≡◌, ℕ, IfOk, OnOk};
-ghost use Rattle.i7_kinds.specs.Demands.{first_target, implied_in, implied_leads, stated_in, stated_leads};
+ghost use Rattle.i7_kinds.specs.Demands.{first_target, implied_in, implied_leads, is_elsewhere, lead_of, second_target, stated_in, stated_leads, target_of};
 ghost use Rattle.i7_kinds.specs.Firsts.{first_of};
 ghost use Rattle.i7_kinds.specs.Views.{given_exit, target_at};
 
@@ -23,10 +23,11 @@ type Targets = IndexMap<Exit, usize>;
 #[derive(Drop)]
 pub struct Ways<'a, 'b> {
     statements: &'a [NumberedSentence<'b>],
-    stated: Targets,
-    implied: Targets,
-    ghost stated_first: { (room direction : ℕ) → target_at stated room direction ≡ first_target (stated_leads statements.now) room direction },
-    ghost implied_first: { (room direction : ℕ) → target_at implied room direction ≡ first_target (implied_leads statements.now) room direction },
+    targets: Targets,
+    /// The line of the first statement that leads an exit to a second target.
+    second: Option<u32>,
+    ghost led: { (room direction : ℕ) → target_at targets room direction ≡ target_of statements.now room direction },
+    ghost seen: { second ≡ second_target statements.now },
 }
 
 /// Gives an exit its target, unless it has one.
@@ -84,25 +85,62 @@ fn stated_targets(alloc: Global, statements: &[NumberedSentence<'_>]) -> Result<
     Ok(targets)
 }
 
-/// The targets that statements imply.
-fn implied_targets(
-    alloc: Global,
+/// Leads the ways back that statements imply, where nothing else leads.
+fn lead_all_back(
+    targets: &mut Targets,
     statements: &[NumberedSentence<'_>],
-) -> Result<Targets, AllocError>
-    ensures { IfOk result (λ targets. (room direction : ℕ) → target_at targets room direction ≡ first_target (implied_leads statements.now) room direction) }
+) -> Result<(), AllocError>
+    ensures { OnOk result ((room direction : ℕ) → target_at targets.new room direction ≡ first_of (target_at targets.old room direction) (first_target (implied_leads statements.now) room direction)) }
 {
-    let mut targets = IndexMap::new(alloc);
     let mut rest = statements;
     while let [statement, after @ ..] = rest {
-        lead_back(&mut targets, statement)?;
+        lead_back(targets, statement)?;
         rest = after;
     }
-    Ok(targets)
+    Ok(())
+}
+
+/// Whether a way leads an exit elsewhere than its first target.
+fn is_elsewhere(
+    targets: &Targets,
+    leads: &[NumberedSentence<'_>],
+    way: NumberedWay,
+    line: u32,
+) -> bool
+    requires stated { (room direction : ℕ) → target_at targets.now room direction ≡ first_target (stated_leads leads.now) room direction }
+    ensures { result ≡ is_elsewhere (stated_leads leads.now) (lead_of way.subject way.direction way.room line) }
+{
+    let _ = leads;
+    let exit = Exit {
+        room: way.room,
+        direction: way.direction.number(),
+    };
+    match targets.get(&exit) {
+        None => true,
+        Some(target) => way.subject != *target,
+    }
+}
+
+/// The line of the first statement that leads an exit to a second target, by the targets that the
+/// statements say.
+fn second_target(targets: &Targets, statements: &[NumberedSentence<'_>]) -> Option<u32>
+    requires stated { (room direction : ℕ) → target_at targets.now room direction ≡ first_target (stated_leads statements.now) room direction }
+    ensures { result ≡ second_target statements.now }
+{
+    let mut rest = statements;
+    while let [statement, after @ ..] = rest {
+        if let Numbered::Way(way) = &statement.said {
+            if is_elsewhere(targets, statements, *way, statement.line) {
+                return Some(statement.line);
+            }
+        }
+        rest = after;
+    }
+    None
 }
 
 impl<'a, 'b> Ways<'a, 'b> {
     ghost use Rattle.world_meaning.specs.Directions.{direction_number};
-    ghost use Rattle.i7_kinds.specs.Demands.{is_elsewhere, lead_of, second_target, target_of};
     ghost use Rattle.i7_kinds.specs.StatedWays.{stated};
 
     /// The ways of these statements.
@@ -112,43 +150,21 @@ impl<'a, 'b> Ways<'a, 'b> {
     ) -> Result<Ways<'a, 'b>, AllocError>
         ensures { IfOk result (λ ways. stated ways ≡ statements.now) }
     {
-        let stated = stated_targets(alloc, statements)?;
-        let implied = implied_targets(alloc, statements)?;
+        let mut targets = stated_targets(alloc, statements)?;
+        let second = second_target(&targets, statements);
+        lead_all_back(&mut targets, statements)?;
         Ok(Ways {
             statements,
-            stated,
-            implied,
+            targets,
+            second,
         })
-    }
-
-    /// Whether a statement leads an exit elsewhere than its first target.
-    fn is_elsewhere(&self, way: NumberedWay, line: u32) -> bool
-        ensures { result ≡ is_elsewhere (stated_leads (stated self.now)) (lead_of way.subject way.direction way.room line) }
-    {
-        let exit = Exit {
-            room: way.room,
-            direction: way.direction.number(),
-        };
-        match self.stated.get(&exit) {
-            None => true,
-            Some(target) => way.subject != *target,
-        }
     }
 
     /// The line of the first statement that leads an exit to a second target.
     pub fn second_target(&self) -> Option<u32>
         ensures { result ≡ second_target (stated self.now) }
     {
-        let mut rest = self.statements;
-        while let [statement, after @ ..] = rest {
-            if let Numbered::Way(way) = &statement.said {
-                if self.is_elsewhere(*way, statement.line) {
-                    return Some(statement.line);
-                }
-            }
-            rest = after;
-        }
-        None
+        self.second
     }
 
     /// Where an exit leads: where a sentence says, else where the first that implies it does.
@@ -159,9 +175,6 @@ impl<'a, 'b> Ways<'a, 'b> {
             room,
             direction: direction.number(),
         };
-        match self.stated.get(&exit) {
-            Some(target) => Some(*target),
-            None => self.implied.get(&exit).copied(),
-        }
+        self.targets.get(&exit).copied()
     }
 }

@@ -2,6 +2,7 @@ mod Controls
 mod BadPlaces
 mod Runs
 mod Folding
+mod Returns
 mod Classes
 mod Quotes
 mod Comments

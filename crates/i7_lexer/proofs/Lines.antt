@@ -2,7 +2,7 @@
 use Rattle.std.proofs.Common.{◌≡◌, ◌≢◌, ℕ, ◌+◌, true, false, eqb, List, [], ◌∷◌, ◌++◌, refl, sym, ap, ◌∙◌, arith}
 use Rattle.std.specs.List.{list_all}
 use Rattle.std.proofs.lemmas.Bool.{eqb-true, false_from_ne_true}
-use Rattle.std.proofs.lemmas.List.Sums.{sum_by-append, sum_by-cons}
+use Rattle.std.proofs.lemmas.List.Sums.{sum_by-cons}
 use Rattle.i7_lexer.specs.declared.cursor.Cursor.{Cursor}
 use Rattle.i7_lexer.specs.declared.byte_class.ByteClass.TheVariants.{Blank}
 use Rattle.i7_lexer.specs.declared.lexeme.Lexeme.{Lexeme}
@@ -11,11 +11,8 @@ use Rattle.i7_lexer.specs.declared.lexeme.Piece.TheVariants.{Word, Text, Mark}
 use Rattle.i7_lexer.specs.Bytes.{is_letter, is_blank, class_of, newlines}
 use Rattle.i7_lexer.specs.Lexemes.{IsLexeme, IsCut, spelled}
 use Rattle.i7_lexer.specs.Places.{at_front, after, after_all, breaks_of}
+use Rattle.i7_lexer.proofs.Folding.{newlines-append, newlines-nil}
 use Rattle.i7_lexer.proofs.Runs.{and_left, and_right}
-
-newlines-append : (xs ys : List ℕ) → newlines (xs ++ ys) ≡ newlines xs + newlines ys
-unfolding newlines
-newlines-append xs ys = sum_by-append _ xs ys
 
 newlines-other : (b : ℕ) (bytes : List ℕ) → b ≢ 10 → newlines (b ∷ bytes) ≡ newlines bytes
 unfolding newlines
@@ -34,10 +31,6 @@ unfolding newlines
 word-newlines [] all = refl
 word-newlines (b ∷ word) all =
     newlines-other b word (λ e. let yes_letter : is_letter b ≡ true = and_left (is_letter b) (list_all is_letter word) all in let no : is_letter b ≡ false = ap is_letter e ∙ feed_no_letter in cc) ∙ word-newlines word (and_right (is_letter b) (list_all is_letter word) all)
-
-newlines-nil : newlines [] ≡ 0
-unfolding newlines
-newlines-nil = refl
 
 -- a lexeme's line breaks are those of its spelling
 breaks_of-is : (l : Lexeme) → IsLexeme l → breaks_of l ≡ newlines (spelled l)

@@ -1,9 +1,7 @@
 -- Where the tokens of a source stand.
-use Rattle.std.specs.Prelude.{ℕ, ◌+◌, ◌==◌, nat_lt, if◌then◌else◌, List, [], ◌∷◌}
+use Rattle.std.specs.Prelude.{ℕ, ◌+◌, ◌==◌, if◌then◌else◌, List, [], ◌∷◌}
 use Rattle.std.specs.List.{prefix_len}
 use Rattle.i7_lexer.specs.declared.cursor.Cursor.{Cursor}
-use Rattle.i7_lexer.specs.declared.cursor.Gap.{Gap}
-use Rattle.i7_lexer.specs.declared.cursor.Gap.TheVariants.{Nothing, Blank, Wide}
 use Rattle.i7_lexer.specs.declared.token.Start.{Start}
 use Rattle.i7_lexer.specs.declared.token.Start.TheVariants.{Paragraph, Line, Within}
 use Rattle.i7_lexer.specs.declared.lexeme.Lexeme.{Lexeme}
@@ -14,7 +12,7 @@ use Rattle.i7_lexer.specs.Bytes.{newlines}
 
 -- the front of a source
 abbrev pub at_front : Cursor
-at_front = record { line = 1; start = Paragraph; gap = Nothing }
+at_front = record { line = 1; start = Paragraph }
 
 -- how many line breaks a lexeme holds
 abbrev pub breaks_of : Lexeme → ℕ
@@ -43,25 +41,14 @@ line_start Within tabs = Line tabs
 unfoldable pub start_behind : Start → List ℕ → Start
 start_behind start space = if newlines space == 0 then start else (if newlines space == 1 then line_start start (indent_of space) else Paragraph)
 
--- only one run of white space without a blank line is a gap inside a word
-abbrev pub gap_behind : Gap → ℕ → Gap
-gap_behind Nothing breaks = if nat_lt breaks 2 then Blank else Wide
-gap_behind Blank breaks = Wide
-gap_behind Wide breaks = Wide
-
 abbrev pub start_after : Start → Lexeme → Start
 start_after start (Kept _) = Within
 start_after start (Space space) = start_behind start space
 start_after start (Comment _) = start
 
-abbrev pub gap_after : Gap → Lexeme → Gap
-gap_after gap (Kept _) = Nothing
-gap_after gap (Space space) = gap_behind gap (newlines space)
-gap_after gap (Comment _) = Wide
-
 -- the place behind a lexeme
 abbrev pub after : Cursor → Lexeme → Cursor
-after at l = record { line = at.line + breaks_of l; start = start_after at.start l; gap = gap_after at.gap l }
+after at l = record { line = at.line + breaks_of l; start = start_after at.start l }
 
 -- the tokens among the lexemes from a place on, each with the place before it
 abbrev pub placed_from : Cursor → List Lexeme → List Placed

@@ -8,6 +8,9 @@ abbrev pub without_mark : List ℕ → List ℕ
 without_mark (a ∷ b ∷ c ∷ rest) = if a == 0xEF && b == 0xBB && c == 0xBF then rest else a ∷ b ∷ c ∷ rest
 without_mark bytes = bytes
 
+abbrev pub is_unreturned : ℕ → Bool
+is_unreturned b = not (b == 13)
+
 abbrev pub starts_with_feed : List ℕ → Bool
 starts_with_feed [] = false
 starts_with_feed (b ∷ bytes) = b == 10

@@ -1,5 +1,5 @@
 -- White space in texts.
-use Rattle.std.specs.Prelude.{◌≡◌, ◌≢◌, ℕ, true, false, ◌==◌, if◌then◌else◌, List, [], ◌∷◌, ◌++◌}
+use Rattle.std.specs.Prelude.{◌≡◌, ◌≢◌, ℕ, Bool, not, true, false, ◌==◌, if◌then◌else◌, List, [], ◌∷◌, ◌++◌}
 use Rattle.std.specs.List.{list_all}
 use Rattle.i7_lexer.specs.Bytes.{is_blank, newlines}
 use Rattle.i7_lexer.specs.Lexemes.{begins_with}
@@ -14,6 +14,9 @@ pub data IsFolded : List ℕ → List ℕ → Type 0 where
   nothing : IsFolded [] []
   byte : {b : ℕ} {bytes text : List ℕ} → is_blank b ≡ false → IsFolded bytes text → IsFolded (b ∷ bytes) (b ∷ text)
   white : {blanks bytes text : List ℕ} → blanks ≢ [] → list_all is_blank blanks ≡ true → begins_with is_blank bytes ≡ false → IsFolded bytes text → IsFolded (blanks ++ bytes) (folded_run blanks ++ text)
+
+abbrev pub is_unblank : ℕ → Bool
+is_unblank b = not (is_blank b)
 
 -- the text behind a run of white space that may go on
 abbrev pub folded_behind : List ℕ → List ℕ → List ℕ

@@ -2,11 +2,11 @@
 use Rattle.std.specs.Prelude.{ℕ, zero, suc, Bool, true, false, ◌&&◌, ◌||◌, if◌then◌else◌, List, [], ◌∷◌, ◌++◌, take, codes}
 use Rattle.std.specs.List.{flat_map}
 use Rattle.std.specs.Str.{str_eq_ignore_ascii_case}
-use Rattle.i7_lexer.specs.declared.cursor.Gap.{Gap}
-use Rattle.i7_lexer.specs.declared.cursor.Gap.TheVariants.{Nothing, Blank, Wide}
 use Rattle.i7_lexer.specs.declared.lexeme.Piece.{Piece}
 use Rattle.i7_lexer.specs.declared.lexeme.Piece.TheVariants.{Word, Text, Mark}
 use Rattle.i7_lexer.specs.declared.placed.Placed.{Placed}
+use Rattle.i7_lexer.specs.declared.token.Start.{Start}
+use Rattle.i7_lexer.specs.declared.token.Start.TheVariants.{Paragraph, Line, Within}
 use Rattle.i7_lexer.specs.declared.token.Token.{Token}
 use Rattle.i7_lexer.specs.declared.token.TokenKind.{TokenKind}
 use Rattle.i7_lexer.specs.declared.token.TokenKind.TheVariants.{Word as WordToken, Text as TextToken, Mark as MarkToken}
@@ -18,14 +18,15 @@ says word (Word bytes) = str_eq_ignore_ascii_case bytes word
 says word (Text _) = false
 says word (Mark _) = false
 
-abbrev pub is_blank_gap : Gap → Bool
-is_blank_gap Nothing = false
-is_blank_gap Blank = true
-is_blank_gap Wide = false
+-- a token that doesn't begin its paragraph
+abbrev pub goes_on : Start → Bool
+goes_on Paragraph = false
+goes_on (Line indent) = true
+goes_on Within = true
 
--- the token is this word, and only white space without a blank line parts it from the one before
+-- the token is this word, and no blank line parts it from the one before; comments part nothing
 abbrev pub continues : List ℕ → Placed → Bool
-continues word token = is_blank_gap token.at.gap && says word token.piece
+continues word token = goes_on token.at.start && says word token.piece
 
 unfoldable pub is_switched : Placed → Placed → Bool
 is_switched a b = says (codes "switched") a.piece && (continues (codes "on") b || continues (codes "off") b)

@@ -1,24 +1,14 @@
-//! A place between two lexemes, and what the token behind it has to know of those before. White
+//! A place between two lexemes, and how a token that begins there stands on its line. White
 //! space with one line break begins a line, with two or more a paragraph; a comment begins neither.
 ghost use Rattle.std.specs.Prelude.{◌≡◌, ◌+◌, ◌<◌, ◌≤◌, ◌^◌, length};
 ghost use Rattle.i7_lexer.specs.Bytes.{newlines};
 ghost use Rattle.std.specs.List.{prefix_len};
 ghost use Rattle.std.specs.Prelude.{◌==◌};
 ghost use Rattle.i7_lexer.specs.Lexemes.{spelled};
-ghost use Rattle.i7_lexer.specs.Places.{at_front, after, breaks_of, start_after, start_behind, line_start, gap_after, gap_behind, indent_of, behind_break};
+ghost use Rattle.i7_lexer.specs.Places.{at_front, after, breaks_of, start_after, start_behind, line_start, indent_of, behind_break};
 
 use crate::Start;
 use crate::lexeme::{Lexeme, Piece};
-
-/// What stands between a place and the token before it.
-#[derive(Clone, Copy, Debug, PartialEq, Eq)]
-pub(crate) enum Gap {
-    Nothing,
-    /// White space without a blank line.
-    Blank,
-    /// A comment or a blank line.
-    Wide,
-}
 
 /// A place between two lexemes.
 #[derive(Clone, Copy, Debug, PartialEq, Eq)]
@@ -27,7 +17,6 @@ pub(crate) struct Cursor {
     pub line: u32,
     /// How a token that begins here stands on its line.
     pub start: Start,
-    pub gap: Gap,
 }
 
 impl Cursor {
@@ -38,7 +27,6 @@ impl Cursor {
         Cursor {
             line: 1,
             start: Start::Paragraph,
-            gap: Gap::Nothing,
         }
     }
 
@@ -51,7 +39,6 @@ impl Cursor {
         Cursor {
             line: self.line + breaks_of(lexeme) as u32,
             start: start_after(self.start, lexeme),
-            gap: gap_after(self.gap, lexeme),
         }
     }
 }
@@ -101,25 +88,6 @@ fn line_start(start: Start, indent: u32) -> Start
     match start {
         Start::Paragraph => Start::Paragraph,
         Start::Line { .. } | Start::Within => Start::Line { indent },
-    }
-}
-
-fn gap_after(gap: Gap, lexeme: &Lexeme<'_>) -> Gap
-    ensures { result ≡ gap_after gap lexeme.now }
-{
-    match lexeme {
-        Lexeme::Kept(_) => Gap::Nothing,
-        Lexeme::Space(space) => gap_behind(gap, newlines(space.as_slice())),
-        Lexeme::Comment(_) => Gap::Wide,
-    }
-}
-
-fn gap_behind(gap: Gap, breaks: usize) -> Gap
-    ensures { result ≡ gap_behind gap breaks }
-{
-    match gap {
-        Gap::Nothing => { if breaks < 2 { Gap::Blank } else { Gap::Wide } }
-        Gap::Blank | Gap::Wide => Gap::Wide,
     }
 }
 

@@ -1,13 +1,12 @@
 //! Tokens from placed lexemes: `fixed in place`, `switched on` and `switched off` become one word.
 ghost use Rattle.std.specs.Prelude.{◌≡◌, ◌≤◌, ◌++◌, length, IfOk, OnOk};
 ghost use Rattle.std.specs.List.{flat_map};
-ghost use Rattle.i7_lexer.specs.Tokens.{tokens_of, joined_len, is_switched, is_fixed_in_place, says, continues, is_blank_gap, token_of, kind_of, spaced};
+ghost use Rattle.i7_lexer.specs.Tokens.{tokens_of, joined_len, is_switched, is_fixed_in_place, says, continues, goes_on, token_of, kind_of, spaced};
 
-use crate::cursor::Gap;
 use crate::lexeme::Piece;
 use crate::placed::Placed;
 use crate::text::folded;
-use crate::{Token, TokenKind};
+use crate::{Start, Token, TokenKind};
 use std::alloc::{AllocError, Global};
 use world_meaning::TextBytes;
 
@@ -15,7 +14,7 @@ use world_meaning::TextBytes;
 pub(crate) fn tokens_of(alloc: Global, placed: &[Placed<'_>]) -> Result<Vec<Token>, AllocError>
     ensures { IfOk result (λ tokens. tokens.items ≡ tokens_of placed.now) }
 {
-    let mut tokens = Vec::new(alloc);
+    let mut tokens = Vec::with_capacity(alloc, placed.len())?;
     let mut rest = placed;
     while let [first, after @ ..] = rest {
         let count = joined_len(first, after);
@@ -69,20 +68,20 @@ fn says(placed: &Placed<'_>, word: &[u8]) -> bool
     }
 }
 
-/// Whether this is that word, and only white space without a blank line parts it from the token
-/// before.
+/// Whether this is that word, and no blank line parts it from the token before.
 fn continues(placed: &Placed<'_>, word: &[u8]) -> bool
     ensures { result ≡ continues word.now placed.now }
 {
-    is_blank_gap(placed.at.gap) && says(placed, word)
+    goes_on(placed.at.start) && says(placed, word)
 }
 
-fn is_blank_gap(gap: Gap) -> bool
-    ensures { result ≡ is_blank_gap gap }
+/// Whether a token that begins so goes on with the paragraph of the token before.
+fn goes_on(start: Start) -> bool
+    ensures { result ≡ goes_on start }
 {
-    match gap {
-        Gap::Blank => true,
-        Gap::Nothing | Gap::Wide => false,
+    match start {
+        Start::Paragraph => false,
+        Start::Line { .. } | Start::Within => true,
     }
 }
 

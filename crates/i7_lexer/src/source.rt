@@ -1,7 +1,8 @@
 //! A source's bytes: what is dropped before it is read, and what no source may hold.
 ghost use Rattle.std.specs.Prelude.{◌≡◌, ◌≤◌, length, IfOk, MatchOption};
+ghost use Rattle.std.specs.List.{prefix_len};
 ghost use Rattle.std.specs.Str.Lossy.{utf8_valid_len};
-ghost use Rattle.i7_lexer.specs.Sources.{text_of, without_mark, without_returns, starts_with_feed, starts_with_control, is_control, is_late_control, plain_len, IsBad, IsFirstBad, IsText};
+ghost use Rattle.i7_lexer.specs.Sources.{text_of, without_mark, without_returns, is_unreturned, starts_with_feed, starts_with_control, is_control, is_late_control, plain_len, IsBad, IsFirstBad, IsText};
 
 use std::alloc::{AllocError, Global};
 use std::str;
@@ -32,15 +33,29 @@ fn without_returns(alloc: Global, bytes: &[u8]) -> Result<Vec<u8>, AllocError>
     ensures value { IfOk result (λ out. out.items ≡ without_returns bytes.now) }
     ensures bound { IfOk result (λ out. length out.items ≤ length bytes.now) }
 {
-    let mut out = Vec::new(alloc);
+    let mut out = Vec::with_capacity(alloc, bytes.len())?;
     let mut rest = bytes;
     while let [byte, after @ ..] = rest {
-        if !(*byte == b'\r' && starts_with_feed(after)) {
-            out.push(*byte)?;
+        if *byte == b'\r' {
+            if !starts_with_feed(after) {
+                out.push(b'\r')?;
+            }
+            rest = after;
+        } else {
+            let (front, behind) = rest.split_at(unreturned_len(rest));
+            out.extend_from_slice(front)?;
+            rest = behind;
         }
-        rest = after;
     }
     Ok(out)
+}
+
+/// How many bytes stand before the first return.
+fn unreturned_len(bytes: &[u8]) -> usize
+    ensures value { result ≡ prefix_len is_unreturned bytes.now }
+    ensures bound { result ≤ length bytes.now }
+{
+    bytes.iter().take_while(|byte| **byte != b'\r').count()
 }
 
 fn starts_with_feed(bytes: &[u8]) -> bool

@@ -122,22 +122,25 @@ letter_column_same class pieces column (token ∷ tokens) told =
     ap (λ front. front ++ (ahead_of class column (token ∷ tokens)).start ∷ []) (letter_column_same class pieces column tokens fewer)
     ∙ ap (λ can. column_of (Letter class ∷ pieces) tokens ++ can ∷ []) here
 
-pub piece_column_same : (piece : Piece) (pieces : List Piece) (tokens : List Token) → piece_column piece (column_of pieces tokens) tokens ≡ column_of (piece ∷ pieces) tokens
-piece_column_same (Word keyword) pieces tokens = word_column_same keyword pieces (column_of pieces tokens) tokens (column_tells pieces tokens)
-piece_column_same (Letter class) pieces tokens = letter_column_same class pieces (column_of pieces tokens) tokens (column_tells pieces tokens)
+pub piece_column_same : (piece : Piece) (pieces : List Piece) (column : List Bool) (tokens : List Token) → Tells (can_fit pieces) column tokens → piece_column piece column tokens ≡ column_of (piece ∷ pieces) tokens
+piece_column_same (Word keyword) pieces column tokens told = word_column_same keyword pieces column tokens told
+piece_column_same (Letter class) pieces column tokens told = letter_column_same class pieces column tokens told
 
-pub end_column_same : (tokens : List Token) → end_column tokens ≡ column_of [] tokens
-end_column_same [] = refl
-end_column_same (token ∷ tokens) = ap (λ front. front ++ false ∷ []) (end_column_same tokens)
+end_tells : (rest : List Token) → looked end_column (length rest) ≡ can_fit [] rest
+end_tells [] = refl
+end_tells (token ∷ rest) = refl
 
-pub first_column_same : (pieces : List Piece) (tokens : List Token) → first_column pieces tokens ≡ column_of pieces tokens
-first_column_same [] tokens = end_column_same tokens
-first_column_same (piece ∷ pieces) tokens = ap (λ column. piece_column piece column tokens) (first_column_same pieces tokens) ∙ piece_column_same piece pieces tokens
+pub first_tells : (pieces : List Piece) (tokens : List Token) → Tells (can_fit pieces) (first_column pieces tokens) tokens
+first_tells [] tokens = λ front rest parts. end_tells rest
+first_tells (piece ∷ pieces) tokens =
+    subst (λ column. Tells (can_fit (piece ∷ pieces)) column tokens) (sym (piece_column_same piece pieces (first_column pieces tokens) tokens (first_tells pieces tokens))) (column_tells (piece ∷ pieces) tokens)
 
 -- a piece's end by the column that was told
 pub left_same : (piece : Piece) (pieces : List Piece) (tokens rest : List Token) → IsEndOf rest tokens → left_by piece (λ others. looked (first_column pieces tokens) (length others)) rest ≡ left_by piece (can_fit pieces) rest
 left_same (Word keyword) pieces tokens rest at_end = refl
-left_same (Letter class) pieces tokens rest at_end = rw (first_column_same pieces tokens) (nearest_same class Start (can_fit pieces) (column_of pieces tokens) rest (tells_fewer (can_fit pieces) (column_of pieces tokens) at_end.front rest (subst (λ words. Tells (can_fit pieces) (column_of pieces tokens) words) at_end.parts (column_tells pieces tokens))))
+left_same (Letter class) pieces tokens rest at_end =
+    nearest_same class Start (can_fit pieces) (first_column pieces tokens) rest
+    (tells_fewer (can_fit pieces) (first_column pieces tokens) at_end.front rest (subst (λ words. Tells (can_fit pieces) (first_column pieces tokens) words) at_end.parts (first_tells pieces tokens)))
 
 -- what is left of an end of words is one too
 pub end_later : (n : ℕ) (rest tokens : List Token) → IsEndOf rest tokens → IsEndOf (drop n rest) tokens
@@ -156,7 +159,7 @@ all_no (false ∷ column) (suc i) none = all_no column i none
 
 pub never_told : (pieces : List Piece) (tokens : List Token) → list_any (λ yes. yes) (first_column pieces tokens) ≡ false → Never pieces tokens
 never_told pieces tokens none rest at_end =
-    sym (column_tells pieces tokens at_end.front rest at_end.parts) ∙ ap (λ column. looked column (length rest)) (sym (first_column_same pieces tokens)) ∙ all_no (first_column pieces tokens) (length rest) none
+    sym (first_tells pieces tokens at_end.front rest at_end.parts) ∙ all_no (first_column pieces tokens) (length rest) none
 
 -- pieces that fit no last words fit none behind another piece
 pub none_nearest : (class : Class) (state : State) (can : List Token → Bool) (tokens : List Token) → ((rest : List Token) → IsEndOf rest tokens → can rest ≡ false) → is_some (nearest class state can tokens) ≡ false

@@ -1,6 +1,6 @@
 -- The words and marks of sentence forms: each token is one of them or none.
 use Rattle.std.specs.Prelude.{ℕ, Bool, false, ◌||◌, List, [], ◌∷◌, map, length, Option, Some, None, if◌then◌else◌}
-use Rattle.std.specs.List.{list_any, slice_get}
+use Rattle.std.specs.List.{filter_map, list_any, slice_get}
 use denote.Enum.Bare.{sameb}
 use Rattle.world_meaning.specs.Spelling.{is_spelled}
 use Rattle.i7_lexer.specs.declared.token.Token.{Token}
@@ -59,3 +59,11 @@ is_article token = is_one_of ARTICLES token
 -- an article, or a word that joins others or that rules and kinds are made with
 abbrev pub is_reserved : Token → Bool
 is_reserved token = is_article token || is_one_of RESERVED token
+
+-- the words and marks of forms among the tokens, in order
+abbrev pub signs_of : List Token → List Keyword
+signs_of tokens = filter_map keyword_of tokens
+
+-- whether the word or mark is one of these
+abbrev pub is_among : Keyword → List Keyword → Bool
+is_among keyword signs = list_any (λ sign. sameb the_type sign keyword) signs

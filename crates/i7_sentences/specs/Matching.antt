@@ -3,7 +3,7 @@
 use Rattle.std.specs.Prelude.{not, ◌≡◌, ℕ, ◌-◌, Bool, true, false, ◌&&◌, ◌||◌, List, [], ◌∷◌, ◌++◌, length, take, drop, get_or, Option, Some, None, is_some, option_map, if◌then◌else◌}
 use Rattle.std.specs.List.{list_any}
 use Rattle.i7_lexer.specs.declared.token.Token.{Token}
-use Rattle.i7_sentences.specs.Keywords.{is_sign}
+use Rattle.i7_sentences.specs.Keywords.{is_among, is_sign}
 use Rattle.i7_sentences.specs.Automata.{accepts, step}
 use Rattle.i7_sentences.specs.Forms.{Variant, are_shorter}
 use Rattle.i7_sentences.specs.declared.keyword.Keyword.{Keyword}
@@ -100,6 +100,15 @@ ahead_of_more class ahead can token = record {
   beside = reaches class ahead can token Beside;
 }
 
+-- the same of a letter whose step is one from every state
+abbrev pub ahead_of_run : Ahead → Bool → Option State → Ahead
+ahead_of_run ahead can next = record {
+  start = then_ahead ahead next;
+  inside = can || then_ahead ahead next;
+  between = then_ahead ahead next;
+  beside = then_ahead ahead next;
+}
+
 abbrev pub ahead_of : Class → List Bool → List Token → Ahead
 ahead_of class behind [] = ahead_of_none (looked behind 0)
 ahead_of class behind (token ∷ tokens) = ahead_of_more class (ahead_of class behind tokens) (looked behind (length (token ∷ tokens))) token
@@ -113,14 +122,13 @@ abbrev pub piece_column : Piece → List Bool → List Token → List Bool
 piece_column (Word keyword) behind tokens = word_column keyword behind tokens
 piece_column (Letter class) behind tokens = letter_column class behind tokens
 
--- the column of no pieces
-abbrev pub end_column : List Token → List Bool
-end_column [] = true ∷ []
-end_column (token ∷ tokens) = end_column tokens ++ false ∷ []
+-- the column of no pieces: they fit no words alone
+abbrev pub end_column : List Bool
+end_column = true ∷ []
 
 -- the column of these pieces, from that of the pieces behind the first
 abbrev pub first_column : List Piece → List Token → List Bool
-first_column [] tokens = end_column tokens
+first_column [] tokens = end_column
 first_column (piece ∷ pieces) tokens = piece_column piece (first_column pieces tokens) tokens
 
 -- the columns of the pieces behind each piece
@@ -174,15 +182,19 @@ abbrev pub is_never : List Piece → List Token → Bool
 is_never [] tokens = false
 is_never (piece ∷ pieces) tokens = is_never pieces tokens || not (list_any (λ yes. yes) (first_column (piece ∷ pieces) tokens))
 
--- whether the piece is a word of the form that stands nowhere among the words
-abbrev pub is_missing : List Token → Piece → Bool
-is_missing tokens (Word keyword) = not (list_any (is_sign keyword) tokens)
-is_missing tokens (Letter class) = false
-
--- whether the first piece can take this token in front
+-- whether the piece can begin with this token
 abbrev pub can_take : Piece → Token → Bool
 can_take (Word keyword) token = is_sign keyword token
 can_take (Letter class) token = is_some (step class Start token)
+
+-- whether the piece can begin with none of the words
+abbrev pub is_missing : List Token → Piece → Bool
+is_missing tokens piece = not (list_any (can_take piece) tokens)
+
+-- whether the piece is a word or mark of the form's own that isn't one of these
+abbrev pub is_absent : List Keyword → Piece → Bool
+is_absent signs (Word keyword) = not (is_among keyword signs)
+is_absent signs (Letter class) = false
 
 -- whether the first piece can take the first token, if there are both
 abbrev pub can_begin : List Piece → List Token → Bool

@@ -1,9 +1,9 @@
 //! From where pieces can fit words: for each piece, from the last to the first, a column that tells of
 //! each count of words left whether the pieces from that one on can fit them.
-ghost use Rattle.std.specs.Prelude.{◌≡◌, true, ◌&&◌, ◌++◌, length, map, IfNone, IfOk, IfSome, OnSome};
+ghost use Rattle.std.specs.Prelude.{◌≡◌, true, false, ◌&&◌, ◌++◌, length, map, IfNone, IfOk, IfSome, OnSome};
 ghost use Rattle.std.specs.List.{list_any};
 ghost use Rattle.i7_sentences.specs.Keywords.{is_sign};
-ghost use Rattle.i7_sentences.specs.Matching.{ahead_at, ahead_of, ahead_of_more, ahead_of_none, columns_of, end_column, first_column, is_never, letter_column, looked, piece_column, reaches, then_ahead, word_column};
+ghost use Rattle.i7_sentences.specs.Matching.{ahead_at, ahead_of, ahead_of_more, ahead_of_none, ahead_of_run, columns_of, end_column, first_column, is_never, letter_column, looked, piece_column, reaches, then_ahead, word_column};
 
 use crate::class::State;
 use crate::tagged::Tagged;
@@ -62,11 +62,27 @@ impl Ahead {
     fn of_more(self, class: Class, can: bool, token: &Tagged<'_>) -> Ahead
         ensures { result ≡ ahead_of_more class self can token.now }
     {
+        match class {
+            Class::Words | Class::Head => self.of_run(can, class.step(State::Start, token)),
+            Class::Names | Class::Side | Class::Number | Class::Text | Class::Body => Ahead {
+                start: self.reaches(class, can, token, State::Start),
+                inside: self.reaches(class, can, token, State::Inside),
+                between: self.reaches(class, can, token, State::Between),
+                beside: self.reaches(class, can, token, State::Beside),
+            },
+        }
+    }
+
+    /// The same where the letter's step is one from every state.
+    fn of_run(self, can: bool, step: Option<State>) -> Ahead
+        ensures { result ≡ ahead_of_run self can step }
+    {
+        let behind = self.then(step);
         Ahead {
-            start: self.reaches(class, can, token, State::Start),
-            inside: self.reaches(class, can, token, State::Inside),
-            between: self.reaches(class, can, token, State::Between),
-            beside: self.reaches(class, can, token, State::Beside),
+            start: behind,
+            inside: can || behind,
+            between: behind,
+            beside: behind,
         }
     }
 }
@@ -79,23 +95,10 @@ pub fn looked(column: &[bool], left: usize) -> bool
 }
 
 /// The column of no pieces, which fit no words alone.
-fn end_column(alloc: Global, tokens: &[Tagged<'_>]) -> Result<Vec<bool>, AllocError>
-    ensures { IfOk result (λ column. column.items ≡ end_column tokens.now) }
+fn end_column(alloc: Global) -> Result<Vec<bool>, AllocError>
+    ensures { IfOk result (λ column. column.items ≡ end_column) }
 {
-    let mut column = Vec::with_capacity(alloc, tokens.len() + 1)?;
-    column.push(true)?;
-    let mut place = tokens.len();
-    while place > 0 {
-        place -= 1;
-        let (_, rest) = tokens.split_at(place);
-        match rest {
-            [] => return Ok(column),
-            [_token, ..] => {
-                column.push(false)?;
-            }
-        }
-    }
-    Ok(column)
+    Vec::from_slice(alloc, &[true])
 }
 
 /// Whether the word is the token, with the pieces behind it.
@@ -181,7 +184,7 @@ fn has_yes(column: &[bool]) -> bool
 
 /// The column of the pieces, or none if they can fit no last words; those of the pieces behind each
 /// piece are added.
-pub fn columns(
+fn columns(
     alloc: Global,
     pieces: &[Piece],
     tokens: &[Tagged<'_>],
@@ -192,7 +195,7 @@ pub fn columns(
     ensures added { IfOk result (λ found. OnSome found (map (λ column. column.items) told.new.items ≡ map (λ column. column.items) told.old.items ++ columns_of pieces.now tokens.now)) }
 {
     match pieces {
-        [] => Ok(Some(end_column(alloc, tokens)?)),
+        [] => Ok(Some(end_column(alloc)?)),
         [piece, after @ ..] => match columns(alloc, after, tokens, told)? {
             None => Ok(None),
             Some(behind) => {
@@ -202,6 +205,29 @@ pub fn columns(
                 }
                 told.push(behind)?;
                 Ok(Some(column))
+            }
+        },
+    }
+}
+
+/// Adds the columns of the pieces behind each piece; false where those behind the first can fit no last
+/// words.
+pub fn columns_behind(
+    alloc: Global,
+    pieces: &[Piece],
+    tokens: &[Tagged<'_>],
+    told: &mut Vec<Vec<bool>>,
+) -> Result<bool, AllocError>
+    ensures none { IfOk result (λ can. can ≡ false → is_never pieces.now tokens.now ≡ true) }
+    ensures added { IfOk result (λ can. can ≡ true → map (λ column. column.items) told.new.items ≡ map (λ column. column.items) told.old.items ++ columns_of pieces.now tokens.now) }
+{
+    match pieces {
+        [] => Ok(true),
+        [_, after @ ..] => match columns(alloc, after, tokens, told)? {
+            None => Ok(false),
+            Some(behind) => {
+                told.push(behind)?;
+                Ok(true)
             }
         },
     }

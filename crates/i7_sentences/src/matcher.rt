@@ -2,11 +2,11 @@
 //! pieces behind it can fit.
 ghost use Rattle.std.specs.Prelude.{◌≡◌, true, ◌≤◌, ◌++◌, ◌∷◌, [], length, map, option_map, IfNone, IfOk, IfSome, IsTrue, None, Some, false};
 ghost use Rattle.std.specs.List.{list_any};
-ghost use Rattle.i7_sentences.specs.Keywords.{is_sign};
-ghost use Rattle.i7_sentences.specs.Matching.{behind_word, can_begin, can_fit, can_take, columns_of, first_column, first_fit, is_kept, is_missing, IsEndOf, left_by, letters_with, looked, nearest};
+ghost use Rattle.i7_sentences.specs.Keywords.{is_among, signs_of};
+ghost use Rattle.i7_sentences.specs.Matching.{behind_word, can_begin, can_fit, can_take, columns_of, first_column, first_fit, is_absent, is_kept, is_missing, IsEndOf, left_by, letters_with, looked, nearest};
 
 use crate::class::State;
-use crate::lookahead::{columns, looked};
+use crate::lookahead::{columns_behind, looked};
 use crate::tagged::Tagged;
 use crate::{Class, Keyword, Piece};
 use std::alloc::{AllocError, Global};
@@ -123,7 +123,7 @@ fn take_piece<'a, 'b>(
     }
 }
 
-/// Whether a piece can take the token in front.
+/// Whether a piece can begin with the token.
 fn can_take(piece: Piece, token: &Tagged<'_>) -> bool
     ensures { result ≡ can_take piece token.now }
 {
@@ -146,32 +146,22 @@ fn can_begin(pieces: &[Piece], tokens: &[Tagged<'_>]) -> bool
     }
 }
 
-/// Whether a token is this word or mark.
-fn stands_in(keyword: Keyword, tokens: &[Tagged<'_>]) -> bool
-    ensures { result ≡ list_any (is_sign keyword) tokens.now }
-{
-    let mut rest = tokens;
-    while let [token, after @ ..] = rest {
-        if token.is_sign(keyword) {
-            return true;
-        }
-        rest = after;
-    }
-    false
-}
-
-/// Whether the piece is a word of the form that stands nowhere among the tokens.
+/// Whether the piece can begin with none of the tokens.
 fn is_missing(piece: Piece, tokens: &[Tagged<'_>]) -> bool
     ensures { result ≡ is_missing tokens.now piece }
 {
-    match piece {
-        Piece::Word(keyword) => !stands_in(keyword, tokens),
-        Piece::Letter(_) => false,
+    let mut rest = tokens;
+    while let [token, after @ ..] = rest {
+        if can_take(piece, token) {
+            return false;
+        }
+        rest = after;
     }
+    true
 }
 
-/// Whether a word of the form stands nowhere among the tokens.
-fn lacks_word(pieces: &[Piece], tokens: &[Tagged<'_>]) -> bool
+/// Whether one of the pieces can begin with none of the tokens.
+fn lacks_piece(pieces: &[Piece], tokens: &[Tagged<'_>]) -> bool
     ensures { result ≡ list_any (is_missing tokens.now) pieces.now }
 {
     let mut rest = pieces;
@@ -206,13 +196,64 @@ fn fits_from<'a, 'b>(
     }
 }
 
-/// Whether it is seen without columns that the pieces don't fit: they can't begin with the first token,
-/// or one of their words stands nowhere.
+/// The words and marks of forms among the tokens, in order.
+pub fn signs_of(alloc: Global, tokens: &[Tagged<'_>]) -> Result<Vec<Keyword>, AllocError>
+    ensures { IfOk result (λ signs. signs.items ≡ signs_of tokens.now) }
+{
+    let mut signs = Vec::new(alloc);
+    let mut rest = tokens;
+    while let [token, after @ ..] = rest {
+        if let Some(keyword) = token.keyword() {
+            signs.push(keyword)?;
+        }
+        rest = after;
+    }
+    Ok(signs)
+}
+
+/// Whether the word or mark is one of these.
+fn is_among(keyword: Keyword, signs: &[Keyword]) -> bool
+    ensures { result ≡ is_among keyword signs.now }
+{
+    signs.iter().any(|sign| *sign == keyword)
+}
+
+/// Whether the piece is a word or mark of the form's own that isn't one of these.
+fn is_absent(piece: Piece, signs: &[Keyword]) -> bool
+    ensures { result ≡ is_absent signs.now piece }
+{
+    match piece {
+        Piece::Word(keyword) => !is_among(keyword, signs),
+        Piece::Letter(_) => false,
+    }
+}
+
+/// Whether one of the pieces is a word or mark that isn't one of these.
+fn lacks_sign(pieces: &[Piece], signs: &[Keyword]) -> bool
+    ensures { result ≡ list_any (is_absent signs.now) pieces.now }
+{
+    let mut rest = pieces;
+    while let [piece, after @ ..] = rest {
+        if is_absent(*piece, signs) {
+            return true;
+        }
+        rest = after;
+    }
+    false
+}
+
+/// Whether it is seen without columns that the pieces don't fit: a word or mark of theirs isn't there,
+/// they can't begin with the first token, or one of them can begin with none. The signs are those of
+/// the tokens.
 #[tactic(auto, using(crate::proofs::Missing::missing_fits, crate::proofs::Missing::never_begins))]
-pub fn is_passed_over(pieces: &[Piece], tokens: &[Tagged<'_>]) -> bool
+pub fn is_passed_over(pieces: &[Piece], signs: &[Keyword], tokens: &[Tagged<'_>]) -> bool
+    requires { signs.now ≡ signs_of tokens.now }
     ensures { result ≡ true → first_fit pieces.now tokens.now ≡ None }
 {
-    !can_begin(pieces, tokens) || lacks_word(pieces, tokens)
+    if lacks_sign(pieces, signs) {
+        return true;
+    }
+    !can_begin(pieces, tokens) || lacks_piece(pieces, tokens)
 }
 
 /// The words for the letters of pieces that fit the tokens, each letter as short as it can be, the
@@ -226,7 +267,7 @@ pub fn fit<'a, 'b>(
     ensures { IfOk result (λ found. option_map (λ letters. map (λ letter. letter.now) letters.items) found ≡ first_fit pieces.now tokens.now) }
 {
     let mut told = Vec::new(alloc);
-    if columns(alloc, pieces, tokens, &mut told)?.is_none() {
+    if !columns_behind(alloc, pieces, tokens, &mut told)? {
         return Ok(None);
     }
     let mut letters = Vec::new(alloc);

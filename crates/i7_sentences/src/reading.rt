@@ -1,13 +1,14 @@
 //! The reading of a sentence: the lowest form that fits, with the shortest letters.
 ghost use Rattle.std.specs.Prelude.{◌≡◌, ◌≤◌, length, map, option_map, IfOk};
 ghost use Rattle.i7_sentences.specs.Forms.{all_forms, are_shorter};
+ghost use Rattle.i7_sentences.specs.Keywords.{signs_of};
 ghost use Rattle.i7_sentences.specs.Matching.{best_fit, first_fit, found_as, lowest_fit, preferred};
 ghost use Rattle.i7_sentences.specs.Found.{found_in};
 
 use crate::form::FORMS;
-use crate::matcher::{fit, is_passed_over};
+use crate::matcher::{fit, is_passed_over, signs_of};
 use crate::tagged::Tagged;
-use crate::{Form, Piece};
+use crate::{Form, Keyword, Piece};
 use std::alloc::{AllocError, Global};
 
 /// How a sentence is read: a form's variant, and the words for its letters.
@@ -79,14 +80,16 @@ fn reading_as<'a, 'b>(
 #[tactic(auto, using(crate::proofs::Choosing::passed_best))]
 fn without_unfit<'a, 'b>(
     variants: &'a [(Form, &'b [Piece])],
+    signs: &[Keyword],
     tokens: &[Tagged<'_>],
 ) -> &'a [(Form, &'b [Piece])]
+    requires { signs.now ≡ signs_of tokens.now }
     ensures same { best_fit (map (λ variant. record { form = variant.0; pieces = variant.1.now }) result.now) tokens.now ≡ best_fit (map (λ variant. record { form = variant.0; pieces = variant.1.now }) variants.now) tokens.now }
     ensures within { length result.now ≤ length variants.now }
 {
     let mut rest = variants;
     while let [variant, after @ ..] = rest {
-        if !is_passed_over(variant.1, tokens) {
+        if !is_passed_over(variant.1, signs, tokens) {
             return rest;
         }
         rest = after;
@@ -98,15 +101,17 @@ fn without_unfit<'a, 'b>(
 fn best_fit<'a, 'b>(
     alloc: Global,
     variants: &[(Form, &[Piece])],
+    signs: &[Keyword],
     tokens: &'a [Tagged<'b>],
 ) -> Result<Option<Reading<'a, 'b>>, AllocError>
+    requires { signs.now ≡ signs_of tokens.now }
     ensures { IfOk result (λ found. option_map found_in found ≡ best_fit (map (λ variant. record { form = variant.0; pieces = variant.1.now }) variants.now) tokens.now) }
 {
     match variants {
         [] => Ok(None),
         [variant, after @ ..] => {
             let first = reading_as(alloc, variant.0, variant.1, tokens)?;
-            let later = best_fit(alloc, without_unfit(after, tokens), tokens)?;
+            let later = best_fit(alloc, without_unfit(after, signs, tokens), signs, tokens)?;
             Ok(preferred(first, later))
         }
     }
@@ -116,15 +121,17 @@ fn best_fit<'a, 'b>(
 fn lowest_fit<'a, 'b>(
     alloc: Global,
     forms: &[&[(Form, &[Piece])]],
+    signs: &[Keyword],
     tokens: &'a [Tagged<'b>],
 ) -> Result<Option<Reading<'a, 'b>>, AllocError>
+    requires { signs.now ≡ signs_of tokens.now }
     ensures { IfOk result (λ found. option_map found_in found ≡ lowest_fit (map (λ form. map (λ variant. record { form = variant.0; pieces = variant.1.now }) form.now) forms.now) tokens.now) }
 {
     let mut rest = forms;
     while let [form, after @ ..] = rest {
-        let variants = without_unfit(form, tokens);
+        let variants = without_unfit(form, signs, tokens);
         if !variants.is_empty() {
-            if let Some(reading) = best_fit(alloc, variants, tokens)? {
+            if let Some(reading) = best_fit(alloc, variants, signs, tokens)? {
                 return Ok(Some(reading));
             }
         }
@@ -142,5 +149,6 @@ pub fn reading_of<'a, 'b>(
 ) -> Result<Option<Reading<'a, 'b>>, AllocError>
     ensures { IfOk result (λ found. option_map found_in found ≡ lowest_fit all_forms tokens.now) }
 {
-    Ok(lowest_fit(alloc, &FORMS, tokens)?)
+    let signs = signs_of(alloc, tokens)?;
+    Ok(lowest_fit(alloc, &FORMS, signs.as_slice(), tokens)?)
 }

@@ -59,6 +59,13 @@ impl<'a> Tagged<'a> {
         }
     }
 
+    /// The word or mark of a form that the token is, if it is one.
+    pub fn keyword(&self) -> Option<Keyword>
+        ensures { result ≡ keyword_of self.now }
+    {
+        self.keyword
+    }
+
     /// The direction that the token names.
     pub fn direction(&self) -> Option<Direction>
         ensures { result ≡ direction_named (word_of self.now) }

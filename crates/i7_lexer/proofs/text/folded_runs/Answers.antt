@@ -1,7 +1,7 @@
 use Rattle.std.proofs.Common.{sym, ◌∙◌, refl}
-use Rattle.i7_lexer.proofs.Folding.{blank_step, other_step, end_step}
+use Rattle.i7_lexer.proofs.Folding.{blank_step, word_step, end_step}
 use Rattle.i7_lexer.specs.Texts.{folded}
-use Rattle.i7_lexer.proofs.text.folded.Goals as goal
+use Rattle.i7_lexer.proofs.text.folded_runs.Goals as goal
 
 pub loop-rest-preserved-then-is_blank : goal.loop-rest-preserved-then-is_blank
 loop-rest-preserved-then-is_blank c =
@@ -9,7 +9,7 @@ loop-rest-preserved-then-is_blank c =
 
 pub loop-rest-preserved : goal.loop-rest-preserved
 loop-rest-preserved c =
-    other_step (folded c.args.bytes.now) c.loop-rest.out.items c.loop-rest.rest.now _ _ c.in-len1-up.len_at_least (sym c.is_blank.ensures ∙ c.if-is_blank.false) c.loop-rest.invariant c.in_ok-push.ensures.items refl
+    word_step (folded c.args.bytes.now) c.loop-rest.out.items c.loop-rest.rest.now _ _ _ _ c.loop-rest.invariant c.unblank_len.ensures.value c.split_at-else-is_blank.ensures.front c.split_at-else-is_blank.ensures.back c.in_ok-extend_from_slice-2.ensures.items
 
 pub returns : goal.returns
 returns c =

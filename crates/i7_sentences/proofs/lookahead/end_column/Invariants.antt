@@ -1,9 +1,0 @@
-use Rattle.std.proofs.Common.{◌≡◌, ◌≤◌, length, drop}
-use Rattle.i7_sentences.specs.Matching.{end_column}
-use Rattle.i7_sentences.proofs.lookahead.end_column.Given as goal
-
-abbrev pub invariant-loop-place : goal.invariant-loop-place
-invariant-loop-place l = record { within : l.place ≤ length l.tokens; same : l.column.items ≡ end_column (drop l.place l.tokens) }
-
-abbrev pub decreases-loop-place : goal.decreases-loop-place
-decreases-loop-place l = l.place
