@@ -3,14 +3,11 @@ use Rattle.std.proofs.Common.{◌≡◌, ℕ, Bool, true, false, cond, refl}
 use Rattle.std.specs.Prelude.{◌==◌, ◌&&◌, not, Option, Some, None, is_some, option_copied}
 use Rattle.std.specs.Borrow.{Bor}
 use Rattle.std.proofs.lemmas.Bool.{eqb-true}
+use Rattle.world_meaning.proofs.Bools.{both_are}
 use Rattle.i7_kinds.specs.Firsts.{first_of}
 use Rattle.i7_kinds.specs.Views.{exit_eq, given_exit}
 use Rattle.i7_kinds.specs.declared.ways.Exit.{Exit}
 use Rattle.i7_kinds.proofs.Firsts.{first_put}
-
-pub both_are : (a b : Bool) → (a && b) ≡ true → (a ≡ true) × (b ≡ true)
-both_are true b both = (refl, both)
-both_are false b both = absurd cc
 
 pub exit_sound : (a b : Exit) → exit_eq a b ≡ true → a ≡ b
 exit_sound a b same =

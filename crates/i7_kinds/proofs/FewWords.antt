@@ -8,23 +8,12 @@ use Rattle.std.proofs.lemmas.Bool.{le-ltb, ltb-false, ne_eqb}
 use Rattle.std.proofs.lemmas.List.{length-append, append-nil}
 use Rattle.std.proofs.lemmas.List.Splits.{length-slice_split}
 use Rattle.std.proofs.lemmas.List.Sums.{sum_by-cons}
+use Rattle.world_meaning.proofs.Bools.{either}
+use Rattle.object_words.proofs.MentionLemmas.{mentioned_few}
 use Rattle.object_words.specs.Mentions.{mention}
 use Rattle.object_words.specs.Words.{is_blank, is_word, blank_words, more_words, words_for}
 use Rattle.world_meaning.specs.Spelling.{lowered}
 use Rattle.i7_kinds.specs.Tales.{is_too_long}
-
-either : (b : Bool) → (b ≡ true) ⊎ (b ≡ false)
-either true = inl refl
-either false = inr refl
-
-mentioned_few : (xs seen : List (List ℕ)) → length (fold mention seen xs) ≤ length seen + length xs
-mentioned_few [] seen = omega arith
-mentioned_few (x ∷ xs) seen =
-    let later = mentioned_few xs (mention seen x) in
-    elim (either (list_any (bytes_eq x) seen)) [
-      | inl is ↦ let same : length (mention seen x) ≡ length seen = rw is refl in omega (arith, later, same)
-      | inr isnt ↦ let one : length (mention seen x) ≡ length seen + 1 = rw isnt (length-append seen (x ∷ [])) in omega (arith, later, one)
-    ]
 
 filtered_few : (t : List ℕ → Bool) (xs : List (List ℕ)) → length (filter t xs) ≤ length xs
 filtered_few t [] = omega arith

@@ -2,8 +2,7 @@
 -- directions, then the author's by first mention.
 use Rattle.std.specs.Prelude.{ℕ, Bool, List, [], ◌∷◌, ◌++◌, length, map, fold, position, Option, Some, None, codes, bytes_eq, if◌then◌else◌}
 use Rattle.std.specs.List.{list_any}
-use Rattle.std.specs.Str.{str_to_ascii_lowercase}
-use Rattle.world_meaning.specs.Spelling.{is_spelled}
+use Rattle.world_meaning.specs.Spelling.{is_spelled, lowered}
 use Rattle.world_meaning.specs.Directions.{all_directions, direction_name}
 use Rattle.i7_sentences.specs.declared.name.Name.{Name}
 use Rattle.i7_sentences.specs.declared.sentence.Assertion.{Assertion}
@@ -15,7 +14,7 @@ use Rattle.i7_kinds.specs.declared.statements.NumberedSentence.{NumberedSentence
 
 -- names are compared in small letters; `player` and `yourself` are one
 abbrev pub key_of : List ℕ → List ℕ
-key_of name = if is_spelled name (codes "player") then codes "yourself" else str_to_ascii_lowercase name
+key_of name = if is_spelled name (codes "player") then codes "yourself" else lowered name
 
 -- a name and the line of its sentence
 pub record NameAt : Type 0 where

@@ -14,6 +14,7 @@ use Rattle.world_meaning.specs.declared.place.Place.{Place}
 use Rattle.world_meaning.specs.declared.place.Rel.TheVariants.{In}
 use Rattle.world_meaning.specs.declared.tale.Object.{Object}
 use Rattle.world_meaning.specs.declared.tale.Tale.{Tale}
+use Rattle.world_meaning.specs.Kinds.{direction_kind, person_kind, room_kind}
 use Rattle.i7_sentences.specs.declared.name.NameArticle.{NameArticle}
 use Rattle.i7_sentences.specs.declared.name.NameArticle.TheVariants as written
 use Rattle.i7_sentences.specs.declared.sentence.Sentence.{Sentence}
@@ -80,15 +81,15 @@ built_in kind name place = record { kind = kind; name = name; article = article.
 
 -- the player stands in the lowest-numbered room
 abbrev pub player : Object
-player = built_in 6 (codes "yourself") (Some (record { relation = In; holder = first_of_author }))
+player = built_in person_kind (codes "yourself") (Some (record { relation = In; holder = first_of_author }))
 
 abbrev pub direction_object : Direction → Object
-direction_object d = built_in 2 (direction_name d) None
+direction_object d = built_in direction_kind (direction_name d) None
 
 -- a room of the author's, by its number and its first mention
 unfoldable pub room_of : List NumberedSentence → ℕ → NameAt → Object
 room_of statements o at = record {
-  kind = 1;
+  kind = room_kind;
   name = at.name.text;
   article = article_of at.name.article at.name.text;
   description = description_of (descriptions_of statements) o;

@@ -1,7 +1,8 @@
 -- The compiler's tables as contracts see them.
-use Rattle.std.specs.Prelude.{Bool, ◌==◌, ◌&&◌, if◌then◌else◌, List, [], ◌∷◌, ℕ, map, nat_eq, option_copied, Option, Some, None}
+use Rattle.std.specs.Prelude.{◌≡◌, Bool, ◌==◌, ◌&&◌, if◌then◌else◌, List, [], ◌∷◌, ℕ, map, nat_eq, option_copied, Option, Some, None}
 use Rattle.std.specs.Borrow.{Bor}
 use Rattle.indexmap.specs.IndexMap.{IndexMap, get}
+use Rattle.i7_kinds.specs.Firsts.{first_of}
 use Rattle.i7_kinds.specs.Statements.{NameAt, Named}
 use Rattle.i7_kinds.specs.declared.names.Names.{Names}
 use Rattle.i7_kinds.specs.declared.descriptions.Description.{Description}
@@ -31,6 +32,10 @@ exit_eq a b = (a.room == b.room) && (a.direction == b.direction)
 -- the target that a map has for an exit
 abbrev pub target_at : {S : Type 0} → IndexMap Exit ℕ S → ℕ → ℕ → Option ℕ
 target_at targets room direction = get exit_eq targets (record { room = room; direction = direction })
+
+-- an exit that has a target keeps it, and the others are given theirs
+abbrev pub LeadsOn : {S : Type 0} → IndexMap Exit ℕ S → IndexMap Exit ℕ S → (ℕ → ℕ → Option ℕ) → Type 0
+LeadsOn old new given = (room direction : ℕ) → target_at new room direction ≡ first_of (target_at old room direction) (given room direction)
 
 -- the target of an exit when one is given to this one
 abbrev pub given_exit : Exit → ℕ → ℕ → ℕ → Option ℕ

@@ -1,14 +1,13 @@
 //! The objects of a source by their names: 0 the player, 1 to 12 the directions, then the author's by
 //! first mention.
 ghost use Rattle.std.specs.Prelude.{◌≡◌, [], IfOk, OnOk};
-ghost use Rattle.std.specs.Str.{str_to_ascii_lowercase};
 ghost use Rattle.i7_kinds.specs.Statements.{built_in_keys, key_of, named_by, number_in, number_of, with_name, with_names_of};
 ghost use Rattle.i7_kinds.specs.Views.{names_of};
 
 use i7_sentences::{Assertion, Name, Sentence};
 use object_words::Strings;
 use std::alloc::{AllocError, Global};
-use world_meaning::{Direction, is_spelled};
+use world_meaning::{Direction, is_spelled, lowered};
 
 /// The first number of an object of the author's.
 pub const FIRST_OF_AUTHOR: usize = 13;
@@ -25,16 +24,6 @@ pub struct Mention<'a> {
 pub struct Names<'a> {
     keys: Strings,
     mentions: Vec<Mention<'a>>,
-}
-
-/// The bytes with small ASCII letters.
-fn lowered(alloc: Global, bytes: &[u8]) -> Result<Vec<u8>, AllocError>
-    ensures { IfOk result (λ small. small.items ≡ str_to_ascii_lowercase bytes.now) }
-{
-    bytes
-        .iter()
-        .map(|byte| byte.to_ascii_lowercase())
-        .collect(alloc)
 }
 
 /// The key of a name: its bytes in small letters; the player's names have one key.

@@ -17,16 +17,6 @@ use world_meaning::{
     Article, Direction, Exits, KindNo, ObjNo, Object, Objects, Place, Rel, TextBytes, Way,
 };
 
-/// The number of the kind room.
-const ROOM: u8 = 1;
-/// The number of the kind direction.
-const DIRECTION: u8 = 2;
-/// The number of the kind person.
-const PERSON: u8 = 6;
-
-/// The player's room: the lowest-numbered one.
-const FIRST_ROOM: u16 = 13;
-
 /// No way.
 const NOWHERE: Way = Way {
     room: None,
@@ -66,14 +56,14 @@ fn article_of(article: NameArticle, name: &[u8]) -> Article
 /// A built-in object.
 fn built_in(
     alloc: Global,
-    kind: u8,
+    kind: KindNo,
     name: &[u8],
     place: Option<Place>,
 ) -> Result<Object, AllocError>
     ensures { IfOk result (λ object. object ≡ built_in kind name.now place) }
 {
     Ok(Object {
-        kind: KindNo::new(kind),
+        kind,
         name: TextBytes::copied(alloc, name)?,
         article: Article::None,
         description: None,
@@ -84,15 +74,15 @@ fn built_in(
     })
 }
 
-/// The player, in the first room.
+/// The player, in the lowest-numbered room.
 fn player(alloc: Global) -> Result<Object, AllocError>
     ensures { IfOk result (λ object. object ≡ player) }
 {
     let place = Place {
         relation: Rel::In,
-        holder: ObjNo::new(FIRST_ROOM),
+        holder: ObjNo::FIRST_OF_AUTHOR,
     };
-    built_in(alloc, PERSON, b"yourself", Some(place))
+    built_in(alloc, KindNo::PERSON, b"yourself", Some(place))
 }
 
 /// Puts the directions behind the objects.
@@ -101,7 +91,12 @@ fn push_directions(alloc: Global, objects: &mut Vec<Object>) -> Result<(), Alloc
 {
     let mut rest: &[Direction] = &Direction::ALL;
     while let [direction, after @ ..] = rest {
-        objects.push(built_in(alloc, DIRECTION, direction.name(), None)?)?;
+        objects.push(built_in(
+            alloc,
+            KindNo::DIRECTION,
+            direction.name(),
+            None,
+        )?)?;
         rest = after;
     }
     Ok(())
@@ -169,7 +164,7 @@ fn room_of(
 {
     let name = mention.name.text.as_slice();
     Ok(Object {
-        kind: KindNo::new(ROOM),
+        kind: KindNo::ROOM,
         name: TextBytes::copied(alloc, name)?,
         article: article_of(mention.name.article, name),
         description: copied(alloc, descriptions.of(number))?,

@@ -1,5 +1,6 @@
 //! The tale of a source's sentences, or the refusal that stands.
 ghost use Rattle.std.specs.Prelude.{◌≡◌, ◌⊎◌, ◌+◌, length, None, Ok, Err, IfErr, IfOk};
+ghost use Rattle.world_meaning.specs.Faults.{out_of_memory};
 ghost use Rattle.i7_kinds.specs.Bounds.{AreWithin};
 ghost use Rattle.i7_kinds.specs.Demands.{descriptions_of};
 ghost use Rattle.i7_kinds.specs.Described.{descriptions_in};
@@ -133,13 +134,10 @@ fn tale_said(alloc: Global, sentences: &[Sentence]) -> Result<Result<Tale, Fault
 /// of names and texts. Memory is C14, at line 1.
 pub fn tale_of(alloc: Global, sentences: &[Sentence]) -> Result<Tale, Fault>
     ensures told { IfOk result (λ tale. tale_said sentences.now ≡ Ok tale) }
-    ensures refused { IfErr result (λ fault. (tale_said sentences.now ≡ Err fault) ⊎ (fault ≡ record { code = FaultCode.Memory; line = 1 })) }
+    ensures refused { IfErr result (λ fault. (tale_said sentences.now ≡ Err fault) ⊎ (fault ≡ out_of_memory)) }
 {
     match tale_said(alloc, sentences) {
         Ok(said) => said,
-        Err(_) => Err(Fault {
-            code: FaultCode::Memory,
-            line: 1,
-        }),
+        Err(_) => Err(Fault::OUT_OF_MEMORY),
     }
 }

@@ -1,8 +1,7 @@
 //! Ways: those that sentences state, and the ways back that they imply.
 ghost use Rattle.std.specs.Prelude.{◌≡◌, ℕ, IfOk, OnOk};
 ghost use Rattle.i7_kinds.specs.Demands.{first_target, implied_in, implied_leads, is_elsewhere, lead_of, second_target, stated_in, stated_leads, target_of};
-ghost use Rattle.i7_kinds.specs.Firsts.{first_of};
-ghost use Rattle.i7_kinds.specs.Views.{given_exit, target_at};
+ghost use Rattle.i7_kinds.specs.Views.{LeadsOn, given_exit, target_at};
 
 use crate::statements::{Numbered, NumberedSentence, NumberedWay};
 use indexmap::IndexMap;
@@ -32,7 +31,7 @@ pub struct Ways<'a, 'b> {
 
 /// Gives an exit its target, unless it has one.
 fn lead(targets: &mut Targets, exit: Exit, target: usize) -> Result<(), AllocError>
-    ensures { OnOk result ((room direction : ℕ) → target_at targets.new room direction ≡ first_of (target_at targets.old room direction) (given_exit exit target room direction)) }
+    ensures { OnOk result (LeadsOn targets.old targets.new (given_exit exit target)) }
 {
     if targets.get(&exit).is_none() {
         targets.insert(exit, target)?;
@@ -42,7 +41,7 @@ fn lead(targets: &mut Targets, exit: Exit, target: usize) -> Result<(), AllocErr
 
 /// Leads where a statement says.
 fn lead_stated(targets: &mut Targets, statement: &NumberedSentence<'_>) -> Result<(), AllocError>
-    ensures { OnOk result ((room direction : ℕ) → target_at targets.new room direction ≡ first_of (target_at targets.old room direction) (first_target (stated_in statement.now.said statement.now.line) room direction)) }
+    ensures { OnOk result (LeadsOn targets.old targets.new (first_target (stated_in statement.now.said statement.now.line))) }
 {
     match &statement.said {
         Numbered::Description(_) | Numbered::Room(_) => Ok(()),
@@ -58,7 +57,7 @@ fn lead_stated(targets: &mut Targets, statement: &NumberedSentence<'_>) -> Resul
 
 /// Leads the way back of the one that a statement says.
 fn lead_back(targets: &mut Targets, statement: &NumberedSentence<'_>) -> Result<(), AllocError>
-    ensures { OnOk result ((room direction : ℕ) → target_at targets.new room direction ≡ first_of (target_at targets.old room direction) (first_target (implied_in statement.now.said statement.now.line) room direction)) }
+    ensures { OnOk result (LeadsOn targets.old targets.new (first_target (implied_in statement.now.said statement.now.line))) }
 {
     match &statement.said {
         Numbered::Description(_) | Numbered::Room(_) => Ok(()),
@@ -90,7 +89,7 @@ fn lead_all_back(
     targets: &mut Targets,
     statements: &[NumberedSentence<'_>],
 ) -> Result<(), AllocError>
-    ensures { OnOk result ((room direction : ℕ) → target_at targets.new room direction ≡ first_of (target_at targets.old room direction) (first_target (implied_leads statements.now) room direction)) }
+    ensures { OnOk result (LeadsOn targets.old targets.new (first_target (implied_leads statements.now))) }
 {
     let mut rest = statements;
     while let [statement, after @ ..] = rest {

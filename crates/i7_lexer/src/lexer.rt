@@ -9,7 +9,7 @@ use crate::Lexed;
 use crate::cursor::newlines;
 use crate::indents::deep_line;
 use crate::joins::tokens_of;
-use crate::placed::{Placed, out_of_memory, place};
+use crate::placed::{Placed, place};
 use crate::source::{LONGEST, bad_place, text_of};
 use std::alloc::Global;
 use world_meaning::{Fault, FaultCode};
@@ -29,14 +29,14 @@ pub fn lex(alloc: Global, source: &[u8]) -> Result<Lexed, Fault>
 {
     refuse_long(source)?;
     let Ok(text) = text_of(alloc, source) else {
-        return Err(out_of_memory());
+        return Err(Fault::OUT_OF_MEMORY);
     };
     refuse_controls(text.as_slice())?;
     let placed = place(alloc, text.as_slice())?;
     refuse_depth(placed.as_slice())?;
     match tokens_of(alloc, placed.as_slice()) {
         Ok(tokens) => Ok(Lexed::new(tokens)),
-        Err(_) => Err(out_of_memory()),
+        Err(_) => Err(Fault::OUT_OF_MEMORY),
     }
 }
 

@@ -33,21 +33,11 @@ pub(crate) fn place(alloc: Global, text: &[u8]) -> Result<Vec<Placed<'_>>, Fault
         let behind = at.after(&lexeme);
         if let Lexeme::Kept(piece) = lexeme {
             if placed.push(Placed { piece, at }).is_err() {
-                return Err(out_of_memory());
+                return Err(Fault::OUT_OF_MEMORY);
             }
         }
         at = behind;
         rest = after;
     }
     Ok(placed)
-}
-
-/// The fault where memory was refused.
-pub(crate) fn out_of_memory() -> Fault
-    ensures { result ≡ record { code = FaultCode.Memory; line = 1 } }
-{
-    Fault {
-        code: FaultCode::Memory,
-        line: 1,
-    }
 }

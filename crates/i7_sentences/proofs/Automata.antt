@@ -14,7 +14,8 @@ use Rattle.i7_sentences.specs.declared.class.Class.TheVariants as class
 use Rattle.i7_sentences.specs.declared.class.State.{State}
 use Rattle.i7_sentences.specs.declared.class.State.TheVariants.{Start, Inside, Between, Beside}
 use Rattle.i7_sentences.proofs.Lists.{false-true, nil-cons}
-use Rattle.i7_sentences.proofs.Ends.{both, and_left, and_right}
+use Rattle.world_meaning.proofs.Bools.{both}
+use Rattle.i7_sentences.proofs.Ends.{and_left, and_right}
 
 -- a class whose letters are one or more such tokens
 abbrev RunsOn : Class → (Token → Bool) → Type 0

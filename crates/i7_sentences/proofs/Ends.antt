@@ -2,6 +2,7 @@
 use Rattle.std.proofs.Common.{◌≡◌, ℕ, ◌≤◌, Bool, true, false, List, [], ◌∷◌, ◌++◌, length, refl, ap, sym, ◌∙◌, arith}
 use Rattle.std.specs.Prelude.{◌&&◌, Option, Some, None, if◌then◌else◌}
 use Rattle.i7_lexer.specs.declared.token.Token.{Token}
+use Rattle.world_meaning.proofs.Bools.{both}
 use Rattle.i7_sentences.specs.Automata.{accepts, step, runs, then_runs}
 use Rattle.i7_sentences.specs.Matching.{nearest, then_left}
 use Rattle.i7_sentences.specs.declared.class.Class.{Class}
@@ -25,10 +26,6 @@ HasNoEnd class state can tokens = (others behind : List Token) → tokens ≡ ot
 abbrev pub Ended : Class → State → (List Token → Bool) → List Token → Option ℕ → Type 0
 Ended class state can tokens None = HasNoEnd class state can tokens
 Ended class state can tokens (Some left) = Ends class state can tokens left
-
-pub both : (a b : Bool) → a ≡ true → b ≡ true → (a && b) ≡ true
-both true b one other = other
-both false b one other = absurd (false-true one)
 
 pub and_left : (a b : Bool) → (a && b) ≡ true → a ≡ true
 and_left true b one = refl

@@ -1,6 +1,7 @@
 //! Reading a source: cut it into sentences, understand each, test the names.
 ghost use Rattle.std.specs.Prelude.{◌≡◌, ◌≢◌, true, Some, Ok, Err, Result, List, find, map, option_map, IfErr, IfOk, MatchOption, MatchResult};
 ghost use Rattle.std.specs.List.{filter_map, list_any};
+ghost use Rattle.world_meaning.specs.Faults.{out_of_memory};
 ghost use Rattle.i7_sentences.specs.Forms.{all_forms};
 ghost use Rattle.i7_sentences.specs.Literals.{is_out_of_range};
 ghost use Rattle.i7_sentences.specs.Found.{found_in};
@@ -51,12 +52,9 @@ fn line_of(part: &Part<'_>) -> u32
 
 /// Memory was refused.
 fn memory(_: AllocError) -> Fault
-    ensures { result ≡ record { code = FaultCode.Memory; line = 1 } }
+    ensures { result ≡ out_of_memory }
 {
-    Fault {
-        code: FaultCode::Memory,
-        line: 1,
-    }
+    Fault::OUT_OF_MEMORY
 }
 
 /// Whether a part is a sentence, neither a title nor a heading.
