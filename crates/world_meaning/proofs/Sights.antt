@@ -1,6 +1,6 @@
 -- What is seen in the hall of the examples.
-use Rattle.std.proofs.Common.{◌≡◌, ℕ, Bool, true, false, ◌&&◌, List, [], ◌∷◌, refl, sym, ap, ◌∙◌, subst, inl, inr, arith}
-use Rattle.std.specs.Prelude.{Option, Some, eqb, IsTrue}
+use Rattle.std.proofs.Common.{◌≡◌, ℕ, Bool, true, false, ◌&&◌, List, [], ◌∷◌, refl, subst, inl, inr, arith}
+use Rattle.std.specs.Prelude.{Some, eqb, IsTrue}
 use Rattle.std.specs.List.{list_any}
 use Rattle.std.proofs.lemmas.Bool.{false≢true, true≢false}
 use Rattle.std.proofs.lemmas.Bool.Decides.{eqb_tells}
@@ -8,20 +8,11 @@ use Rattle.std.proofs.lemmas.Option.{none-some, same_Some}
 use Rattle.world_meaning.specs.Chains.{IsChain, StandsIn}
 use Rattle.world_meaning.specs.Sight.{Sights, IsInView, HasLight, IsVisible, IsTouchable, blocks_touch, thing, room, direction}
 use Rattle.world_meaning.specs.SightExamples.{hall}
+use Rattle.world_meaning.proofs.Chains.{one_chain}
 use Rattle.world_meaning.specs.declared.place.Place.{Place}
 use Rattle.world_meaning.specs.declared.place.Rel.TheVariants.{In, Carried, Part}
 
--- a thing has one chain
-pub one_chain : (place : ℕ → Option Place) (o : ℕ) (steps others : List Place) → IsChain place o steps → IsChain place o others → steps ≡ others
-one_chain place o [] [] p q = refl
-one_chain place o [] (k ∷ others) p q = absurd (none-some k (sym p ∙ q.0))
-one_chain place o (s ∷ steps) [] p q = absurd (none-some s (sym q ∙ p.0))
-one_chain place o (s ∷ steps) (k ∷ others) p q =
-    let same : s ≡ k = same_Some s k (sym p.0 ∙ q.0) in
-    let rest : IsChain place s.holder others = subst (λ (y : Place). IsChain place y.holder others) (sym same) q.1 in
-    ap (λ ys. s ∷ ys) (one_chain place s.holder steps others p.1 rest) ∙ ap (λ y. y ∷ others) same
-
--- so what is seen is seen along it
+-- what is seen is seen along its chain
 along : (w : Sights) (o : ℕ) (steps others : List Place) → IsChain w.place o steps → IsInView w o others → IsInView w o steps
 along w o steps others p view = subst (λ (ks : List Place). IsInView w o ks) (one_chain w.place o others steps view.chain p) view
 
