@@ -80,6 +80,17 @@ fn children_come_by_rising_number(rt: HostRuntime) -> Result<(), Fail> {
 }
 
 #[test]
+fn chains_lead_up_to_what_nothing_holds(rt: HostRuntime) -> Result<(), Fail> {
+    let tree = furnished(rt.alloc())?;
+    let mut chain = tree.chain(chest());
+    assert_eq!(rt; chain.next(), held(Rel::On, bag()));
+    assert_eq!(rt; chain.next(), held(Rel::In, room()));
+    assert_eq!(rt; chain.next(), None);
+    assert_eq!(rt; tree.chain(nowhere()).next(), None);
+    Ok(())
+}
+
+#[test]
 fn holders_enclose_at_any_depth(rt: HostRuntime) -> Result<(), Fail> {
     let tree = furnished(rt.alloc())?;
     assert!(rt; tree.encloses(room(), chest()));
