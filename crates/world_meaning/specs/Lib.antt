@@ -1,4 +1,5 @@
 pub mod Acting
+pub mod Chains
 pub mod Consulting
 pub mod Directions
 pub mod Facts
@@ -9,6 +10,8 @@ pub mod Progress
 pub mod Reading
 pub mod Rulebooks
 pub mod Session
+pub mod Sight
+pub mod SightExamples
 pub mod Spelling
 pub mod StandardGame
 pub mod StandardRules

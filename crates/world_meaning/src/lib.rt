@@ -11,6 +11,7 @@ mod numbers;
 mod place;
 mod reading;
 mod session;
+mod sight_laws;
 mod spelling;
 mod tale;
 mod text;
@@ -24,6 +25,9 @@ pub use numbers::{KindNo, ObjNo};
 pub use place::{Place, Rel};
 pub use reading::{Action, Reading};
 pub use session::{Abandon, Ending, ReplyKind};
+pub use sight_laws::{
+    boxes_hide_and_keep, light_comes_from_inside, places_are_seen, the_dark_hides,
+};
 pub use spelling::{is_spelled, lowered};
 pub use tale::{Object, Objects, Tale};
 pub use text::TextBytes;
