@@ -1,3 +1,4 @@
 pub mod Agreement
 pub mod Chains
 pub mod Sights
+pub mod Placings

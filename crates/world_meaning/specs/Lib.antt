@@ -4,6 +4,7 @@ pub mod Consulting
 pub mod Directions
 pub mod Facts
 pub mod Games
+pub mod Placing
 pub mod Progress
 pub mod Reading
 pub mod Rulebooks
