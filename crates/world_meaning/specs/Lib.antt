@@ -6,6 +6,7 @@ pub mod Facts
 pub mod Faults
 pub mod Games
 pub mod Kinds
+pub mod Placing
 pub mod Progress
 pub mod Reading
 pub mod Rulebooks

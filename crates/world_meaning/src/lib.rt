@@ -9,6 +9,7 @@ mod fault;
 mod laws;
 mod numbers;
 mod place;
+mod placing_laws;
 mod reading;
 mod session;
 mod sight_laws;
@@ -23,6 +24,7 @@ pub use fault::{Fault, FaultCode};
 pub use laws::agreeing_facts_have_one_game;
 pub use numbers::{KindNo, ObjNo};
 pub use place::{Place, Rel};
+pub use placing_laws::placing_keeps_its_rules;
 pub use reading::{Action, Reading};
 pub use session::{Abandon, Ending, ReplyKind};
 pub use sight_laws::{
