@@ -73,6 +73,13 @@ const REFUSED: &[(&str, FaultCode, u32)] = &[
     ),
     ("", FaultCode::NoRoom, 1),
     ("2147483648 is a room.", FaultCode::NumberOutOfRange, 1),
+    ("\"T\" by 2147483648", FaultCode::NotUnderstood, 1),
+    ("\"T\" by Bob, 2147483648", FaultCode::NumberOutOfRange, 1),
+    (
+        "\"T\" by \"Bob\", 2147483648",
+        FaultCode::NumberOutOfRange,
+        1,
+    ),
 ];
 
 /// Sources that are taken.
