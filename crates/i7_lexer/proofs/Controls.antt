@@ -1,12 +1,9 @@
 -- The bytes of a control character.
-use Rattle.std.proofs.Common.{◌≡◌, ◌≢◌, ℕ, ◌+◌, ◌/◌, ◌%◌, ◌<◌, ◌≤◌, Bool, true, false, not, ◌&&◌, ◌||◌, eqb, ltb, leb, List, [], ◌∷◌, ◌++◌, length, take, drop, refl, sym, ap, ◌∙◌, arith, ◌⊎◌, inl, inr}
+use Rattle.std.proofs.Common.{◌≡◌, ◌≢◌, ℕ, ◌+◌, ◌/◌, ◌%◌, ◌<◌, ◌≤◌, Bool, true, false, not, ◌&&◌, ◌||◌, eqb, ltb, leb, List, [], ◌∷◌, ◌++◌, refl, sym, ap, ◌∙◌, arith, ◌⊎◌, inl, inr}
 use Rattle.std.proofs.lemmas.Bool.{eqb-true, eq-eqb, false_from_ne_true, ltb-true, lt-ltb, leb-true, le-leb, cases_lt}
-use Rattle.std.proofs.lemmas.List.{length-take-le}
 use Rattle.std.proofs.lemmas.Str.{encode_ascii}
 use Rattle.std.specs.Char.{encode_utf8}
-use Rattle.std.specs.List.{prefix_len}
-use Rattle.i7_lexer.specs.Sources.{is_control, is_late_control, is_suspect, is_unsuspected, plain_len, starts_with_control, IsForbidden, BeginsWithControl}
-use Rattle.i7_lexer.proofs.Runs.{prefix_len-yes, prefix_len-no}
+use Rattle.i7_lexer.specs.Sources.{is_control, is_late_control, starts_with_control, IsForbidden, BeginsWithControl}
 
 false-eqb' : (a b : ℕ) → a ≢ b → eqb a b ≡ false
 false-eqb' a b other = false_from_ne_true (eqb a b) (λ e. other (eqb-true a b e))
@@ -99,28 +96,3 @@ starts_by c bytes rest forbidden spells (inr past) =
 
 pub starts_from : (bytes : List ℕ) → BeginsWithControl bytes → starts_with_control bytes ≡ true
 starts_from bytes begins = starts_by begins.control bytes begins.rest begins.forbidden begins.spells (cases_lt begins.control 128)
-
-or_none : (a b : Bool) → (a || b) ≡ false → (a ≡ false) × (b ≡ false)
-or_none true b h = absurd cc
-or_none false b h = (refl, h)
-
-unsuspected : (b : ℕ) (bytes : List ℕ) → is_suspect b ≡ false → starts_with_control (b ∷ bytes) ≡ false
-unfolding is_late_control
-unsuspected b [] h = (or_none (is_control b) (eqb b 194) h).0
-unsuspected b (c ∷ bytes) h = let both = or_none (is_control b) (eqb b 194) h in rw (both.0, both.1) refl
-
-front_by : (b : ℕ) (bytes : List ℕ) (v : Bool) → is_suspect b ≡ v → plain_len bytes ≡ prefix_len is_unsuspected bytes + plain_len (drop (prefix_len is_unsuspected bytes) bytes) → plain_len (b ∷ bytes) ≡ prefix_len is_unsuspected (b ∷ bytes) + plain_len (drop (prefix_len is_unsuspected (b ∷ bytes)) (b ∷ bytes))
-front_by b bytes true e ih = rw (prefix_len-no is_unsuspected b bytes (ap not e)) (omega arith)
-front_by b bytes false e ih = rw (prefix_len-yes is_unsuspected b bytes (ap not e), unsuspected b bytes e) (omega (arith, ih))
-
-plain_front : (bytes : List ℕ) → plain_len bytes ≡ prefix_len is_unsuspected bytes + plain_len (drop (prefix_len is_unsuspected bytes) bytes)
-plain_front [] = refl
-plain_front (b ∷ bytes) = front_by b bytes (is_suspect b) refl (plain_front bytes)
-
--- one step of a count that passes over what can't begin a control character
-pub plain_step : (all count : ℕ) (rest back front : List ℕ) (n : ℕ) → count + plain_len rest ≡ all → n ≡ prefix_len is_unsuspected rest → n ≤ length rest → front ≡ take n rest → back ≡ drop n rest → (count + length front) + plain_len back ≡ all
-plain_step all count rest back front n h is_n within is_front is_back =
-    let len : length front ≡ n = ap length is_front ∙ length-take-le n rest within in
-    let step = plain_front rest in
-    let whole : plain_len rest ≡ n + plain_len back = rw (is_back, is_n) step in
-    omega (arith, h, len, whole)

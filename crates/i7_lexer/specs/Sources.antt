@@ -64,13 +64,6 @@ pub record IsFirstBad (bytes : List ℕ) (place : ℕ) : Type 0 where
 abbrev pub IsText : List ℕ → Type 0
 IsText bytes = (k : ℕ) → k < length bytes → IsBad bytes k → ⊥
 
--- a byte that may begin a control character that no source may hold
-abbrev pub is_suspect : ℕ → Bool
-is_suspect b = is_control b || b == 194
-
-abbrev pub is_unsuspected : ℕ → Bool
-is_unsuspected b = not (is_suspect b)
-
 -- how many bytes stand before the first control character
 abbrev pub plain_len : List ℕ → ℕ
 plain_len [] = 0

@@ -2,7 +2,7 @@
 ghost use Rattle.std.specs.Prelude.{◌≡◌, ◌≤◌, length, IfOk, MatchOption};
 ghost use Rattle.std.specs.List.{prefix_len};
 ghost use Rattle.std.specs.Str.Lossy.{utf8_valid_len};
-ghost use Rattle.i7_lexer.specs.Sources.{text_of, without_mark, without_returns, is_unreturned, starts_with_feed, starts_with_control, is_control, is_late_control, is_suspect, is_unsuspected, plain_len, IsBad, IsFirstBad, IsText};
+ghost use Rattle.i7_lexer.specs.Sources.{text_of, without_mark, without_returns, is_unreturned, starts_with_feed, starts_with_control, is_control, is_late_control, plain_len, IsBad, IsFirstBad, IsText};
 
 use std::alloc::{AllocError, Global};
 use std::str;
@@ -95,35 +95,14 @@ fn plain_len(bytes: &[u8]) -> usize
 {
     let mut count = 0;
     let mut rest = bytes;
-    while let [first, after @ ..] = rest {
-        if is_suspect(*first) {
-            if starts_with_control(rest) {
-                return count;
-            }
-            count += 1;
-            rest = after;
-        } else {
-            let (front, behind) = rest.split_at(unsuspected_len(rest));
-            count += front.len();
-            rest = behind;
+    while let [_, after @ ..] = rest {
+        if starts_with_control(rest) {
+            return count;
         }
+        count += 1;
+        rest = after;
     }
     count
-}
-
-/// How many bytes stand before the first that may begin a control character.
-fn unsuspected_len(bytes: &[u8]) -> usize
-    ensures value { result ≡ prefix_len is_unsuspected bytes.now }
-    ensures bound { result ≤ length bytes.now }
-{
-    bytes.iter().take_while(|byte| !is_suspect(**byte)).count()
-}
-
-/// Whether the byte may begin a control character that no source may hold.
-fn is_suspect(byte: u8) -> bool
-    ensures { result ≡ is_suspect byte }
-{
-    is_control(byte) || byte == 0xC2
 }
 
 fn starts_with_control(bytes: &[u8]) -> bool
