@@ -4,7 +4,7 @@ use Rattle.std.proofs.lemmas.Bool.{eqb-true, false_from_ne_true, lt-ltb}
 use Rattle.std.specs.Prelude.{nat_lt, slice_index}
 use Rattle.std.specs.List.{prefix_len}
 use Rattle.i7_lexer.specs.Bytes.{is_letter}
-use Rattle.i7_kinds.specs.Quotes.{begins_in_word, ends_in_word, is_unquoted, printed, printed_behind}
+use Rattle.i7_kinds.specs.Quotes.{ends_in_word, is_unquoted, printed_behind}
 
 prefix-yes : (b : ℕ) (bytes : List ℕ) → is_unquoted b ≡ true → prefix_len is_unquoted (b ∷ bytes) ≡ suc (prefix_len is_unquoted bytes)
 prefix-yes b bytes h = let same : 1 + prefix_len is_unquoted bytes ≡ suc (prefix_len is_unquoted bytes) = omega arith in rw h same
