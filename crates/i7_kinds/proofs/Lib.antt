@@ -3,3 +3,4 @@ pub mod Exits
 pub mod Firsts
 pub mod Rooms
 pub mod FewWords
+mod Quoting

@@ -2,6 +2,7 @@ pub mod Bounds
 pub mod Demands
 pub mod Described
 pub mod Firsts
+pub mod Quotes
 pub mod StatedWays
 pub mod Statements
 pub mod Tales

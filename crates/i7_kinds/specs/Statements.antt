@@ -8,6 +8,7 @@ use Rattle.i7_sentences.specs.declared.name.Name.{Name}
 use Rattle.i7_sentences.specs.declared.sentence.Assertion.{Assertion}
 use Rattle.i7_sentences.specs.declared.sentence.Assertion.TheVariants.{Description, Room, Way}
 use Rattle.i7_sentences.specs.declared.sentence.Sentence.{Sentence}
+use Rattle.i7_kinds.specs.Quotes.{printed}
 use Rattle.i7_kinds.specs.declared.statements.Numbered.{Numbered}
 use Rattle.i7_kinds.specs.declared.statements.Numbered.TheVariants as numbered
 use Rattle.i7_kinds.specs.declared.statements.NumberedSentence.{NumberedSentence}
@@ -65,9 +66,9 @@ named_by sentences = fold with_names_of (record { keys = built_in_keys; mentions
 abbrev pub number_of : Named → Name → ℕ
 number_of named name = number_in named.keys (key_of name.text)
 
--- what a sentence asserts, objects by their numbers
+-- what a sentence asserts, objects by their numbers and texts as they are printed
 abbrev pub numbered_in : Named → Assertion → Numbered
-numbered_in named (Description text) = numbered.Description text
+numbered_in named (Description text) = numbered.Description (printed text)
 numbered_in named (Room name) = numbered.Room (number_of named name)
 numbered_in named (Way way) = numbered.Way (record { subject = number_of named way.subject; direction = way.direction; room = number_of named way.room })
 

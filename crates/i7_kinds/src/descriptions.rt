@@ -19,7 +19,7 @@ pub struct Description<'a> {
 }
 
 /// The number of the object that a sentence is about, if there is one.
-pub fn subject_of(fact: &Numbered<'_>) -> Option<usize>
+pub fn subject_of(fact: &Numbered) -> Option<usize>
     ensures { result ≡ subject_of fact.now }
 {
     match fact {
@@ -32,7 +32,7 @@ pub fn subject_of(fact: &Numbered<'_>) -> Option<usize>
 /// What a statement behind one about this object, or about none, describes.
 fn described_by<'a>(
     before: Option<usize>,
-    statement: &NumberedSentence<'a>,
+    statement: &'a NumberedSentence,
 ) -> Option<Description<'a>>
     ensures { found_descriptions result ≡ described_by before statement.now }
 {
@@ -53,7 +53,7 @@ fn described_by<'a>(
 /// The descriptions that follow a statement about an object of the author's, in order.
 pub fn descriptions_of<'a>(
     alloc: Global,
-    statements: &[NumberedSentence<'a>],
+    statements: &'a [NumberedSentence],
 ) -> Result<Vec<Description<'a>>, AllocError>
     ensures { IfOk result (λ found. found.items ≡ descriptions_of statements.now) }
 {
@@ -113,7 +113,7 @@ impl<'a> Descriptions<'a> {
     /// The descriptions that the statements give.
     pub fn new(
         alloc: Global,
-        statements: &[NumberedSentence<'a>],
+        statements: &'a [NumberedSentence],
     ) -> Result<Descriptions<'a>, AllocError>
         ensures { IfOk result (λ found. descriptions_in found ≡ descriptions_of statements.now) }
     {

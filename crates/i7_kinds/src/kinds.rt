@@ -8,7 +8,7 @@ use crate::statements::{Numbered, NumberedSentence};
 
 /// Whether a fact, behind a sentence about this object or none, makes a room of the player or of a
 /// direction, or describes nothing.
-fn is_wrong(before: Option<usize>, fact: &Numbered<'_>) -> bool
+fn is_wrong(before: Option<usize>, fact: &Numbered) -> bool
     ensures { result ≡ is_wrong before fact.now }
 {
     match fact {
@@ -19,7 +19,7 @@ fn is_wrong(before: Option<usize>, fact: &Numbered<'_>) -> bool
 }
 
 /// The line of the first sentence that makes a room of what is none, or that describes nothing.
-pub fn wrong_kind(statements: &[NumberedSentence<'_>]) -> Option<u32>
+pub fn wrong_kind(statements: &[NumberedSentence]) -> Option<u32>
     ensures { result ≡ wrong_kind statements.now }
 {
     let mut subject = None;

@@ -8,6 +8,7 @@ mod lent_text;
 mod limits;
 mod names;
 mod objects;
+mod quotes;
 mod reserved_names;
 mod statements;
 mod tale;

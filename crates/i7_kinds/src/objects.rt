@@ -103,7 +103,7 @@ fn push_directions(alloc: Global, objects: &mut Vec<Object>) -> Result<(), Alloc
 }
 
 /// The way out of a room in a direction.
-fn way_of(ways: &Ways<'_, '_>, room: usize, direction: Direction) -> Way
+fn way_of(ways: &Ways<'_>, room: usize, direction: Direction) -> Way
     requires { LeadWithin (stated ways.now) }
     ensures { result ≡ way_to (target_of (stated ways.now) room (direction_number direction)) }
 {
@@ -118,7 +118,7 @@ fn way_of(ways: &Ways<'_, '_>, room: usize, direction: Direction) -> Way
 
 /// The ways out of a room.
 #[tactic(auto, unfolding(crate::specs::Tales::exits_of))]
-fn exits_of(ways: &Ways<'_, '_>, room: usize) -> Exits
+fn exits_of(ways: &Ways<'_>, room: usize) -> Exits
     requires { LeadWithin (stated ways.now) }
     ensures { result ≡ exits_of (stated ways.now) room }
 {
@@ -154,7 +154,7 @@ fn copied(alloc: Global, text: Option<&[u8]>) -> Result<Option<TextBytes>, Alloc
 fn room_of(
     alloc: Global,
     descriptions: &Descriptions<'_>,
-    ways: &Ways<'_, '_>,
+    ways: &Ways<'_>,
     number: usize,
     mention: &Mention<'_>,
 ) -> Result<Object, AllocError>
@@ -178,7 +178,7 @@ fn push_room(
     alloc: Global,
     objects: &mut Vec<Object>,
     descriptions: &Descriptions<'_>,
-    ways: &Ways<'_, '_>,
+    ways: &Ways<'_>,
     number: usize,
     mention: &Mention<'_>,
 ) -> Result<(), AllocError>
@@ -197,7 +197,7 @@ fn push_rooms(
     objects: &mut Vec<Object>,
     mentions: &[Mention<'_>],
     descriptions: &Descriptions<'_>,
-    ways: &Ways<'_, '_>,
+    ways: &Ways<'_>,
 ) -> Result<(), AllocError>
     requires within { LeadWithin (stated ways.now) }
     requires described { descriptions_in descriptions.now ≡ descriptions_of (stated ways.now) }
@@ -219,7 +219,7 @@ pub fn objects_of(
     alloc: Global,
     mentions: &[Mention<'_>],
     descriptions: &Descriptions<'_>,
-    ways: &Ways<'_, '_>,
+    ways: &Ways<'_>,
 ) -> Result<Objects, AllocError>
     requires within { LeadWithin (stated ways.now) }
     requires described { descriptions_in descriptions.now ≡ descriptions_of (stated ways.now) }

@@ -3,16 +3,17 @@ ghost use Rattle.std.specs.Prelude.{◌≡◌, IfOk, map};
 ghost use Rattle.i7_kinds.specs.Statements.{numbered_in, statement_in};
 ghost use Rattle.i7_kinds.specs.Views.{names_of};
 
-use crate::lent_text::LentText;
 use crate::names::Names;
+use crate::quotes::printed;
 use i7_sentences::{Assertion, Sentence};
 use std::alloc::{AllocError, Global};
-use world_meaning::Direction;
+use world_meaning::{Direction, TextBytes};
 
 /// An assertion, objects by their numbers.
 #[derive(Debug, Drop)]
-pub enum Numbered<'a> {
-    Description(LentText<'a>),
+pub enum Numbered {
+    /// A text as it is printed.
+    Description(TextBytes),
     Room(usize),
     Way(NumberedWay),
 }
@@ -27,20 +28,16 @@ pub struct NumberedWay {
 
 /// What a sentence asserts, objects by their numbers, and its line.
 #[derive(Debug, Drop)]
-pub struct NumberedSentence<'a> {
-    pub said: Numbered<'a>,
+pub struct NumberedSentence {
+    pub said: Numbered,
     pub line: u32,
 }
 
-fn numbered_in<'a>(
-    alloc: Global,
-    names: &Names<'_>,
-    said: &'a Assertion,
-) -> Result<Numbered<'a>, AllocError>
+fn numbered_in(alloc: Global, names: &Names<'_>, said: &Assertion) -> Result<Numbered, AllocError>
     ensures { IfOk result (λ numbered. numbered ≡ numbered_in (names_of names.now) said.now) }
 {
     match said {
-        Assertion::Description(text) => Ok(Numbered::Description(LentText::new(text.as_slice()))),
+        Assertion::Description(text) => Ok(Numbered::Description(printed(alloc, text.as_slice())?)),
         Assertion::Room(name) => Ok(Numbered::Room(names.number_of(alloc, name)?)),
         Assertion::Way(way) => Ok(Numbered::Way(NumberedWay {
             subject: names.number_of(alloc, &way.subject)?,
@@ -50,11 +47,11 @@ fn numbered_in<'a>(
     }
 }
 
-fn statement_in<'a>(
+fn statement_in(
     alloc: Global,
     names: &Names<'_>,
-    sentence: &'a Sentence,
-) -> Result<NumberedSentence<'a>, AllocError>
+    sentence: &Sentence,
+) -> Result<NumberedSentence, AllocError>
     ensures { IfOk result (λ statement. statement ≡ statement_in (names_of names.now) sentence.now) }
 {
     Ok(NumberedSentence {
@@ -64,11 +61,11 @@ fn statement_in<'a>(
 }
 
 /// What each sentence states.
-pub fn statements_in<'a>(
+pub fn statements_in(
     alloc: Global,
     names: &Names<'_>,
-    sentences: &'a [Sentence],
-) -> Result<Vec<NumberedSentence<'a>>, AllocError>
+    sentences: &[Sentence],
+) -> Result<Vec<NumberedSentence>, AllocError>
     ensures { IfOk result (λ statements. statements.items ≡ map (statement_in (names_of names.now)) sentences.now) }
 {
     let mut statements = Vec::new(alloc);

@@ -58,9 +58,9 @@ fn no_room(mentions: &[Mention<'_>]) -> Option<u32>
 #[tactic(auto, unfolding(crate::specs::Tales::frame_refusal))]
 fn frame_refusal(
     mentions: &[Mention<'_>],
-    statements: &[NumberedSentence<'_>],
+    statements: &[NumberedSentence],
     descriptions: &Descriptions<'_>,
-    ways: &Ways<'_, '_>,
+    ways: &Ways<'_>,
 ) -> Option<Fault>
     requires described { descriptions_in descriptions.now ≡ descriptions_of statements.now }
     requires led { stated ways.now ≡ statements.now }
@@ -87,7 +87,7 @@ fn frame_refusal(
 fn limit_refusal(
     alloc: Global,
     mentions: &[Mention<'_>],
-    statements: &[NumberedSentence<'_>],
+    statements: &[NumberedSentence],
     descriptions: &Descriptions<'_>,
 ) -> Result<Option<Fault>, AllocError>
     requires described { descriptions_in descriptions.now ≡ descriptions_of statements.now }
@@ -102,7 +102,7 @@ fn limit_refusal(
 fn judged(
     alloc: Global,
     mentions: &[Mention<'_>],
-    statements: &[NumberedSentence<'_>],
+    statements: &[NumberedSentence],
 ) -> Result<Result<Tale, Fault>, AllocError>
     requires { AreWithin (13 + length (mentions_of mentions.now)) statements.now }
     ensures { IfOk result (λ said. said ≡ judged statements.now (mentions_of mentions.now)) }

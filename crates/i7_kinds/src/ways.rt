@@ -20,8 +20,8 @@ type Targets = IndexMap<Exit, usize>;
 
 /// The ways of a source's statements.
 #[derive(Drop)]
-pub struct Ways<'a, 'b> {
-    statements: &'a [NumberedSentence<'b>],
+pub struct Ways<'a> {
+    statements: &'a [NumberedSentence],
     targets: Targets,
     /// The line of the first statement that leads an exit to a second target.
     second: Option<u32>,
@@ -40,7 +40,7 @@ fn lead(targets: &mut Targets, exit: Exit, target: usize) -> Result<(), AllocErr
 }
 
 /// Leads where a statement says.
-fn lead_stated(targets: &mut Targets, statement: &NumberedSentence<'_>) -> Result<(), AllocError>
+fn lead_stated(targets: &mut Targets, statement: &NumberedSentence) -> Result<(), AllocError>
     ensures { OnOk result (LeadsOn targets.old targets.new (first_target (stated_in statement.now.said statement.now.line))) }
 {
     match &statement.said {
@@ -56,7 +56,7 @@ fn lead_stated(targets: &mut Targets, statement: &NumberedSentence<'_>) -> Resul
 }
 
 /// Leads the way back of the one that a statement says.
-fn lead_back(targets: &mut Targets, statement: &NumberedSentence<'_>) -> Result<(), AllocError>
+fn lead_back(targets: &mut Targets, statement: &NumberedSentence) -> Result<(), AllocError>
     ensures { OnOk result (LeadsOn targets.old targets.new (first_target (implied_in statement.now.said statement.now.line))) }
 {
     match &statement.said {
@@ -72,7 +72,7 @@ fn lead_back(targets: &mut Targets, statement: &NumberedSentence<'_>) -> Result<
 }
 
 /// The targets that statements say.
-fn stated_targets(alloc: Global, statements: &[NumberedSentence<'_>]) -> Result<Targets, AllocError>
+fn stated_targets(alloc: Global, statements: &[NumberedSentence]) -> Result<Targets, AllocError>
     ensures { IfOk result (λ targets. (room direction : ℕ) → target_at targets room direction ≡ first_target (stated_leads statements.now) room direction) }
 {
     let mut targets = IndexMap::new(alloc);
@@ -85,10 +85,7 @@ fn stated_targets(alloc: Global, statements: &[NumberedSentence<'_>]) -> Result<
 }
 
 /// Leads the ways back that statements imply, where nothing else leads.
-fn lead_all_back(
-    targets: &mut Targets,
-    statements: &[NumberedSentence<'_>],
-) -> Result<(), AllocError>
+fn lead_all_back(targets: &mut Targets, statements: &[NumberedSentence]) -> Result<(), AllocError>
     ensures { OnOk result (LeadsOn targets.old targets.new (first_target (implied_leads statements.now))) }
 {
     let mut rest = statements;
@@ -100,12 +97,7 @@ fn lead_all_back(
 }
 
 /// Whether a way leads an exit elsewhere than its first target.
-fn is_elsewhere(
-    targets: &Targets,
-    leads: &[NumberedSentence<'_>],
-    way: NumberedWay,
-    line: u32,
-) -> bool
+fn is_elsewhere(targets: &Targets, leads: &[NumberedSentence], way: NumberedWay, line: u32) -> bool
     requires stated { (room direction : ℕ) → target_at targets.now room direction ≡ first_target (stated_leads leads.now) room direction }
     ensures { result ≡ is_elsewhere (stated_leads leads.now) (lead_of way.subject way.direction way.room line) }
 {
@@ -122,7 +114,7 @@ fn is_elsewhere(
 
 /// The line of the first statement that leads an exit to a second target, by the targets that the
 /// statements say.
-fn second_target(targets: &Targets, statements: &[NumberedSentence<'_>]) -> Option<u32>
+fn second_target(targets: &Targets, statements: &[NumberedSentence]) -> Option<u32>
     requires stated { (room direction : ℕ) → target_at targets.now room direction ≡ first_target (stated_leads statements.now) room direction }
     ensures { result ≡ second_target statements.now }
 {
@@ -138,15 +130,12 @@ fn second_target(targets: &Targets, statements: &[NumberedSentence<'_>]) -> Opti
     None
 }
 
-impl<'a, 'b> Ways<'a, 'b> {
+impl<'a> Ways<'a> {
     ghost use Rattle.world_meaning.specs.Directions.{direction_number};
     ghost use Rattle.i7_kinds.specs.StatedWays.{stated};
 
     /// The ways of these statements.
-    pub fn new(
-        alloc: Global,
-        statements: &'a [NumberedSentence<'b>],
-    ) -> Result<Ways<'a, 'b>, AllocError>
+    pub fn new(alloc: Global, statements: &'a [NumberedSentence]) -> Result<Ways<'a>, AllocError>
         ensures { IfOk result (λ ways. stated ways ≡ statements.now) }
     {
         let mut targets = stated_targets(alloc, statements)?;

@@ -20,7 +20,7 @@ pub(crate) enum ByteClass {
 /// Whether a byte is of a word: an ASCII letter or digit, an apostrophe, a hyphen, or a byte of a
 /// character past ASCII.
 #[tactic(auto, unfolding(crate::specs::Bytes::is_letter))]
-pub(crate) fn is_letter(byte: u8) -> bool
+pub fn is_letter(byte: u8) -> bool
     ensures { result ≡ is_letter byte }
 {
     byte.is_ascii_alphanumeric() || byte == b'\'' || byte == b'-' || byte >= 0x80

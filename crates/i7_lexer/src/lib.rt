@@ -16,6 +16,7 @@ mod span;
 mod text;
 mod token;
 
+pub use byte_class::is_letter;
 pub use laws::{lines_are_counted, one_reading, one_refusal, spelled_or_refused, texts_are_folded};
 pub use lexer::lex;
 pub use token::{Lexed, Start, Token, TokenKind};

@@ -15,9 +15,9 @@ use Rattle.i7_sentences.specs.declared.form.Form.TheVariants as form
 use Rattle.i7_sentences.specs.declared.sentence.Assertion.{Assertion}
 use Rattle.i7_sentences.specs.declared.sentence.Assertion.TheVariants as assertion
 
--- a text that may describe: brackets that open and single quotes have no meaning yet
+-- a text that may describe: brackets that open have no meaning yet
 abbrev pub is_plain : List ℕ → Bool
-is_plain text = list_all (λ b. not ((b == 91) || (b == 39))) text
+is_plain text = list_all (λ b. not (b == 91)) text
 
 abbrev pub text_assertion : TokenKind → Option Assertion
 text_assertion (Text text) = if is_plain text then Some (assertion.Description text) else None

@@ -7,7 +7,7 @@ use Rattle.i7_lexer.specs.declared.token.TokenKind.{TokenKind}
 use Rattle.i7_lexer.specs.declared.token.TokenKind.TheVariants.{Text, Word, Mark}
 use Rattle.i7_lexer.specs.declared.token.Start.{Start}
 use Rattle.i7_lexer.specs.declared.token.Start.TheVariants.{Paragraph, Line, Within}
-use Rattle.i7_sentences.specs.Words.{is_text, word_of}
+use Rattle.i7_sentences.specs.Words.{is_text, is_word, word_of}
 use Rattle.world_meaning.specs.Spelling.{is_spelled}
 use Rattle.i7_sentences.specs.declared.cut.TheConstants.{HEADINGS}
 use Rattle.i7_sentences.specs.declared.part.PartKind.{PartKind}
@@ -89,12 +89,12 @@ abbrev pub is_stop_alone : List Token → Bool
 is_stop_alone [] = false
 is_stop_alone (first ∷ rest) = is_full_stop first
 
--- a text alone, or a text, `by` and something
+-- a text alone, or a text, `by` and words alone
 abbrev pub is_title : List Token → Bool
 is_title [] = false
 is_title (text ∷ []) = is_text text
 is_title (text ∷ by ∷ []) = false
-is_title (text ∷ by ∷ name ∷ names) = is_text text && is_spelled (word_of by) (codes "by")
+is_title (text ∷ by ∷ name ∷ names) = is_text text && is_spelled (word_of by) (codes "by") && list_all is_word (name ∷ names)
 
 -- a part and what it is read as
 pub record Piece : Type 0 where

@@ -10,12 +10,11 @@ use i7_lexer::{Token, TokenKind};
 use std::alloc::{AllocError, Global};
 use world_meaning::{Direction, TextBytes};
 
-/// Whether a text may describe a room: it holds no bracket that opens and no single quote, which
-/// have no meaning yet.
+/// Whether a text may describe a room: it holds no bracket that opens, which has no meaning yet.
 fn is_plain(text: &[u8]) -> bool
     ensures { result ≡ is_plain text.now }
 {
-    text.iter().all(|byte| !(*byte == b'[' || *byte == b'\''))
+    text.iter().all(|byte| *byte != b'[')
 }
 
 /// The description that a token gives.

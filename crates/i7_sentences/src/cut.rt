@@ -3,9 +3,10 @@ ghost use Rattle.std.specs.Prelude.{◌≡◌, ◌<◌, ◌≤◌, fold, length,
 ghost use Rattle.std.specs.List.{list_all};
 ghost use Rattle.i7_sentences.specs.Cuts.{cut, ends_sentence_kind, has_final_end, is_capitalised, is_final, is_full_stop, is_heading, is_same_paragraph, is_same_sentence, is_stop_alone, is_title, is_within_line, kind_of, may_begin_kind, opens_heading, parts_of, with_paragraph, with_sentence};
 ghost use Rattle.i7_sentences.specs.Pieces.{piece_len, pieces_of};
+ghost use Rattle.i7_sentences.specs.Words.{is_word};
 
 use crate::part::{Part, PartKind};
-use crate::word::{is_text, word_of};
+use crate::word::{is_text, is_word, word_of};
 use i7_lexer::{Start, Token, TokenKind};
 use std::alloc::{AllocError, Global};
 use world_meaning::is_spelled;
@@ -133,7 +134,14 @@ fn is_stop_alone(piece: &[Token]) -> bool
     }
 }
 
-/// Whether a sentence is a text alone, or a text, `by` and something.
+/// Whether each of the tokens is a word.
+fn are_words(tokens: &[Token]) -> bool
+    ensures { result ≡ list_all is_word tokens.now }
+{
+    tokens.iter().all(|token| is_word(token))
+}
+
+/// Whether a sentence is a text alone, or a text, `by` and words alone.
 fn is_title(sentence: &[Token]) -> bool
     ensures { result ≡ is_title sentence.now }
 {
@@ -141,7 +149,10 @@ fn is_title(sentence: &[Token]) -> bool
         [] => false,
         [text] => is_text(text),
         [_, _] => false,
-        [text, by, _, ..] => is_text(text) && is_spelled(word_of(by), b"by"),
+        [text, by, _, ..] => {
+            let (_, names) = sentence.split_at(2);
+            is_text(text) && is_spelled(word_of(by), b"by") && are_words(names)
+        }
     }
 }
 

@@ -5,7 +5,7 @@ use world_meaning::{Direction, TextBytes};
 /// What one sentence asserts, its names as it mentions them.
 #[derive(Debug, Drop)]
 pub enum Assertion {
-    /// A text that stands alone: the description of the room of the sentence before.
+    /// A text that stands alone, as it is written: the description of the room of the sentence before.
     Description(TextBytes),
     /// `the hall is a room`
     Room(Name),

@@ -21,9 +21,25 @@ const REFUSED: &[(&str, FaultCode, u32)] = &[
         1,
     ),
     (
-        "The Hall is a room.\n\"A 'bare' hall.\"",
+        "The switched\n\non Hall is a room.",
         FaultCode::NotUnderstood,
-        2,
+        1,
+    ),
+    (
+        "The switched \"x\" on Hall is a room.",
+        FaultCode::NotUnderstood,
+        1,
+    ),
+    ("Hall is is a room.", FaultCode::ReservedWord, 1),
+    (
+        "North of A1 is south of B1 and east of C1.",
+        FaultCode::ReservedWord,
+        1,
+    ),
+    (
+        "The trapdoor is above the Cellar and below the Hall.",
+        FaultCode::NotUnderstood,
+        1,
     ),
     ("The Hall of Mirrors is a room.", FaultCode::ReservedWord, 1),
     ("The is a room.", FaultCode::ReservedWord, 1),
@@ -57,6 +73,13 @@ const REFUSED: &[(&str, FaultCode, u32)] = &[
     ),
     ("", FaultCode::NoRoom, 1),
     ("2147483648 is a room.", FaultCode::NumberOutOfRange, 1),
+    ("\"T\" by 2147483648", FaultCode::NotUnderstood, 1),
+    ("\"T\" by Bob, 2147483648", FaultCode::NumberOutOfRange, 1),
+    (
+        "\"T\" by \"Bob\", 2147483648",
+        FaultCode::NumberOutOfRange,
+        1,
+    ),
 ];
 
 /// Sources that are taken.
@@ -69,6 +92,11 @@ const TAKEN: &[&str] = &[
     "A1 is north of B1.\nA1 is north of B1.",
     "A1 is north of B1.\nB1 is south of A1.",
     "The Hall is a room. [Hello.]",
+    "The Hall is a room.\n\"A 'bare' hall, isn't it?\"",
+    "The switched on Hall is a room.",
+    "The switched [not off] on Hall is a room.",
+    "The switched[x]on Hall is a room.",
+    "The fixed [a\n\nb] in\n[c]\nplace Hall is a room.",
 ];
 
 #[test]

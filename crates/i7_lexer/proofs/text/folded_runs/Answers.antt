@@ -1,4 +1,4 @@
-use Rattle.std.proofs.Common.{sym, ◌∙◌, refl}
+use Rattle.std.proofs.Common.{sym, ◌∙◌}
 use Rattle.i7_lexer.proofs.Folding.{blank_step, word_step, end_step}
 use Rattle.i7_lexer.specs.Texts.{folded}
 use Rattle.i7_lexer.proofs.text.folded_runs.Goals as goal
