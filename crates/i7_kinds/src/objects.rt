@@ -91,12 +91,7 @@ fn push_directions(alloc: Global, objects: &mut Vec<Object>) -> Result<(), Alloc
 {
     let mut rest: &[Direction] = &Direction::ALL;
     while let [direction, after @ ..] = rest {
-        objects.push(built_in(
-            alloc,
-            KindNo::DIRECTION,
-            direction.name(),
-            None,
-        )?)?;
+        objects.push(built_in(alloc, KindNo::DIRECTION, direction.name(), None)?)?;
         rest = after;
     }
     Ok(())

@@ -1,46 +1,18 @@
 //! Sessions line by line: the text, the kind and the world behind each line.
 use crate::fakes::two_rooms;
+use std::alloc::{AllocError, Global};
 use std::test::Fail;
+use story_player::Session;
 use world_meaning::{Ending, ObjNo, ReplyKind};
 
 /// A line, its text and kind, and the player's room and the turn count behind it.
 type Row = (&'static [u8], &'static [u8], ReplyKind, u16, u32);
 
 /// The two-room story, from the Hall (13) to the Garden (14) and back.
-const ROWS: &[Row] = &[
+const TURNS: &[Row] = &[
     (b"look", b"Hall\nA bare hall.\n", ReplyKind::Kept, 13, 2),
     (b"L", b"Hall\nA bare hall.\n", ReplyKind::Kept, 13, 3),
     (b"e", b"You can't go that way.\n", ReplyKind::Kept, 13, 4),
-    (b"", b"I beg your pardon?\n", ReplyKind::Free, 13, 4),
-    (b" \t ", b"I beg your pardon?\n", ReplyKind::Free, 13, 4),
-    (
-        b"xyzzy",
-        b"I don't know that verb.\n",
-        ReplyKind::Free,
-        13,
-        4,
-    ),
-    (
-        b"go lamp",
-        b"You can't see any such thing.\n",
-        ReplyKind::Free,
-        13,
-        4,
-    ),
-    (
-        b"go",
-        b"I didn't understand that sentence.\n",
-        ReplyKind::Free,
-        13,
-        4,
-    ),
-    (
-        b"look foo",
-        b"I didn't understand that sentence.\n",
-        ReplyKind::Free,
-        13,
-        4,
-    ),
     (b"go the north", b"Garden\n", ReplyKind::Kept, 14, 5),
     (b"n", b"You can't go that way.\n", ReplyKind::Kept, 14, 6),
     (b"SOUTH", b"Hall\nA bare hall.\n", ReplyKind::Kept, 13, 7),
@@ -48,48 +20,94 @@ const ROWS: &[Row] = &[
     (b"look", b"", ReplyKind::Over, 13, 7),
 ];
 
+fn turns() -> &'static [Row] {
+    TURNS
+}
+
+/// Lines that cost no turn, and what is said to them.
+const FREE: &[(&[u8], &[u8])] = &[
+    (b"", b"I beg your pardon?\n"),
+    (b" \t ", b"I beg your pardon?\n"),
+    (b"xyzzy", b"I don't know that verb.\n"),
+    (b"go lamp", b"You can't see any such thing.\n"),
+    (b"go", b"I didn't understand that sentence.\n"),
+    (b"look foo", b"I didn't understand that sentence.\n"),
+];
+
+fn free() -> &'static [(&'static [u8], &'static [u8])] {
+    FREE
+}
+
+/// Whether the session answers the line as its row says.
+fn is_answered(session: &mut Session, row: &Row) -> bool {
+    let (line, text, kind, room, turns) = *row;
+    let reply = session.line(line);
+    let said = reply.text() == text && reply.kind() == kind;
+    let world = session.world();
+    said && world.location().get() == room && world.turns() == turns
+}
+
 #[test]
-fn each_line_has_its_text_its_kind_and_its_world(rt: HostRuntime) -> Result<(), Fail> {
+fn each_turn_has_its_text_its_kind_and_its_world(rt: HostRuntime) -> Result<(), Fail> {
     let mut session = two_rooms(rt.alloc())?;
-    assert_eq!(rt; session.opening(), b"Hall\nA bare hall.\n".as_slice());
-    assert_eq!(rt; session.world().turns(), 1);
-    assert!(rt; session.world().visited(ObjNo::new(13)));
-    assert!(rt; !session.world().visited(ObjNo::new(14)));
-    for (line, text, kind, room, turns) in ROWS {
-        let reply = session.line(line);
-        assert_eq!(rt; reply.text(), *text, "{turns}");
-        assert_eq!(rt; reply.kind(), *kind, "{turns}");
-        assert_eq!(rt; session.world().location(), ObjNo::new(*room), "{turns}");
-        assert_eq!(rt; session.world().turns(), *turns);
+    for row in turns() {
+        assert!(rt; is_answered(&mut session, row), "{}", row.4);
     }
-    assert!(rt; session.world().visited(ObjNo::new(14)));
     assert_eq!(rt; session.ending(), Some(Ending::Quit));
     Ok(())
 }
 
 #[test]
-fn a_line_is_read_up_to_255_bytes_and_32_words(rt: HostRuntime) -> Result<(), Fail> {
+fn other_lines_are_free(rt: HostRuntime) -> Result<(), Fail> {
+    let mut session = two_rooms(rt.alloc())?;
+    for (line, text) in free() {
+        assert!(rt; is_answered(&mut session, &(*line, *text, ReplyKind::Free, 13, 1)));
+    }
+    Ok(())
+}
+
+#[test]
+fn rooms_are_visited(rt: HostRuntime) -> Result<(), Fail> {
+    let mut session = two_rooms(rt.alloc())?;
+    assert_eq!(rt; session.opening(), b"Hall\nA bare hall.\n".as_slice());
+    assert!(rt; session.world().visited(ObjNo::new(13)));
+    assert!(rt; !session.world().visited(ObjNo::new(14)));
+    let _ = session.line(b"north");
+    assert!(rt; session.world().visited(ObjNo::new(14)));
+    Ok(())
+}
+
+/// The piece so many times, and then the other bytes.
+fn repeated(alloc: Global, piece: &[u8], count: u32, last: &[u8]) -> Result<Vec<u8>, AllocError> {
+    let mut line = Vec::new(alloc);
+    for _ in 0..count {
+        line.extend_from_slice(piece)?;
+    }
+    line.extend_from_slice(last)?;
+    Ok(line)
+}
+
+/// What is said to a line that is too long.
+const TOO_LONG: &[u8] = b"That line is too long.\n";
+
+#[test]
+fn a_line_is_read_up_to_255_bytes(rt: HostRuntime) -> Result<(), Fail> {
     let alloc = rt.alloc();
     let mut session = two_rooms(alloc)?;
-    let mut line = Vec::from_slice(alloc, b"look")?;
-    for _ in 4..255 {
-        line.push(b' ')?;
-    }
-    assert_eq!(rt; session.line(line.as_slice()).kind(), ReplyKind::Kept);
-    line.push(b' ')?;
-    assert_eq!(rt;
-        session.line(line.as_slice()).text(),
-        b"That line is too long.\n".as_slice()
-    );
-    let mut words = Vec::new(alloc);
-    for _ in 0..32 {
-        words.extend_from_slice(b"n ")?;
-    }
-    assert_eq!(rt; session.line(words.as_slice()).kind(), ReplyKind::Kept);
-    words.extend_from_slice(b"n")?;
-    assert_eq!(rt;
-        session.line(words.as_slice()).text(),
-        b"That line is too long.\n".as_slice()
-    );
+    let longest = repeated(alloc, b" ", 251, b"look")?;
+    assert_eq!(rt; session.line(longest.as_slice()).kind(), ReplyKind::Kept);
+    let longer = repeated(alloc, b" ", 252, b"look")?;
+    assert!(rt; session.line(longer.as_slice()).text() == TOO_LONG);
+    Ok(())
+}
+
+#[test]
+fn a_line_is_read_up_to_32_words(rt: HostRuntime) -> Result<(), Fail> {
+    let alloc = rt.alloc();
+    let mut session = two_rooms(alloc)?;
+    let most = repeated(alloc, b"n ", 32, b"")?;
+    assert!(rt; session.line(most.as_slice()).text() != TOO_LONG);
+    let more = repeated(alloc, b"n ", 32, b"n")?;
+    assert!(rt; session.line(more.as_slice()).text() == TOO_LONG);
     Ok(())
 }

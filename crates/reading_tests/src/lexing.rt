@@ -98,7 +98,7 @@ fn joins_three_phrases(rt: HostRuntime) -> Result<(), Fail> {
             b"Fixed in\nPLACE x switched \t on, Switched off switched[c]on switched\n\non"
         )?
         .as_str(),
-        "P1:Fixed in PLACE|2:x|2:switched on|2:,|2:Switched off|2:switched|2:on|2:switched|P4:on|"
+        "P1:Fixed in PLACE|2:x|2:switched on|2:,|2:Switched off|2:switched on|2:switched|P4:on|"
     );
     assert_eq!(rt;
         shown(alloc, b"switched\n\ton")?.as_str(),

@@ -47,8 +47,8 @@ is_new strings n distinct lt =
       | inl is ↦
           let known = fold_finds front [] x is in
           let folded : first_mentions strings ≡ fold mention (fold mention [] front) behind =
-            ap first_mentions (parted strings n lt) ∙ fold_both mention [] front (x ∷ behind)
-              ∙ ap (λ (seen : List (List ℕ)). fold mention seen behind) (mention_old (fold mention [] front) x known) in
+          ap first_mentions (parted strings n lt) ∙ fold_both mention [] front (x ∷ behind)
+          ∙ ap (λ (seen : List (List ℕ)). fold mention seen behind) (mention_old (fold mention [] front) x known) in
           let all : length (first_mentions strings) ≡ length strings = eqb-true _ _ distinct in
           let few = mentioned_few behind (fold mention [] front) in
           let begun = mentioned_few front [] in
@@ -60,7 +60,7 @@ is_new strings n distinct lt =
 pub place_of_string : (strings : List (List ℕ)) (n : ℕ) → are_distinct strings ≡ true → n < length strings → position_or_len (bytes_eq (text_at strings n)) strings ≡ n
 place_of_string strings n distinct lt =
     ap (λ (all : List (List ℕ)). position_or_len (bytes_eq (text_at strings n)) all) (parted strings n lt)
-      ∙ place_behind (take n strings) (drop (suc n) strings) (text_at strings n) (is_new strings n distinct lt) ∙ length_front strings n lt
+    ∙ place_behind (take n strings) (drop (suc n) strings) (text_at strings n) (is_new strings n distinct lt) ∙ length_front strings n lt
 
 same_number : (strings : List (List ℕ)) (n m : ℕ) → are_distinct strings ≡ true → n < length strings → m < length strings → text_at strings n ≡ text_at strings m → n ≡ m
 same_number strings n m distinct lt lt' same =
@@ -129,8 +129,8 @@ mentioned_on strings next (n ∷ ns) distinct h =
           let same : next ≡ n = omega (arith, le, ltb-false n next isnt) in
           let more : max next (n + 1) ≡ n + 1 = omega (arith, same) in
           let grown : mention (take next strings) x ≡ take (max next (n + 1)) strings =
-            ap (λ (k : ℕ). mention (take k strings) x) same ∙ mention_new (take n strings) x (is_new strings n distinct within) ∙ sym (take_more strings n [] within)
-              ∙ ap (λ (k : ℕ). take k strings) (sym more) in
+          ap (λ (k : ℕ). mention (take k strings) x) same ∙ mention_new (take n strings) x (is_new strings n distinct within) ∙ sym (take_more strings n [] within)
+          ∙ ap (λ (k : ℕ). take k strings) (sym more) in
           ap (λ (seen : List (List ℕ)). fold mention seen (map (text_at strings) ns)) grown ∙ later
     ]
 
@@ -202,13 +202,13 @@ texts_of_codes strings codes next (e ∷ es) h =
     elim (next_of (length codes) next e es h) [
       | plain is later ↦
           texts_of_codes strings codes next es later
-            ∙ sym (ap (λ (d : Option (List ℕ)). said_texts d ++ flat_map described_texts (map (told_object strings codes) es)) (not_described strings codes e is))
+          ∙ sym (ap (λ (d : Option (List ℕ)). said_texts d ++ flat_map described_texts (map (told_object strings codes) es)) (not_described strings codes e is))
       | described isnt is lt later ↦
           let one : suc next ≡ next + 1 = omega arith in
           let step : drop next codes ≡ text_at codes next ∷ drop (next + 1) codes = drop-cons codes next [] lt ∙ ap (λ (k : ℕ). text_at codes next ∷ drop k codes) one in
           ap (map (code_text strings)) step
-            ∙ ap (λ (rest : List (List ℕ)). code_text strings (text_at codes next) ∷ rest) (texts_of_codes strings codes (next + 1) es later)
-            ∙ sym (ap (λ (d : Option (List ℕ)). said_texts d ++ flat_map described_texts (map (told_object strings codes) es)) (is_described strings codes e next isnt is lt))
+          ∙ ap (λ (rest : List (List ℕ)). code_text strings (text_at codes next) ∷ rest) (texts_of_codes strings codes (next + 1) es later)
+          ∙ sym (ap (λ (d : Option (List ℕ)). said_texts d ++ flat_map described_texts (map (told_object strings codes) es)) (is_described strings codes e next isnt is lt))
     ]
 
 -- ---- numbers that tell the same texts are the same
@@ -224,8 +224,8 @@ texts_named : (strings codes : List (List ℕ)) (es : List Entry) → are_in_tur
     → map (text_at strings) (flat_map strings_named es ++ map string_said codes) ≡ texts_told (map (told_object strings codes) es)
 texts_named strings codes es h =
     map-append (text_at strings) (flat_map strings_named es) (map string_said codes)
-      ∙ ap (λ (front : List (List ℕ)). front ++ map (text_at strings) (map string_said codes)) (texts_of_objects strings codes es)
-      ∙ ap (λ (back : List (List ℕ)). flat_map named_texts (map (told_object strings codes) es) ++ back) (map-map (text_at strings) string_said codes ∙ texts_of_codes strings codes 0 es h)
+    ∙ ap (λ (front : List (List ℕ)). front ++ map (text_at strings) (map string_said codes)) (texts_of_objects strings codes es)
+    ∙ ap (λ (back : List (List ℕ)). flat_map named_texts (map (told_object strings codes) es) ++ back) (map-map (text_at strings) string_said codes ∙ texts_of_codes strings codes 0 es h)
 
 codes_again : (count : ℕ) (codes : List (List ℕ)) → list_all (says_string count) codes ≡ true → map saying (map string_said codes) ≡ codes
 unfolding says_string
@@ -257,7 +257,7 @@ same_but_code strings codes e f distinct h k told description =
     let a = both_are (is_within (length strings) e.name) (list_all (is_within (length strings)) e.words) h in
     let b = both_are (is_within (length strings) f.name) (list_all (is_within (length strings)) f.words) k in
     same_entry e f (same_number strings e.name f.name distinct (ltb-true _ _ a.0) (ltb-true _ _ b.0) (ap (λ (o : ToldObject). o.name) told))
-      (same_numbers strings e.words f.words distinct a.1 b.1 (ap (λ (o : ToldObject). o.words) told)) description (ap (λ (o : ToldObject). o.rest) told)
+    (same_numbers strings e.words f.words distinct a.1 b.1 (ap (λ (o : ToldObject). o.words) told)) description (ap (λ (o : ToldObject). o.rest) told)
 
 none_not_some : (o p : Option (List ℕ)) (text : List ℕ) → o ≡ p → o ≡ None → p ≡ Some text → ⊥
 none_not_some o p text same none some = absurd cc
@@ -304,8 +304,8 @@ same_codes strings codes others es fs one other told =
     let a = both_are (list_all within (flat_map strings_named es)) (list_all within (map string_said codes)) (sym (list_all-append within (flat_map strings_named es) (map string_said codes)) ∙ all_within (length strings) 0 _ one.named) in
     let b = both_are (list_all within (flat_map strings_named fs)) (list_all within (map string_said others)) (sym (list_all-append within (flat_map strings_named fs) (map string_said others)) ∙ all_within (length strings) 0 _ other.named) in
     let texts : map (text_at strings) (map string_said codes) ≡ map (text_at strings) (map string_said others) =
-      map-map (text_at strings) string_said codes ∙ texts_of_codes strings codes 0 es one.in_turn ∙ ap (flat_map described_texts) told
-        ∙ sym (map-map (text_at strings) string_said others ∙ texts_of_codes strings others 0 fs other.in_turn) in
+    map-map (text_at strings) string_said codes ∙ texts_of_codes strings codes 0 es one.in_turn ∙ ap (flat_map described_texts) told
+    ∙ sym (map-map (text_at strings) string_said others ∙ texts_of_codes strings others 0 fs other.in_turn) in
     let numbers = same_numbers strings (map string_said codes) (map string_said others) one.distinct a.1 b.1 texts in
     sym (codes_again (length strings) codes one.sound) ∙ ap (map saying) numbers ∙ codes_again (length strings) others other.sound
 
@@ -321,14 +321,14 @@ same_strings : (strings others codes codes' : List (List ℕ)) (es fs : List Ent
     → map (told_object strings codes) es ≡ map (told_object others codes') fs → strings ≡ others
 same_strings strings others codes codes' es fs one other told =
     sym (mentioned_on strings 0 (flat_map strings_named es ++ map string_said codes) one.distinct one.named)
-      ∙ ap first_mentions (texts_named strings codes es one.in_turn ∙ ap texts_told told ∙ sym (texts_named others codes' fs other.in_turn))
-      ∙ mentioned_on others 0 (flat_map strings_named fs ++ map string_said codes') other.distinct other.named
+    ∙ ap first_mentions (texts_named strings codes es one.in_turn ∙ ap texts_told told ∙ sym (texts_named others codes' fs other.in_turn))
+    ∙ mentioned_on others 0 (flat_map strings_named fs ++ map string_said codes') other.distinct other.named
 
 strings_differ : (t : Tables) → are_right t ≡ true → are_distinct t.strings ≡ true
 unfolding are_right
 strings_differ t right =
     let p = last_of_five (has_no_world t.world && has_no_rules t.rules && ltb (length t.strings) 65535) (are_distinct t.strings) (are_right_objects t)
-      (eqb (length t.ways) (count_by is_of_room t.objects)) (list_all (is_right_exits (sizes_of t)) t.ways) right in
+    (eqb (length t.ways) (count_by is_of_room t.objects)) (list_all (is_right_exits (sizes_of t)) t.ways) right in
     p.1
 
 is_numbered : (t : Tables) → IsStory t → IsNumbered t.strings t.codes t.objects
@@ -344,9 +344,9 @@ told_alike t u one other alike =
     let strings : t.strings ≡ u.strings = same_strings t.strings u.strings t.codes u.codes t.objects u.objects here there alike.objects in
     let moved : IsNumbered t.strings u.codes u.objects = subst (λ (all : List (List ℕ)). IsNumbered all u.codes u.objects) (sym strings) there in
     let told : map (told_object t.strings t.codes) t.objects ≡ map (told_object t.strings u.codes) u.objects =
-      alike.objects ∙ ap (λ (all : List (List ℕ)). map (told_object all u.codes) u.objects) (sym strings) in
+    alike.objects ∙ ap (λ (all : List (List ℕ)). map (told_object all u.codes) u.objects) (sym strings) in
     let codes : t.codes ≡ u.codes = same_codes t.strings t.codes u.codes t.objects u.objects here moved told in
     let again : IsNumbered t.strings t.codes u.objects = subst (λ (all : List (List ℕ)). IsNumbered t.strings all u.objects) (sym codes) moved in
     let objects : t.objects ≡ u.objects =
-      same_objects t.strings t.codes t.objects u.objects here again (told ∙ ap (λ (all : List (List ℕ)). map (told_object t.strings all) u.objects) (sym codes)) in
+    same_objects t.strings t.codes t.objects u.objects here again (told ∙ ap (λ (all : List (List ℕ)). map (told_object t.strings all) u.objects) (sym codes)) in
     λ i. record { strings = strings i; world = alike.world i; objects = objects i; ways = alike.ways i; rules = alike.rules i; codes = codes i }

@@ -57,13 +57,17 @@ const STORY: &[u8] = &[
     0x00, 0x01, 0x00, 0x04, 0x22, 0x00, 0x20, 0x37,
 ];
 
+fn story() -> &'static [u8] {
+    STORY
+}
+
 fn fault_of(alloc: Global, bytes: &[u8]) -> Option<LoadFault> {
     load(alloc, bytes).err()
 }
 
 /// The story with one byte changed.
 fn changed(alloc: Global, place: usize, byte: u8) -> Result<Vec<u8>, AllocError> {
-    let mut bytes = Vec::from_slice(alloc, STORY)?;
+    let mut bytes = Vec::from_slice(alloc, story())?;
     if place < bytes.len() {
         bytes[place] = byte;
     }
@@ -88,27 +92,41 @@ fn lengthened(
 #[test]
 fn compiles_the_bytes(rt: HostRuntime) -> Result<(), Fail> {
     let alloc = rt.alloc();
-    assert_eq!(rt; compile(alloc, TWO_ROOMS)?.as_slice(), STORY);
+    assert_eq!(rt; compile(alloc, TWO_ROOMS)?.as_slice(), story());
+    Ok(())
+}
+
+/// The two rooms.
+const HALL: ObjNo = ObjNo::FIRST_OF_AUTHOR;
+const GARDEN: u16 = 14;
+
+#[test]
+fn a_loaded_story_tells_its_names(rt: HostRuntime) -> Result<(), Fail> {
+    let story = load(rt.alloc(), story())?;
+    assert_eq!(rt; story.object_count(), 15);
+    assert!(rt; story.name(HALL) == b"Hall".as_slice());
+    assert!(rt; story.name(ObjNo::new(GARDEN)) == b"Garden".as_slice());
+    assert!(rt; story.name(ObjNo::new(15)).is_empty());
     Ok(())
 }
 
 #[test]
-fn loads_the_story(rt: HostRuntime) -> Result<(), Fail> {
-    let alloc = rt.alloc();
-    let story = load(alloc, STORY)?;
-    assert_eq!(rt; story.object_count(), 15);
-    let hall = ObjNo::new(13);
-    let garden = ObjNo::new(14);
-    assert_eq!(rt; story.name(hall), b"Hall".as_slice());
-    assert_eq!(rt; story.name(garden), b"Garden".as_slice());
-    assert_eq!(rt; story.name(ObjNo::new(15)), b"".as_slice());
-    assert_eq!(rt; story.description(hall), Some(b"A bare hall.".as_slice()));
-    assert_eq!(rt; story.description(garden), None);
-    assert_eq!(rt; story.way(hall, Direction::North), Some(garden));
-    assert_eq!(rt; story.way(garden, Direction::South), Some(hall));
-    assert_eq!(rt; story.way(hall, Direction::South), None);
+fn a_loaded_story_tells_its_descriptions(rt: HostRuntime) -> Result<(), Fail> {
+    let story = load(rt.alloc(), story())?;
+    assert!(rt; story.description(HALL) == Some(b"A bare hall.".as_slice()));
+    assert!(rt; story.description(ObjNo::new(GARDEN)).is_none());
+    Ok(())
+}
+
+#[test]
+fn a_loaded_story_leads_its_ways(rt: HostRuntime) -> Result<(), Fail> {
+    let story = load(rt.alloc(), story())?;
+    let garden = ObjNo::new(GARDEN);
+    assert_eq!(rt; story.start(), HALL);
+    assert_eq!(rt; story.way(HALL, Direction::North), Some(garden));
+    assert_eq!(rt; story.way(garden, Direction::South), Some(HALL));
+    assert_eq!(rt; story.way(HALL, Direction::South), None);
     assert_eq!(rt; story.way(ObjNo::new(1), Direction::North), None);
-    assert_eq!(rt; story.start(), hall);
     Ok(())
 }
 
