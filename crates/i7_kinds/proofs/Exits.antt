@@ -1,6 +1,6 @@
 -- A map in which the first target that an exit is led to stays.
 use Rattle.std.proofs.Common.{◌≡◌, ℕ, Bool, true, false, cond, refl}
-use Rattle.std.specs.Prelude.{◌==◌, ◌&&◌, not, Option, Some, None, is_some, option_copied}
+use Rattle.std.specs.Prelude.{◌==◌, not, Option, Some, None, is_some, option_copied}
 use Rattle.std.specs.Borrow.{Bor}
 use Rattle.std.proofs.lemmas.Bool.{eqb-true}
 use Rattle.world_meaning.proofs.Bools.{both_are}

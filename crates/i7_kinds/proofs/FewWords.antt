@@ -1,16 +1,14 @@
 -- A name of few blanks has few words.
-use Rattle.std.proofs.Common.{◌≡◌, ℕ, ◌+◌, ◌<◌, ◌≤◌, Bool, true, false, cond, ltb, eqb, List, [], ◌∷◌, ◌++◌, length, refl, sym, ap, ◌∙◌, arith, inl, inr, ◌⊎◌}
-use Rattle.std.specs.Prelude.{count_by, fold, filter}
-use Rattle.std.specs.List.{list_any, slice_split}
-use Rattle.std.specs.Str.{bytes_eq}
+use Rattle.std.proofs.Common.{◌≡◌, ℕ, ◌+◌, ◌<◌, ◌≤◌, Bool, false, cond, ltb, eqb, List, [], ◌∷◌, ◌++◌, length, refl, sym, ap, ◌∙◌, arith, inl, inr}
+use Rattle.std.specs.Prelude.{count_by, filter}
+use Rattle.std.specs.List.{slice_split}
 use Rattle.std.specs.Char.{to_ascii_lowercase}
 use Rattle.std.proofs.lemmas.Bool.{le-ltb, ltb-false, ne_eqb}
-use Rattle.std.proofs.lemmas.List.{length-append, append-nil}
+use Rattle.std.proofs.lemmas.List.{append-nil}
 use Rattle.std.proofs.lemmas.List.Splits.{length-slice_split}
 use Rattle.std.proofs.lemmas.List.Sums.{sum_by-cons}
 use Rattle.world_meaning.proofs.Bools.{either}
 use Rattle.object_words.proofs.MentionLemmas.{mentioned_few}
-use Rattle.object_words.specs.Mentions.{mention}
 use Rattle.object_words.specs.Words.{is_blank, is_word, blank_words, more_words, words_for}
 use Rattle.world_meaning.specs.Spelling.{lowered}
 use Rattle.i7_kinds.specs.Tales.{is_too_long}

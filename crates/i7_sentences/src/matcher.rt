@@ -109,7 +109,9 @@ fn take_piece<'a, 'b>(
     ensures told { map (λ column. column.items) told.new.items ≡ columns_of after.now tokens.now }
     ensures suffix { IfOk result (λ behind. IfSome behind (λ others. IsEndOf others.now tokens.now)) }
     ensures none { IfOk result (λ behind. IfNone behind (first_fit (piece ∷ after.now) rest.now ≡ None)) }
-    ensures some { IfOk result (λ behind. IfSome behind (λ others. letters_with (map (λ letter. letter.now) letters.new.items) after.now others.now ≡ letters_with (map (λ letter. letter.now) letters.old.items) (piece ∷ after.now) rest.now)) }
+    ensures some { IfOk result (λ behind. IfSome behind (λ others.
+        letters_with (map (λ letter. letter.now) letters.new.items) after.now others.now
+        ≡ letters_with (map (λ letter. letter.now) letters.old.items) (piece ∷ after.now) rest.now)) }
 {
     match left_behind(piece, after, tokens, rest, told) {
         None => Ok(None),

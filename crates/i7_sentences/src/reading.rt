@@ -84,7 +84,8 @@ fn without_unfit<'a, 'b>(
     tokens: &[Tagged<'_>],
 ) -> &'a [(Form, &'b [Piece])]
     requires { signs.now ≡ signs_of tokens.now }
-    ensures same { best_fit (map (λ variant. record { form = variant.0; pieces = variant.1.now }) result.now) tokens.now ≡ best_fit (map (λ variant. record { form = variant.0; pieces = variant.1.now }) variants.now) tokens.now }
+    ensures same { best_fit (map (λ variant. record { form = variant.0; pieces = variant.1.now }) result.now) tokens.now
+        ≡ best_fit (map (λ variant. record { form = variant.0; pieces = variant.1.now }) variants.now) tokens.now }
     ensures within { length result.now ≤ length variants.now }
 {
     let mut rest = variants;

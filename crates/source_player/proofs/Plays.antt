@@ -1,5 +1,5 @@
 -- Playing the story that a source is compiled to is playing the source.
-use Rattle.std.proofs.Common.{◌≡◌, ℕ, Bool, List, Ok, Err, Option, ap, subst, sym, ◌∙◌}
+use Rattle.std.proofs.Common.{◌≡◌, ℕ, Bool, List, Ok, Err, Option, ap, subst, ◌∙◌}
 use Rattle.std.specs.Prelude.{Result, IfErr, IfOk}
 use Rattle.world_meaning.specs.Games.{Game}
 use Rattle.world_meaning.specs.Session.{State, opened}

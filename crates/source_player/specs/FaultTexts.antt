@@ -1,5 +1,5 @@
 -- What the program prints of a fault.
-use Rattle.std.specs.Prelude.{ℕ, Bool, List, [], ◌∷◌, ◌++◌, codes, if◌then◌else◌}
+use Rattle.std.specs.Prelude.{ℕ, List, [], ◌∷◌, ◌++◌, codes, if◌then◌else◌}
 use Rattle.std.specs.String.{string_bytes}
 use Rattle.world_meaning.specs.Faults.{fault_text}
 use Rattle.story_format.specs.FaultTexts.{load_text}

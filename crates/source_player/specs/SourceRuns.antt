@@ -1,5 +1,5 @@
 -- What playing a source or a story file does to its reader and its writer.
-use Rattle.std.specs.Prelude.{◌≡◌, ℕ, Bool, true, false, List, [], Option, Some}
+use Rattle.std.specs.Prelude.{◌≡◌, ℕ, Bool, true, false, List, [], Some}
 use Rattle.world_meaning.specs.Games.{Game}
 use Rattle.world_meaning.specs.Session.{State, opened}
 use Rattle.world_meaning.specs.StandardGame.{game_of_tale}

@@ -20,7 +20,7 @@ use Rattle.story_format.specs.Facts.{description_in, text_at}
 use Rattle.story_format.specs.Sizes.{is_right_exits, sizes_of}
 use Rattle.story_format.specs.Soundness.{are_all_named, are_in_turn, are_sound, saying, says_string, string_said, strings_read}
 use Rattle.story_format.specs.Spells.{IsStory}
-use Rattle.story_format.specs.Telling.{AreToldAlike, ToldObject, told_object, told_objects, unnumbered}
+use Rattle.story_format.specs.Telling.{AreToldAlike, ToldObject, told_object, unnumbered}
 use Rattle.story_format.proofs.Known.{fold_finds, same_texts, text_is_itself}
 use Rattle.story_format.proofs.StoryLemmas.{last_of_five, three}
 use Rattle.story_format.proofs.OrderLemmas.{mention_new, mention_old, place_behind}

@@ -1,4 +1,3 @@
-use Rattle.std.proofs.Common.{ap, subst, sym, ◌∙◌}
 use Rattle.story_player.specs.Sessions.{game_of, state_of}
 use Rattle.story_player.specs.StoryGames.{game_of_story}
 use Rattle.story_player.specs.Watches.{watched_inner}
