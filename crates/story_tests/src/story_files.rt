@@ -96,8 +96,10 @@ fn compiles_the_bytes(rt: HostRuntime) -> Result<(), Fail> {
     Ok(())
 }
 
-/// The two rooms.
+/// The Hall.
 const HALL: ObjNo = ObjNo::FIRST_OF_AUTHOR;
+
+/// The Garden's number.
 const GARDEN: u16 = 14;
 
 #[test]
