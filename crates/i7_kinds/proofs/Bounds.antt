@@ -5,9 +5,10 @@ use Rattle.std.specs.Option.{option_map}
 use Rattle.std.specs.List.{position_or_len}
 use Rattle.std.specs.Str.{bytes_eq}
 use Rattle.std.proofs.lemmas.List.{length-append}
+use Rattle.i7_sentences.specs.declared.name.Name.{Name}
 use Rattle.i7_sentences.specs.declared.sentence.Sentence.{Sentence}
 use Rattle.i7_sentences.specs.declared.sentence.Assertion.{Assertion}
-use Rattle.i7_sentences.specs.declared.sentence.Assertion.TheVariants.{Description, Room, Way}
+use Rattle.i7_sentences.specs.declared.sentence.Assertion.TheVariants.{Description, Way, Are}
 use Rattle.world_meaning.specs.Directions.{opposite_of}
 use Rattle.world_meaning.specs.declared.fault.FaultCode.{FaultCode}
 use Rattle.world_meaning.specs.declared.fault.FaultCode.TheVariants.{NoRoom, TooMany, Twice, TwoPlaces, WrongKind}
@@ -18,7 +19,7 @@ use Rattle.i7_kinds.specs.Tales.{earlier, frame_refusal, no_room, object_too_man
 use Rattle.i7_kinds.specs.declared.statements.Numbered.{Numbered}
 use Rattle.i7_kinds.specs.declared.statements.Numbered.TheVariants as numbered
 use Rattle.i7_kinds.specs.declared.statements.NumberedSentence.{NumberedSentence}
-use Rattle.i7_kinds.specs.Statements.{NameAt, Named, built_in_keys, numbered_in, has_key, key_of, named_by, names_at, number_in, place_or, stated_by, statement_in, with_name, with_names_of}
+use Rattle.i7_kinds.specs.Statements.{NameAt, Named, built_in_keys, numbered_in, numbered_room, rooms_in, has_key, key_of, named_by, names_at, number_in, place_or, stated_by, statement_in, with_name, with_names_of}
 
 -- as many keys as objects
 abbrev pub IsCounted : Named → Type 0
@@ -61,10 +62,15 @@ position-within (k ∷ keys) key =
 pub number-within : (keys : List (List ℕ)) (key : List ℕ) → number_in keys key ≤ length keys
 number-within keys key = place-within (length keys) (position_or_len (bytes_eq key) keys) (position-within keys key) _
 
+room-within : (named : Named) (rooms : List Name) → IsWithin (length named.keys) (numbered_room named rooms)
+room-within named [] = tt
+room-within named (name ∷ names) = tt
+
 pub assertion-within : (named : Named) (said : Assertion) → IsWithin (length named.keys) (numbered_in named said)
 assertion-within named (Description text) = tt
-assertion-within named (Room name) = tt
+assertion-within named (Are being) = room-within named (rooms_in being)
 assertion-within named (Way way) = (number-within named.keys (key_of way.subject.text), number-within named.keys (key_of way.room.text))
+assertion-within named _ = tt
 
 pub all-within : (named : Named) (sentences : List Sentence) → AreWithin (length named.keys) (map (statement_in named) sentences)
 all-within named [] = tt
@@ -88,11 +94,13 @@ small-lead lead leads room direction small others =
     ] refl
 
 pub stated-small-by : (most : ℕ) (fact : Numbered) (line : ℕ) (statements : List NumberedSentence) (room direction : ℕ) → most ≤ 1000 → IsWithin most fact → IsSmall (first_target (stated_leads statements) room direction) → IsSmall (first_target (stated_in fact line ++ stated_leads statements) room direction)
+stated-small-by most numbered.Aside line statements room direction few within others = others
 stated-small-by most (numbered.Description text) line statements room direction few within others = others
 stated-small-by most (numbered.Room o) line statements room direction few within others = others
 stated-small-by most (numbered.Way way) line statements room direction few within others = small-lead (lead_of way.subject way.direction way.room line) (stated_leads statements) room direction (omega (arith, within.0, few)) others
 
 pub implied-small-by : (most : ℕ) (fact : Numbered) (line : ℕ) (statements : List NumberedSentence) (room direction : ℕ) → most ≤ 1000 → IsWithin most fact → IsSmall (first_target (implied_leads statements) room direction) → IsSmall (first_target (implied_in fact line ++ implied_leads statements) room direction)
+implied-small-by most numbered.Aside line statements room direction few within others = others
 implied-small-by most (numbered.Description text) line statements room direction few within others = others
 implied-small-by most (numbered.Room o) line statements room direction few within others = others
 implied-small-by most (numbered.Way way) line statements room direction few within others = small-lead (lead_of way.room (opposite_of way.direction) way.subject line) (implied_leads statements) room direction (omega (arith, within.1, few)) others

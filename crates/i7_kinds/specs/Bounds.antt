@@ -16,6 +16,7 @@ LeadWithin statements = (room direction : ℕ) → IsSmall (target_of statements
 
 -- the numbers of a way are at most this
 abbrev pub IsWithin : ℕ → Numbered → Type 0
+IsWithin most numbered.Aside = ⊤
 IsWithin most (numbered.Description text) = ⊤
 IsWithin most (numbered.Room o) = ⊤
 IsWithin most (numbered.Way way) = (way.subject ≤ most) × (way.room ≤ most)

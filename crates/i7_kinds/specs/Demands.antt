@@ -36,12 +36,14 @@ is_author o = not (nat_lt o first_of_author)
 
 -- the object that a statement is about
 abbrev pub subject_of : Numbered → Option ℕ
+subject_of numbered.Aside = None
 subject_of (numbered.Description text) = None
 subject_of (numbered.Room o) = Some o
 subject_of (numbered.Way way) = Some way.subject
 
 -- C8: the player and the directions are no rooms, and a text alone needs a subject before it
 abbrev pub is_wrong : Option ℕ → Numbered → Bool
+is_wrong before numbered.Aside = false
 is_wrong before (numbered.Description text) = is_none before
 is_wrong before (numbered.Room o) = nat_lt o first_of_author
 is_wrong before (numbered.Way way) = nat_lt way.subject first_of_author || nat_lt way.room first_of_author
@@ -57,6 +59,7 @@ wrong_kind statements = wrong_after None statements
 -- a text describes an object of the author's, at its line
 abbrev pub told_of : ℕ → Numbered → ℕ → List Description
 told_of o (numbered.Description text) line = record { object = o; text = text; line = line } ∷ []
+told_of o numbered.Aside line = []
 told_of o (numbered.Room room) line = []
 told_of o (numbered.Way way) line = []
 
@@ -103,12 +106,14 @@ lead_of subject direction room line = record { room = room; direction = directio
 
 -- the ways that statements state
 abbrev pub stated_in : Numbered → ℕ → List Lead
+stated_in numbered.Aside line = []
 stated_in (numbered.Description text) line = []
 stated_in (numbered.Room o) line = []
 stated_in (numbered.Way way) line = lead_of way.subject way.direction way.room line ∷ []
 
 -- the ways back that they imply
 abbrev pub implied_in : Numbered → ℕ → List Lead
+implied_in numbered.Aside line = []
 implied_in (numbered.Description text) line = []
 implied_in (numbered.Room o) line = []
 implied_in (numbered.Way way) line = lead_of way.room (opposite_of way.direction) way.subject line ∷ []

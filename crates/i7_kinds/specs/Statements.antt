@@ -1,12 +1,13 @@
 -- What the sentences of a source state, objects by their numbers: 0 the player, 1 to 12 the
 -- directions, then the author's by first mention.
-use Rattle.std.specs.Prelude.{ℕ, Bool, List, [], ◌∷◌, ◌++◌, length, map, fold, position, Option, Some, None, codes, bytes_eq, if◌then◌else◌}
+use Rattle.std.specs.Prelude.{ℕ, Bool, true, false, ◌&&◌, ◌==◌, is_none, List, [], ◌∷◌, ◌++◌, length, map, fold, position, Option, Some, None, codes, bytes_eq, if◌then◌else◌}
 use Rattle.std.specs.List.{list_any}
 use Rattle.world_meaning.specs.Spelling.{is_spelled, lowered}
 use Rattle.world_meaning.specs.Directions.{all_directions, direction_name}
 use Rattle.i7_sentences.specs.declared.name.Name.{Name}
 use Rattle.i7_sentences.specs.declared.sentence.Assertion.{Assertion}
-use Rattle.i7_sentences.specs.declared.sentence.Assertion.TheVariants.{Description, Room, Way}
+use Rattle.i7_sentences.specs.declared.sentence.Assertion.TheVariants.{Aside, Description, Way, Are}
+use Rattle.i7_sentences.specs.declared.sentence.Being.{Being}
 use Rattle.i7_sentences.specs.declared.sentence.Sentence.{Sentence}
 use Rattle.i7_kinds.specs.Quotes.{printed}
 use Rattle.i7_kinds.specs.declared.statements.Numbered.{Numbered}
@@ -22,11 +23,27 @@ pub record NameAt : Type 0 where
   pub name : Name
   pub line : ℕ
 
+-- one name is said to be `a room`, in these words
+unfoldable pub is_room_said : Being → Bool
+is_room_said being = is_spelled being.what (codes "a room") && is_none being.place && (length being.subjects == 1)
+
+-- the name of the room that is said to be one
+abbrev pub rooms_in : Being → List Name
+rooms_in being = if is_room_said being then being.subjects else []
+
+-- what is said has a meaning so far
+abbrev pub is_meant : Assertion → Bool
+is_meant Aside = true
+is_meant (Description text) = true
+is_meant (Way way) = true
+is_meant (Are being) = is_room_said being
+is_meant _ = false
+
 -- the names that a sentence mentions, in the order of its words
 abbrev pub names_in : Assertion → List Name
-names_in (Description text) = []
-names_in (Room name) = name ∷ []
+names_in (Are being) = rooms_in being
 names_in (Way way) = if way.is_room_first then way.room ∷ way.subject ∷ [] else way.subject ∷ way.room ∷ []
+names_in _ = []
 
 abbrev pub names_at : Sentence → List NameAt
 names_at sentence = map (λ name. record { name = name; line = sentence.line }) (names_in sentence.said)
@@ -66,11 +83,16 @@ named_by sentences = fold with_names_of (record { keys = built_in_keys; mentions
 abbrev pub number_of : Named → Name → ℕ
 number_of named name = number_in named.keys (key_of name.text)
 
+abbrev pub numbered_room : Named → List Name → Numbered
+numbered_room named [] = numbered.Aside
+numbered_room named (name ∷ names) = numbered.Room (number_of named name)
+
 -- what a sentence asserts, objects by their numbers and texts as they are printed
 abbrev pub numbered_in : Named → Assertion → Numbered
 numbered_in named (Description text) = numbered.Description (printed text)
-numbered_in named (Room name) = numbered.Room (number_of named name)
+numbered_in named (Are being) = numbered_room named (rooms_in being)
 numbered_in named (Way way) = numbered.Way (record { subject = number_of named way.subject; direction = way.direction; room = number_of named way.room })
+numbered_in named _ = numbered.Aside
 
 abbrev pub statement_in : Named → Sentence → NumberedSentence
 statement_in named sentence = record { said = numbered_in named sentence.said; line = sentence.line }

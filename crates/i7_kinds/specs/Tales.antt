@@ -1,5 +1,5 @@
 -- The tale that a source's sentences mean, or the refusal that stands.
-use Rattle.std.specs.Prelude.{ℕ, ◌+◌, ◌-◌, Bool, ◌||◌, ◌==◌, nat_lt, min, List, [], ◌∷◌, ◌++◌, length, map, find, replicate, slice_get, Option, Some, None, option_map, codes, Result, Ok, Err, if◌then◌else◌}
+use Rattle.std.specs.Prelude.{ℕ, ◌+◌, ◌-◌, Bool, not, ◌||◌, ◌==◌, nat_lt, min, List, [], ◌∷◌, ◌++◌, length, map, find, replicate, slice_get, Option, Some, None, option_map, codes, Result, Ok, Err, if◌then◌else◌}
 use Rattle.std.specs.List.{list_any}
 use Rattle.world_meaning.specs.Directions.{all_directions, direction_name, direction_number}
 use Rattle.world_meaning.specs.declared.article.Article.{Article}
@@ -9,7 +9,7 @@ use Rattle.world_meaning.specs.declared.exits.Exits.{Exits}
 use Rattle.world_meaning.specs.declared.exits.Way.{Way}
 use Rattle.world_meaning.specs.declared.fault.Fault.{Fault}
 use Rattle.world_meaning.specs.declared.fault.FaultCode.{FaultCode}
-use Rattle.world_meaning.specs.declared.fault.FaultCode.TheVariants.{Twice, WrongKind, TwoPlaces, TooMany, NoRoom}
+use Rattle.world_meaning.specs.declared.fault.FaultCode.TheVariants.{NotUnderstood, Twice, WrongKind, TwoPlaces, TooMany, NoRoom}
 use Rattle.world_meaning.specs.declared.place.Place.{Place}
 use Rattle.world_meaning.specs.declared.place.Rel.TheVariants.{In}
 use Rattle.world_meaning.specs.declared.tale.Object.{Object}
@@ -23,7 +23,7 @@ use Rattle.object_words.specs.Words.{words_for}
 use Rattle.i7_kinds.specs.Firsts.{first_of}
 use Rattle.i7_kinds.specs.declared.descriptions.Description.{Description}
 use Rattle.i7_kinds.specs.declared.statements.NumberedSentence.{NumberedSentence}
-use Rattle.i7_kinds.specs.Statements.{NameAt, named_by, stated_by}
+use Rattle.i7_kinds.specs.Statements.{NameAt, is_meant, named_by, stated_by}
 
 -- the lower of two lines
 abbrev pub earlier : Option ℕ → Option ℕ → Option ℕ
@@ -135,6 +135,20 @@ or_refused (Some fault) tale = Err fault
 abbrev pub judged : List NumberedSentence → List NameAt → Result Tale Fault
 judged statements mentions = or_refused (first_of (frame_refusal statements mentions) (limit_refusal statements mentions)) (record { objects = objects_of statements mentions })
 
+abbrev pub is_unmeant : Sentence → Bool
+is_unmeant sentence = not (is_meant sentence.said)
+
+abbrev pub line_of_sentence : Sentence → ℕ
+line_of_sentence sentence = sentence.line
+
+-- C5: the first sentence whose assertion has no meaning yet
+abbrev pub unmeant : List Sentence → Option ℕ
+unmeant sentences = option_map line_of_sentence (find is_unmeant sentences)
+
+abbrev pub unless_unmeant : Option ℕ → Result Tale Fault → Result Tale Fault
+unless_unmeant None said = said
+unless_unmeant (Some line) said = Err (record { code = NotUnderstood; line = line })
+
 -- the tale of a source's sentences, or the refusal that stands
 abbrev pub tale_said : List Sentence → Result Tale Fault
-tale_said sentences = judged (stated_by sentences) ((named_by sentences).mentions)
+tale_said sentences = unless_unmeant (unmeant sentences) (judged (stated_by sentences) ((named_by sentences).mentions))

@@ -23,7 +23,7 @@ pub fn subject_of(fact: &Numbered) -> Option<usize>
     ensures { result ≡ subject_of fact.now }
 {
     match fact {
-        Numbered::Description(_) => None,
+        Numbered::Aside | Numbered::Description(_) => None,
         Numbered::Room(number) => Some(*number),
         Numbered::Way(way) => Some(way.subject),
     }
@@ -46,7 +46,7 @@ fn described_by<'a>(
             text: LentText::new(text.as_slice()),
             line: statement.line,
         }),
-        Numbered::Room(_) | Numbered::Way(_) => None,
+        Numbered::Aside | Numbered::Room(_) | Numbered::Way(_) => None,
     }
 }
 

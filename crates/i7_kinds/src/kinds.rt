@@ -12,6 +12,7 @@ fn is_wrong(before: Option<usize>, fact: &Numbered) -> bool
     ensures { result ≡ is_wrong before fact.now }
 {
     match fact {
+        Numbered::Aside => false,
         Numbered::Description(_) => before.is_none(),
         Numbered::Room(number) => *number < FIRST_OF_AUTHOR,
         Numbered::Way(way) => way.subject < FIRST_OF_AUTHOR || way.room < FIRST_OF_AUTHOR,

@@ -6,6 +6,7 @@ mod descriptions;
 mod kinds;
 mod lent_text;
 mod limits;
+mod meant;
 mod names;
 mod objects;
 mod quotes;

@@ -1,9 +1,10 @@
 //! The objects of a source by their names: 0 the player, 1 to 12 the directions, then the author's by
 //! first mention.
-ghost use Rattle.std.specs.Prelude.{◌≡◌, [], IfOk, OnOk};
+ghost use Rattle.std.specs.Prelude.{◌≡◌, [], fold, map, IfOk, OnOk};
 ghost use Rattle.i7_kinds.specs.Statements.{built_in_keys, key_of, named_by, number_in, number_of, with_name, with_names_of};
 ghost use Rattle.i7_kinds.specs.Views.{names_of};
 
+use crate::meant::rooms_in;
 use i7_sentences::{Assertion, Name, Sentence};
 use object_words::Strings;
 use std::alloc::{AllocError, Global};
@@ -85,6 +86,23 @@ fn take_up<'a>(
     Ok(())
 }
 
+/// Takes up the names of rooms.
+fn take_up_rooms<'a>(
+    alloc: Global,
+    names: &mut Names<'a>,
+    rooms: &'a [Name],
+    line: u32,
+) -> Result<(), AllocError>
+    ensures { OnOk result (names_of names.new ≡ fold with_name (names_of names.old) (map (λ name. record { name = name; line = line }) rooms.now)) }
+{
+    let mut rest = rooms;
+    while let [name, after @ ..] = rest {
+        take_up(alloc, names, name, line)?;
+        rest = after;
+    }
+    Ok(())
+}
+
 /// Takes up the names of a sentence, in the order of its words.
 fn take_up_all<'a>(
     alloc: Global,
@@ -95,8 +113,7 @@ fn take_up_all<'a>(
 {
     let line = sentence.line;
     match &sentence.said {
-        Assertion::Description(_) => Ok(()),
-        Assertion::Room(name) => take_up(alloc, names, name, line),
+        Assertion::Are(being) => take_up_rooms(alloc, names, rooms_in(being), line),
         Assertion::Way(way) => {
             let (first, second) = if way.is_room_first {
                 (&way.room, &way.subject)
@@ -106,6 +123,7 @@ fn take_up_all<'a>(
             take_up(alloc, names, first, line)?;
             take_up(alloc, names, second, line)
         }
+        _ => Ok(()),
     }
 }
 

@@ -1,17 +1,20 @@
 //! What the sentences of a source state, objects by their numbers.
 ghost use Rattle.std.specs.Prelude.{◌≡◌, IfOk, map};
-ghost use Rattle.i7_kinds.specs.Statements.{numbered_in, statement_in};
+ghost use Rattle.i7_kinds.specs.Statements.{numbered_in, numbered_room, statement_in};
 ghost use Rattle.i7_kinds.specs.Views.{names_of};
 
+use crate::meant::rooms_in;
 use crate::names::Names;
 use crate::quotes::printed;
-use i7_sentences::{Assertion, Sentence};
+use i7_sentences::{Assertion, Name, Sentence};
 use std::alloc::{AllocError, Global};
 use world_meaning::{Direction, TextBytes};
 
 /// An assertion, objects by their numbers.
 #[derive(Debug, Drop)]
 pub enum Numbered {
+    /// Nothing: a title, a heading, or what has no meaning yet.
+    Aside,
     /// A text as it is printed.
     Description(TextBytes),
     Room(usize),
@@ -33,17 +36,28 @@ pub struct NumberedSentence {
     pub line: u32,
 }
 
+/// The room of this name, if there is one.
+fn numbered_room(alloc: Global, names: &Names<'_>, rooms: &[Name]) -> Result<Numbered, AllocError>
+    ensures { IfOk result (λ numbered. numbered ≡ numbered_room (names_of names.now) rooms.now) }
+{
+    match rooms {
+        [] => Ok(Numbered::Aside),
+        [name, ..] => Ok(Numbered::Room(names.number_of(alloc, name)?)),
+    }
+}
+
 fn numbered_in(alloc: Global, names: &Names<'_>, said: &Assertion) -> Result<Numbered, AllocError>
     ensures { IfOk result (λ numbered. numbered ≡ numbered_in (names_of names.now) said.now) }
 {
     match said {
         Assertion::Description(text) => Ok(Numbered::Description(printed(alloc, text.as_slice())?)),
-        Assertion::Room(name) => Ok(Numbered::Room(names.number_of(alloc, name)?)),
+        Assertion::Are(being) => Ok(numbered_room(alloc, names, rooms_in(being))?),
         Assertion::Way(way) => Ok(Numbered::Way(NumberedWay {
             subject: names.number_of(alloc, &way.subject)?,
             direction: way.direction,
             room: names.number_of(alloc, &way.room)?,
         })),
+        _ => Ok(Numbered::Aside),
     }
 }
 

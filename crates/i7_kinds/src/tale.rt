@@ -11,6 +11,7 @@ ghost use Rattle.i7_kinds.specs.Views.{mentions_of};
 use crate::descriptions::Descriptions;
 use crate::kinds::wrong_kind;
 use crate::limits::{name_too_long, object_too_many, text_too_long};
+use crate::meant::unmeant;
 use crate::names::{Mention, names_of};
 use crate::objects::objects_of;
 use crate::reserved_names::taken_name;
@@ -123,6 +124,12 @@ fn judged(
 fn tale_said(alloc: Global, sentences: &[Sentence]) -> Result<Result<Tale, Fault>, AllocError>
     ensures { IfOk result (λ said. said ≡ tale_said sentences.now) }
 {
+    if let Some(line) = unmeant(sentences) {
+        return Ok(Err(Fault {
+            code: FaultCode::NotUnderstood,
+            line,
+        }));
+    }
     let names = names_of(alloc, sentences)?;
     let statements = statements_in(alloc, &names, sentences)?;
     let said = judged(alloc, names.mentions(), statements.as_slice())?;
@@ -130,7 +137,7 @@ fn tale_said(alloc: Global, sentences: &[Sentence]) -> Result<Result<Tale, Fault
 }
 
 /// The tale that the sentences mean, or the refusal that stands, each code being looked for in the
-/// whole source before the next, the lowest line first: C9, C8, C10, C12 of objects, C13, then C12
+/// whole source before the next, the lowest line first: C5 of what has no meaning yet, C9, C8, C10, C12 of objects, C13, then C12
 /// of names and texts. Memory is C14, at line 1.
 pub fn tale_of(alloc: Global, sentences: &[Sentence]) -> Result<Tale, Fault>
     ensures told { IfOk result (λ tale. tale_said sentences.now ≡ Ok tale) }

@@ -4,8 +4,8 @@ use Rattle.std.specs.Prelude.{not, ◌&&◌, ◌||◌, Option, Some, None, if◌
 use Rattle.std.specs.List.{list_all}
 use Rattle.i7_lexer.specs.declared.token.Token.{Token}
 use Rattle.i7_sentences.specs.Words.{is_word, is_text}
-use Rattle.i7_sentences.specs.Keywords.{is_sign}
-use Rattle.i7_sentences.specs.Classes.{IsRun, IsAlone, IsListed, IsNames, IsOf, is_joint, is_name_word, is_vertical, is_direction, is_inner, is_behind, is_side, is_number, is_head_token, ends_head, is_body}
+use Rattle.i7_sentences.specs.Keywords.{is_article, is_sign}
+use Rattle.i7_sentences.specs.Classes.{IsRun, IsAlone, IsListed, IsNames, IsOf, is_joint, is_name_word, is_vertical, is_direction, is_inner, is_behind, is_side, is_number, is_choice, is_head_token, ends_head, is_body}
 use Rattle.i7_sentences.specs.Classes.IsNames.{one_name, more_names}
 use Rattle.i7_sentences.specs.Automata.{accepts, alone_step, body_step, is_of, names_step, run_step, runs, side_start, side_step, step, then_runs}
 use Rattle.i7_sentences.specs.declared.keyword.Keyword.TheVariants as keyword
@@ -241,6 +241,11 @@ body_same (mark ∷ token ∷ tokens) = body_opens mark (token ∷ tokens) ∙ a
 -- what an automaton takes is of its class
 pub of_runs : (class : Class) (tokens : List Token) → is_of class tokens ≡ true → IsOf class tokens
 of_runs class.Words tokens taken = run_of class.Words is_word (λ state token. refl) tokens taken
+of_runs class.Name tokens taken = run_of class.Name is_word (λ state token. refl) tokens taken
+of_runs class.What tokens taken = run_of class.What is_word (λ state token. refl) tokens taken
+of_runs class.Usual tokens taken = run_of class.Usual is_word (λ state token. refl) tokens taken
+of_runs class.Article tokens taken = alone_of class.Article is_article (λ state token. refl) tokens taken
+of_runs class.Texts tokens taken = run_of class.Texts is_choice (λ state token. refl) tokens taken
 of_runs class.Names tokens taken = names_of tokens taken
 of_runs class.Side tokens taken = sym (side_same tokens) ∙ taken
 of_runs class.Number tokens taken = alone_of class.Number is_number (λ state token. refl) tokens taken
@@ -251,6 +256,11 @@ of_runs class.Body tokens taken = sym (body_same tokens) ∙ taken
 -- what is of a class its automaton takes
 pub runs_of : (class : Class) (tokens : List Token) → IsOf class tokens → is_of class tokens ≡ true
 runs_of class.Words tokens is = of_run class.Words is_word (λ state token. refl) tokens is
+runs_of class.Name tokens is = of_run class.Name is_word (λ state token. refl) tokens is
+runs_of class.What tokens is = of_run class.What is_word (λ state token. refl) tokens is
+runs_of class.Usual tokens is = of_run class.Usual is_word (λ state token. refl) tokens is
+runs_of class.Article tokens is = of_alone class.Article is_article (λ state token. refl) tokens is
+runs_of class.Texts tokens is = of_run class.Texts is_choice (λ state token. refl) tokens is
 runs_of class.Names tokens is = of_names tokens is
 runs_of class.Side tokens is = side_same tokens ∙ is
 runs_of class.Number tokens is = of_alone class.Number is_number (λ state token. refl) tokens is

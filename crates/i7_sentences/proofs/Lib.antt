@@ -9,6 +9,7 @@ pub mod Keywords
 pub mod Lists
 pub mod Lowest
 pub mod Missing
+pub mod Naming
 pub mod Sameness
 pub mod Spelling
 pub mod Seams

@@ -6,7 +6,6 @@ use Rattle.std.proofs.lemmas.List.Elements.{All-head, All-tail}
 use Rattle.i7_lexer.specs.declared.token.Token.{Token}
 use Rattle.i7_sentences.specs.Forms.{Variant, Fits, IsLonger, IsNoShorter, IsShortestFit, AreUnfit, IsReading, IsUnread}
 use Rattle.i7_sentences.specs.Matching.{Found, lowest_fit}
-use Rattle.i7_sentences.specs.declared.form.Form.{Form}
 use Rattle.i7_sentences.specs.declared.form.Piece.{Piece}
 use Rattle.i7_sentences.specs.declared.form.Piece.TheVariants.{Word, Letter}
 use Rattle.i7_sentences.proofs.Lists.{false-true, same_head, same_tail, before_total}
@@ -62,12 +61,12 @@ same_variant tokens (u ∷ before) after (v ∷ before') after' own other a b pl
     (record { fits = one.fits; shortest = one.shortest; earlier = All-tail (IsLonger tokens a) u before one.earlier; later = one.later })
     (record { fits = two.fits; shortest = two.shortest; earlier = All-tail (IsLonger tokens b) v before' two.earlier; later = two.later })
 
-pub fit_same : (variants : List Variant) (tokens : List Token) (form form' : Form) (a b : List (List Token)) → IsShortestFit variants tokens form a → IsShortestFit variants tokens form' b → (form ≡ form') × (a ≡ b)
-fit_same variants tokens form form' a b one two =
-    let same = same_variant tokens one.before one.after two.before two.after (record { form = form; pieces = one.pieces }) (record { form = form'; pieces = two.pieces }) a b (sym one.place ∙ two.place)
+pub fit_same : (variants : List Variant) (tokens : List Token) (v w : Variant) (a b : List (List Token)) → IsShortestFit variants tokens v a → IsShortestFit variants tokens w b → (v ≡ w) × (a ≡ b)
+fit_same variants tokens v w a b one two =
+    let same = same_variant tokens one.before one.after two.before two.after v w a b (sym one.place ∙ two.place)
     (record { fits = one.fits; shortest = one.shortest; earlier = one.earlier; later = one.later })
     (record { fits = two.fits; shortest = two.shortest; earlier = two.earlier; later = two.later }) in
-    (ap (λ v. v.form) same.variant, letters_same one.pieces tokens a b one.fits (subst (λ ps. Fits ps tokens b) (sym (ap (λ v. v.pieces) same.variant)) two.fits) same.lens)
+    (same.variant, letters_same v.pieces tokens a b one.fits (subst (λ other. Fits other.pieces tokens b) (sym same.variant) two.fits) same.lens)
 
 -- a form that fits is the first one that does
 pub same_split : {X : Type 0} (P : X → Type 0) (l : List X) (x : X) (h l' : List X) (x' : X) (h' : List X) → l ++ x ∷ h ≡ l' ++ x' ∷ h' → All P l → All P l' → (P x → ⊥) → (P x' → ⊥) → x ≡ x'
@@ -76,23 +75,23 @@ same_split P [] x h (b ∷ l') x' h' places one two not not' = absurd (not (subs
 same_split P (a ∷ l) x h [] x' h' places one two not not' = absurd (not' (subst P (same_head a x' (l ++ x ∷ h) h' places) (All-head P a l one)))
 same_split P (a ∷ l) x h (b ∷ l') x' h' places one two not not' = same_split P l x h l' x' h' (same_tail a b (l ++ x ∷ h) (l' ++ x' ∷ h') places) (All-tail P a l one) (All-tail P b l' two) not not'
 
-pub not_unfit : (variants : List Variant) (tokens : List Token) (form : Form) (letters : List (List Token)) → IsShortestFit variants tokens form letters → AreUnfit tokens variants → ⊥
-not_unfit variants tokens form letters fit unfit =
-    all_there (λ v. (others : List (List Token)) → Fits v.pieces tokens others → ⊥) fit.before (record { form = form; pieces = fit.pieces }) fit.after (subst (AreUnfit tokens) fit.place unfit) letters fit.fits
+pub not_unfit : (variants : List Variant) (tokens : List Token) (v : Variant) (letters : List (List Token)) → IsShortestFit variants tokens v letters → AreUnfit tokens variants → ⊥
+not_unfit variants tokens v letters fit unfit =
+    all_there (λ w. (others : List (List Token)) → Fits w.pieces tokens others → ⊥) fit.before v fit.after (subst (AreUnfit tokens) fit.place unfit) letters fit.fits
 
-pub reading_same : (forms : List (List Variant)) (tokens : List Token) (form form' : Form) (a b : List (List Token)) → IsReading forms tokens form a → IsReading forms tokens form' b → (form ≡ form') × (a ≡ b)
-reading_same forms tokens form form' a b one two =
-    let same : one.variants ≡ two.variants = same_split (AreUnfit tokens) one.lower one.variants one.higher two.lower two.variants two.higher (sym one.place ∙ two.place) one.lowest two.lowest (not_unfit one.variants tokens form a one.fit) (not_unfit two.variants tokens form' b two.fit) in
-    fit_same one.variants tokens form form' a b one.fit (subst (λ vs. IsShortestFit vs tokens form' b) (sym same) two.fit)
+pub reading_same : (forms : List (List Variant)) (tokens : List Token) (v w : Variant) (a b : List (List Token)) → IsReading forms tokens v a → IsReading forms tokens w b → (v ≡ w) × (a ≡ b)
+reading_same forms tokens v w a b one two =
+    let same : one.variants ≡ two.variants = same_split (AreUnfit tokens) one.lower one.variants one.higher two.lower two.variants two.higher (sym one.place ∙ two.place) one.lowest two.lowest (not_unfit one.variants tokens v a one.fit) (not_unfit two.variants tokens w b two.fit) in
+    fit_same one.variants tokens v w a b one.fit (subst (λ vs. IsShortestFit vs tokens w b) (sym same) two.fit)
 
-pub never_both : (forms : List (List Variant)) (tokens : List Token) (form : Form) (letters : List (List Token)) → IsReading forms tokens form letters → IsUnread forms tokens → ⊥
-never_both forms tokens form letters reading unread =
-    not_unfit reading.variants tokens form letters reading.fit (all_there (AreUnfit tokens) reading.lower reading.variants reading.higher (subst (All (AreUnfit tokens)) reading.place unread))
+pub never_both : (forms : List (List Variant)) (tokens : List Token) (v : Variant) (letters : List (List Token)) → IsReading forms tokens v letters → IsUnread forms tokens → ⊥
+never_both forms tokens v letters reading unread =
+    not_unfit reading.variants tokens v letters reading.fit (all_there (AreUnfit tokens) reading.lower reading.variants reading.higher (subst (All (AreUnfit tokens)) reading.place unread))
 
-pub read_or_not : (forms : List (List Variant)) (tokens : List Token) → ((form : Form) × (letters : List (List Token)) × IsReading forms tokens form letters) ⊎ IsUnread forms tokens
+pub read_or_not : (forms : List (List Variant)) (tokens : List Token) → ((v : Variant) × (letters : List (List Token)) × IsReading forms tokens v letters) ⊎ IsUnread forms tokens
 read_or_not forms tokens =
-    let Goal : Option Found → Type 0 = λ found. ReadAs forms tokens found → ((form : Form) × (letters : List (List Token)) × IsReading forms tokens form letters) ⊎ IsUnread forms tokens
+    let Goal : Option Found → Type 0 = λ found. ReadAs forms tokens found → ((v : Variant) × (letters : List (List Token)) × IsReading forms tokens v letters) ⊎ IsUnread forms tokens
     in (elim (lowest_fit forms tokens) as Goal [
       | None ↦ λ unread. inr unread
-      | Some found ↦ λ reading. inl (found.form, found.letters, reading)
+      | Some found ↦ λ reading. inl (found.variant, found.letters, reading)
     ]) (read_as forms tokens)

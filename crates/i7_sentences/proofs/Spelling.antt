@@ -5,11 +5,11 @@ use Rattle.std.specs.List.{AllZip, filter_map}
 use Rattle.std.proofs.lemmas.List.Elements.{All-nil, All-cons, All-head, All-tail}
 use Rattle.i7_sentences.specs.Cuts.{Piece}
 use Rattle.i7_sentences.specs.Read.{heard_in, is_reserving, line_of, sentence_in}
-use Rattle.i7_sentences.specs.Sources.{HasReservedName, IsNowhere, IsSentence, SaysNothing}
+use Rattle.i7_sentences.specs.Sources.{HasReservedName, IsNowhere, IsSentence, Says, SaysNothing}
 use Rattle.i7_sentences.specs.declared.reader.Heard.{Heard}
 use Rattle.i7_sentences.specs.declared.sentence.Sentence.{Sentence}
 use Rattle.i7_sentences.proofs.Lists.{false-true}
-use Rattle.i7_sentences.proofs.Understanding.{heard_is, is_heard, reserved_decides, unread_decides}
+use Rattle.i7_sentences.proofs.Understanding.{is_heard, is_said, reserved_decides, unread_decides}
 
 sentence_by : Piece → Heard → Sentence
 sentence_by part heard = record { said = heard.said; line = line_of part }
@@ -39,7 +39,10 @@ says_freely part read free =
 
 freely_said : (part : Piece) (first : SaysFreely part) → IsSentence part (sentence_by part first.heard)
 unfolding sentence_by
-freely_said part first = let heard = is_heard part first.heard first.is in record { says = heard.says; free = heard.reserved ∙ first.free; line_is = refl }
+freely_said part first = record {
+  says = subst (Says part.kind part.tokens) (ap (λ reserved. record { said = first.heard.said; has_reserved_name = reserved }) first.free) (is_said part first.heard first.is);
+  line_is = refl;
+}
 
 pub spelled : (parts : List Piece) → IsNowhere SaysNothing parts → IsNowhere HasReservedName parts → AllZip IsSentence parts (filter_map sentence_in parts)
 spelled [] read free = tt
@@ -56,7 +59,7 @@ pub record AreSaid (parts : List Piece) (sentences : List Sentence) : Type 0 whe
   pub said : filter_map sentence_in parts ≡ sentences
 
 sentence_heard : (part : Piece) (sentence : Sentence) → IsSentence part sentence → heard_in part ≡ Some (record { said = sentence.said; has_reserved_name = false })
-sentence_heard part sentence is = heard_is part (record { said = sentence.said; has_reserved_name = false }) (record { says = is.says; reserved = is.free })
+sentence_heard part sentence is = is_heard part (record { said = sentence.said; has_reserved_name = false }) is.says
 
 first_same : (part : Piece) (parts : List Piece) (sentence : Sentence) → IsSentence part sentence → filter_map sentence_in (part ∷ parts) ≡ sentence ∷ filter_map sentence_in parts
 unfolding sentence_by
@@ -72,7 +75,7 @@ are_said (part ∷ parts) (sentence ∷ sentences) said =
     let more = are_said parts sentences said.1 in
     let heard = sentence_heard part sentence said.0 in
     record {
-      read = All-cons (λ p. SaysNothing p → ⊥) part parts (λ none. none sentence.said (said.0).says) more.read;
+      read = All-cons (λ p. SaysNothing p → ⊥) part parts (λ none. none (record { said = sentence.said; has_reserved_name = false }) (said.0).says) more.read;
       free = All-cons (λ p. HasReservedName p → ⊥) part parts (λ name. false-true (sym (ap is_reserving heard) ∙ (reserved_decides part).1 name)) more.free;
       said = first_same part parts sentence said.0 ∙ ap (λ ss. sentence ∷ ss) more.said;
     }

@@ -1,39 +1,112 @@
 -- What a form says with its letters, if it is part of the language so far.
-use Rattle.std.specs.Prelude.{ℕ, Bool, true, false, not, ◌||◌, ◌==◌, List, [], ◌∷◌, Option, Some, None, if◌then◌else◌}
+use Rattle.std.specs.Prelude.{ℕ, ℤ, Bool, true, false, not, ◌==◌, List, [], ◌∷◌, map, Option, Some, None, if◌then◌else◌}
 use Rattle.std.specs.List.{list_all}
 use Rattle.world_meaning.specs.declared.direction.Direction.{Direction}
 use Rattle.world_meaning.specs.declared.direction.Direction.TheVariants.{Up, Down}
+use Rattle.world_meaning.specs.declared.place.Rel.{Rel}
 use Rattle.i7_lexer.specs.declared.token.Token.{Token}
 use Rattle.i7_lexer.specs.declared.token.TokenKind.{TokenKind}
 use Rattle.i7_lexer.specs.declared.token.TokenKind.TheVariants.{Text, Word, Mark}
 use Rattle.i7_sentences.specs.Keywords.{is_sign}
-use Rattle.i7_sentences.specs.Names.{is_reserved_name, is_single, name_of}
+use Rattle.i7_sentences.specs.Literals.{literal_of}
+use Rattle.i7_sentences.specs.Names.{joined, name_of, names_from}
 use Rattle.i7_sentences.specs.Words.{word_of, direction_named}
 use Rattle.i7_sentences.specs.declared.keyword.Keyword.TheVariants as keyword
 use Rattle.i7_sentences.specs.declared.form.Form.{Form}
 use Rattle.i7_sentences.specs.declared.form.Form.TheVariants as form
+use Rattle.i7_sentences.specs.declared.name.Name.{Name}
 use Rattle.i7_sentences.specs.declared.sentence.Assertion.{Assertion}
 use Rattle.i7_sentences.specs.declared.sentence.Assertion.TheVariants as assertion
+use Rattle.i7_sentences.specs.declared.sentence.Holder.{Holder}
+use Rattle.i7_sentences.specs.declared.sentence.Side.{Side}
 
 -- a text that may describe: brackets that open have no meaning yet
 abbrev pub is_plain : List ℕ → Bool
 is_plain text = list_all (λ b. not (b == 91)) text
 
-abbrev pub text_assertion : TokenKind → Option Assertion
-text_assertion (Text text) = if is_plain text then Some (assertion.Description text) else None
-text_assertion (Word word) = None
-text_assertion (Mark mark) = None
+abbrev pub plain_text_in : TokenKind → Option (List ℕ)
+plain_text_in (Text text) = if is_plain text then Some text else None
+plain_text_in (Word word) = None
+plain_text_in (Mark mark) = None
 
-abbrev pub lone_assertion : List Token → Option Assertion
-lone_assertion [] = None
-lone_assertion (token ∷ []) = text_assertion token.kind
-lone_assertion (token ∷ next ∷ more) = None
+-- the text that a letter is
+abbrev pub plain_text : List Token → Option (List ℕ)
+plain_text (token ∷ []) = plain_text_in token.kind
+plain_text _ = None
+
+-- the number that a letter is
+abbrev pub number_in : List Token → ℤ
+number_in (token ∷ tokens) = literal_of (word_of token)
+number_in [] = literal_of []
+
+abbrev pub names_in : List Token → List Name
+names_in letter = map name_of (names_from true letter)
+
+abbrev pub described : Option (List ℕ) → Option Assertion
+described None = None
+described (Some text) = Some (assertion.Description text)
 
 -- a text alone
-abbrev pub description_assertion : List (List Token) → Option Assertion
-description_assertion [] = None
-description_assertion (text ∷ []) = lone_assertion text
-description_assertion (text ∷ next ∷ more) = None
+abbrev pub description : List (List Token) → Option Assertion
+description (text ∷ []) = described (plain_text text)
+description _ = None
+
+abbrev pub rulebook : List (List Token) → Option Assertion
+rulebook (name ∷ []) = Some (assertion.Rulebook (name_of name))
+rulebook _ = None
+
+abbrev pub scene : Bool → List (List Token) → Option Assertion
+scene is_recurring (name ∷ []) = Some (assertion.Scene (name_of name) is_recurring)
+scene is_recurring _ = None
+
+abbrev pub kind_of_kind : List (List Token) → Option Assertion
+kind_of_kind (kind ∷ parent ∷ []) = Some (assertion.KindOfKind (name_of kind) (name_of parent))
+kind_of_kind _ = None
+
+abbrev pub either_of : List Token → List Token → List Token → Option Assertion
+either_of kind first second = Some (assertion.EitherOr (name_of kind) (name_of first) (Some (name_of second)))
+
+abbrev pub can_be : List (List Token) → Option Assertion
+can_be (kind ∷ first ∷ []) = Some (assertion.EitherOr (name_of kind) (name_of first) None)
+can_be _ = None
+
+abbrev pub can_be_either : List (List Token) → Option Assertion
+can_be_either (kind ∷ first ∷ second ∷ []) = either_of kind first second
+can_be_either _ = None
+
+abbrev pub number_property : List (List Token) → Option Assertion
+number_property (kind ∷ property ∷ []) = Some (assertion.NumberProperty (name_of kind) (name_of property))
+number_property _ = None
+
+abbrev pub usually : List (List Token) → Option Assertion
+usually (kind ∷ adjectives ∷ []) = Some (assertion.Usually (name_of kind) (joined adjectives))
+usually _ = None
+
+abbrev pub usually_number : List (List Token) → Option Assertion
+usually_number (property ∷ kind ∷ number ∷ []) = Some (assertion.UsuallyNumber (name_of property) (name_of kind) (number_in number))
+usually_number _ = None
+
+abbrev pub variable : List (List Token) → Option Assertion
+variable (name ∷ []) = Some (assertion.Variable (name_of name))
+variable _ = None
+
+abbrev pub described_object : List Token → Option (List ℕ) → Option Assertion
+described_object object None = None
+described_object object (Some text) = Some (assertion.DescriptionOf (name_of object) text)
+
+-- perhaps behind an article that opens the form
+abbrev pub description_of : List (List Token) → Option Assertion
+description_of (object ∷ text ∷ []) = described_object object (plain_text text)
+description_of (article ∷ object ∷ text ∷ []) = described_object object (plain_text text)
+description_of _ = None
+
+abbrev pub number_of : List (List Token) → Option Assertion
+number_of (property ∷ object ∷ number ∷ []) = Some (assertion.NumberOf (name_of property) (name_of object) (number_in number))
+number_of _ = None
+
+abbrev pub variable_is : List (List Token) → Option Assertion
+variable_is (variable ∷ number ∷ []) = Some (assertion.VariableIs (name_of variable) (number_in number))
+variable_is _ = None
 
 -- the direction of `above`, `below`, or a direction's name
 abbrev pub direction_at : Token → Option Direction
@@ -49,46 +122,70 @@ abbrev pub way_assertion : List Token → Option Direction → List Token → Bo
 way_assertion subject None room is_room_first = None
 way_assertion subject (Some direction) room is_room_first = Some (assertion.Way (record { subject = name_of subject; direction = direction; room = name_of room; is_room_first = is_room_first }))
 
--- of two names, and the side of the one on which the other lies, the room's is the first or the second
-abbrev pub way_of : Bool → List (List Token) → Option Assertion
-way_of is_room_first [] = None
-way_of is_room_first (first ∷ []) = None
-way_of is_room_first (first ∷ second ∷ []) = None
-way_of is_room_first (first ∷ second ∷ third ∷ []) =
-    if is_room_first then way_assertion third (side_direction first) second true
-    else way_assertion first (side_direction second) third false
-way_of is_room_first (first ∷ second ∷ third ∷ fourth ∷ more) = None
+abbrev pub way_to : List (List Token) → Option Assertion
+way_to (subject ∷ side ∷ room ∷ []) = way_assertion subject (side_direction side) room false
+way_to _ = None
 
--- a room; a list of rooms isn't read yet
-abbrev pub room_assertion : List (List Token) → Option Assertion
-room_assertion [] = None
-room_assertion (names ∷ []) = if is_single names then Some (assertion.Room (name_of names)) else None
-room_assertion (names ∷ next ∷ more) = None
+abbrev pub way_from : List (List Token) → Option Assertion
+way_from (side ∷ room ∷ subject ∷ []) = way_assertion subject (side_direction side) room true
+way_from _ = None
+
+abbrev pub side_of : Option Direction → List Token → Option Side
+side_of None room = None
+side_of (Some direction) room = Some (record { direction = direction; room = name_of room })
+
+abbrev pub door_between : List Token → Option Side → Option Side → Option Assertion
+door_between door None second = None
+door_between door (Some first) None = None
+door_between door (Some first) (Some second) = Some (assertion.Door (name_of door) first second)
+
+abbrev pub door_to : List (List Token) → Option Assertion
+door_to (door ∷ side ∷ room ∷ other ∷ behind ∷ []) = door_between door (side_of (side_direction side) room) (side_of (side_direction other) behind)
+door_to _ = None
+
+abbrev pub holds : Rel → List (List Token) → Option Assertion
+holds relation (holder ∷ things ∷ []) = Some (assertion.Holds (name_of holder) relation (names_in things))
+holds relation _ = None
+
+abbrev pub being : List Token → List Token → Option Holder → Option Assertion
+being subjects what place = Some (assertion.Are (record { subjects = names_in subjects; what = joined what; place = place }))
+
+abbrev pub holder_by : Rel → List Token → Option Holder
+holder_by relation holder = Some (record { relation = relation; name = name_of holder })
+
+abbrev pub held : Rel → List (List Token) → Option Assertion
+held relation (subjects ∷ holder ∷ []) = being subjects [] (holder_by relation holder)
+held relation _ = None
+
+abbrev pub what_held : Rel → List (List Token) → Option Assertion
+what_held relation (subjects ∷ what ∷ holder ∷ []) = being subjects what (holder_by relation holder)
+what_held relation _ = None
+
+abbrev pub are : List (List Token) → Option Assertion
+are (subjects ∷ what ∷ []) = being subjects what None
+are _ = None
 
 -- what a form says with these letters
 unfoldable pub assertion_of : Form → List (List Token) → Option Assertion
-assertion_of form.Description letters = description_assertion letters
-assertion_of form.WayTo letters = way_of false letters
-assertion_of form.WayFrom letters = way_of true letters
-assertion_of form.Room letters = room_assertion letters
+assertion_of form.Description letters = description letters
+assertion_of form.Rulebook letters = rulebook letters
+assertion_of form.Scene letters = scene false letters
+assertion_of form.RecurringScene letters = scene true letters
+assertion_of form.KindOfKind letters = kind_of_kind letters
+assertion_of form.CanBe letters = can_be letters
+assertion_of form.CanBeEither letters = can_be_either letters
+assertion_of form.NumberProperty letters = number_property letters
+assertion_of form.Usually letters = usually letters
+assertion_of form.UsuallyNumber letters = usually_number letters
+assertion_of form.Variable letters = variable letters
+assertion_of form.DescriptionOf letters = description_of letters
+assertion_of form.NumberOf letters = number_of letters
+assertion_of form.DoorTo letters = door_to letters
+assertion_of form.WayTo letters = way_to letters
+assertion_of form.WayFrom letters = way_from letters
+assertion_of (form.Holds relation) letters = holds relation letters
+assertion_of form.VariableIs letters = variable_is letters
+assertion_of (form.Held relation) letters = held relation letters
+assertion_of (form.WhatHeld relation) letters = what_held relation letters
+assertion_of form.Is letters = are letters
 assertion_of _ letters = None
-
-abbrev pub has_reserved_end : Bool → List (List Token) → Bool
-has_reserved_end is_room_first [] = false
-has_reserved_end is_room_first (first ∷ []) = false
-has_reserved_end is_room_first (first ∷ second ∷ []) = false
-has_reserved_end is_room_first (first ∷ second ∷ third ∷ []) =
-    if is_room_first then is_reserved_name second || is_reserved_name third
-    else is_reserved_name first || is_reserved_name third
-has_reserved_end is_room_first (first ∷ second ∷ third ∷ fourth ∷ more) = false
-
-abbrev pub has_reserved_first : List (List Token) → Bool
-has_reserved_first [] = false
-has_reserved_first (name ∷ more) = is_reserved_name name
-
--- whether a name among the letters holds a reserved word
-unfoldable pub has_reserved_name : Form → List (List Token) → Bool
-has_reserved_name form.WayTo letters = has_reserved_end false letters
-has_reserved_name form.WayFrom letters = has_reserved_end true letters
-has_reserved_name form.Room letters = has_reserved_first letters
-has_reserved_name _ letters = false

@@ -2,8 +2,8 @@
 use Rattle.std.specs.Prelude.{Bool, true, false, List, [], ◌∷◌, Option, Some, None, if◌then◌else◌}
 use Rattle.i7_lexer.specs.declared.token.Token.{Token}
 use Rattle.i7_sentences.specs.Words.{is_word, is_text}
-use Rattle.i7_sentences.specs.Keywords.{is_sign}
-use Rattle.i7_sentences.specs.Classes.{is_joint, is_name_word, is_vertical, is_direction, is_inner, is_number, is_head_token, ends_head}
+use Rattle.i7_sentences.specs.Keywords.{is_article, is_sign}
+use Rattle.i7_sentences.specs.Classes.{is_joint, is_name_word, is_vertical, is_direction, is_inner, is_number, is_choice, is_head_token, ends_head}
 use Rattle.i7_sentences.specs.declared.keyword.Keyword.TheVariants as keyword
 use Rattle.i7_sentences.specs.declared.class.Class.{Class}
 use Rattle.i7_sentences.specs.declared.class.Class.TheVariants as class
@@ -50,10 +50,15 @@ body_step Beside token = None
 -- how far a letter is read behind one more token, if it may go on with it
 abbrev pub step : Class → State → Token → Option State
 step class.Words state token = run_step (is_word token)
+step class.Name state token = run_step (is_word token)
 step class.Names state token = names_step state token
+step class.What state token = run_step (is_word token)
+step class.Usual state token = run_step (is_word token)
+step class.Article state token = alone_step state (is_article token)
 step class.Side state token = side_step state token
 step class.Number state token = alone_step state (is_number token)
 step class.Text state token = alone_step state (is_text token)
+step class.Texts state token = run_step (is_choice token)
 step class.Head state token = run_step (is_head_token token)
 step class.Body state token = body_step state token
 

@@ -3,7 +3,7 @@ use Rattle.std.specs.Prelude.{◌≡◌, ◌≢◌, Bool, true, false, not, ◌&
 use Rattle.std.specs.List.{list_all}
 use Rattle.i7_lexer.specs.declared.token.Token.{Token}
 use Rattle.i7_sentences.specs.Words.{word_of, is_word, is_text, direction_named}
-use Rattle.i7_sentences.specs.Keywords.{is_sign}
+use Rattle.i7_sentences.specs.Keywords.{is_article, is_sign}
 use Rattle.i7_sentences.specs.Literals.{is_literal}
 use Rattle.i7_sentences.specs.declared.keyword.Keyword.TheVariants as keyword
 use Rattle.i7_sentences.specs.declared.class.Class.{Class}
@@ -61,6 +61,10 @@ is_side (token ∷ next ∷ third ∷ more) = false
 unfoldable pub is_number : Token → Bool
 is_number token = is_literal (word_of token)
 
+-- a text, or the `or` between texts
+unfoldable pub is_choice : Token → Bool
+is_choice token = is_text token || is_sign keyword.Or token
+
 -- a word or a round bracket, as they stand in a rule's head
 unfoldable pub is_head_token : Token → Bool
 is_head_token token = is_word token || is_sign keyword.Open token || is_sign keyword.Close token
@@ -78,9 +82,14 @@ is_body (mark ∷ first ∷ more) = ends_head mark
 -- a letter of the class may stand for these words
 abbrev pub IsOf : Class → List Token → Type 0
 IsOf class.Words tokens = IsRun is_word tokens
+IsOf class.Name tokens = IsRun is_word tokens
 IsOf class.Names tokens = IsNames tokens
+IsOf class.What tokens = IsRun is_word tokens
+IsOf class.Usual tokens = IsRun is_word tokens
+IsOf class.Article tokens = IsAlone is_article tokens
 IsOf class.Side tokens = is_side tokens ≡ true
 IsOf class.Number tokens = IsAlone is_number tokens
 IsOf class.Text tokens = IsAlone is_text tokens
+IsOf class.Texts tokens = IsRun is_choice tokens
 IsOf class.Head tokens = IsRun is_head_token tokens
 IsOf class.Body tokens = is_body tokens ≡ true

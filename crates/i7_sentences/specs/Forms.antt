@@ -65,13 +65,12 @@ IsNoShorter tokens letters variant = (others : List (List Token)) → Fits varia
 
 -- Of all ways in which a form's variants fit the words, this has the shortest first letter, then
 -- the shortest second, and so on, and of those with as long letters its variant stands first.
-pub record IsShortestFit (variants : List Variant) (tokens : List Token) (form : Form) (letters : List (List Token)) : Type 0 where
+pub record IsShortestFit (variants : List Variant) (tokens : List Token) (variant : Variant) (letters : List (List Token)) : Type 0 where
   pub before : List Variant
-  pub pieces : List Piece
   pub after : List Variant
-  pub place : variants ≡ before ++ record { form = form; pieces = pieces } ∷ after
-  pub fits : Fits pieces tokens letters
-  pub shortest : IsNoShorter tokens letters (record { form = form; pieces = pieces })
+  pub place : variants ≡ before ++ variant ∷ after
+  pub fits : Fits variant.pieces tokens letters
+  pub shortest : IsNoShorter tokens letters variant
   pub earlier : All (IsLonger tokens letters) before
   pub later : All (IsNoShorter tokens letters) after
 
@@ -80,13 +79,13 @@ abbrev pub AreUnfit : List Token → List Variant → Type 0
 AreUnfit tokens variants = All (IsUnfit tokens) variants
 
 -- No lower form fits, and this is the shortest fit of one of its variants.
-pub record IsReading (forms : List (List Variant)) (tokens : List Token) (form : Form) (letters : List (List Token)) : Type 0 where
+pub record IsReading (forms : List (List Variant)) (tokens : List Token) (variant : Variant) (letters : List (List Token)) : Type 0 where
   pub lower : List (List Variant)
   pub variants : List Variant
   pub higher : List (List Variant)
   pub place : forms ≡ lower ++ variants ∷ higher
   pub lowest : All (AreUnfit tokens) lower
-  pub fit : IsShortestFit variants tokens form letters
+  pub fit : IsShortestFit variants tokens variant letters
 
 -- no form fits
 abbrev pub IsUnread : List (List Variant) → List Token → Type 0

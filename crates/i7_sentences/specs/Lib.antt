@@ -10,6 +10,7 @@ pub mod Names
 pub mod Pieces
 pub mod Read
 pub mod Assertions
+pub mod Reserved
 pub mod Seams
 pub mod Sources
 pub mod Tags

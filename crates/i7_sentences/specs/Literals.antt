@@ -1,5 +1,5 @@
 -- Literal numbers.
-use Rattle.std.specs.Prelude.{ℕ, ◌-◌, ◌*◌, ◌+◌, Bool, false, not, ◌&&◌, ◌==◌, nat_lt, List, [], ◌∷◌, length, fold, if◌then◌else◌}
+use Rattle.std.specs.Prelude.{ℕ, ℤ, pos, ◌-ℤ◌, min, ◌-◌, ◌*◌, ◌+◌, Bool, false, not, ◌&&◌, ◌==◌, nat_lt, List, [], ◌∷◌, length, fold, if◌then◌else◌}
 use Rattle.std.specs.List.{list_all}
 use Rattle.std.specs.Char.{is_ascii_digit}
 
@@ -31,3 +31,11 @@ most_of word = if is_negative word then 2147483648 else 2147483647
 
 abbrev pub is_out_of_range : List ℕ → Bool
 is_out_of_range word = is_literal word && nat_lt (most_of word) (magnitude (digits_of word))
+
+-- the size of the number that a literal spells; what is out of range stops at the range's end
+abbrev pub size_of : List ℕ → ℕ
+size_of word = min (magnitude (digits_of word)) (most_of word)
+
+-- the number that a literal spells
+abbrev pub literal_of : List ℕ → ℤ
+literal_of word = if is_negative word then pos 0 -ℤ pos (size_of word) else pos (size_of word)

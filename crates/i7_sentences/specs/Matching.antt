@@ -10,7 +10,6 @@ use Rattle.i7_sentences.specs.declared.keyword.Keyword.{Keyword}
 use Rattle.i7_sentences.specs.declared.class.Class.{Class}
 use Rattle.i7_sentences.specs.declared.class.State.{State}
 use Rattle.i7_sentences.specs.declared.class.State.TheVariants.{Start, Inside, Between, Beside}
-use Rattle.i7_sentences.specs.declared.form.Form.{Form}
 use Rattle.i7_sentences.specs.declared.form.Piece.{Piece}
 use Rattle.i7_sentences.specs.declared.form.Piece.TheVariants.{Word, Letter}
 use Rattle.i7_sentences.specs.declared.lookahead.Ahead.{Ahead}
@@ -138,11 +137,11 @@ columns_of (piece ∷ pieces) tokens = columns_of pieces tokens ++ first_column 
 
 -- a variant that fits, and the words for its letters
 pub record Found : Type 0 where
-  pub form : Form
+  pub variant : Variant
   pub letters : List (List Token)
 
-abbrev pub found_as : Form → Option (List (List Token)) → Option Found
-found_as form letters = option_map (λ words. record { form = form; letters = words }) letters
+abbrev pub found_as : Variant → Option (List (List Token)) → Option Found
+found_as variant letters = option_map (λ words. record { variant = variant; letters = words }) letters
 
 -- the later one only if its letters are shorter
 abbrev pub preferred : Option Found → Option Found → Option Found
@@ -153,7 +152,7 @@ preferred (Some first) (Some later) = if are_shorter later.letters first.letters
 -- the fit with the shortest letters, of as short ones the first
 abbrev pub best_fit : List Variant → List Token → Option Found
 best_fit [] tokens = None
-best_fit (variant ∷ variants) tokens = preferred (found_as variant.form (first_fit variant.pieces tokens)) (best_fit variants tokens)
+best_fit (variant ∷ variants) tokens = preferred (found_as variant (first_fit variant.pieces tokens)) (best_fit variants tokens)
 
 abbrev pub or_later : Option Found → Option Found → Option Found
 or_later None later = later

@@ -1,9 +1,8 @@
 -- Names as sentences mention them.
-use Rattle.std.specs.Prelude.{ℕ, fold, Bool, false, not, List, [], ◌∷◌, ◌++◌, if◌then◌else◌}
-use Rattle.std.specs.List.{list_any}
+use Rattle.std.specs.Prelude.{ℕ, ◌+◌, true, ℕ, fold, Bool, false, not, List, [], ◌∷◌, ◌++◌, if◌then◌else◌}
 use Rattle.i7_lexer.specs.declared.token.Token.{Token}
 use Rattle.i7_sentences.specs.Classes.{is_joint}
-use Rattle.i7_sentences.specs.Keywords.{is_article, is_reserved, is_sign}
+use Rattle.i7_sentences.specs.Keywords.{is_article, is_sign}
 use Rattle.i7_sentences.specs.Words.{word_of}
 use Rattle.i7_sentences.specs.declared.keyword.Keyword.TheVariants as keyword
 use Rattle.i7_sentences.specs.declared.name.Name.{Name}
@@ -39,13 +38,29 @@ with_word (b ∷ bs) word = (b ∷ bs) ++ 32 ∷ word_of word
 abbrev pub joined : List Token → List ℕ
 joined words = fold with_word [] words
 
-abbrev pub name_of : List Token → Name
+-- the name that words mention
+unfoldable pub name_of : List Token → Name
 name_of letter = record { text = joined (name_words letter); article = article_of letter }
 
--- whether a list of names is one name
-abbrev pub is_single : List Token → Bool
-is_single letter = not (list_any is_joint (rest_of letter))
+-- a word goes in front of the first name
+abbrev pub onto_name : Token → List (List Token) → List (List Token)
+onto_name word [] = (word ∷ []) ∷ []
+onto_name word (name ∷ names) = (word ∷ name) ∷ names
 
--- whether a name holds a reserved word
-abbrev pub is_reserved_name : List Token → Bool
-is_reserved_name letter = list_any is_reserved (name_words letter)
+-- the names of a list, from its first word or from within a name: what parts two names is in none, and
+-- the first word of a name parts none
+abbrev pub names_from : Bool → List Token → List (List Token)
+names_from true [] = []
+names_from false [] = [] ∷ []
+names_from true (word ∷ words) = onto_name word (names_from false words)
+names_from false (word ∷ words) = if is_joint word then [] ∷ names_from true words else onto_name word (names_from false words)
+
+-- how many words stand in front of the first that parts two names
+abbrev pub unjoined : List Token → ℕ
+unjoined [] = 0
+unjoined (word ∷ words) = if is_joint word then 0 else 1 + unjoined words
+
+-- how many words the first name of a list has
+abbrev pub name_len : List Token → ℕ
+name_len [] = 0
+name_len (word ∷ words) = 1 + unjoined words

@@ -9,12 +9,14 @@ use Rattle.i7_sentences.specs.Cuts.{Piece, parts_of}
 use Rattle.i7_sentences.specs.Forms.{all_forms}
 use Rattle.i7_sentences.specs.Literals.{is_out_of_range}
 use Rattle.i7_sentences.specs.Matching.{Found, lowest_fit}
-use Rattle.i7_sentences.specs.Assertions.{assertion_of, has_reserved_name}
+use Rattle.i7_sentences.specs.Assertions.{assertion_of}
+use Rattle.i7_sentences.specs.Reserved.{has_reserved_among}
 use Rattle.i7_sentences.specs.Words.{word_of}
 use Rattle.i7_sentences.specs.declared.part.PartKind.{PartKind}
 use Rattle.i7_sentences.specs.declared.part.PartKind.TheVariants.{Title, Heading, Sentence as Said}
 use Rattle.i7_sentences.specs.declared.reader.Heard.{Heard}
 use Rattle.i7_sentences.specs.declared.sentence.Assertion.{Assertion}
+use Rattle.i7_sentences.specs.declared.sentence.Assertion.TheVariants as assertion
 use Rattle.i7_sentences.specs.declared.sentence.Sentence.{Sentence}
 
 abbrev pub line_in : List Token → ℕ
@@ -40,15 +42,20 @@ heard_as is_reserved (Some said) = Some (record { said = said; has_reserved_name
 
 abbrev pub heard_by : Option Found → Option Heard
 heard_by None = None
-heard_by (Some found) = heard_as (has_reserved_name found.form found.letters) (assertion_of found.form found.letters)
+heard_by (Some found) = heard_as (has_reserved_among found.variant.pieces found.letters) (assertion_of found.variant.form found.letters)
 
-abbrev pub heard_if : Bool → List Token → Option Heard
-heard_if true tokens = heard_by (lowest_fit all_forms tokens)
-heard_if false tokens = None
+-- a title or a heading asserts nothing
+abbrev pub aside : Heard
+aside = record { said = assertion.Aside; has_reserved_name = false }
 
--- what a part says, if it is understood; titles and headings aren't read yet
+abbrev pub heard_of : PartKind → List Token → Option Heard
+heard_of Title tokens = Some aside
+heard_of Heading tokens = Some aside
+heard_of Said tokens = heard_by (lowest_fit all_forms tokens)
+
+-- what a part says, if it is understood
 unfoldable pub heard_in : Piece → Option Heard
-heard_in part = heard_if (is_sentence part.kind) part.tokens
+heard_in part = heard_of part.kind part.tokens
 
 abbrev pub is_unread : Piece → Bool
 is_unread part = is_none (heard_in part)

@@ -6,38 +6,44 @@ use Rattle.world_meaning.specs.declared.fault.FaultCode.{FaultCode}
 use Rattle.world_meaning.specs.declared.fault.FaultCode.TheVariants.{NumberOutOfRange, NotUnderstood, ReservedWord, Memory}
 use Rattle.i7_lexer.specs.declared.token.Token.{Token}
 use Rattle.i7_sentences.specs.Cuts.{Piece, parts_of}
-use Rattle.i7_sentences.specs.Forms.{IsReading, all_forms}
-use Rattle.i7_sentences.specs.Read.{has_bad_literal, line_of}
-use Rattle.i7_sentences.specs.Assertions.{assertion_of, has_reserved_name}
-use Rattle.i7_sentences.specs.declared.form.Form.{Form}
-use Rattle.i7_sentences.specs.declared.part.PartKind.TheVariants.{Sentence as Said}
-use Rattle.i7_sentences.specs.declared.sentence.Assertion.{Assertion}
+use Rattle.i7_sentences.specs.Forms.{IsReading, Variant, all_forms}
+use Rattle.i7_sentences.specs.Read.{aside, has_bad_literal, line_of}
+use Rattle.i7_sentences.specs.Assertions.{assertion_of}
+use Rattle.i7_sentences.specs.Reserved.{has_reserved_among}
+use Rattle.i7_sentences.specs.declared.part.PartKind.{PartKind}
+use Rattle.i7_sentences.specs.declared.part.PartKind.TheVariants.{Title, Heading, Sentence as Said}
+use Rattle.i7_sentences.specs.declared.reader.Heard.{Heard}
 use Rattle.i7_sentences.specs.declared.sentence.Sentence.{Sentence}
 
--- what a sentence says, by the form that reads it; a title or a heading says nothing yet
-pub record Says (part : Piece) (said : Assertion) : Type 0 where
-  pub kind : part.kind ≡ Said
-  pub form : Form
+-- what a sentence says, by the variant of a form that reads it, and whether a name in it holds a reserved word
+pub record Reads (tokens : List Token) (heard : Heard) : Type 0 where
+  pub variant : Variant
   pub letters : List (List Token)
-  pub reading : IsReading all_forms part.tokens form letters
-  pub makes : assertion_of form letters ≡ Some said
+  pub reading : IsReading all_forms tokens variant letters
+  pub makes : assertion_of variant.form letters ≡ Some heard.said
+  pub reserves : has_reserved_among variant.pieces letters ≡ heard.has_reserved_name
+
+-- what a part says: a title or a heading asserts nothing
+abbrev pub Says : PartKind → List Token → Heard → Type 0
+Says Title tokens heard = heard ≡ aside
+Says Heading tokens heard = heard ≡ aside
+Says Said tokens heard = Reads tokens heard
 
 abbrev pub HasBadLiteral : Piece → Type 0
 HasBadLiteral part = has_bad_literal part ≡ true
 
 abbrev pub SaysNothing : Piece → Type 0
-SaysNothing part = (said : Assertion) → Says part said → ⊥
+SaysNothing part = (heard : Heard) → Says part.kind part.tokens heard → ⊥
 
 -- a part says something in which a name holds a reserved word
 pub record HasReservedName (part : Piece) : Type 0 where
-  pub said : Assertion
-  pub says : Says part said
-  pub reserved : has_reserved_name says.form says.letters ≡ true
+  pub heard : Heard
+  pub says : Says part.kind part.tokens heard
+  pub reserved : heard.has_reserved_name ≡ true
 
 -- a part's sentence, in which no name holds a reserved word
 pub record IsSentence (part : Piece) (sentence : Sentence) : Type 0 where
-  pub says : Says part sentence.said
-  pub free : has_reserved_name says.form says.letters ≡ false
+  pub says : Says part.kind part.tokens (record { said = sentence.said; has_reserved_name = false })
   pub line_is : sentence.line ≡ line_of part
 
 -- no part is so

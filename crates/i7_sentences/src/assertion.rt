@@ -1,53 +1,51 @@
 //! What a form says with its letters.
-ghost use Rattle.std.specs.Prelude.{◌≡◌, map, IfOk};
+ghost use Rattle.std.specs.Prelude.{◌≡◌, ◌∷◌, [], map, option_map, IfOk};
 ghost use Rattle.std.specs.List.{list_all};
-ghost use Rattle.i7_sentences.specs.Assertions.{description_assertion, direction_at, has_reserved_end, has_reserved_first, has_reserved_name, is_plain, room_assertion, assertion_of, side_direction, text_assertion, way_of, way_assertion};
+ghost use Rattle.i7_sentences.specs.Assertions.{are, assertion_of, being, can_be, can_be_either, described, described_object, description, description_of, direction_at, door_between, door_to, either_of, held, holder_by, holds, is_plain, kind_of_kind, number_in, number_of, number_property, plain_text, rulebook, scene, side_direction, side_of, usually, usually_number, variable, variable_is, way_assertion, way_from, way_to, what_held};
 
-use crate::name::{is_reserved_name, is_single, name_of};
+use crate::literal::literal_of;
+use crate::name::{joined, name_of};
+use crate::names::names_of;
 use crate::tagged::Tagged;
-use crate::{Assertion, Form, Keyword, Way};
-use i7_lexer::{Token, TokenKind};
+use crate::word::word_of;
+use crate::{Assertion, Being, Form, Holder, Keyword, Name, Side, Way};
+use i7_lexer::TokenKind;
 use std::alloc::{AllocError, Global};
-use world_meaning::{Direction, TextBytes};
+use world_meaning::{Direction, Rel, TextBytes};
 
-/// Whether a text may describe a room: it holds no bracket that opens, which has no meaning yet.
+/// Whether a text may describe: it holds no bracket that opens, which has no meaning yet.
 fn is_plain(text: &[u8]) -> bool
     ensures { result ≡ is_plain text.now }
 {
     text.iter().all(|byte| *byte != b'[')
 }
 
-/// The description that a token gives.
-fn text_assertion(alloc: Global, token: &Token) -> Result<Option<Assertion>, AllocError>
-    ensures { IfOk result (λ said. said ≡ text_assertion token.now.kind) }
+/// The text that a letter is, if it may describe.
+fn plain_text(alloc: Global, letter: &[Tagged<'_>]) -> Result<Option<TextBytes>, AllocError>
+    ensures { IfOk result (λ text. text ≡ plain_text letter.now) }
 {
-    match &token.kind {
-        TokenKind::Text(text) => {
-            if is_plain(text.as_slice()) {
-                Ok(Some(Assertion::Description(TextBytes::copied(alloc, text.as_slice())?)))
-            } else {
-                Ok(None)
+    match letter {
+        [token] => match &token.token().kind {
+            TokenKind::Text(text) => {
+                if is_plain(text.as_slice()) {
+                    Ok(Some(TextBytes::copied(alloc, text.as_slice())?))
+                } else {
+                    Ok(None)
+                }
             }
-        }
-        TokenKind::Word(_) | TokenKind::Mark(_) => Ok(None),
+            TokenKind::Word(_) | TokenKind::Mark(_) => Ok(None),
+        },
+        _ => Ok(None),
     }
 }
 
-/// The description of a form whose letter is one text.
-fn description_assertion(
-    alloc: Global,
-    letters: &[&[Tagged<'_>]],
-) -> Result<Option<Assertion>, AllocError>
-    ensures { IfOk result (λ said. said ≡ description_assertion (map (λ letter. letter.now) letters.now)) }
+/// The number that a letter is.
+fn number_in(letter: &[Tagged<'_>]) -> i32
+    ensures { result ≡ number_in letter.now }
 {
-    match letters {
-        [] => Ok(None),
-        [text] => match text {
-            [] => Ok(None),
-            [token] => Ok(text_assertion(alloc, token.token())?),
-            [_, _, ..] => Ok(None),
-        },
-        [_, _, ..] => Ok(None),
+    match letter {
+        [token, ..] => literal_of(word_of(token.token())),
+        [] => literal_of(&[]),
     }
 }
 
@@ -74,6 +72,23 @@ fn side_direction(side: &[Tagged<'_>]) -> Option<Direction>
     }
 }
 
+/// A side of a room, if there is such a direction.
+fn side_of(
+    alloc: Global,
+    direction: Option<Direction>,
+    room: &[Tagged<'_>],
+) -> Result<Option<Side>, AllocError>
+    ensures { IfOk result (λ side. side ≡ side_of direction room.now) }
+{
+    match direction {
+        None => Ok(None),
+        Some(direction) => Ok(Some(Side {
+            direction,
+            room: name_of(alloc, room)?,
+        })),
+    }
+}
+
 /// The way by which the subject lies in the direction of the room.
 fn way_assertion(
     alloc: Global,
@@ -95,43 +110,366 @@ fn way_assertion(
     }
 }
 
-/// The way of a form that names the room first or the subject.
-fn way_of(
+/// The door that is on these sides.
+fn door_between(
     alloc: Global,
-    is_room_first: bool,
-    letters: &[&[Tagged<'_>]],
+    door: &[Tagged<'_>],
+    first: Option<Side>,
+    second: Option<Side>,
 ) -> Result<Option<Assertion>, AllocError>
-    ensures { IfOk result (λ said. said ≡ way_of is_room_first (map (λ letter. letter.now) letters.now)) }
+    ensures { IfOk result (λ said. said ≡ door_between door.now first second) }
 {
-    match letters {
-        [] => Ok(None),
-        [_] => Ok(None),
-        [_, _] => Ok(None),
-        [first, second, third] => {
-            if is_room_first {
-                Ok(way_assertion(alloc, third, side_direction(first), second, true)?)
-            } else {
-                Ok(way_assertion(alloc, first, side_direction(second), third, false)?)
-            }
-        }
-        [_, _, _, _, ..] => Ok(None),
+    match first {
+        None => Ok(None),
+        Some(first) => match second {
+            None => Ok(None),
+            Some(second) => Ok(Some(Assertion::Door {
+                door: name_of(alloc, door)?,
+                first,
+                second,
+            })),
+        },
     }
 }
 
-/// The room that a form declares; a list of rooms isn't read yet.
-fn room_assertion(alloc: Global, letters: &[&[Tagged<'_>]]) -> Result<Option<Assertion>, AllocError>
-    ensures { IfOk result (λ said. said ≡ room_assertion (map (λ letter. letter.now) letters.now)) }
+/// What holds an object, and how.
+fn holder_by(
+    alloc: Global,
+    relation: Rel,
+    holder: &[Tagged<'_>],
+) -> Result<Option<Holder>, AllocError>
+    ensures { IfOk result (λ place. place ≡ holder_by relation holder.now) }
+{
+    Ok(Some(Holder {
+        relation,
+        name: name_of(alloc, holder)?,
+    }))
+}
+
+/// What these subjects are said to be.
+fn being(
+    alloc: Global,
+    subjects: &[Tagged<'_>],
+    what: &[Tagged<'_>],
+    place: Option<Holder>,
+) -> Result<Option<Assertion>, AllocError>
+    ensures { IfOk result (λ said. said ≡ being subjects.now what.now place) }
+{
+    Ok(Some(Assertion::Are(Being {
+        subjects: names_of(alloc, subjects)?,
+        what: joined(alloc, what)?,
+        place,
+    })))
+}
+
+/// A text alone.
+fn description(alloc: Global, letters: &[&[Tagged<'_>]]) -> Result<Option<Assertion>, AllocError>
+    ensures { IfOk result (λ said. said ≡ description (map (λ letter. letter.now) letters.now)) }
 {
     match letters {
-        [] => Ok(None),
-        [names] => {
-            if is_single(names) {
-                Ok(Some(Assertion::Room(name_of(alloc, names)?)))
-            } else {
-                Ok(None)
-            }
-        }
-        [_, _, ..] => Ok(None),
+        [text] => match plain_text(alloc, text)? {
+            None => Ok(None),
+            Some(text) => Ok(Some(Assertion::Description(text))),
+        },
+        _ => Ok(None),
+    }
+}
+
+/// A rulebook of the author's.
+fn rulebook(alloc: Global, letters: &[&[Tagged<'_>]]) -> Result<Option<Assertion>, AllocError>
+    ensures { IfOk result (λ said. said ≡ rulebook (map (λ letter. letter.now) letters.now)) }
+{
+    match letters {
+        [name] => Ok(Some(Assertion::Rulebook(name_of(alloc, name)?))),
+        _ => Ok(None),
+    }
+}
+
+/// A scene.
+fn scene(
+    alloc: Global,
+    is_recurring: bool,
+    letters: &[&[Tagged<'_>]],
+) -> Result<Option<Assertion>, AllocError>
+    ensures { IfOk result (λ said. said ≡ scene is_recurring (map (λ letter. letter.now) letters.now)) }
+{
+    match letters {
+        [name] => Ok(Some(Assertion::Scene {
+            name: name_of(alloc, name)?,
+            is_recurring,
+        })),
+        _ => Ok(None),
+    }
+}
+
+/// A kind of the author's.
+fn kind_of_kind(alloc: Global, letters: &[&[Tagged<'_>]]) -> Result<Option<Assertion>, AllocError>
+    ensures { IfOk result (λ said. said ≡ kind_of_kind (map (λ letter. letter.now) letters.now)) }
+{
+    match letters {
+        [kind, parent] => Ok(Some(Assertion::KindOfKind {
+            kind: name_of(alloc, kind)?,
+            parent: name_of(alloc, parent)?,
+        })),
+        _ => Ok(None),
+    }
+}
+
+/// An either-or property of a kind, by both its names.
+fn either_of(
+    alloc: Global,
+    kind: &[Tagged<'_>],
+    first: &[Tagged<'_>],
+    second: &[Tagged<'_>],
+) -> Result<Option<Assertion>, AllocError>
+    ensures { IfOk result (λ said. said ≡ either_of kind.now first.now second.now) }
+{
+    let kind = name_of(alloc, kind)?;
+    let first = name_of(alloc, first)?;
+    let second = Some(name_of(alloc, second)?);
+    Ok(Some(Assertion::EitherOr {
+        kind,
+        first,
+        second,
+    }))
+}
+
+/// An either-or property with one name.
+fn can_be(alloc: Global, letters: &[&[Tagged<'_>]]) -> Result<Option<Assertion>, AllocError>
+    ensures { IfOk result (λ said. said ≡ can_be (map (λ letter. letter.now) letters.now)) }
+{
+    match letters {
+        [kind, first] => Ok(Some(Assertion::EitherOr {
+            kind: name_of(alloc, kind)?,
+            first: name_of(alloc, first)?,
+            second: None,
+        })),
+        _ => Ok(None),
+    }
+}
+
+/// An either-or property with two names.
+fn can_be_either(alloc: Global, letters: &[&[Tagged<'_>]]) -> Result<Option<Assertion>, AllocError>
+    ensures { IfOk result (λ said. said ≡ can_be_either (map (λ letter. letter.now) letters.now)) }
+{
+    match letters {
+        [kind, first, second] => Ok(either_of(alloc, kind, first, second)?),
+        _ => Ok(None),
+    }
+}
+
+/// A number property.
+fn number_property(
+    alloc: Global,
+    letters: &[&[Tagged<'_>]],
+) -> Result<Option<Assertion>, AllocError>
+    ensures { IfOk result (λ said. said ≡ number_property (map (λ letter. letter.now) letters.now)) }
+{
+    match letters {
+        [kind, property] => Ok(Some(Assertion::NumberProperty {
+            kind: name_of(alloc, kind)?,
+            property: name_of(alloc, property)?,
+        })),
+        _ => Ok(None),
+    }
+}
+
+/// What objects of a kind usually are.
+fn usually(alloc: Global, letters: &[&[Tagged<'_>]]) -> Result<Option<Assertion>, AllocError>
+    ensures { IfOk result (λ said. said ≡ usually (map (λ letter. letter.now) letters.now)) }
+{
+    match letters {
+        [kind, adjectives] => Ok(Some(Assertion::Usually {
+            kind: name_of(alloc, kind)?,
+            adjectives: joined(alloc, adjectives)?,
+        })),
+        _ => Ok(None),
+    }
+}
+
+/// What a number property of a kind usually is.
+fn usually_number(alloc: Global, letters: &[&[Tagged<'_>]]) -> Result<Option<Assertion>, AllocError>
+    ensures { IfOk result (λ said. said ≡ usually_number (map (λ letter. letter.now) letters.now)) }
+{
+    match letters {
+        [property, kind, number] => Ok(Some(Assertion::UsuallyNumber {
+            property: name_of(alloc, property)?,
+            kind: name_of(alloc, kind)?,
+            number: number_in(number),
+        })),
+        _ => Ok(None),
+    }
+}
+
+/// A variable.
+fn variable(alloc: Global, letters: &[&[Tagged<'_>]]) -> Result<Option<Assertion>, AllocError>
+    ensures { IfOk result (λ said. said ≡ variable (map (λ letter. letter.now) letters.now)) }
+{
+    match letters {
+        [name] => Ok(Some(Assertion::Variable(name_of(alloc, name)?))),
+        _ => Ok(None),
+    }
+}
+
+/// The description of an object, if the text may describe.
+fn described_object(
+    alloc: Global,
+    object: &[Tagged<'_>],
+    text: Option<TextBytes>,
+) -> Result<Option<Assertion>, AllocError>
+    ensures { IfOk result (λ said. said ≡ described_object object.now text) }
+{
+    match text {
+        None => Ok(None),
+        Some(text) => Ok(Some(Assertion::DescriptionOf {
+            object: name_of(alloc, object)?,
+            text,
+        })),
+    }
+}
+
+/// The description of an object, perhaps behind an article that opens the form.
+fn description_of(alloc: Global, letters: &[&[Tagged<'_>]]) -> Result<Option<Assertion>, AllocError>
+    ensures { IfOk result (λ said. said ≡ description_of (map (λ letter. letter.now) letters.now)) }
+{
+    match letters {
+        [object, text] => Ok(described_object(alloc, object, plain_text(alloc, text)?)?),
+        [_, object, text] => Ok(described_object(alloc, object, plain_text(alloc, text)?)?),
+        _ => Ok(None),
+    }
+}
+
+/// What a number property of an object is.
+fn number_of(alloc: Global, letters: &[&[Tagged<'_>]]) -> Result<Option<Assertion>, AllocError>
+    ensures { IfOk result (λ said. said ≡ number_of (map (λ letter. letter.now) letters.now)) }
+{
+    match letters {
+        [property, object, number] => Ok(Some(Assertion::NumberOf {
+            property: name_of(alloc, property)?,
+            object: name_of(alloc, object)?,
+            number: number_in(number),
+        })),
+        _ => Ok(None),
+    }
+}
+
+/// What a variable is.
+fn variable_is(alloc: Global, letters: &[&[Tagged<'_>]]) -> Result<Option<Assertion>, AllocError>
+    ensures { IfOk result (λ said. said ≡ variable_is (map (λ letter. letter.now) letters.now)) }
+{
+    match letters {
+        [variable, number] => Ok(Some(Assertion::VariableIs {
+            variable: name_of(alloc, variable)?,
+            number: number_in(number),
+        })),
+        _ => Ok(None),
+    }
+}
+
+/// The side of a room on which another lies.
+fn way_to(alloc: Global, letters: &[&[Tagged<'_>]]) -> Result<Option<Assertion>, AllocError>
+    ensures { IfOk result (λ said. said ≡ way_to (map (λ letter. letter.now) letters.now)) }
+{
+    match letters {
+        [subject, side, room] => Ok(way_assertion(
+            alloc,
+            subject,
+            side_direction(side),
+            room,
+            false,
+        )?),
+        _ => Ok(None),
+    }
+}
+
+/// The same with the room in front.
+fn way_from(alloc: Global, letters: &[&[Tagged<'_>]]) -> Result<Option<Assertion>, AllocError>
+    ensures { IfOk result (λ said. said ≡ way_from (map (λ letter. letter.now) letters.now)) }
+{
+    match letters {
+        [side, room, subject] => Ok(way_assertion(
+            alloc,
+            subject,
+            side_direction(side),
+            room,
+            true,
+        )?),
+        _ => Ok(None),
+    }
+}
+
+/// A door between two rooms.
+fn door_to(alloc: Global, letters: &[&[Tagged<'_>]]) -> Result<Option<Assertion>, AllocError>
+    ensures { IfOk result (λ said. said ≡ door_to (map (λ letter. letter.now) letters.now)) }
+{
+    match letters {
+        [door, side, room, other, behind] => {
+            let first = side_of(alloc, side_direction(side), room)?;
+            let second = side_of(alloc, side_direction(other), behind)?;
+            Ok(door_between(alloc, door, first, second)?)
+        },
+        _ => Ok(None),
+    }
+}
+
+/// What a holder holds.
+fn holds(
+    alloc: Global,
+    relation: Rel,
+    letters: &[&[Tagged<'_>]],
+) -> Result<Option<Assertion>, AllocError>
+    ensures { IfOk result (λ said. said ≡ holds relation (map (λ letter. letter.now) letters.now)) }
+{
+    match letters {
+        [holder, things] => Ok(Some(Assertion::Holds {
+            holder: name_of(alloc, holder)?,
+            relation,
+            things: names_of(alloc, things)?,
+        })),
+        _ => Ok(None),
+    }
+}
+
+/// Where objects are.
+fn held(
+    alloc: Global,
+    relation: Rel,
+    letters: &[&[Tagged<'_>]],
+) -> Result<Option<Assertion>, AllocError>
+    ensures { IfOk result (λ said. said ≡ held relation (map (λ letter. letter.now) letters.now)) }
+{
+    match letters {
+        [subjects, holder] => Ok(being(alloc, subjects, &[], holder_by(alloc, relation, holder)?)?),
+        _ => Ok(None),
+    }
+}
+
+/// What objects are, and where.
+fn what_held(
+    alloc: Global,
+    relation: Rel,
+    letters: &[&[Tagged<'_>]],
+) -> Result<Option<Assertion>, AllocError>
+    ensures { IfOk result (λ said. said ≡ what_held relation (map (λ letter. letter.now) letters.now)) }
+{
+    match letters {
+        [subjects, what, holder] => Ok(being(
+            alloc,
+            subjects,
+            what,
+            holder_by(alloc, relation, holder)?,
+        )?),
+        _ => Ok(None),
+    }
+}
+
+/// What objects are.
+fn are(alloc: Global, letters: &[&[Tagged<'_>]]) -> Result<Option<Assertion>, AllocError>
+    ensures { IfOk result (λ said. said ≡ are (map (λ letter. letter.now) letters.now)) }
+{
+    match letters {
+        [subjects, what] => Ok(being(alloc, subjects, what, None)?),
+        _ => Ok(None),
     }
 }
 
@@ -145,52 +483,27 @@ pub fn assertion_of(
     ensures { IfOk result (λ said. said ≡ assertion_of form (map (λ letter. letter.now) letters.now)) }
 {
     match form {
-        Form::Description => Ok(description_assertion(alloc, letters)?),
-        Form::WayTo => Ok(way_of(alloc, false, letters)?),
-        Form::WayFrom => Ok(way_of(alloc, true, letters)?),
-        Form::Room => Ok(room_assertion(alloc, letters)?),
+        Form::Description => Ok(description(alloc, letters)?),
+        Form::Rulebook => Ok(rulebook(alloc, letters)?),
+        Form::Scene => Ok(scene(alloc, false, letters)?),
+        Form::RecurringScene => Ok(scene(alloc, true, letters)?),
+        Form::KindOfKind => Ok(kind_of_kind(alloc, letters)?),
+        Form::CanBe => Ok(can_be(alloc, letters)?),
+        Form::CanBeEither => Ok(can_be_either(alloc, letters)?),
+        Form::NumberProperty => Ok(number_property(alloc, letters)?),
+        Form::Usually => Ok(usually(alloc, letters)?),
+        Form::UsuallyNumber => Ok(usually_number(alloc, letters)?),
+        Form::Variable => Ok(variable(alloc, letters)?),
+        Form::DescriptionOf => Ok(description_of(alloc, letters)?),
+        Form::NumberOf => Ok(number_of(alloc, letters)?),
+        Form::DoorTo => Ok(door_to(alloc, letters)?),
+        Form::WayTo => Ok(way_to(alloc, letters)?),
+        Form::WayFrom => Ok(way_from(alloc, letters)?),
+        Form::Holds(relation) => Ok(holds(alloc, relation, letters)?),
+        Form::VariableIs => Ok(variable_is(alloc, letters)?),
+        Form::Held(relation) => Ok(held(alloc, relation, letters)?),
+        Form::WhatHeld(relation) => Ok(what_held(alloc, relation, letters)?),
+        Form::Is => Ok(are(alloc, letters)?),
         _ => Ok(None),
-    }
-}
-
-/// Whether a name of a way holds a reserved word.
-fn has_reserved_end(is_room_first: bool, letters: &[&[Tagged<'_>]]) -> bool
-    ensures { result ≡ has_reserved_end is_room_first (map (λ letter. letter.now) letters.now) }
-{
-    match letters {
-        [] => false,
-        [_] => false,
-        [_, _] => false,
-        [first, second, third] => {
-            if is_room_first {
-                is_reserved_name(second) || is_reserved_name(third)
-            } else {
-                is_reserved_name(first) || is_reserved_name(third)
-            }
-        }
-        [_, _, _, _, ..] => false,
-    }
-}
-
-/// Whether a name holds a reserved word, where the letters are one name.
-fn has_reserved_first(letters: &[&[Tagged<'_>]]) -> bool
-    ensures { result ≡ has_reserved_first (map (λ letter. letter.now) letters.now) }
-{
-    match letters {
-        [] => false,
-        [name, ..] => is_reserved_name(name),
-    }
-}
-
-/// Whether a name among the form's letters holds a reserved word.
-#[tactic(auto, unfolding(crate::specs::Assertions::has_reserved_name))]
-pub fn has_reserved_name(form: Form, letters: &[&[Tagged<'_>]]) -> bool
-    ensures { result ≡ has_reserved_name form (map (λ letter. letter.now) letters.now) }
-{
-    match form {
-        Form::WayTo => has_reserved_end(false, letters),
-        Form::WayFrom => has_reserved_end(true, letters),
-        Form::Room => has_reserved_first(letters),
-        _ => false,
     }
 }

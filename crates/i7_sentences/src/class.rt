@@ -1,7 +1,7 @@
 //! The classes of words that a form's letters stand for: each a small automaton over tokens.
 ghost use Rattle.std.specs.Prelude.{◌≡◌};
 ghost use Rattle.i7_sentences.specs.Automata.{accepts, alone_step, body_step, names_step, run_step, side_start, side_step, step};
-ghost use Rattle.i7_sentences.specs.Classes.{ends_head, is_head_token, is_inner, is_joint, is_name_word, is_vertical};
+ghost use Rattle.i7_sentences.specs.Classes.{ends_head, is_head_token, is_inner, is_choice, is_joint, is_name_word, is_vertical};
 
 use crate::Keyword;
 use crate::tagged::Tagged;
@@ -9,16 +9,26 @@ use crate::tagged::Tagged;
 /// What a letter stands for.
 #[derive(Clone, Copy, Debug, PartialEq, Eq)]
 pub enum Class {
-    /// One or more words.
+    /// One or more words, whatever they are.
     Words,
+    /// Words that are a name.
+    Name,
     /// Names, parted by `,` or `and`.
     Names,
+    /// Words that are adjectives, and perhaps a kind.
+    What,
+    /// Words that are adjectives, parted by `and`.
+    Usual,
+    /// One article.
+    Article,
     /// `above`, `below`, a direction and `of`, `inside from` or `outside from`.
     Side,
     /// One literal number.
     Number,
     /// One text.
     Text,
+    /// Texts and `or`.
+    Texts,
     /// Words and round brackets, as in a rule's head.
     Head,
     /// `,` or `:`, and what stands behind it.
@@ -80,6 +90,14 @@ fn ends_head(token: &Tagged<'_>) -> bool
     ensures { result ≡ ends_head token.now }
 {
     token.is_sign(Keyword::Comma) || token.is_sign(Keyword::Colon)
+}
+
+/// Whether the token is a text, or `or`.
+#[tactic(auto, unfolding(crate::specs::Classes::is_choice))]
+fn is_choice(token: &Tagged<'_>) -> bool
+    ensures { result ≡ is_choice token.now }
+{
+    token.is_text() || token.is_sign(Keyword::Or)
 }
 
 /// The step of a letter of one or more such tokens.
@@ -185,11 +203,13 @@ impl Class {
         ensures { result ≡ step self state token.now }
     {
         match self {
-            Class::Words => run_step(token.is_word()),
+            Class::Words | Class::Name | Class::What | Class::Usual => run_step(token.is_word()),
             Class::Names => names_step(state, token),
             Class::Side => side_step(state, token),
             Class::Number => alone_step(state, token.is_number()),
+            Class::Article => alone_step(state, token.is_article()),
             Class::Text => alone_step(state, token.is_text()),
+            Class::Texts => run_step(is_choice(token)),
             Class::Head => run_step(is_head_token(token)),
             Class::Body => body_step(state, token),
         }

@@ -1,6 +1,7 @@
 //! The sentence forms as data, the lowest first.
 use crate::form::Piece::{Letter, Word};
 use crate::{Class, Keyword};
+use world_meaning::Rel;
 
 /// A piece of a sentence form.
 #[derive(Clone, Copy, Debug, PartialEq, Eq)]
@@ -16,6 +17,7 @@ pub enum Piece {
 pub enum Form {
     /// A text alone.
     Description,
+    Understand,
     BeforeRule,
     InsteadRule,
     CheckRule,
@@ -33,32 +35,59 @@ pub enum Form {
     ListedLast,
     NotListed,
     Action,
+    /// `the cleanup rules is a rulebook`
     Rulebook,
+    /// `the storm is a scene`
     Scene,
+    /// `the storm is a recurring scene`
     RecurringScene,
+    /// `a lamp is a kind of device`
     KindOfKind,
-    EitherOr,
+    /// `a device can be broken`
+    CanBe,
+    /// `a device can be broken or whole`
+    CanBeEither,
+    /// `a thing has a number called weight`
     NumberProperty,
+    /// `a lamp is usually lit and scenery`
     Usually,
+    /// `the weight of a thing is usually 5`
+    UsuallyNumber,
+    /// `the score is a number that varies`
     Variable,
-    PropertyIsNumber,
+    /// `the description of the ball is "Red."`
+    DescriptionOf,
+    /// `the weight of the ball is 3`
+    NumberOf,
     /// `the gate is north of the hall and south of the garden`
     DoorTo,
     /// `the garden is north of the hall`
     WayTo,
     /// `north of the hall is the garden`
     WayFrom,
-    Carries,
-    Wears,
-    InHolder,
-    OnHolder,
-    /// `the hall is a room`
-    Room,
+    /// `in the box is a ball`, `bob carries a ball and a cup`
+    Holds(Rel),
+    /// `the score is 5`
+    VariableIs,
+    /// `the ball and the cup are in the box`
+    Held(Rel),
+    /// `the lamp is a lit device in the box`
+    WhatHeld(Rel),
+    /// `the hall is a dark room`
+    Is,
 }
 
 const WORDS: Piece = Letter(Class::Words);
 
+const NAME: Piece = Letter(Class::Name);
+
 const NAMES: Piece = Letter(Class::Names);
+
+const WHAT: Piece = Letter(Class::What);
+
+const LITERAL: Piece = Letter(Class::Number);
+
+const TEXT: Piece = Letter(Class::Text);
 
 const SIDE: Piece = Letter(Class::Side);
 
@@ -73,6 +102,16 @@ const A: Piece = Word(Keyword::A);
 const OF: Piece = Word(Keyword::Of);
 
 const IN: Piece = Word(Keyword::In);
+
+const ON: Piece = Word(Keyword::On);
+
+const BY: Piece = Word(Keyword::By);
+
+const CARRIED: Piece = Word(Keyword::Carried);
+
+const WORN: Piece = Word(Keyword::Worn);
+
+const PART: Piece = Word(Keyword::Part);
 
 const AND: Piece = Word(Keyword::And);
 
@@ -92,12 +131,25 @@ const LISTED: Piece = Word(Keyword::Listed);
 
 const SCENE: Piece = Word(Keyword::Scene);
 
+const USUALLY: Piece = Word(Keyword::Usually);
+
+const DESCRIPTION: Piece = Word(Keyword::Description);
+
 const NUMBER: Piece = Word(Keyword::Number);
 
 /// The forms, the lowest first. Each is its variants: where several fit a sentence, that with the
 /// shortest letters is read, and of equally short ones the first.
-pub const FORMS: [&[(Form, &[Piece])]; 26] = [
-    &[(Form::Description, &[Letter(Class::Text)])],
+pub const FORMS: [&[(Form, &[Piece])]; 30] = [
+    &[(Form::Description, &[TEXT])],
+    &[(
+        Form::Understand,
+        &[
+            Word(Keyword::Understand),
+            Letter(Class::Texts),
+            Word(Keyword::As),
+            WORDS,
+        ],
+    )],
     &[(Form::BeforeRule, &[Word(Keyword::Before), HEAD, BODY])],
     &[(Form::InsteadRule, &[Word(Keyword::Instead), OF, HEAD, BODY])],
     &[(Form::CheckRule, &[Word(Keyword::Check), HEAD, BODY])],
@@ -128,20 +180,20 @@ pub const FORMS: [&[(Form, &[Piece])]; 26] = [
         ),
     ],
     &[
-        (Form::SceneBeginsRule, &[WHEN, WORDS, BEGINS, BODY]),
-        (Form::SceneBeginsRule, &[WHEN, WORDS, BEGINS, HEAD, BODY]),
+        (Form::SceneBeginsRule, &[WHEN, NAME, BEGINS, BODY]),
+        (Form::SceneBeginsRule, &[WHEN, NAME, BEGINS, HEAD, BODY]),
     ],
     &[
-        (Form::SceneEndsRule, &[WHEN, WORDS, ENDS, BODY]),
-        (Form::SceneEndsRule, &[WHEN, WORDS, ENDS, HEAD, BODY]),
+        (Form::SceneEndsRule, &[WHEN, NAME, ENDS, BODY]),
+        (Form::SceneEndsRule, &[WHEN, NAME, ENDS, HEAD, BODY]),
     ],
     &[
         (Form::OwnRule, &[WORDS, RULE, BODY]),
         (Form::OwnRule, &[WORDS, RULE, HEAD, BODY]),
     ],
     &[
-        (Form::SceneBegins, &[WORDS, BEGINS, WHEN, WORDS]),
-        (Form::SceneEnds, &[WORDS, ENDS, WHEN, WORDS]),
+        (Form::SceneBegins, &[NAME, BEGINS, WHEN, WORDS]),
+        (Form::SceneEnds, &[NAME, ENDS, WHEN, WORDS]),
     ],
     &[
         (
@@ -188,38 +240,54 @@ pub const FORMS: [&[(Form, &[Piece])]; 26] = [
         Form::Action,
         &[WORDS, IS, Word(Keyword::An), Word(Keyword::Action), WORDS],
     )],
-    &[(Form::Rulebook, &[WORDS, RULES, IS, A, RULEBOOK])],
+    &[(Form::Rulebook, &[NAME, RULES, IS, A, RULEBOOK])],
     &[
-        (Form::Scene, &[WORDS, IS, A, SCENE]),
+        (Form::Scene, &[NAME, IS, A, SCENE]),
         (
             Form::RecurringScene,
-            &[WORDS, IS, A, Word(Keyword::Recurring), SCENE],
+            &[NAME, IS, A, Word(Keyword::Recurring), SCENE],
         ),
     ],
     &[(
         Form::KindOfKind,
-        &[WORDS, IS, A, Word(Keyword::Kind), OF, WORDS],
+        &[NAME, IS, A, Word(Keyword::Kind), OF, NAME],
     )],
-    &[(
-        Form::EitherOr,
-        &[WORDS, Word(Keyword::Can), Word(Keyword::Be), WORDS],
-    )],
+    &[
+        (
+            Form::CanBe,
+            &[NAME, Word(Keyword::Can), Word(Keyword::Be), NAME],
+        ),
+        (
+            Form::CanBeEither,
+            &[
+                NAME,
+                Word(Keyword::Can),
+                Word(Keyword::Be),
+                NAME,
+                Word(Keyword::Or),
+                NAME,
+            ],
+        ),
+    ],
     &[(
         Form::NumberProperty,
         &[
-            WORDS,
+            NAME,
             Word(Keyword::Has),
             A,
             NUMBER,
             Word(Keyword::Called),
-            WORDS,
+            NAME,
         ],
     )],
-    &[(Form::Usually, &[WORDS, IS, Word(Keyword::Usually), WORDS])],
+    &[
+        (Form::Usually, &[NAME, IS, USUALLY, Letter(Class::Usual)]),
+        (Form::UsuallyNumber, &[NAME, OF, NAME, IS, USUALLY, LITERAL]),
+    ],
     &[(
         Form::Variable,
         &[
-            WORDS,
+            NAME,
             IS,
             A,
             NUMBER,
@@ -227,20 +295,51 @@ pub const FORMS: [&[(Form, &[Piece])]; 26] = [
             Word(Keyword::Varies),
         ],
     )],
-    &[(
-        Form::PropertyIsNumber,
-        &[WORDS, OF, WORDS, IS, Letter(Class::Number)],
-    )],
     &[
-        (Form::DoorTo, &[WORDS, IS, SIDE, WORDS, AND, SIDE, WORDS]),
-        (Form::WayTo, &[WORDS, IS, SIDE, WORDS]),
-        (Form::WayFrom, &[SIDE, WORDS, IS, WORDS]),
+        (Form::DescriptionOf, &[DESCRIPTION, OF, NAME, IS, TEXT]),
+        (
+            Form::DescriptionOf,
+            &[Letter(Class::Article), DESCRIPTION, OF, NAME, IS, TEXT],
+        ),
+    ],
+    &[(Form::NumberOf, &[NAME, OF, NAME, IS, LITERAL])],
+    &[
+        (Form::DoorTo, &[NAME, IS, SIDE, NAME, AND, SIDE, NAME]),
+        (Form::WayTo, &[NAME, IS, SIDE, NAME]),
+        (Form::WayFrom, &[SIDE, NAME, IS, NAME]),
     ],
     &[
-        (Form::Carries, &[WORDS, Word(Keyword::Carries), NAMES]),
-        (Form::Wears, &[WORDS, Word(Keyword::Wears), NAMES]),
-        (Form::InHolder, &[IN, WORDS, IS, NAMES]),
-        (Form::OnHolder, &[Word(Keyword::On), WORDS, IS, NAMES]),
+        (
+            Form::Holds(Rel::Carried),
+            &[NAME, Word(Keyword::Carries), NAMES],
+        ),
+        (Form::Holds(Rel::Worn), &[NAME, Word(Keyword::Wears), NAMES]),
+        (Form::Holds(Rel::In), &[IN, NAME, IS, NAMES]),
+        (Form::Holds(Rel::On), &[ON, NAME, IS, NAMES]),
     ],
-    &[(Form::Room, &[NAMES, IS, A, Word(Keyword::Room)])],
+    &[
+        (Form::VariableIs, &[NAME, IS, LITERAL]),
+        (Form::Held(Rel::In), &[NAMES, IS, IN, NAME]),
+        (Form::Held(Rel::On), &[NAMES, IS, ON, NAME]),
+        (Form::Held(Rel::Carried), &[NAMES, IS, CARRIED, BY, NAME]),
+        (Form::Held(Rel::Worn), &[NAMES, IS, WORN, BY, NAME]),
+        (Form::Held(Rel::Part), &[NAMES, IS, PART, OF, NAME]),
+    ],
+    &[
+        (Form::WhatHeld(Rel::In), &[NAMES, IS, WHAT, IN, NAME]),
+        (Form::WhatHeld(Rel::On), &[NAMES, IS, WHAT, ON, NAME]),
+        (
+            Form::WhatHeld(Rel::Carried),
+            &[NAMES, IS, WHAT, CARRIED, BY, NAME],
+        ),
+        (
+            Form::WhatHeld(Rel::Worn),
+            &[NAMES, IS, WHAT, WORN, BY, NAME],
+        ),
+        (
+            Form::WhatHeld(Rel::Part),
+            &[NAMES, IS, WHAT, PART, OF, NAME],
+        ),
+    ],
+    &[(Form::Is, &[NAMES, IS, WHAT])],
 ];

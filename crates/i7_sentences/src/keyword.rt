@@ -1,6 +1,7 @@
 //! The words and marks that sentence forms are made of, and those that no name may hold.
-ghost use Rattle.std.specs.Prelude.{◌≡◌, map};
-ghost use Rattle.i7_sentences.specs.Keywords.{keyword_in, keyword_of, keyword_spelled};
+ghost use Rattle.std.specs.Prelude.{◌≡◌, length, map};
+ghost use Rattle.std.specs.List.{slice_get};
+ghost use Rattle.i7_sentences.specs.Keywords.{keyword_among, keyword_in, keyword_of, keyword_spelled};
 
 use i7_lexer::{Token, TokenKind};
 use world_meaning::is_spelled;
@@ -15,6 +16,7 @@ pub enum Keyword {
     An,
     And,
     Any,
+    As,
     Be,
     Before,
     Begins,
@@ -22,12 +24,14 @@ pub enum Keyword {
     By,
     Called,
     Can,
+    Carried,
     Carries,
     Carry,
     Check,
     Close,
     Colon,
     Comma,
+    Description,
     During,
     Ends,
     Every,
@@ -51,6 +55,7 @@ pub enum Keyword {
     Or,
     Out,
     Outside,
+    Part,
     Play,
     Recurring,
     Report,
@@ -63,15 +68,17 @@ pub enum Keyword {
     That,
     The,
     Turn,
+    Understand,
     Usually,
     Varies,
     Wears,
     When,
+    Worn,
 }
 
 /// The keywords with their spellings in small letters, those of no letter first, then those of one,
 /// and so on.
-pub const KEYWORDS: [&[(&[u8], Keyword)]; 10] = [
+pub const KEYWORDS: [&[(&[u8], Keyword)]; 12] = [
     &[],
     &[
         (b"a", Keyword::A),
@@ -82,6 +89,7 @@ pub const KEYWORDS: [&[(&[u8], Keyword)]; 10] = [
     ],
     &[
         (b"an", Keyword::An),
+        (b"as", Keyword::As),
         (b"be", Keyword::Be),
         (b"by", Keyword::By),
         (b"if", Keyword::If),
@@ -106,6 +114,7 @@ pub const KEYWORDS: [&[(&[u8], Keyword)]; 10] = [
         (b"from", Keyword::From),
         (b"kind", Keyword::Kind),
         (b"last", Keyword::Last),
+        (b"part", Keyword::Part),
         (b"play", Keyword::Play),
         (b"room", Keyword::Room),
         (b"rule", Keyword::Rule),
@@ -113,6 +122,7 @@ pub const KEYWORDS: [&[(&[u8], Keyword)]; 10] = [
         (b"that", Keyword::That),
         (b"turn", Keyword::Turn),
         (b"when", Keyword::When),
+        (b"worn", Keyword::Worn),
     ],
     &[
         (b"above", Keyword::Above),
@@ -139,6 +149,7 @@ pub const KEYWORDS: [&[(&[u8], Keyword)]; 10] = [
         (b"varies", Keyword::Varies),
     ],
     &[
+        (b"carried", Keyword::Carried),
         (b"carries", Keyword::Carries),
         (b"instead", Keyword::Instead),
         (b"outside", Keyword::Outside),
@@ -146,6 +157,8 @@ pub const KEYWORDS: [&[(&[u8], Keyword)]; 10] = [
     ],
     &[(b"rulebook", Keyword::Rulebook)],
     &[(b"recurring", Keyword::Recurring)],
+    &[(b"understand", Keyword::Understand)],
+    &[(b"description", Keyword::Description)],
 ];
 
 /// The articles that may stand before a name.
@@ -185,15 +198,23 @@ fn keyword_in(rows: &[(&[u8], Keyword)], word: &[u8]) -> Option<Keyword>
     None
 }
 
-/// The keyword that is spelled so, letter case aside.
-#[tactic(auto, using(crate::proofs::Keywords::rows_there), unfolding(crate::specs::Keywords::all_keywords, crate::specs::Keywords::keyword_spelled))]
-fn keyword_spelled(word: &[u8]) -> Option<Keyword>
-    ensures { result ≡ keyword_spelled word.now }
+/// The keyword that is spelled as the word is, in a table by length.
+#[tactic(auto, using(crate::proofs::Keywords::rows_there))]
+fn keyword_in_table(table: &[&[(&[u8], Keyword)]], word: &[u8]) -> Option<Keyword>
+    ensures { result ≡ keyword_among word.now (slice_get (map (λ rows. map (λ row. record { spelling = row.0.now; keyword = row.1 }) rows.now) table.now) (length word.now)) }
 {
-    match KEYWORDS.get(word.len()) {
+    match table.get(word.len()) {
         None => None,
         Some(rows) => keyword_in(rows, word),
     }
+}
+
+/// The keyword that is spelled so, letter case aside.
+#[tactic(auto, unfolding(crate::specs::Keywords::all_keywords, crate::specs::Keywords::keyword_spelled))]
+fn keyword_spelled(word: &[u8]) -> Option<Keyword>
+    ensures { result ≡ keyword_spelled word.now }
+{
+    keyword_in_table(&KEYWORDS, word)
 }
 
 /// The keyword that a token is, if it is one; texts are none.

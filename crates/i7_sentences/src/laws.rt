@@ -1,7 +1,6 @@
 //! Laws of the definitions that the reader is proved against.
 ghost use Rattle.std.specs.Prelude.{◌≡◌, ◌≢◌, ◌⊎◌, Bool, List};
 ghost use Rattle.i7_lexer.specs.declared.token.Token.{Token};
-ghost use Rattle.i7_sentences.specs.declared.form.Form.{Form};
 ghost use Rattle.i7_sentences.specs.Cuts.{cut};
 ghost use Rattle.i7_sentences.specs.Forms.{IsReading, IsUnread, Variant};
 ghost use Rattle.i7_sentences.specs.Seams.{IsCut};
@@ -19,13 +18,13 @@ pub fn cut_is_exact()
 
 /// No words have two readings, whatever the forms.
 pub fn one_reading()
-    ensures { (forms : List (List Variant)) (words : List Token) (f g : Form) (a b : List (List Token)) → IsReading forms words f a → IsReading forms words g b → (f ≡ g) × (a ≡ b) }
+    ensures { (forms : List (List Variant)) (words : List Token) (v w : Variant) (a b : List (List Token)) → IsReading forms words v a → IsReading forms words w b → (v ≡ w) × (a ≡ b) }
 {}
 
 /// All words have a reading or are unread, and none both, whatever the forms.
 pub fn read_or_unread()
-    ensures one { (forms : List (List Variant)) (words : List Token) → ((form : Form) × (letters : List (List Token)) × IsReading forms words form letters) ⊎ IsUnread forms words }
-    ensures never_both { (forms : List (List Variant)) (words : List Token) (form : Form) (letters : List (List Token)) → IsReading forms words form letters → IsUnread forms words → ⊥ }
+    ensures one { (forms : List (List Variant)) (words : List Token) → ((v : Variant) × (letters : List (List Token)) × IsReading forms words v letters) ⊎ IsUnread forms words }
+    ensures never_both { (forms : List (List Variant)) (words : List Token) (v : Variant) (letters : List (List Token)) → IsReading forms words v letters → IsUnread forms words → ⊥ }
 {}
 
 /// No tokens spell two lists of sentences.

@@ -14,9 +14,11 @@ mod literal;
 mod lookahead;
 mod matcher;
 mod name;
+mod names;
 mod part;
 mod reader;
 mod reading;
+mod reserved;
 mod sentence;
 mod tagged;
 mod word;
@@ -30,6 +32,7 @@ pub use laws::{
     spelled_or_refused,
 };
 pub use name::{Name, NameArticle};
+pub use names::Names;
 pub use part::{Part, PartKind};
 pub use reader::read;
-pub use sentence::{Assertion, Sentence, Way};
+pub use sentence::{Assertion, Being, Holder, Sentence, Side, Way};

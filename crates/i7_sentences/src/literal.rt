@@ -1,8 +1,8 @@
 //! Literal numbers, from -2147483648 to 2147483647.
-ghost use Rattle.std.specs.Prelude.{◌≡◌, ◌<◌, nat_lt};
+ghost use Rattle.std.specs.Prelude.{◌≡◌, ◌<◌, min, nat_lt};
 ghost use Rattle.std.specs.List.{list_all};
 ghost use Rattle.std.specs.Char.{is_ascii_digit};
-ghost use Rattle.i7_sentences.specs.Literals.{digits_of, is_literal, is_negative, is_out_of_range, magnitude, most_of};
+ghost use Rattle.i7_sentences.specs.Literals.{digits_of, is_literal, is_negative, is_out_of_range, literal_of, magnitude, most_of};
 
 /// Whether the word begins with `-`.
 fn is_negative(word: &[u8]) -> bool
@@ -67,6 +67,36 @@ fn exceeds(digits: &[u8], most: u64) -> bool
         rest = after;
     }
     false
+}
+
+/// The size of the number that the digits spell, at most `most`.
+#[tactic(auto, using(crate::proofs::Digits::stays_past))]
+fn size_up_to(digits: &[u8], most: u64) -> u64
+    requires { most < 2147483649 }
+    ensures { result ≡ min (magnitude digits.now) most }
+{
+    let mut number: u64 = 0;
+    let mut rest = digits;
+    while let [digit, after @ ..] = rest {
+        number = number * 10 + u64::from(digit.saturating_sub(b'0'));
+        if number > most {
+            return most;
+        }
+        rest = after;
+    }
+    number
+}
+
+/// The number that a literal spells, from -2147483648 to 2147483647.
+pub fn literal_of(word: &[u8]) -> i32
+    ensures { result ≡ literal_of word.now }
+{
+    let size = size_up_to(digits_of(word), most_of(word)) as i64;
+    if is_negative(word) {
+        (0 - size) as i32
+    } else {
+        size as i32
+    }
 }
 
 /// Whether the word is a literal whose number is out of range.

@@ -63,8 +63,14 @@ impl Ahead {
         ensures { result ≡ ahead_of_more class self can token.now }
     {
         match class {
-            Class::Words | Class::Head => self.of_run(can, class.step(State::Start, token)),
-            Class::Names | Class::Side | Class::Number | Class::Text | Class::Body => Ahead {
+            Class::Words | Class::Name | Class::What | Class::Usual | Class::Texts | Class::Head =>
+                self.of_run(can, class.step(State::Start, token)),
+            Class::Names
+            | Class::Article
+            | Class::Side
+            | Class::Number
+            | Class::Text
+            | Class::Body => Ahead {
                 start: self.reaches(class, can, token, State::Start),
                 inside: self.reaches(class, can, token, State::Inside),
                 between: self.reaches(class, can, token, State::Between),

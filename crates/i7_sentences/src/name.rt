@@ -1,11 +1,8 @@
 //! Names as a sentence mentions them.
 ghost use Rattle.std.specs.Prelude.{◌≡◌, IfOk, OnOk};
-ghost use Rattle.std.specs.List.{list_any};
-ghost use Rattle.i7_sentences.specs.Classes.{is_joint};
-ghost use Rattle.i7_sentences.specs.Names.{article_of, has_article, is_reserved_name, is_single, is_some_article, joined, name_of, name_words, rest_of, with_word};
+ghost use Rattle.i7_sentences.specs.Names.{article_of, has_article, is_some_article, joined, name_of, name_words, rest_of, with_word};
 
 use crate::Keyword;
-use crate::class::is_joint;
 use crate::tagged::Tagged;
 use crate::word::word_of;
 use std::alloc::{AllocError, Global};
@@ -39,7 +36,7 @@ fn has_article(letter: &[Tagged<'_>]) -> bool
 }
 
 /// The words behind the first.
-fn rest_of<'a, 'b>(letter: &'a [Tagged<'b>]) -> &'a [Tagged<'b>]
+pub fn rest_of<'a, 'b>(letter: &'a [Tagged<'b>]) -> &'a [Tagged<'b>]
     ensures { result.now ≡ rest_of letter.now }
 {
     match letter {
@@ -49,7 +46,7 @@ fn rest_of<'a, 'b>(letter: &'a [Tagged<'b>]) -> &'a [Tagged<'b>]
 }
 
 /// The words of a name without the one free article in front, unless it is all there is.
-fn name_words<'a, 'b>(letter: &'a [Tagged<'b>]) -> &'a [Tagged<'b>]
+pub fn name_words<'a, 'b>(letter: &'a [Tagged<'b>]) -> &'a [Tagged<'b>]
     ensures { result.now ≡ name_words letter.now }
 {
     if has_article(letter) {
@@ -94,7 +91,7 @@ fn add_word(bytes: &mut Vec<u8>, word: &Tagged<'_>) -> Result<(), AllocError>
 }
 
 /// The words as written, parted by one space.
-fn joined(alloc: Global, words: &[Tagged<'_>]) -> Result<TextBytes, AllocError>
+pub fn joined(alloc: Global, words: &[Tagged<'_>]) -> Result<TextBytes, AllocError>
     ensures { IfOk result (λ text. text ≡ joined words.now) }
 {
     let mut bytes = Vec::new(alloc);
@@ -107,6 +104,7 @@ fn joined(alloc: Global, words: &[Tagged<'_>]) -> Result<TextBytes, AllocError>
 }
 
 /// The name that these words mention.
+#[tactic(auto, unfolding(crate::specs::Names::name_of))]
 pub fn name_of(alloc: Global, letter: &[Tagged<'_>]) -> Result<Name, AllocError>
     ensures { IfOk result (λ name. name ≡ name_of letter.now) }
 {
@@ -114,32 +112,4 @@ pub fn name_of(alloc: Global, letter: &[Tagged<'_>]) -> Result<Name, AllocError>
         text: joined(alloc, name_words(letter))?,
         article: article_of(letter),
     })
-}
-
-/// Whether a token parts two names.
-fn has_joint(tokens: &[Tagged<'_>]) -> bool
-    ensures { result ≡ list_any is_joint tokens.now }
-{
-    let mut rest = tokens;
-    while let [token, after @ ..] = rest {
-        if is_joint(token) {
-            return true;
-        }
-        rest = after;
-    }
-    false
-}
-
-/// Whether a list of names is one name.
-pub fn is_single(letter: &[Tagged<'_>]) -> bool
-    ensures { result ≡ is_single letter.now }
-{
-    !has_joint(rest_of(letter))
-}
-
-/// Whether a name holds a reserved word, its free article aside.
-pub fn is_reserved_name(letter: &[Tagged<'_>]) -> bool
-    ensures { result ≡ is_reserved_name letter.now }
-{
-    name_words(letter).iter().any(|word| word.is_reserved())
 }

@@ -12,10 +12,11 @@ ghost use Rattle.i7_sentences.specs.Pieces.{piece_of, pieces_of};
 ghost use Rattle.i7_sentences.specs.Read.{has_bad_literal, has_reserved, heard_by, heard_in, is_sentence, is_unread, line_in, line_of, lower, lowest, read_of, sentence_in};
 ghost use Rattle.i7_sentences.specs.Sources.{HasSentences, IsRefused};
 
-use crate::assertion::{assertion_of, has_reserved_name};
+use crate::assertion::assertion_of;
 use crate::cut::parts_of;
 use crate::literal::is_out_of_range;
 use crate::reading::{Reading, reading_of};
+use crate::reserved::has_reserved_among;
 use crate::tagged::with_tags;
 use crate::word::word_of;
 use crate::{Assertion, Part, PartKind, Sentence};
@@ -116,7 +117,7 @@ fn heard_by(alloc: Global, reading: &Reading<'_, '_>) -> Result<Option<Heard>, A
         None => Ok(None),
         Some(said) => Ok(Some(Heard {
             said,
-            has_reserved_name: has_reserved_name(reading.form, letters),
+            has_reserved_name: has_reserved_among(reading.pieces, letters),
         })),
     }
 }
@@ -132,15 +133,17 @@ fn heard_words(alloc: Global, tokens: &[Token]) -> Result<Option<Heard>, AllocEr
     }
 }
 
-/// What a part says; titles and headings aren't read yet.
+/// What a part says, if it is understood.
 #[tactic(auto, unfolding(crate::specs::Read::heard_in))]
 fn heard_in(alloc: Global, part: &Part<'_>) -> Result<Option<Heard>, AllocError>
     ensures { IfOk result (λ heard. heard ≡ heard_in (piece_of part.now)) }
 {
-    if is_sentence(part.kind) {
-        Ok(heard_words(alloc, part.tokens)?)
-    } else {
-        Ok(None)
+    match part.kind {
+        PartKind::Title | PartKind::Heading => Ok(Some(Heard {
+            said: Assertion::Aside,
+            has_reserved_name: false,
+        })),
+        PartKind::Sentence => Ok(heard_words(alloc, part.tokens)?),
     }
 }
 

@@ -15,6 +15,7 @@ use std::alloc::{AllocError, Global};
 #[derive(Drop)]
 pub struct Reading<'a, 'b> {
     pub form: Form,
+    pub pieces: &'static [Piece],
     pub letters: Vec<&'a [Tagged<'b>]>,
 }
 
@@ -65,24 +66,28 @@ fn preferred<'a, 'b>(
 fn reading_as<'a, 'b>(
     alloc: Global,
     form: Form,
-    pieces: &[Piece],
+    pieces: &'static [Piece],
     tokens: &'a [Tagged<'b>],
 ) -> Result<Option<Reading<'a, 'b>>, AllocError>
-    ensures { IfOk result (λ found. option_map found_in found ≡ found_as form (first_fit pieces.now tokens.now)) }
+    ensures { IfOk result (λ found. option_map found_in found ≡ found_as (record { form = form; pieces = pieces.now }) (first_fit pieces.now tokens.now)) }
 {
     match fit(alloc, pieces, tokens)? {
         None => Ok(None),
-        Some(letters) => Ok(Some(Reading { form, letters })),
+        Some(letters) => Ok(Some(Reading {
+            form,
+            pieces,
+            letters,
+        })),
     }
 }
 
 /// The variants from the first on that isn't passed over.
 #[tactic(auto, using(crate::proofs::Choosing::passed_best))]
-fn without_unfit<'a, 'b>(
-    variants: &'a [(Form, &'b [Piece])],
+fn without_unfit<'a>(
+    variants: &'a [(Form, &'static [Piece])],
     signs: &[Keyword],
     tokens: &[Tagged<'_>],
-) -> &'a [(Form, &'b [Piece])]
+) -> &'a [(Form, &'static [Piece])]
     requires { signs.now ≡ signs_of tokens.now }
     ensures same { best_fit (map (λ variant. record { form = variant.0; pieces = variant.1.now }) result.now) tokens.now
         ≡ best_fit (map (λ variant. record { form = variant.0; pieces = variant.1.now }) variants.now) tokens.now }
@@ -101,7 +106,7 @@ fn without_unfit<'a, 'b>(
 /// The fit of a form with the shortest letters, of as short ones the first.
 fn best_fit<'a, 'b>(
     alloc: Global,
-    variants: &[(Form, &[Piece])],
+    variants: &[(Form, &'static [Piece])],
     signs: &[Keyword],
     tokens: &'a [Tagged<'b>],
 ) -> Result<Option<Reading<'a, 'b>>, AllocError>
@@ -121,7 +126,7 @@ fn best_fit<'a, 'b>(
 /// The best fit of the lowest of these forms that fits.
 fn lowest_fit<'a, 'b>(
     alloc: Global,
-    forms: &[&[(Form, &[Piece])]],
+    forms: &[&[(Form, &'static [Piece])]],
     signs: &[Keyword],
     tokens: &'a [Tagged<'b>],
 ) -> Result<Option<Reading<'a, 'b>>, AllocError>

@@ -1,16 +1,82 @@
 //! Sentences and what they assert.
-use crate::Name;
-use world_meaning::{Direction, TextBytes};
+use crate::{Name, Names};
+use world_meaning::{Direction, Rel, TextBytes};
 
 /// What one sentence asserts, its names as it mentions them.
 #[derive(Debug, Drop)]
 pub enum Assertion {
+    /// A title or a heading, which asserts nothing.
+    Aside,
     /// A text that stands alone, as it is written: the description of the room of the sentence before.
     Description(TextBytes),
-    /// `the hall is a room`
-    Room(Name),
+    /// `the cleanup rules is a rulebook`
+    Rulebook(Name),
+    /// `the storm is a scene`, `the storm is a recurring scene`
+    Scene {
+        name: Name,
+        is_recurring: bool,
+    },
+    /// `a lamp is a kind of device`
+    KindOfKind {
+        kind: Name,
+        parent: Name,
+    },
+    /// `a device can be broken`, `a device can be broken or whole`
+    EitherOr {
+        kind: Name,
+        first: Name,
+        second: Option<Name>,
+    },
+    /// `a thing has a number called weight`
+    NumberProperty {
+        kind: Name,
+        property: Name,
+    },
+    /// `a lamp is usually lit and not scenery`: the words behind `usually`, parted by one space
+    Usually {
+        kind: Name,
+        adjectives: TextBytes,
+    },
+    /// `the weight of a thing is usually 5`
+    UsuallyNumber {
+        property: Name,
+        kind: Name,
+        number: i32,
+    },
+    /// `the score is a number that varies`
+    Variable(Name),
+    /// `the description of the ball is "Red."`: the text as it is written
+    DescriptionOf {
+        object: Name,
+        text: TextBytes,
+    },
+    /// `the weight of the ball is 3`
+    NumberOf {
+        property: Name,
+        object: Name,
+        number: i32,
+    },
     /// `the garden is north of the hall`
     Way(Way),
+    /// `the gate is north of the hall and south of the garden`
+    Door {
+        door: Name,
+        first: Side,
+        second: Side,
+    },
+    /// `bob carries a ball and a cup`, `in the box is a ball`
+    Holds {
+        holder: Name,
+        relation: Rel,
+        things: Names,
+    },
+    /// `the score is 5`
+    VariableIs {
+        variable: Name,
+        number: i32,
+    },
+    /// `the ball and the cup are small things in the box`
+    Are(Being),
 }
 
 /// A way: the subject lies in this direction of the room.
@@ -21,6 +87,30 @@ pub struct Way {
     pub room: Name,
     /// Whether the sentence mentions the room before the subject.
     pub is_room_first: bool,
+}
+
+/// A side of a room, on which a door is.
+#[derive(Debug, Drop)]
+pub struct Side {
+    pub direction: Direction,
+    pub room: Name,
+}
+
+/// What objects are said to be.
+#[derive(Debug, Drop)]
+pub struct Being {
+    pub subjects: Names,
+    /// Adjectives, perhaps behind `not`, and perhaps a kind: the words, parted by one space; none where only
+    /// a holder is told.
+    pub what: TextBytes,
+    pub place: Option<Holder>,
+}
+
+/// What holds an object, and how.
+#[derive(Debug, Drop)]
+pub struct Holder {
+    pub relation: Rel,
+    pub name: Name,
 }
 
 /// A sentence and the line, counted from 1, of its first token.

@@ -1,5 +1,6 @@
 //! Tokens with what the forms ask of them, which is found once for each.
 ghost use Rattle.std.specs.Prelude.{◌≡◌, IfOk};
+ghost use Rattle.i7_sentences.specs.declared.keyword.TheConstants.{RESERVED};
 ghost use Rattle.i7_sentences.specs.Keywords.{is_article, is_one_of, is_reserved, is_sign, keyword_of};
 ghost use Rattle.i7_sentences.specs.Classes.{is_direction, is_number};
 ghost use Rattle.i7_sentences.specs.Words.{direction_named, is_text, is_word, word_of};
@@ -120,11 +121,18 @@ impl<'a> Tagged<'a> {
         self.is_one_of(&ARTICLES)
     }
 
+    /// Whether the token is a reserved word that is no article.
+    pub fn is_joining(&self) -> bool
+        ensures { result ≡ is_one_of RESERVED self.now }
+    {
+        self.is_one_of(&RESERVED)
+    }
+
     /// Whether the token may stand in no name of an object.
     pub fn is_reserved(&self) -> bool
         ensures { result ≡ is_reserved self.now }
     {
-        self.is_article() || self.is_one_of(&RESERVED)
+        self.is_article() || self.is_joining()
     }
 }
 

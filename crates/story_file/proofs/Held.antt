@@ -1,6 +1,6 @@
 -- A story file holds the tale that sentences mean.
 use Rattle.std.proofs.Common.{◌≡◌, ℕ, suc, ◌+◌, ◌-◌, ◌<◌, ◌≤◌, Bool, true, false, cond, not, ◌&&◌, ◌||◌, ltb, leb, eqb, List, [], ◌∷◌, ◌++◌, length, map, Option, Some, None, Ok, refl, sym, ap, subst, ◌∙◌, arith, inl, inr}
-use Rattle.std.specs.Prelude.{find, fold, slice_get}
+use Rattle.std.specs.Prelude.{Result, find, fold, slice_get}
 use Rattle.std.specs.List.{list_all, list_any, position_or_len}
 use Rattle.std.specs.Option.{option_map}
 use Rattle.std.specs.Str.{bytes_eq}
@@ -15,17 +15,17 @@ use Rattle.world_meaning.specs.declared.fault.FaultCode.TheVariants.{NoRoom, Too
 use Rattle.world_meaning.specs.declared.tale.Tale.{Tale}
 use Rattle.i7_sentences.specs.declared.name.Name.{Name}
 use Rattle.i7_sentences.specs.declared.sentence.Assertion.{Assertion}
-use Rattle.i7_sentences.specs.declared.sentence.Assertion.TheVariants.{Description, Room, Way}
+use Rattle.i7_sentences.specs.declared.sentence.Assertion.TheVariants.{Description, Way, Are}
 use Rattle.i7_sentences.specs.declared.sentence.Sentence.{Sentence}
 use Rattle.object_words.specs.Words.{more_words, words_for}
 use Rattle.i7_kinds.specs.Demands.{Lead, descriptions_of, description_of, first_target, implied_in, implied_leads, is_exit, is_wrong, lead_of, line_at, line_of_description, second_description, second_target, stated_in, stated_leads, subject_of, taken_name, target_of, wrong_after, wrong_kind}
 use Rattle.i7_kinds.specs.Firsts.{first_of}
-use Rattle.i7_kinds.specs.Statements.{NameAt, Named, built_in_keys, numbered_in, has_key, key_of, named_by, names_at, number_in, stated_by, statement_in, with_name, with_names_of}
+use Rattle.i7_kinds.specs.Statements.{NameAt, Named, built_in_keys, numbered_in, numbered_room, rooms_in, has_key, key_of, named_by, names_at, number_in, stated_by, statement_in, with_name, with_names_of}
 use Rattle.i7_kinds.specs.declared.descriptions.Description.{Description as Described}
 use Rattle.i7_kinds.specs.declared.statements.Numbered.{Numbered}
 use Rattle.i7_kinds.specs.declared.statements.Numbered.TheVariants as numbered
 use Rattle.i7_kinds.specs.declared.statements.NumberedSentence.{NumberedSentence}
-use Rattle.i7_kinds.specs.Tales.{direction_object, earlier, exits_of, frame_refusal, has_long_name, has_long_text, is_too_long, limit_refusal, name_too_long, no_room, object_too_many, objects_of, or_refused, refusal_at, room_of, rooms_from, tale_said, text_too_long, way_to}
+use Rattle.i7_kinds.specs.Tales.{direction_object, earlier, exits_of, frame_refusal, has_long_name, has_long_text, is_too_long, judged, limit_refusal, name_too_long, no_room, object_too_many, objects_of, or_refused, refusal_at, room_of, rooms_from, tale_said, text_too_long, unless_unmeant, unmeant, way_to}
 use Rattle.i7_kinds.proofs.Bounds.{counted-source, few_objects, first_none_both, unmapped, unrefused}
 use Rattle.story_format.specs.Holding.{has_few_words, has_short_texts, is_short, is_short_or_none, IsHeld}
 use Rattle.story_format.specs.Making.{worded, worded_from}
@@ -101,6 +101,7 @@ number_there keys key h =
 
 -- the objects of a fact are below this number
 abbrev is_below : ℕ → Numbered → Bool
+is_below n numbered.Aside = true
 is_below n (numbered.Description text) = true
 is_below n (numbered.Room o) = true
 is_below n (numbered.Way way) = ltb way.subject n && ltb way.room n
@@ -117,10 +118,15 @@ way_below keys subject room false line h =
     let t = both_are (has_key keys (key_of subject.text)) (has_key keys (key_of room.text) && true) h in
     two_there keys subject room t.0 (both_are (has_key keys (key_of room.text)) true t.1).0
 
+rooms_below : (named : Named) (rooms : List Name) (line : ℕ) → list_all (has_name named.keys) (map (λ name. record { name = name; line = line }) rooms) ≡ true → is_below (length named.keys) (numbered_room named rooms) ≡ true
+rooms_below named [] line h = refl
+rooms_below named (name ∷ names) line h = refl
+
 assertion_below : (named : Named) (said : Assertion) (line : ℕ) → has_names named.keys (record { said = said; line = line }) ≡ true → is_below (length named.keys) (numbered_in named said) ≡ true
 assertion_below named (Description text) line h = refl
-assertion_below named (Room name) line h = refl
+assertion_below named (Are being) line h = rooms_below named (rooms_in being) line h
 assertion_below named (Way way) line h = way_below named.keys way.subject way.room way.is_room_first line h
+assertion_below named _ line h = refl
 
 abbrev are_below : ℕ → NumberedSentence → Bool
 are_below n statement = is_below n statement.said
@@ -139,6 +145,7 @@ source_below sentences =
 
 -- the objects of a fact are rooms
 abbrev is_of_rooms : ℕ → Numbered → Bool
+is_of_rooms n numbered.Aside = true
 is_of_rooms n (numbered.Description text) = true
 is_of_rooms n (numbered.Room o) = true
 is_of_rooms n (numbered.Way way) = is_room_number n way.subject && is_room_number n way.room
@@ -147,6 +154,7 @@ abbrev are_of_rooms : ℕ → NumberedSentence → Bool
 are_of_rooms n statement = is_of_rooms n statement.said
 
 between : (n : ℕ) (before : Option ℕ) (fact : Numbered) → is_wrong before fact ≡ false → is_below n fact ≡ true → is_of_rooms n fact ≡ true
+between n before numbered.Aside h k = refl
 between n before (numbered.Description text) h k = refl
 between n before (numbered.Room o) h k = refl
 between n before (numbered.Way way) h k =
@@ -173,11 +181,13 @@ lead_room n lead leads room direction h k =
     ]
 
 stated_one : (n : ℕ) (fact : Numbered) (line : ℕ) (leads : List Lead) (room direction : ℕ) → is_of_rooms n fact ≡ true → is_room_or_none n (first_target leads room direction) ≡ true → is_room_or_none n (first_target (stated_in fact line ++ leads) room direction) ≡ true
+stated_one n numbered.Aside line leads room direction h k = k
 stated_one n (numbered.Description text) line leads room direction h k = k
 stated_one n (numbered.Room o) line leads room direction h k = k
 stated_one n (numbered.Way way) line leads room direction h k = lead_room n (lead_of way.subject way.direction way.room line) leads room direction (both_are (is_room_number n way.subject) (is_room_number n way.room) h).0 k
 
 implied_one : (n : ℕ) (fact : Numbered) (line : ℕ) (leads : List Lead) (room direction : ℕ) → is_of_rooms n fact ≡ true → is_room_or_none n (first_target leads room direction) ≡ true → is_room_or_none n (first_target (implied_in fact line ++ leads) room direction) ≡ true
+implied_one n numbered.Aside line leads room direction h k = k
 implied_one n (numbered.Description text) line leads room direction h k = k
 implied_one n (numbered.Room o) line leads room direction h k = k
 implied_one n (numbered.Way way) line leads room direction h k = lead_room n (lead_of way.room (opposite_of way.direction) way.subject line) leads room direction (both_are (is_room_number n way.subject) (is_room_number n way.room) h).1 k
@@ -350,10 +360,14 @@ objects_held statements mentions below none =
     let rooms = all_of_rooms (13 + length mentions) None statements frame.0 below in
     record { shape = shape_held statements mentions (few_objects mentions frame.1) (some_room mentions frame.2) rooms; texts = texts_held statements mentions limits.0 limits.1; words = words_held statements mentions limits.0 }
 
+meant_whole : (line : Option ℕ) (said : Result Tale Fault) (tale : Tale) → unless_unmeant line said ≡ Ok tale → said ≡ Ok tale
+meant_whole None said tale meant = meant
+meant_whole (Some line) said tale meant = absurd cc
+
 -- a story file holds the tale that sentences mean
 pub tale_held : (sentences : List Sentence) (tale : Tale) → tale_said sentences ≡ Ok tale → IsHeld tale
 tale_held sentences tale meant =
     let statements = stated_by sentences in
     let mentions = (named_by sentences).mentions in
-    let t = meant_none (first_of (frame_refusal statements mentions) (limit_refusal statements mentions)) (record { objects = objects_of statements mentions }) tale meant in
+    let t = meant_none (first_of (frame_refusal statements mentions) (limit_refusal statements mentions)) (record { objects = objects_of statements mentions }) tale (meant_whole (unmeant sentences) (judged statements mentions) tale meant) in
     subst IsHeld t.1 (objects_held statements mentions (source_below sentences) t.0)

@@ -1,0 +1,77 @@
+//! Lists of names, parted by `,` or `and`.
+ghost use Rattle.std.specs.Prelude.{◌≡◌, true, ◌<◌, ◌≤◌, length, map, IfOk, OnOk};
+ghost use Rattle.i7_sentences.specs.Names.{name_len, name_of, names_from, unjoined};
+
+use crate::Name;
+use crate::class::is_joint;
+use crate::name::{name_of, rest_of};
+use crate::tagged::Tagged;
+use std::alloc::{AllocError, Global};
+use std::marker::Model;
+
+/// Names as a sentence lists them, in order.
+#[derive(Debug, Drop)]
+pub struct Names {
+    all: Vec<Name>,
+}
+
+impl Model for Names {
+    ghost use Rattle.std.specs.Prelude.{List};
+    ghost use Rattle.i7_sentences.specs.declared.name.Name.{Name};
+
+    ghost Value = { List Name };
+
+    ghost view = { λ names. names.all.items };
+}
+
+impl Names {
+    /// The names, in order.
+    pub fn as_slice(&self) -> &[Name]
+        ensures { result.now ≡ self.now }
+    {
+        self.all.as_slice()
+    }
+}
+
+/// How many words stand in front of the first that parts two names.
+fn unjoined(words: &[Tagged<'_>]) -> usize
+    ensures count { result ≡ unjoined words.now }
+    ensures within { result ≤ length words.now }
+{
+    let mut count = 0;
+    let mut rest = words;
+    while let [word, after @ ..] = rest {
+        if is_joint(word) {
+            return count;
+        }
+        count += 1;
+        rest = after;
+    }
+    count
+}
+
+/// How many words the first name of a list has.
+pub fn name_len(words: &[Tagged<'_>]) -> usize
+    ensures count { result ≡ name_len words.now }
+    ensures within { result ≤ length words.now }
+{
+    match words {
+        [] => 0,
+        [_, rest @ ..] => 1 + unjoined(rest),
+    }
+}
+
+/// The names that a list holds.
+#[tactic(auto, using(crate::proofs::Naming::names_steps))]
+pub fn names_of(alloc: Global, letter: &[Tagged<'_>]) -> Result<Names, AllocError>
+    ensures { IfOk result (λ names. names ≡ map name_of (names_from true letter.now)) }
+{
+    let mut all = Vec::new(alloc);
+    let mut rest = letter;
+    while !rest.is_empty() {
+        let (name, behind) = rest.split_at(name_len(rest));
+        all.push(name_of(alloc, name)?)?;
+        rest = rest_of(behind);
+    }
+    Ok(Names { all })
+}
