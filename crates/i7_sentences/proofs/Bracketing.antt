@@ -1,6 +1,6 @@
 -- What stands between the brackets of a text, one part behind the other.
 use Rattle.std.proofs.Common.{◌≡◌, ℕ, ◌+◌, ◌<◌, ◌≤◌, Bool, true, false, List, [], ◌∷◌, length, map, refl, ap, ◌∙◌, arith}
-use Rattle.std.specs.List.{after_first, before_first, position_or_len, slice_split, onto_first, count_by}
+use Rattle.std.specs.List.{after_first, before_first, position_or_len, slice_split, onto_first}
 use Rattle.std.proofs.lemmas.List.Splits.{length-slice_split, slice_split_first}
 use Rattle.i7_sentences.specs.BracketedWords.{bracketed, ended, is_byte}
 

@@ -61,7 +61,9 @@ fn is_gap(byte: u8) -> bool
 fn has_bad_word(bytes: &[u8]) -> bool
     ensures { result ≡ has_bad_word bytes.now }
 {
-    bytes.split(|byte| is_gap(*byte)).any(|word| is_out_of_range(word))
+    bytes
+        .split(|byte| is_gap(*byte))
+        .any(|word| is_out_of_range(word))
 }
 
 /// Whether a literal out of range stands between the brackets of a text.
