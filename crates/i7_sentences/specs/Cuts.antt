@@ -13,15 +13,17 @@ use Rattle.i7_sentences.specs.declared.cut.TheConstants.{HEADINGS}
 use Rattle.i7_sentences.specs.declared.part.PartKind.{PartKind}
 use Rattle.i7_sentences.specs.declared.part.PartKind.TheVariants.{Title, Heading, Sentence}
 
--- the pieces of tokens from one on; whether its piece is open there is told
+-- Tokens are cut between each two neighbours that don't belong to the same piece. A piece is open at a token if that or one before it in the
+-- piece opens it, and whether a token's neighbour belongs to the same piece may depend on this.
+
+-- the pieces from a token on, at which its piece is open or not
 abbrev pub cut_from : (Token → Bool) → (Bool → Token → Token → Bool) → Bool → Token → List Token → List (List Token)
 cut_from opens same is_open token [] = (token ∷ []) ∷ []
 cut_from opens same is_open token (next ∷ rest) =
     if same is_open token next then onto_first token (cut_from opens same (is_open || opens next) next rest)
     else (token ∷ []) ∷ cut_from opens same (opens next) next rest
 
--- Tokens cut between each two neighbours that don't belong to the same piece. A piece is open from a token that opens one to its end;
--- whether the neighbour of a token belongs to the same piece may depend on whether the piece is open at the token.
+-- the pieces of tokens
 abbrev pub cut : (Token → Bool) → (Bool → Token → Token → Bool) → List Token → List (List Token)
 cut opens same [] = []
 cut opens same (token ∷ tokens) = cut_from opens same (opens token) token tokens
@@ -31,7 +33,7 @@ is_paragraph_start Paragraph = true
 is_paragraph_start (Line indent) = false
 is_paragraph_start Within = false
 
--- a paragraph has no body that a token opens
+-- no token opens a paragraph
 abbrev pub opens_nothing : Token → Bool
 opens_nothing token = false
 
@@ -94,8 +96,8 @@ may_begin_kind (Text text) = true
 may_begin_kind (Word word) = is_capitalised word
 may_begin_kind (Mark mark) = false
 
--- A sentence ends at a full stop, which is in none, and behind a text that ends so. A rule's body is what stands behind its colon, on that
--- line and on the indented lines below, its full stops too: behind a colon a sentence goes on to the next line of indent 0.
+-- A sentence ends at a full stop, which is in none, and behind a text that ends so. A colon opens a rule's body: what stands behind it on its
+-- line and on the indented lines below, with its full stops and texts. So behind a colon a sentence goes on to the next line of indent 0.
 abbrev pub is_same_sentence : Bool → Token → Token → Bool
 is_same_sentence true token next = not (is_unindented next.start)
 is_same_sentence false token next =

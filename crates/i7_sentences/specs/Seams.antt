@@ -8,7 +8,7 @@ abbrev pub tokens_in : List (List Token) → List Token
 tokens_in [] = []
 tokens_in (piece ∷ pieces) = piece ++ tokens_in pieces
 
--- each token of a piece behind this one belongs to it; whether the piece is open at this one is told
+-- these tokens, behind one at which their piece is open or not, belong to the piece
 abbrev pub GoesOn : (Token → Bool) → (Bool → Token → Token → Bool) → Bool → Token → List Token → Type 0
 GoesOn opens same is_open token [] = Unit {0}
 GoesOn opens same is_open token (next ∷ more) = (same is_open token next ≡ true) × GoesOn opens same (is_open || opens next) next more
@@ -18,7 +18,7 @@ abbrev pub IsPiece : (Token → Bool) → (Bool → Token → Token → Bool) �
 IsPiece opens same [] = ⊥
 IsPiece opens same (token ∷ more) = GoesOn opens same (opens token) token more
 
--- the last token of a piece, of which these are left, and the first of the next don't belong to the same piece
+-- these tokens, behind one at which their piece is open or not, end it: the first of the pieces behind doesn't belong to it
 abbrev pub IsSeam : (Token → Bool) → (Bool → Token → Token → Bool) → Bool → Token → List Token → List (List Token) → Type 0
 IsSeam opens same is_open token (next ∷ more) pieces = IsSeam opens same (is_open || opens next) next more pieces
 IsSeam opens same is_open token [] [] = Unit {0}
