@@ -1,4 +1,5 @@
 pub mod Automata
+pub mod Bracketing
 pub mod Choosing
 pub mod Columns
 pub mod Cutting

@@ -1,88 +1,87 @@
--- Cutting from the right gives the one cut of tokens.
-use Rattle.std.proofs.Common.{◌≡◌, Bool, true, false, List, [], ◌∷◌, ◌++◌, refl, ap, sym, ◌∙◌, subst}
-use Rattle.std.specs.List.{All}
+-- Cutting gives the one cut of tokens.
+use Rattle.std.proofs.Common.{◌≡◌, Bool, true, false, ◌||◌, List, [], ◌∷◌, ◌++◌, refl, ap, sym, ◌∙◌, subst}
+use Rattle.std.specs.List.{All, onto_first}
 use Rattle.std.proofs.lemmas.List.Elements.{All-nil, All-cons, All-head, All-tail}
 use Rattle.i7_lexer.specs.declared.token.Token.{Token}
-use Rattle.i7_sentences.specs.Cuts.{cut, onto_piece}
-use Rattle.i7_sentences.specs.Seams.{AreParted, IsCut, IsPiece, IsSeam, tokens_in}
+use Rattle.i7_sentences.specs.Cuts.{cut, cut_from}
+use Rattle.i7_sentences.specs.Seams.{AreParted, GoesOn, IsCut, IsPiece, IsSeam, tokens_in}
 
-onto_same : (same : Token → Token → Bool) (token next : Token) (more : List Token) (pieces : List (List Token)) → same token next ≡ true → onto_piece same token ((next ∷ more) ∷ pieces) ≡ (token ∷ next ∷ more) ∷ pieces
-onto_same same token next more pieces is = rw is refl
+joined_same : (opens : Token → Bool) (same : Bool → Token → Token → Bool) (is_open : Bool) (token next : Token) (rest : List Token) → same is_open token next ≡ true → cut_from opens same is_open token (next ∷ rest) ≡ onto_first token (cut_from opens same (is_open || opens next) next rest)
+joined_same opens same is_open token next rest is = rw is refl
 
-onto_other : (same : Token → Token → Bool) (token next : Token) (more : List Token) (pieces : List (List Token)) → same token next ≡ false → onto_piece same token ((next ∷ more) ∷ pieces) ≡ (token ∷ []) ∷ (next ∷ more) ∷ pieces
-onto_other same token next more pieces is = rw is refl
+parted_other : (opens : Token → Bool) (same : Bool → Token → Token → Bool) (is_open : Bool) (token next : Token) (rest : List Token) → same is_open token next ≡ false → cut_from opens same is_open token (next ∷ rest) ≡ (token ∷ []) ∷ cut_from opens same (opens next) next rest
+parted_other opens same is_open token next rest is = rw is refl
 
-longer_parted : (same : Token → Token → Bool) (token next : Token) (more : List Token) (pieces : List (List Token)) → AreParted same ((next ∷ more) ∷ pieces) → AreParted same ((token ∷ next ∷ more) ∷ pieces)
-longer_parted same token next more [] parted = tt
-longer_parted same token next more (piece ∷ pieces) parted = (parted.0, parted.1)
+-- the first piece from a token on, and the pieces behind it
+record IsFrom (opens : Token → Bool) (same : Bool → Token → Token → Bool) (is_open : Bool) (token : Token) (tokens : List Token) (pieces : List (List Token)) : Type 0 where
+  more : List Token
+  behind : List (List Token)
+  place : pieces ≡ (token ∷ more) ∷ behind
+  joined : more ++ tokens_in behind ≡ tokens
+  goes_on : GoesOn opens same is_open token more
+  seam : IsSeam opens same is_open token more behind
+  whole : All (IsPiece opens same) behind
+  parted : AreParted opens same behind
 
-joined_same : (same : Token → Token → Bool) (token next : Token) (more : List Token) (pieces : List (List Token)) → All (IsPiece same) ((next ∷ more) ∷ pieces) → AreParted same ((next ∷ more) ∷ pieces) → same token next ≡ true → IsCut same (token ∷ tokens_in ((next ∷ more) ∷ pieces)) ((token ∷ next ∷ more) ∷ pieces)
-joined_same same token next more pieces whole parted is = record {
-  joined = refl;
-  whole = All-cons (IsPiece same) (token ∷ next ∷ more) pieces (is, All-head (IsPiece same) (next ∷ more) pieces whole) (All-tail (IsPiece same) (next ∷ more) pieces whole);
-  parted = longer_parted same token next more pieces parted;
-}
-
-joined_other : (same : Token → Token → Bool) (token next : Token) (more : List Token) (pieces : List (List Token)) → All (IsPiece same) ((next ∷ more) ∷ pieces) → AreParted same ((next ∷ more) ∷ pieces) → same token next ≡ false → IsCut same (token ∷ tokens_in ((next ∷ more) ∷ pieces)) ((token ∷ []) ∷ (next ∷ more) ∷ pieces)
-joined_other same token next more pieces whole parted is = record {
-  joined = refl;
-  whole = All-cons (IsPiece same) (token ∷ []) ((next ∷ more) ∷ pieces) tt whole;
-  parted = (is, parted);
-}
-
--- one more token in front of a cut
-onto_cut : (same : Token → Token → Bool) (token : Token) (pieces : List (List Token)) → All (IsPiece same) pieces → AreParted same pieces → IsCut same (token ∷ tokens_in pieces) (onto_piece same token pieces)
-onto_cut same token [] whole parted = record { joined = refl; whole = All-cons (IsPiece same) (token ∷ []) [] tt (All-nil (IsPiece same)); parted = tt }
-onto_cut same token ([] ∷ pieces) whole parted = absurd (All-head (IsPiece same) [] pieces whole)
-onto_cut same token ((next ∷ more) ∷ pieces) whole parted =
-    let Goal : Bool → Type 0 = λ joins. same token next ≡ joins → IsCut same (token ∷ tokens_in ((next ∷ more) ∷ pieces)) (onto_piece same token ((next ∷ more) ∷ pieces))
-    in elim (same token next) as Goal [
-      | true ↦ λ joins. subst (λ ps. IsCut same (token ∷ tokens_in ((next ∷ more) ∷ pieces)) ps) (sym (onto_same same token next more pieces joins)) (joined_same same token next more pieces whole parted joins)
-      | false ↦ λ parts. subst (λ ps. IsCut same (token ∷ tokens_in ((next ∷ more) ∷ pieces)) ps) (sym (onto_other same token next more pieces parts)) (joined_other same token next more pieces whole parted parts)
+is_from : (opens : Token → Bool) (same : Bool → Token → Token → Bool) (is_open : Bool) (token : Token) (tokens : List Token) → IsFrom opens same is_open token tokens (cut_from opens same is_open token tokens)
+is_from opens same is_open token [] = record { more = []; behind = []; place = refl; joined = refl; goes_on = tt; seam = tt; whole = All-nil (IsPiece opens same); parted = tt }
+is_from opens same is_open token (next ∷ rest) =
+    let Goal : Bool → Type 0 = λ joins. same is_open token next ≡ joins → IsFrom opens same is_open token (next ∷ rest) (cut_from opens same is_open token (next ∷ rest))
+    in elim (same is_open token next) as Goal [
+      | true ↦ λ joins.
+          let later = is_from opens same (is_open || opens next) next rest in
+          record {
+            more = next ∷ later.more;
+            behind = later.behind;
+            place = joined_same opens same is_open token next rest joins ∙ ap (onto_first token) later.place;
+            joined = ap (λ ts. next ∷ ts) later.joined;
+            goes_on = (joins, later.goes_on);
+            seam = later.seam;
+            whole = later.whole;
+            parted = later.parted;
+          }
+      | false ↦ λ parts.
+          let later = is_from opens same (opens next) next rest in
+          record {
+            more = [];
+            behind = (next ∷ later.more) ∷ later.behind;
+            place = parted_other opens same is_open token next rest parts ∙ ap (λ ps. (token ∷ []) ∷ ps) later.place;
+            joined = ap (λ ts. next ∷ ts) later.joined;
+            goes_on = tt;
+            seam = parts;
+            whole = All-cons (IsPiece opens same) (next ∷ later.more) later.behind later.goes_on later.whole;
+            parted = (later.seam, later.parted);
+          }
     ] refl
 
-pub is_cut : (same : Token → Token → Bool) (tokens : List Token) → IsCut same tokens (cut same tokens)
-is_cut same [] = record { joined = refl; whole = All-nil (IsPiece same); parted = tt }
-is_cut same (token ∷ tokens) =
-    let behind = is_cut same tokens in
-    subst (λ ts. IsCut same (token ∷ ts) (onto_piece same token (cut same tokens))) behind.joined
-    (onto_cut same token (cut same tokens) behind.whole behind.parted)
+pub is_cut : (opens : Token → Bool) (same : Bool → Token → Token → Bool) (tokens : List Token) → IsCut opens same tokens (cut opens same tokens)
+is_cut opens same [] = record { joined = refl; whole = All-nil (IsPiece opens same); parted = tt }
+is_cut opens same (token ∷ tokens) =
+    let first = is_from opens same (opens token) token tokens in
+    let made : IsCut opens same (token ∷ tokens) ((token ∷ first.more) ∷ first.behind) = record {
+      joined = ap (λ ts. token ∷ ts) first.joined;
+      whole = All-cons (IsPiece opens same) (token ∷ first.more) first.behind first.goes_on first.whole;
+      parted = (first.seam, first.parted);
+    } in
+    subst (λ pieces. IsCut opens same (token ∷ tokens) pieces) (sym first.place) made
 
 -- a piece in front of a cut, with a seam between them
-abbrev IsBefore : (Token → Token → Bool) → List Token → List (List Token) → Type 0
-IsBefore same piece [] = Unit {0}
-IsBefore same piece (next ∷ pieces) = IsSeam same piece next
+cut_again : (opens : Token → Bool) (same : Bool → Token → Token → Bool) (is_open : Bool) (token : Token) (more : List Token) (pieces : List (List Token)) → cut opens same (tokens_in pieces) ≡ pieces → GoesOn opens same is_open token more → IsSeam opens same is_open token more pieces → cut_from opens same is_open token (more ++ tokens_in pieces) ≡ (token ∷ more) ∷ pieces
+cut_again opens same is_open token [] [] is goes_on seam = refl
+cut_again opens same is_open token [] ([] ∷ pieces) is goes_on seam = absurd seam
+cut_again opens same is_open token [] ((first ∷ rest) ∷ pieces) is goes_on seam =
+    parted_other opens same is_open token first (rest ++ tokens_in pieces) seam ∙ ap (λ ps. (token ∷ []) ∷ ps) is
+cut_again opens same is_open token (next ∷ more) pieces is goes_on seam =
+    joined_same opens same is_open token next (more ++ tokens_in pieces) goes_on.0
+    ∙ ap (onto_first token) (cut_again opens same (is_open || opens next) next more pieces is goes_on.1 seam)
 
-cut_alone : (same : Token → Token → Bool) (token : Token) (pieces : List (List Token)) → IsBefore same (token ∷ []) pieces → onto_piece same token pieces ≡ (token ∷ []) ∷ pieces
-cut_alone same token [] seam = refl
-cut_alone same token ([] ∷ pieces) seam = absurd seam
-cut_alone same token ((first ∷ rest) ∷ pieces) seam = onto_other same token first rest pieces seam
+recut : (opens : Token → Bool) (same : Bool → Token → Token → Bool) (pieces : List (List Token)) → All (IsPiece opens same) pieces → AreParted opens same pieces → cut opens same (tokens_in pieces) ≡ pieces
+recut opens same [] whole parted = refl
+recut opens same ([] ∷ pieces) whole parted = absurd parted
+recut opens same ((token ∷ more) ∷ pieces) whole parted =
+    cut_again opens same (opens token) token more pieces
+    (recut opens same pieces (All-tail (IsPiece opens same) (token ∷ more) pieces whole) parted.1)
+    (All-head (IsPiece opens same) (token ∷ more) pieces whole) parted.0
 
-shorter_before : (same : Token → Token → Bool) (token next : Token) (more : List Token) (pieces : List (List Token)) → IsBefore same (token ∷ next ∷ more) pieces → IsBefore same (next ∷ more) pieces
-shorter_before same token next more [] seam = tt
-shorter_before same token next more (piece ∷ pieces) seam = seam
-
-cut_joined : (same : Token → Token → Bool) (piece : List Token) (pieces : List (List Token)) → cut same (tokens_in pieces) ≡ pieces → IsPiece same piece → IsBefore same piece pieces → cut same (piece ++ tokens_in pieces) ≡ piece ∷ pieces
-cut_joined same [] pieces is whole seam = absurd whole
-cut_joined same (token ∷ []) pieces is whole seam = ap (onto_piece same token) is ∙ cut_alone same token pieces seam
-cut_joined same (token ∷ next ∷ more) pieces is whole seam =
-    ap (onto_piece same token) (cut_joined same (next ∷ more) pieces is whole.1 (shorter_before same token next more pieces seam))
-    ∙ onto_same same token next more pieces whole.0
-
-before : (same : Token → Token → Bool) (piece : List Token) (pieces : List (List Token)) → AreParted same (piece ∷ pieces) → IsBefore same piece pieces
-before same piece [] parted = tt
-before same piece (next ∷ pieces) parted = parted.0
-
-behind : (same : Token → Token → Bool) (piece : List Token) (pieces : List (List Token)) → AreParted same (piece ∷ pieces) → AreParted same pieces
-behind same piece [] parted = tt
-behind same piece (next ∷ pieces) parted = parted.1
-
-recut : (same : Token → Token → Bool) (pieces : List (List Token)) → All (IsPiece same) pieces → AreParted same pieces → cut same (tokens_in pieces) ≡ pieces
-recut same [] whole parted = refl
-recut same (piece ∷ pieces) whole parted =
-    cut_joined same piece pieces
-    (recut same pieces (All-tail (IsPiece same) piece pieces whole) (behind same piece pieces parted))
-    (All-head (IsPiece same) piece pieces whole) (before same piece pieces parted)
-
-pub one_cut : (same : Token → Token → Bool) (tokens : List Token) (pieces : List (List Token)) → IsCut same tokens pieces → pieces ≡ cut same tokens
-one_cut same tokens pieces is = sym (recut same pieces is.whole is.parted) ∙ ap (cut same) is.joined
+pub one_cut : (opens : Token → Bool) (same : Bool → Token → Token → Bool) (tokens : List Token) (pieces : List (List Token)) → IsCut opens same tokens pieces → pieces ≡ cut opens same tokens
+one_cut opens same tokens pieces is = sym (recut opens same pieces is.whole is.parted) ∙ ap (cut opens same) is.joined

@@ -1,6 +1,6 @@
 -- The parts of a source: its headings, its title and its sentences.
 use Rattle.std.specs.Prelude.{ℕ, ◌-◌, nat_lt, slice_index, length, Bool, true, false, not, ◌&&◌, ◌||◌, ◌==◌, List, [], ◌∷◌, ◌++◌, fold, codes, if◌then◌else◌}
-use Rattle.std.specs.List.{list_all, list_any}
+use Rattle.std.specs.List.{list_all, list_any, onto_first}
 use Rattle.std.specs.Char.{is_ascii_uppercase}
 use Rattle.i7_lexer.specs.declared.token.Token.{Token}
 use Rattle.i7_lexer.specs.declared.token.TokenKind.{TokenKind}
@@ -13,26 +13,33 @@ use Rattle.i7_sentences.specs.declared.cut.TheConstants.{HEADINGS}
 use Rattle.i7_sentences.specs.declared.part.PartKind.{PartKind}
 use Rattle.i7_sentences.specs.declared.part.PartKind.TheVariants.{Title, Heading, Sentence}
 
--- a token goes in front of the piece behind it, where it belongs to the same
-abbrev pub onto_piece : (Token → Token → Bool) → Token → List (List Token) → List (List Token)
-onto_piece same token [] = (token ∷ []) ∷ []
-onto_piece same token ([] ∷ pieces) = (token ∷ []) ∷ pieces
-onto_piece same token ((next ∷ more) ∷ pieces) =
-    if same token next then (token ∷ next ∷ more) ∷ pieces else (token ∷ []) ∷ (next ∷ more) ∷ pieces
+-- Tokens are cut between each two neighbours that don't belong to the same piece. A piece is open at a token if that or one before it in the
+-- piece opens it, and whether a token's neighbour belongs to the same piece may depend on this.
 
--- tokens cut between each two neighbours that don't belong to the same piece
-abbrev pub cut : (Token → Token → Bool) → List Token → List (List Token)
-cut same [] = []
-cut same (token ∷ tokens) = onto_piece same token (cut same tokens)
+-- the pieces from a token on, at which its piece is open or not
+abbrev pub cut_from : (Token → Bool) → (Bool → Token → Token → Bool) → Bool → Token → List Token → List (List Token)
+cut_from opens same is_open token [] = (token ∷ []) ∷ []
+cut_from opens same is_open token (next ∷ rest) =
+    if same is_open token next then onto_first token (cut_from opens same (is_open || opens next) next rest)
+    else (token ∷ []) ∷ cut_from opens same (opens next) next rest
+
+-- the pieces of tokens
+abbrev pub cut : (Token → Bool) → (Bool → Token → Token → Bool) → List Token → List (List Token)
+cut opens same [] = []
+cut opens same (token ∷ tokens) = cut_from opens same (opens token) token tokens
 
 abbrev pub is_paragraph_start : Start → Bool
 is_paragraph_start Paragraph = true
 is_paragraph_start (Line indent) = false
 is_paragraph_start Within = false
 
+-- no token opens a paragraph
+abbrev pub opens_nothing : Token → Bool
+opens_nothing token = false
+
 -- a paragraph goes on to the next token that begins one
-abbrev pub is_same_paragraph : Token → Token → Bool
-is_same_paragraph token next = not (is_paragraph_start next.start)
+abbrev pub is_same_paragraph : Bool → Token → Token → Bool
+is_same_paragraph is_open token next = not (is_paragraph_start next.start)
 
 abbrev pub is_within_line : Start → Bool
 is_within_line Paragraph = false
@@ -47,13 +54,22 @@ abbrev pub is_heading : List Token → Bool
 is_heading [] = false
 is_heading (first ∷ rest) = opens_heading (word_of first) && list_all (λ token. is_within_line token.start) rest
 
-abbrev pub is_full_stop_kind : TokenKind → Bool
-is_full_stop_kind (Text text) = false
-is_full_stop_kind (Word word) = false
-is_full_stop_kind (Mark mark) = mark == 46
+abbrev pub is_mark_kind : ℕ → TokenKind → Bool
+is_mark_kind b (Text text) = false
+is_mark_kind b (Word word) = false
+is_mark_kind b (Mark mark) = mark == b
 
 abbrev pub is_full_stop : Token → Bool
-is_full_stop token = is_full_stop_kind token.kind
+is_full_stop token = is_mark_kind 46 token.kind
+
+abbrev pub is_colon : Token → Bool
+is_colon token = is_mark_kind 58 token.kind
+
+-- a line of indent 0 begins here
+abbrev pub is_unindented : Start → Bool
+is_unindented Paragraph = true
+is_unindented (Line indent) = indent == 0
+is_unindented Within = false
 
 -- `.`, `?` and `!`
 abbrev pub is_final : ℕ → Bool
@@ -80,9 +96,11 @@ may_begin_kind (Text text) = true
 may_begin_kind (Word word) = is_capitalised word
 may_begin_kind (Mark mark) = false
 
--- a sentence ends at a full stop, which is in none, and behind a text that ends so
-abbrev pub is_same_sentence : Token → Token → Bool
-is_same_sentence token next =
+-- A sentence ends at a full stop, which is in none, and behind a text that ends so. A colon opens a rule's body: what stands behind it on its
+-- line and on the indented lines below, with its full stops and texts. So behind a colon a sentence goes on to the next line of indent 0.
+abbrev pub is_same_sentence : Bool → Token → Token → Bool
+is_same_sentence true token next = not (is_unindented next.start)
+is_same_sentence false token next =
     not (is_full_stop token || is_full_stop next || (ends_sentence_kind token.kind && may_begin_kind next.kind))
 
 abbrev pub is_stop_alone : List Token → Bool
@@ -115,8 +133,8 @@ with_sentence parts sentence =
 abbrev pub with_paragraph : List Piece → List Token → List Piece
 with_paragraph parts paragraph =
     if is_heading paragraph then parts ++ record { kind = Heading; tokens = paragraph } ∷ []
-    else fold with_sentence parts (cut is_same_sentence paragraph)
+    else fold with_sentence parts (cut is_colon is_same_sentence paragraph)
 
 -- the parts of a source
 abbrev pub parts_of : List Token → List Piece
-parts_of tokens = fold with_paragraph [] (cut is_same_paragraph tokens)
+parts_of tokens = fold with_paragraph [] (cut opens_nothing is_same_paragraph tokens)

@@ -5,13 +5,15 @@ use Rattle.world_meaning.specs.declared.fault.Fault.{Fault}
 use Rattle.world_meaning.specs.declared.fault.FaultCode.{FaultCode}
 use Rattle.world_meaning.specs.declared.fault.FaultCode.TheVariants.{NumberOutOfRange, NotUnderstood, ReservedWord}
 use Rattle.i7_lexer.specs.declared.token.Token.{Token}
+use Rattle.i7_lexer.specs.declared.token.TokenKind.{TokenKind}
+use Rattle.i7_lexer.specs.declared.token.TokenKind.TheVariants.{Text, Word, Mark}
+use Rattle.i7_sentences.specs.BracketedWords.{has_bad_bracket}
 use Rattle.i7_sentences.specs.Cuts.{Piece, parts_of}
 use Rattle.i7_sentences.specs.Forms.{all_forms}
 use Rattle.i7_sentences.specs.Literals.{is_out_of_range}
 use Rattle.i7_sentences.specs.Matching.{Found, lowest_fit}
 use Rattle.i7_sentences.specs.Assertions.{assertion_of}
 use Rattle.i7_sentences.specs.Reserved.{has_reserved_among}
-use Rattle.i7_sentences.specs.Words.{word_of}
 use Rattle.i7_sentences.specs.declared.part.PartKind.{PartKind}
 use Rattle.i7_sentences.specs.declared.part.PartKind.TheVariants.{Title, Heading, Sentence as Said}
 use Rattle.i7_sentences.specs.declared.reader.Heard.{Heard}
@@ -32,9 +34,18 @@ is_sentence Title = false
 is_sentence Heading = false
 is_sentence Said = true
 
+-- a literal out of range, or a text with one between its brackets
+abbrev pub holds_bad_literal_kind : TokenKind → Bool
+holds_bad_literal_kind (Text text) = has_bad_bracket text
+holds_bad_literal_kind (Word word) = is_out_of_range word
+holds_bad_literal_kind (Mark mark) = false
+
+abbrev pub holds_bad_literal : Token → Bool
+holds_bad_literal token = holds_bad_literal_kind token.kind
+
 -- a literal out of range; titles and headings hold none
 unfoldable pub has_bad_literal : Piece → Bool
-has_bad_literal part = is_sentence part.kind && list_any (λ token. is_out_of_range (word_of token)) part.tokens
+has_bad_literal part = is_sentence part.kind && list_any holds_bad_literal part.tokens
 
 abbrev pub heard_as : Bool → Option Assertion → Option Heard
 heard_as is_reserved None = None

@@ -1,7 +1,7 @@
 //! Cutting tokens into paragraphs, and these into headings and sentences.
-ghost use Rattle.std.specs.Prelude.{◌≡◌, ◌<◌, ◌≤◌, fold, length, not, IfOk, OnOk};
+ghost use Rattle.std.specs.Prelude.{◌≡◌, ◌<◌, ◌≤◌, false, fold, length, not, IfOk, OnOk};
 ghost use Rattle.std.specs.List.{list_all};
-ghost use Rattle.i7_sentences.specs.Cuts.{cut, ends_sentence_kind, has_final_end, is_capitalised, is_final, is_full_stop, is_heading, is_same_paragraph, is_same_sentence, is_stop_alone, is_title, is_within_line, kind_of, may_begin_kind, opens_heading, parts_of, with_paragraph, with_sentence};
+ghost use Rattle.i7_sentences.specs.Cuts.{cut, ends_sentence_kind, has_final_end, is_capitalised, is_colon, is_final, is_full_stop, is_heading, is_mark_kind, is_same_paragraph, is_same_sentence, is_stop_alone, is_title, is_unindented, is_within_line, kind_of, may_begin_kind, opens_heading, opens_nothing, parts_of, with_paragraph, with_sentence};
 ghost use Rattle.i7_sentences.specs.Pieces.{piece_len, pieces_of};
 ghost use Rattle.i7_sentences.specs.Words.{is_word};
 
@@ -16,7 +16,7 @@ pub const HEADINGS: [&[u8]; 5] = [b"volume", b"book", b"part", b"chapter", b"sec
 
 /// Whether the next token belongs to the same paragraph.
 fn is_same_paragraph(token: &Token, next: &Token) -> bool
-    ensures { result ≡ is_same_paragraph token.now next.now }
+    ensures { result ≡ is_same_paragraph false token.now next.now }
 {
     let _ = token;
     match next.start {
@@ -59,13 +59,38 @@ fn is_heading(paragraph: &[Token]) -> bool
     }
 }
 
+/// Whether the token is this mark.
+fn is_mark(byte: u8, token: &Token) -> bool
+    ensures { result ≡ is_mark_kind byte token.now.kind }
+{
+    match &token.kind {
+        TokenKind::Mark(mark) => *mark == byte,
+        TokenKind::Text(_) | TokenKind::Word(_) => false,
+    }
+}
+
 /// Whether the token is a full stop.
 fn is_full_stop(token: &Token) -> bool
     ensures { result ≡ is_full_stop token.now }
 {
-    match &token.kind {
-        TokenKind::Mark(mark) => *mark == b'.',
-        TokenKind::Text(_) | TokenKind::Word(_) => false,
+    is_mark(b'.', token)
+}
+
+/// Whether the token is a colon.
+fn is_colon(token: &Token) -> bool
+    ensures { result ≡ is_colon token.now }
+{
+    is_mark(b':', token)
+}
+
+/// Whether a line of indent 0 begins at a token.
+fn is_unindented(start: Start) -> bool
+    ensures { result ≡ is_unindented start }
+{
+    match start {
+        Start::Paragraph => true,
+        Start::Line { indent } => indent == 0,
+        Start::Within => false,
     }
 }
 
@@ -116,12 +141,17 @@ fn may_begin(token: &Token) -> bool
     }
 }
 
-/// Whether the next token of a paragraph belongs to the same sentence: none does at a full stop,
-/// which is in no sentence, and behind a text that ends as a sentence does.
-fn is_same_sentence(token: &Token, next: &Token) -> bool
-    ensures { result ≡ is_same_sentence token.now next.now }
+/// Whether the next token of a paragraph belongs to the same sentence: behind a colon if it begins no
+/// line of indent 0; else none does at a full stop, which is in no sentence, and behind a text that
+/// ends as a sentence does.
+fn is_same_sentence(has_colon: bool, token: &Token, next: &Token) -> bool
+    ensures { result ≡ is_same_sentence has_colon token.now next.now }
 {
-    !(is_full_stop(token) || is_full_stop(next) || ends_sentence(token) && may_begin(next))
+    if has_colon {
+        !is_unindented(next.start)
+    } else {
+        !(is_full_stop(token) || is_full_stop(next) || ends_sentence(token) && may_begin(next))
+    }
 }
 
 /// Whether a piece of a paragraph is a full stop.
@@ -174,7 +204,7 @@ fn kind_of(parts: &[Part<'_>], sentence: &[Token]) -> PartKind
 
 /// The number of tokens of the first paragraph.
 fn paragraph_len(tokens: &[Token]) -> usize
-    ensures len { result ≡ piece_len is_same_paragraph tokens.now }
+    ensures len { result ≡ piece_len opens_nothing is_same_paragraph tokens.now }
     ensures within { result ≤ length tokens.now }
 {
     let mut count = 0;
@@ -196,18 +226,20 @@ fn paragraph_len(tokens: &[Token]) -> usize
 
 /// The number of tokens of the first piece of a paragraph: a sentence or a full stop.
 fn sentence_len(tokens: &[Token]) -> usize
-    ensures len { result ≡ piece_len is_same_sentence tokens.now }
+    ensures len { result ≡ piece_len is_colon is_same_sentence tokens.now }
     ensures within { result ≤ length tokens.now }
 {
     let mut count = 0;
+    let mut has_colon = false;
     let mut rest = tokens;
     while let [token, after @ ..] = rest {
         count += 1;
+        has_colon = has_colon || is_colon(token);
         rest = after;
         match after {
             [] => {}
             [next, ..] => {
-                if !is_same_sentence(token, next) {
+                if !is_same_sentence(has_colon, token, next) {
                     return count;
                 }
             }
@@ -234,7 +266,7 @@ fn add_sentence<'a>(piece: &'a [Token], parts: &mut Vec<Part<'a>>) -> Result<(),
 /// Adds the sentences of a paragraph to the parts.
 #[tactic(auto, using(crate::proofs::Cutting::cut_steps))]
 fn add_sentences<'a>(paragraph: &'a [Token], parts: &mut Vec<Part<'a>>) -> Result<(), AllocError>
-    ensures { OnOk result (pieces_of parts.new.items ≡ fold with_sentence (pieces_of parts.old.items) (cut is_same_sentence paragraph.now)) }
+    ensures { OnOk result (pieces_of parts.new.items ≡ fold with_sentence (pieces_of parts.old.items) (cut is_colon is_same_sentence paragraph.now)) }
 {
     let mut rest = paragraph;
     while !rest.is_empty() {

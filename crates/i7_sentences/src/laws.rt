@@ -10,10 +10,10 @@ ghost use Rattle.world_meaning.specs.declared.fault.Fault.{Fault};
 ghost use Rattle.world_meaning.specs.declared.fault.FaultCode.TheVariants.{Memory};
 
 /// The cut of tokens is made between two neighbours that don't belong to the same piece, and nowhere
-/// else, and there is no other such cut.
+/// else, and there is no other such cut, whatever opens a piece and whatever belongs to one.
 pub fn cut_is_exact()
-    ensures made { (same : Token → Token → Bool) (tokens : List Token) → IsCut same tokens (cut same tokens) }
-    ensures alone { (same : Token → Token → Bool) (tokens : List Token) (pieces : List (List Token)) → IsCut same tokens pieces → pieces ≡ cut same tokens }
+    ensures made { (opens : Token → Bool) (same : Bool → Token → Token → Bool) (tokens : List Token) → IsCut opens same tokens (cut opens same tokens) }
+    ensures alone { (opens : Token → Bool) (same : Bool → Token → Token → Bool) (tokens : List Token) (pieces : List (List Token)) → IsCut opens same tokens pieces → pieces ≡ cut opens same tokens }
 {}
 
 /// No words have two readings, whatever the forms.

@@ -5,6 +5,7 @@
 #![tactic(auto)]
 
 mod assertion;
+mod brackets;
 mod class;
 mod cut;
 mod form;

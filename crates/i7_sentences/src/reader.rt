@@ -3,24 +3,22 @@ ghost use Rattle.std.specs.Prelude.{◌≡◌, ◌≢◌, true, Some, Ok, Err, R
 ghost use Rattle.std.specs.List.{filter_map, list_any};
 ghost use Rattle.world_meaning.specs.Faults.{out_of_memory};
 ghost use Rattle.i7_sentences.specs.Forms.{all_forms};
-ghost use Rattle.i7_sentences.specs.Literals.{is_out_of_range};
 ghost use Rattle.i7_sentences.specs.Found.{found_in};
 ghost use Rattle.i7_sentences.specs.Matching.{lowest_fit};
-ghost use Rattle.i7_sentences.specs.Words.{word_of};
 ghost use Rattle.i7_sentences.specs.Cuts.{parts_of};
 ghost use Rattle.i7_sentences.specs.Pieces.{piece_of, pieces_of};
-ghost use Rattle.i7_sentences.specs.Read.{has_bad_literal, has_reserved, heard_by, heard_in, is_sentence, is_unread, line_in, line_of, lower, lowest, read_of, sentence_in};
+ghost use Rattle.i7_sentences.specs.Read.{has_bad_literal, has_reserved, heard_by, heard_in, holds_bad_literal, is_sentence, is_unread, line_in, line_of, lower, lowest, read_of, sentence_in};
 ghost use Rattle.i7_sentences.specs.Sources.{HasSentences, IsRefused};
 
 use crate::assertion::assertion_of;
+use crate::brackets::has_bad_bracket;
 use crate::cut::parts_of;
 use crate::literal::is_out_of_range;
 use crate::reading::{Reading, reading_of};
 use crate::reserved::has_reserved_among;
 use crate::tagged::with_tags;
-use crate::word::word_of;
 use crate::{Assertion, Part, PartKind, Sentence};
-use i7_lexer::{Lexed, Token};
+use i7_lexer::{Lexed, Token, TokenKind};
 use std::alloc::{AllocError, Global};
 use world_meaning::{Fault, FaultCode};
 
@@ -68,11 +66,22 @@ fn is_sentence(kind: PartKind) -> bool
     }
 }
 
-/// Whether a token is a literal out of range.
-fn has_out_of_range(tokens: &[Token]) -> bool
-    ensures { result ≡ list_any (λ token. is_out_of_range (word_of token)) tokens.now }
+/// Whether a token is a literal out of range, or a text with one between its brackets.
+fn holds_bad_literal(token: &Token) -> bool
+    ensures { result ≡ holds_bad_literal token.now }
 {
-    tokens.iter().any(|token| is_out_of_range(word_of(token)))
+    match &token.kind {
+        TokenKind::Text(text) => has_bad_bracket(text.as_slice()),
+        TokenKind::Word(word) => is_out_of_range(word.as_slice()),
+        TokenKind::Mark(_) => false,
+    }
+}
+
+/// Whether a token holds a literal out of range.
+fn any_holds_bad_literal(tokens: &[Token]) -> bool
+    ensures { result ≡ list_any holds_bad_literal tokens.now }
+{
+    tokens.iter().any(|token| holds_bad_literal(token))
 }
 
 /// Whether a part holds a literal out of range; titles and headings hold none.
@@ -80,7 +89,7 @@ fn has_out_of_range(tokens: &[Token]) -> bool
 fn has_bad_literal(part: &Part<'_>) -> bool
     ensures { result ≡ has_bad_literal (piece_of part.now) }
 {
-    is_sentence(part.kind) && has_out_of_range(part.tokens)
+    is_sentence(part.kind) && any_holds_bad_literal(part.tokens)
 }
 
 /// The lower of two lines.
