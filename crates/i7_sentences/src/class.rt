@@ -1,10 +1,31 @@
 //! The classes of words that a form's letters stand for: each a small automaton over tokens.
 ghost use Rattle.std.specs.Prelude.{◌≡◌};
 ghost use Rattle.i7_sentences.specs.Automata.{accepts, alone_step, body_step, names_step, run_step, side_start, side_step, step};
-ghost use Rattle.i7_sentences.specs.Classes.{ends_head, is_head_token, is_inner, is_choice, is_joint, is_name_word, is_vertical};
+ghost use Rattle.i7_sentences.specs.Classes.{is_head_token, is_inner, is_choice, is_joint, is_name_word, is_vertical, opens_phrase};
 
 use crate::Keyword;
 use crate::tagged::Tagged;
+use crate::word::word_of;
+use world_meaning::is_spelled;
+
+/// The words that a phrase begins with.
+pub const PHRASES: [&[u8]; 15] = [
+    b"say",
+    b"now",
+    b"move",
+    b"increase",
+    b"decrease",
+    b"try",
+    b"silently",
+    b"follow",
+    b"rule",
+    b"make",
+    b"continue",
+    b"stop",
+    b"end",
+    b"if",
+    b"repeat",
+];
 
 /// What a letter stands for.
 #[derive(Clone, Copy, Debug, PartialEq, Eq)]
@@ -31,7 +52,7 @@ pub enum Class {
     Texts,
     /// Words and round brackets, as in a rule's head.
     Head,
-    /// `,` or `:`, and what stands behind it.
+    /// `:` and what stands behind it, or `,` and what begins as a phrase does.
     Body,
 }
 
@@ -44,7 +65,7 @@ pub enum State {
     Inside,
     /// Behind a word with which it may not end.
     Between,
-    /// Behind `inside` or `outside`, with which it may not end.
+    /// Behind another such word: `inside` or `outside`, or a rule's `,`.
     Beside,
 }
 
@@ -85,11 +106,13 @@ fn is_head_token(token: &Tagged<'_>) -> bool
     token.is_word() || token.is_sign(Keyword::Open) || token.is_sign(Keyword::Close)
 }
 
-#[tactic(auto, unfolding(crate::specs::Classes::ends_head))]
-fn ends_head(token: &Tagged<'_>) -> bool
-    ensures { result ≡ ends_head token.now }
+/// Whether a phrase may begin with the token.
+#[tactic(auto, unfolding(crate::specs::Classes::opens_phrase))]
+fn opens_phrase(token: &Tagged<'_>) -> bool
+    ensures { result ≡ opens_phrase token.now }
 {
-    token.is_sign(Keyword::Comma) || token.is_sign(Keyword::Colon)
+    let word = word_of(token.token());
+    PHRASES.iter().any(|opener| is_spelled(word, opener))
 }
 
 /// Whether the token is a text, or `or`.
@@ -175,13 +198,17 @@ fn body_step(state: State, token: &Tagged<'_>) -> Option<State>
     ensures { result ≡ body_step state token.now }
 {
     match state {
-        State::Start => if ends_head(token) {
-            Some(State::Between)
-        } else {
-            None
-        },
+        State::Start => {
+            if token.is_sign(Keyword::Colon) {
+                Some(State::Between)
+            } else if token.is_sign(Keyword::Comma) {
+                Some(State::Beside)
+            } else {
+                None
+            }
+        }
         State::Inside | State::Between => Some(State::Inside),
-        State::Beside => None,
+        State::Beside => run_step(opens_phrase(token)),
     }
 }
 

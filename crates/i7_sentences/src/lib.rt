@@ -24,7 +24,7 @@ mod sentence;
 mod tagged;
 mod word;
 
-pub use class::{Class, State};
+pub use class::{Class, PHRASES, State};
 pub use cut::HEADINGS;
 pub use form::{FORMS, Form, Piece};
 pub use keyword::{ARTICLES, KEYWORDS, Keyword, RESERVED};

@@ -1,5 +1,5 @@
 -- The definitions computed on the two-room source.
-use Rattle.std.specs.Prelude.{◌≡◌, ℕ, true, false, List, [], ◌∷◌, ◌++◌, codes, Result, Ok, Err}
+use Rattle.std.specs.Prelude.{◌≡◌, ℕ, true, false, List, [], ◌∷◌, ◌++◌, codes, None, Result, Ok, Err}
 use Rattle.std.specs.Str.Lines.{lines}
 use Rattle.world_meaning.specs.Games.{Game}
 use Rattle.world_meaning.specs.Session.{opened}
@@ -11,7 +11,7 @@ use Rattle.world_meaning.specs.declared.fault.FaultCode.TheVariants.{NoRoom}
 use Rattle.world_meaning.specs.declared.tale.Tale.{Tale}
 use Rattle.i7_sentences.specs.declared.name.Name.{Name}
 use Rattle.i7_sentences.specs.declared.name.NameArticle.TheVariants.{Plain}
-use Rattle.i7_sentences.specs.declared.sentence.Assertion.TheVariants.{Description, Room, Way}
+use Rattle.i7_sentences.specs.declared.sentence.Assertion.TheVariants.{Description, Way, Are}
 use Rattle.i7_sentences.specs.declared.sentence.Sentence.{Sentence}
 use Rattle.i7_kinds.specs.Tales.{tale_said}
 
@@ -21,7 +21,7 @@ plain text = record { text = text; article = Plain }
 -- `The Hall is a room. "A bare hall."`, a blank line, `The Garden is north of the Hall.`
 abbrev pub two_rooms : List Sentence
 two_rooms =
-    record { said = Room (plain (codes "Hall")); line = 1 }
+    record { said = Are (record { subjects = plain (codes "Hall") ∷ []; what = codes "a room"; place = None }); line = 1 }
     ∷ record { said = Description (codes "A bare hall."); line = 1 }
     ∷ record { said = Way (record { subject = plain (codes "Garden"); direction = North; room = plain (codes "Hall"); is_room_first = false }); line = 3 }
     ∷ []

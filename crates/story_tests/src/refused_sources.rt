@@ -55,6 +55,21 @@ const REFUSED: &[(&str, FaultCode, u32)] = &[
         FaultCode::WrongKind,
         2,
     ),
+    (
+        "The Hall is a room.\n\nPart one\n\n\"A bare hall.\"",
+        FaultCode::WrongKind,
+        5,
+    ),
+    (
+        "The Hall is a room.\nThe ball is in the Hall.\nThe if is lit.",
+        FaultCode::ReservedWord,
+        3,
+    ),
+    (
+        "The Hall is a room.\nThe ball is in the Hall.",
+        FaultCode::NotUnderstood,
+        2,
+    ),
     ("Nothing is a room.", FaultCode::Twice, 1),
     (
         "The Hall is a room.\n\nThe container is a room.",
@@ -73,7 +88,7 @@ const REFUSED: &[(&str, FaultCode, u32)] = &[
     ),
     ("", FaultCode::NoRoom, 1),
     ("2147483648 is a room.", FaultCode::NumberOutOfRange, 1),
-    ("\"T\" by 2147483648", FaultCode::NotUnderstood, 1),
+    ("\"T\" by 2147483648", FaultCode::NoRoom, 1),
     ("\"T\" by Bob, 2147483648", FaultCode::NumberOutOfRange, 1),
     (
         "\"T\" by \"Bob\", 2147483648",
@@ -94,6 +109,8 @@ const TAKEN: &[&str] = &[
     "The Hall is a room. [Hello.]",
     "The Hall is a room.\n\"A 'bare' hall, isn't it?\"",
     "The switched on Hall is a room.",
+    "\"The Cave\" by Ann\n\nPart one\n\nThe Hall is a room.\n\"Bare.\"",
+    "\"The Cave\"\n\nThe Hall is a room.\n\"Bare.\"",
     "The switched [not off] on Hall is a room.",
     "The switched[x]on Hall is a room.",
     "The fixed [a\n\nb] in\n[c]\nplace Hall is a room.",
