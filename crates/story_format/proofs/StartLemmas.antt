@@ -1,16 +1,15 @@
 -- The built-in entries of tables 2 to 5 are right, and the objects of a tale begin with what their kinds have.
-use Rattle.std.proofs.Common.{◌≡◌, ℕ, ◌+◌, Bool, true, false, ◌&&◌, ◌||◌, ltb, eqb, List, [], ◌∷◌, length, refl, sym, ap, subst, ◌∙◌, inl, inr}
+use Rattle.std.proofs.Common.{◌≡◌, ℕ, ◌+◌, Bool, true, ◌&&◌, ◌||◌, ltb, eqb, List, [], ◌∷◌, length, refl, ap, ◌∙◌, inl, inr}
 use Rattle.std.specs.Prelude.{count_by}
 use Rattle.std.specs.List.{list_all}
 use Rattle.std.proofs.lemmas.Bool.{eqb-true}
 use Rattle.world_meaning.proofs.Bools.{both, both_are, either}
 use Rattle.world_meaning.specs.Kinds.{built_in_parents, is_under}
 use Rattle.world_meaning.specs.Properties.{built_in_properties, start_properties}
-use Rattle.world_meaning.specs.declared.direction.Direction.{Direction}
 use Rattle.world_meaning.specs.declared.tale.Object.{Object}
 use Rattle.story_format.specs.Layout.{kind_layout, granted_layout, variable_layout, world_layout}
 use Rattle.story_format.specs.Making.{Worded, worded_at, worded_from, code_strings, entry_of, entries_of, built_in_world}
-use Rattle.story_format.specs.Shape.{is_player, is_direction, is_room, has_shape}
+use Rattle.story_format.specs.Shape.{has_shape}
 use Rattle.story_format.specs.WorldChecks.{are_rising, begin_with_kinds, begin_with_properties, are_right_kinds, has_property, is_had, is_right_world, suits_kind}
 use Rattle.story_format.proofs.StoryLemmas.{all_of_shape, player_parts, direction_parts, room_parts}
 
@@ -41,7 +40,8 @@ room_of_tale kind h = ap is_kind_of_tale (eqb-true kind 1 h)
 
 pub kinds_of_tale : (objects : List Object) → has_shape objects ≡ true → list_all has_kind_of_tale objects ≡ true
 kinds_of_tale objects h =
-    all_of_shape has_kind_of_tale (λ n o p. person_of_tale o.kind (player_parts n o p).0) (λ d o p. direction_of_tale o.kind (direction_parts d o p).0) (λ n o p. room_of_tale o.kind (room_parts n o p).0) objects h
+    all_of_shape has_kind_of_tale (λ n o p. person_of_tale o.kind (player_parts n o p).0) (λ d o p. direction_of_tale o.kind (direction_parts d o p).0)
+    (λ n o p. room_of_tale o.kind (room_parts n o p).0) objects h
 
 each_kind : (p : ℕ → Bool) → p 6 ≡ true → p 2 ≡ true → p 1 ≡ true → (kind : ℕ) → is_kind_of_tale kind ≡ true → p kind ≡ true
 each_kind p person direction room kind h =
@@ -78,7 +78,8 @@ room_suits : (o : ℕ) → suits o 1 ≡ true
 unfolding are_rising start_properties built_in_world built_in_parents built_in_properties is_under
 room_suits o = refl
 
-pub all_suit : (strings : List (List ℕ)) (objects : List Object) (o next : ℕ) → list_all has_kind_of_tale objects ≡ true → list_all (suits_kind built_in_world) (entries_of strings next (worded_from o objects)) ≡ true
+pub all_suit : (strings : List (List ℕ)) (objects : List Object) (o next : ℕ) → list_all has_kind_of_tale objects ≡ true
+    → list_all (suits_kind built_in_world) (entries_of strings next (worded_from o objects)) ≡ true
 unfolding entries_of entry_of suits_kind
 all_suit strings [] o next h = refl
 all_suit strings (object ∷ objects) o next h =

@@ -3,7 +3,8 @@ ghost use Rattle.std.specs.Prelude.{◌≡◌, IfOk, count_by, map};
 ghost use Rattle.world_meaning.specs.Properties.{built_in_properties};
 ghost use Rattle.std.specs.List.{list_all};
 ghost use Rattle.story_format.specs.Sizes.{is_among};
-ghost use Rattle.story_format.specs.WorldChecks.{are_right_grants, are_right_kinds, are_rising, begin_with_kinds, begin_with_properties, has_property, is_below, is_granted, is_had, is_right_grant, is_right_world, is_rooted, is_same_kind, suits_kind};
+ghost use Rattle.story_format.specs.WorldChecks.{are_right_grants, are_right_kinds, are_rising, begin_with_kinds, begin_with_properties};
+ghost use Rattle.story_format.specs.WorldChecks.{has_property, is_below, is_granted, is_had, is_right_grant, is_right_world, is_rooted, is_same_kind, suits_kind};
 
 use crate::tables::Entry;
 use crate::world_tables::{Granted, WorldTables};
@@ -181,7 +182,9 @@ fn has_property(world: &WorldTables, kind: KindNo, number: u8) -> bool
 fn has_properties(world: &WorldTables, kind: KindNo, numbers: &[u8]) -> bool
     ensures { result ≡ list_all (has_property world.now kind) numbers.now }
 {
-    numbers.iter().all(|number| has_property(world, kind, *number))
+    numbers
+        .iter()
+        .all(|number| has_property(world, kind, *number))
 }
 
 /// How many of the number properties a kind has.
