@@ -14,6 +14,9 @@ PLAYER_WORDS = ["yourself", "me", "myself", "self"]
 DIRECTIONS = [("north", "n"), ("northeast", "ne"), ("northwest", "nw"), ("south", "s"), ("southeast", "se"),
               ("southwest", "sw"), ("east", "e"), ("west", "w"), ("up", "u"), ("down", "d"), ("inside", "in"),
               ("outside", "out")]
+# the kinds above the built-in kinds, and the kinds that have the built-in properties
+KINDS = [NONE8, NONE8, NONE8, 0, 0, 0, 0, 0, 6, 6]
+FLAGS = [[3, 4], [3, 4], [4], [0], [1], [0], [0], [0], [0], [7], [1]]
 
 
 class Fault(Exception):
@@ -104,13 +107,43 @@ def name_words(name):
     return words
 
 
+def kinds_above(t, kind):
+    """The kind and those above it; none where they don't end at a root."""
+    found = []
+    while kind != NONE8:
+        if kind >= len(t["kinds"]) or kind in found:
+            return []
+        found.append(kind)
+        kind = t["kinds"][kind]
+    return found
+
+
+def has(t, kind, given):
+    return any(k in given for k in kinds_above(t, kind))
+
+
+def rises(numbers):
+    return all(a < b for a, b in zip(numbers, numbers[1:]))
+
+
+def judge_world(t):
+    kinds, flags = t["kinds"], t["flags"]
+    right(all(len(t[name]) <= 100 for name in ["kinds", "flags", "numbers", "variables"]))
+    right(kinds[:len(KINDS)] == KINDS)
+    right(all(parent != NONE8 and kinds_above(t, parent) for parent in kinds[len(KINDS):]))
+    right(len(flags) >= len(FLAGS) and all(set(own) <= set(given) for own, given in zip(FLAGS, flags)))
+    right(all(rises(given) and all(k < len(kinds) for k in given) for given in flags + t["numbers"]))
+
+
 def judge_objects(t):
     strings, objects = t["strings"], t["objects"]
     right(14 <= len(objects) <= 1000 and len(t["ways"]) == len(objects) - 13)
     for number, o in enumerate(objects):
         right(o["name"] < len(strings) and all(w < len(strings) for w in o["words"]))
         right(o["code"] == NONE16 or o["code"] < len(t["codes"]))
-        right(not o["flags"] and not o["numbers"] and o["article"] <= 3)
+        right(o["article"] <= 3)
+        right(rises(o["flags"]) and all(f < len(t["flags"]) and has(t, o["kind"], t["flags"][f]) for f in o["flags"]))
+        right(len(o["numbers"]) == sum(has(t, o["kind"], given) for given in t["numbers"]))
         name, words = strings[o["name"]], [strings[w] for w in o["words"]]
         right(len(words) <= 32 and len(set(words)) == len(words))
         right(not any(65 <= b <= 90 for w in words for b in w))
@@ -138,8 +171,8 @@ def in_first_order(numbers):
 
 
 def judge_tables(t):
-    right(not any(t[name] for name in ["kinds", "flags", "numbers", "variables", "actions", "grammar", "rules",
-                                       "books", "scenes"]))
+    right(not any(t[name] for name in ["actions", "grammar", "rules", "books", "scenes"]))
+    judge_world(t)
     right(len(set(t["strings"])) == len(t["strings"]))
     judge_objects(t)
     right(all(door == NONE16 and (room == NONE16 or 13 <= room < len(t["objects"]))

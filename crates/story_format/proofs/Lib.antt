@@ -1,5 +1,6 @@
 pub mod Loops
 pub mod StoryLemmas
+pub mod StartLemmas
 pub mod ReadingLemmas
 pub mod FaultLemmas
 pub mod Known

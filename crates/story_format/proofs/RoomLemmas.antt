@@ -10,16 +10,17 @@ use Rattle.world_meaning.specs.declared.exits.Way.{Way}
 use Rattle.story_format.specs.declared.row.Sizes.{Sizes}
 use Rattle.story_format.specs.declared.tables.Entry.{Entry}
 use Rattle.story_format.specs.declared.tables.Tables.{Tables}
-use Rattle.story_format.specs.Checks.{has_no_world, has_no_rules, are_distinct, have_words, is_small, has_small_words, is_named, is_of_room, is_player_entry, is_room_entry, are_direction_entries, are_in_place, are_named_in_order, strings_named, codes_named, are_right_objects, are_right}
+use Rattle.story_format.specs.Checks.{has_no_rules, are_distinct, have_words, is_small, has_small_words, is_named, is_of_room, is_player_entry, is_room_entry, are_direction_entries, are_in_place, are_named_in_order, strings_named, codes_named, are_right_objects, are_right}
 use Rattle.story_format.specs.Facts.{holder_in, object_count_of, start_of, way_in, way_of}
 use Rattle.story_format.specs.Sizes.{is_right_entry, is_right_exits, is_room_number, is_room_or_none, leads_to_room, sizes_of}
 use Rattle.story_format.specs.Spells.{IsStory}
-use Rattle.story_format.proofs.StoryLemmas.{all_at, last_of_five}
+use Rattle.story_format.specs.WorldChecks.{is_right_world, suits_kind}
+use Rattle.story_format.proofs.StoryLemmas.{all_at, last_of_five, three}
 
 right_parts : (t : Tables) → are_right t ≡ true → (are_right_objects t ≡ true) × (list_all (is_right_exits (sizes_of t)) t.ways ≡ true)
 unfolding are_right
 right_parts t right =
-    let p = last_of_five (has_no_world t.world && has_no_rules t.rules && ltb (length t.strings) 65535) (are_distinct t.strings) (are_right_objects t) (eqb (length t.ways) (count_by is_of_room t.objects)) (list_all (is_right_exits (sizes_of t)) t.ways) right in
+    let p = last_of_five (is_right_world t.world && has_no_rules t.rules && ltb (length t.strings) 65535) (are_distinct t.strings) (are_right_objects t) (eqb (length t.ways) (count_by is_of_room t.objects)) (list_all (is_right_exits (sizes_of t)) t.ways) right in
     (p.2, p.4)
 
 in_place : (t : Tables) → are_right_objects t ≡ true → are_in_place t.strings t.objects ≡ true
@@ -27,13 +28,13 @@ unfolding are_right_objects
 in_place t right =
     let p =
     last_of_five
-    (list_all (is_right_entry (sizes_of t)) t.objects && are_in_place t.strings t.objects)
-    (have_words t.strings 0 t.objects)
+    (list_all (is_right_entry (sizes_of t)) t.objects && are_in_place t.strings t.objects && have_words t.strings 0 t.objects)
     (list_all (has_small_words (map is_small t.strings)) t.objects)
     (are_named_in_order 0 (flat_map strings_named t.objects))
     (are_named_in_order 0 (codes_named t.objects))
+    (list_all (suits_kind t.world) t.objects)
     right in
-    (both_are (list_all (is_right_entry (sizes_of t)) t.objects) (are_in_place t.strings t.objects) p.0).1
+    (three (list_all (is_right_entry (sizes_of t)) t.objects) (are_in_place t.strings t.objects) (have_words t.strings 0 t.objects) p.0).1
 
 player_room : (strings : List (List ℕ)) (n : ℕ) (e : Entry) → is_player_entry strings n e ≡ true → is_room_number n e.holder ≡ true
 unfolding is_player_entry

@@ -1,9 +1,11 @@
 -- What is known of the objects of a tale that a story file can hold.
-use Rattle.std.proofs.Common.{◌≡◌, ℕ, zero, suc, ◌+◌, ◌<◌, ◌≤◌, Bool, true, false, ◌&&◌, leb, eqb, List, [], ◌∷◌, length, take, drop, Some, refl, arith}
+use Rattle.std.proofs.Common.{◌≡◌, ℕ, zero, suc, ◌+◌, ◌<◌, ◌≤◌, Bool, true, false, ◌&&◌, leb, eqb, List, [], ◌∷◌, length, take, drop, Some, refl, sym, ap, ◌∙◌, arith}
 use Rattle.std.specs.Prelude.{slice_get, is_none, codes}
 use Rattle.std.specs.List.{list_all}
 use Rattle.std.specs.Str.{bytes_eq}
 use Rattle.std.proofs.lemmas.Bool.{leb-true}
+use Rattle.std.proofs.lemmas.List.{take-append-drop}
+use Rattle.std.proofs.lemmas.List.Folds.{list_all-append}
 use Rattle.world_meaning.proofs.Bools.{both, both_are}
 use Rattle.world_meaning.specs.declared.direction.Direction.{Direction}
 use Rattle.world_meaning.specs.Directions.{all_directions, direction_name}
@@ -70,3 +72,24 @@ unfolding has_shape
 parts player others h =
     let t = last_of_five (leb (length others) 999) (leb 12 (length others)) (is_player (length others + 1) player) (are_directions all_directions (take 12 others)) (list_all (is_room (length others + 1)) (drop 12 others)) h in
     record { few = leb-true _ _ t.0; many = leb-true _ _ t.1; player = t.2; directions = t.3; rooms = t.4 }
+
+directions_all : (p : Object → Bool) → ((d : Direction) (o : Object) → is_direction d o ≡ true → p o ≡ true) → (ds : List Direction) (objects : List Object) → are_directions ds objects ≡ true → list_all p objects ≡ true
+unfolding are_directions
+directions_all p f [] [] h = refl
+directions_all p f [] (object ∷ objects) h = absurd cc
+directions_all p f (d ∷ ds) [] h = absurd cc
+directions_all p f (d ∷ ds) (object ∷ objects) h =
+    let t = both_are (is_direction d object) (are_directions ds objects) h in
+    both (p object) (list_all p objects) (f d object t.0) (directions_all p f ds objects t.1)
+
+-- what holds of the player, of directions and of rooms holds of each object
+pub all_of_shape : (p : Object → Bool) → ((n : ℕ) (o : Object) → is_player n o ≡ true → p o ≡ true) → ((d : Direction) (o : Object) → is_direction d o ≡ true → p o ≡ true)
+    → ((n : ℕ) (o : Object) → is_room n o ≡ true → p o ≡ true) → (objects : List Object) → has_shape objects ≡ true → list_all p objects ≡ true
+unfolding has_shape
+all_of_shape p player direction room [] h = absurd cc
+all_of_shape p player direction room (first ∷ others) h =
+    let s = parts first others h in
+    let front = directions_all p direction all_directions (take 12 others) s.directions in
+    let back = all_weaker (is_room (length others + 1)) p (room (length others + 1)) (drop 12 others) s.rooms in
+    let rest : list_all p others ≡ true = ap (list_all p) (sym (take-append-drop 12 others)) ∙ list_all-append p (take 12 others) (drop 12 others) ∙ both (list_all p (take 12 others)) (list_all p (drop 12 others)) front back in
+    both (p first) (list_all p others) (player (length others + 1) first s.player) rest

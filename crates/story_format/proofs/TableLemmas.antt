@@ -25,7 +25,7 @@ use Rattle.object_words.specs.Words.{words_for}
 use Rattle.object_words.proofs.StringLemmas.{length_mapped}
 use Rattle.story_format.specs.declared.row.Sizes.{Sizes}
 use Rattle.story_format.specs.declared.tables.Entry.{Entry}
-use Rattle.story_format.specs.Making.{Worded, worded_from, worded, texts_of, entry_strings, code_strings, strings_of, article_number, relation_number, place_relation, place_holder, code_number, entry_of, entries_of, code_of, codes_of, ways_of, tables_with}
+use Rattle.story_format.specs.Making.{Worded, worded_at, worded_from, worded, texts_of, entry_strings, code_strings, strings_of, article_number, relation_number, place_relation, place_holder, code_number, entry_of, entries_of, code_of, codes_of, ways_of, tables_with}
 use Rattle.story_format.specs.Holding.{has_few_words, has_short_texts, is_short, is_short_or_none}
 use Rattle.story_format.specs.Shape.{has_no_article, is_in, stands_in_room, is_player, is_direction, is_room, are_directions, has_shape}
 use Rattle.story_format.specs.Sizes.{are_different, is_among, is_right_entry, is_right_exits, is_room_number, lead_to_rooms}
@@ -33,6 +33,7 @@ use Rattle.story_format.specs.Checks.{is_named, begin_with, has_words, have_word
 use Rattle.story_format.proofs.StoryLemmas.{all_weaker, parts, player_parts, direction_parts, room_parts}
 use Rattle.story_format.proofs.Known.{text_is_itself, found_by_number, is_known, texts_known, any_left, any_right, fold_finds}
 use Rattle.story_format.proofs.OrderLemmas.{at_most_one, strings_distinct, strings_in_order, codes_in_order}
+use Rattle.story_format.proofs.StartLemmas.{all_suit, built_in_right, kinds_of_tale}
 use Rattle.story_format.proofs.WordFacts.{differ, is_good, words_differ, words_good}
 
 -- ---- each entry is plain
@@ -96,7 +97,7 @@ all_known strings (w ∷ ws) f =
     let known = texts_known strings (entry_strings w) (λ text k. f text (any_left (bytes_eq text) (entry_strings w) (flat_map entry_strings ws) k)) in
     both (knows strings w) (list_all (knows strings) ws) known (all_known strings ws (λ text k. f text (any_right (bytes_eq text) (entry_strings w) (flat_map entry_strings ws) k)))
 
-words_of_entry : (strings : List (List ℕ)) (o next : ℕ) (object : Object) → (let w : Worded = record { object = object; words = words_for o object.name } in knows strings w ≡ true → length strings < 65535 → has_words strings o (entry_of strings next w) ≡ true)
+words_of_entry : (strings : List (List ℕ)) (o next : ℕ) (object : Object) → knows strings (worded_at o object) ≡ true → length strings < 65535 → has_words strings o (entry_of strings next (worded_at o object)) ≡ true
 unfolding has_words entry_of entry_strings
 words_of_entry strings o next object h few =
     let t = both_are (is_known strings object.name) (list_all (is_known strings) (words_for o object.name)) h in
@@ -106,7 +107,7 @@ all_words : (strings : List (List ℕ)) (objects : List Object) (o next : ℕ) �
 unfolding entries_of have_words
 all_words strings [] o next h few = refl
 all_words strings (object ∷ objects) o next h few =
-    let w : Worded = record { object = object; words = words_for o object.name } in
+    let w = worded_at o object in
     let t = both_are (knows strings w) (list_all (knows strings) (worded_from (o + 1) objects)) h in
     both (has_words strings o (entry_of strings next w)) (have_words strings (o + 1) (entries_of strings (next + length (code_strings w)) (worded_from (o + 1) objects))) (words_of_entry strings o next object t.0 few)
     (all_words strings objects (o + 1) (next + length (code_strings w)) t.1 few)
@@ -183,7 +184,7 @@ all_once : (strings : List (List ℕ)) (objects : List Object) (o : ℕ) → lis
 unfolding entry_strings
 all_once strings [] o h k few = refl
 all_once strings (object ∷ objects) o h k few =
-    let w : Worded = record { object = object; words = words_for o object.name } in
+    let w = worded_at o object in
     let t = both_are (knows strings w) (list_all (knows strings) (worded_from (o + 1) objects)) h in
     let n = both_are (is_known strings object.name) (list_all (is_known strings) w.words) t.0 in
     let u = both_are (has_few_words w) (list_all has_few_words (worded_from (o + 1) objects)) k in
@@ -419,5 +420,6 @@ tables_right objects shape texts few_words few =
     let counted : eqb (length (flat_map ways_of ws)) (count_by is_of_room (entries_of strings 0 ws)) ≡ true = eq-eqb _ _ (rooms_counted strings ws 0) in
     let leads_on : list_all (object_leads_on (length ws)) (objects_in ws) ≡ true = ap (λ k. list_all (object_leads_on k) (objects_in ws)) count ∙ ap (list_all (object_leads_on (length objects))) back ∙ may.0 in
     let lead : list_all (lead_to_rooms n) (flat_map ways_of ws) ≡ true = ap (λ k. list_all (lead_to_rooms k) (flat_map ways_of ws)) (entries_counted strings 0 ws) ∙ rooms_lead (length ws) ws (leads_with_words (length ws) ws leads_on) in
+    let suit = all_suit strings objects 0 0 (kinds_of_tale objects shape) in
     let right = leads_right (record { objects = n; codes = length (flat_map (codes_of strings) ws) }) (flat_map ways_of ws) lead in
-    rw (few_strings, strings_distinct ws, plain, in_place, words, small, strings_in_order ws few, codes_in_order ws (omega (arith, may.1, count)), counted, right) refl
+    rw (built_in_right, few_strings, strings_distinct ws, plain, in_place, words, small, strings_in_order ws few, codes_in_order ws (omega (arith, may.1, count)), suit, counted, right) refl

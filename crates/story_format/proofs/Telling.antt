@@ -15,11 +15,12 @@ use Rattle.object_words.proofs.MentionLemmas.{mentioned_few}
 use Rattle.object_words.specs.Mentions.{first_mentions, mention}
 use Rattle.story_format.specs.declared.tables.Entry.{Entry}
 use Rattle.story_format.specs.declared.tables.Tables.{Tables}
-use Rattle.story_format.specs.Checks.{are_distinct, are_right, are_right_objects, codes_named, has_no_rules, has_no_world, is_of_room, strings_named}
+use Rattle.story_format.specs.Checks.{are_distinct, are_right, are_right_objects, codes_named, has_no_rules, is_of_room, strings_named}
 use Rattle.story_format.specs.Facts.{description_in, text_at}
 use Rattle.story_format.specs.Sizes.{is_right_exits, sizes_of}
 use Rattle.story_format.specs.Soundness.{are_all_named, are_in_turn, are_sound, saying, says_string, string_said, strings_read}
 use Rattle.story_format.specs.Spells.{IsStory}
+use Rattle.story_format.specs.WorldChecks.{is_right_world}
 use Rattle.story_format.specs.Telling.{AreToldAlike, ToldObject, told_object, unnumbered}
 use Rattle.story_format.proofs.Known.{fold_finds, same_texts, text_is_itself}
 use Rattle.story_format.proofs.StoryLemmas.{last_of_five, three}
@@ -327,7 +328,7 @@ same_strings strings others codes codes' es fs one other told =
 strings_differ : (t : Tables) → are_right t ≡ true → are_distinct t.strings ≡ true
 unfolding are_right
 strings_differ t right =
-    let p = last_of_five (has_no_world t.world && has_no_rules t.rules && ltb (length t.strings) 65535) (are_distinct t.strings) (are_right_objects t)
+    let p = last_of_five (is_right_world t.world && has_no_rules t.rules && ltb (length t.strings) 65535) (are_distinct t.strings) (are_right_objects t)
     (eqb (length t.ways) (count_by is_of_room t.objects)) (list_all (is_right_exits (sizes_of t)) t.ways) right in
     p.1
 

@@ -8,17 +8,13 @@ use Rattle.world_meaning.specs.Directions.{all_directions, direction_name}
 use Rattle.world_meaning.specs.Kinds.{direction_kind, person_kind, room_kind}
 use Rattle.object_words.specs.Mentions.{first_mentions}
 use Rattle.object_words.specs.Words.{words_for}
-use Rattle.story_format.specs.declared.world_tables.WorldTables.{WorldTables}
 use Rattle.story_format.specs.declared.rule_tables.RuleTables.{RuleTables}
 use Rattle.story_format.specs.declared.tables.Entry.{Entry}
 use Rattle.story_format.specs.declared.tables.Tables.{Tables}
 use Rattle.story_format.specs.Sizes.{is_right_entry, is_right_exits, is_room_number, sizes_of}
+use Rattle.story_format.specs.WorldChecks.{is_right_world, suits_kind}
 
--- this language has no kinds, properties and variables of its own
-abbrev pub has_no_world : WorldTables → Bool
-has_no_world w = (length w.kinds == 0) && (length w.flags == 0) && (length w.numbers == 0) && (length w.variables == 0)
-
--- nor actions, grammar, rules and scenes
+-- this language has no actions, grammar, rules and scenes of its own
 abbrev pub has_no_rules : RuleTables → Bool
 has_no_rules r = (length r.actions == 0) && (length r.grammar == 0) && (length r.rules == 0) && (length r.books == 0) && (length r.scenes == 0)
 
@@ -109,10 +105,10 @@ is_of_room e = e.kind == room_kind
 unfoldable pub are_right_objects : Tables → Bool
 are_right_objects t =
     list_all (is_right_entry (sizes_of t)) t.objects && are_in_place t.strings t.objects && have_words t.strings 0 t.objects && list_all (has_small_words (map is_small t.strings)) t.objects
-    && are_named_in_order 0 (flat_map strings_named t.objects) && are_named_in_order 0 (codes_named t.objects)
+    && are_named_in_order 0 (flat_map strings_named t.objects) && are_named_in_order 0 (codes_named t.objects) && list_all (suits_kind t.world) t.objects
 
 -- Tables 1 to 12 are those of a story.
 unfoldable pub are_right : Tables → Bool
 are_right t =
-    has_no_world t.world && has_no_rules t.rules && nat_lt (length t.strings) 65535 && are_distinct t.strings && are_right_objects t
+    is_right_world t.world && has_no_rules t.rules && nat_lt (length t.strings) 65535 && are_distinct t.strings && are_right_objects t
     && (length t.ways == count_by is_of_room t.objects) && list_all (is_right_exits (sizes_of t)) t.ways

@@ -159,33 +159,33 @@ via_lawful {A} {B} to from f back forth p = record {
 
 -- ---- none is 65,535
 
-optional_back : (n : ℕ) → n < 65536 → (optional_number (optional_of n) ≡ n) × (fits_optional (optional_of n) ≡ true)
-optional_back n lt =
-    elim (either (eqb n 65535)) [
-      | inl e ↦ rw e (sym (eqb-true n 65535 e), refl)
-      | inr e ↦ let ne : n ≢ 65535 = eqb-false n 65535 e in rw e (refl, lt-ltb n 65535 (omega arith))
+optional_back : (none n : ℕ) → n < none + 1 → (optional_number none (optional_of none n) ≡ n) × (fits_optional none (optional_of none n) ≡ true)
+optional_back none n lt =
+    elim (either (eqb n none)) [
+      | inl e ↦ rw e (sym (eqb-true n none e), refl)
+      | inr e ↦ let ne : n ≢ none = eqb-false n none e in rw e (refl, lt-ltb n none (omega arith))
     ]
 
-optional_forth : (o : Option ℕ) → fits_optional o ≡ true → optional_of (optional_number o) ≡ o
-optional_forth None h = refl
-optional_forth (Some n) h = let lt : n < 65535 = ltb-true n 65535 h in let ne : eqb n 65535 ≡ false = ne_eqb n 65535 (λ e. omega (arith, e, lt)) in rw ne refl
+optional_forth : (none : ℕ) (o : Option ℕ) → fits_optional none o ≡ true → optional_of none (optional_number none o) ≡ o
+optional_forth none None h = rw (eq-eqb none none refl) refl
+optional_forth none (Some n) h = let lt : n < none = ltb-true n none h in let ne : eqb n none ≡ false = ne_eqb n none (λ e. omega (arith, e, lt)) in rw ne refl
 
-optional_below : (o : Option ℕ) → fits_optional o ≡ true → optional_number o < 65536
-optional_below None h = omega arith
-optional_below (Some n) h = let lt : n < 65535 = ltb-true n 65535 h in omega arith
+optional_below : (none : ℕ) (o : Option ℕ) → fits_optional none o ≡ true → optional_number none o < none + 1
+optional_below none None h = omega arith
+optional_below none (Some n) h = let lt : n < none = ltb-true n none h in omega arith
 
-pub optional_lawful : IsFormat optional
-optional_lawful = record {
+pub optional_lawful : (none : ℕ) (f : Format ℕ) → IsFormat f → ((n : ℕ) → f.fits n ≡ ltb n (none + 1)) → IsFormat (optional none f)
+optional_lawful none f p highest = record {
   takes = λ bytes x rest fits e.
-      let a = and_then_some ((number w16).get bytes) (λ n rest. Some (optional_of n, rest)) (x, rest) e in
-      let first = number_takes w16 wide16 bytes a.0.0 a.0.1 fits a.1 in
-      let back = optional_back a.0.0 first.1 in
-      subst (λ (y : Option ℕ × List ℕ). Takes bytes (to_be_bytes w16 (optional_number y.0)) y.1 × (fits_optional y.0 ≡ true)) (some_is (optional_of a.0.0, a.0.1) (x, rest) a.2)
-      (subst (λ (k : ℕ). Takes bytes (to_be_bytes w16 k) a.0.1) (sym back.0) first.0, back.1);
+      let a = and_then_some (f.get bytes) (λ n rest. Some (optional_of none n, rest)) (x, rest) e in
+      let first = p.takes bytes a.0.0 a.0.1 fits a.1 in
+      let back = optional_back none a.0.0 (ltb-true a.0.0 (none + 1) (sym (highest a.0.0) ∙ first.1)) in
+      subst (λ (y : Option ℕ × List ℕ). Takes bytes (f.put (optional_number none y.0)) y.1 × (fits_optional none y.0 ≡ true)) (some_is (optional_of none a.0.0, a.0.1) (x, rest) a.2)
+      (subst (λ (k : ℕ). Takes bytes (f.put k) a.0.1) (sym back.0) first.0, back.1);
   again = λ x rest h.
-      ap (λ (o : Option (ℕ × List ℕ)). and_then o (λ n rest. Some (optional_of n, rest))) (number_again w16 wide16 (optional_number x) rest (optional_below x h))
-      ∙ ap (λ (o : Option ℕ). Some (o, rest)) (optional_forth x h);
-  skips = λ bytes. number16_lawful.skips bytes ∙ behind_value optional_of ((number w16).get bytes);
+      ap (λ (o : Option (ℕ × List ℕ)). and_then o (λ n rest. Some (optional_of none n, rest))) (p.again (optional_number none x) rest (highest (optional_number none x) ∙ lt-ltb (optional_number none x) (none + 1) (optional_below none x h)))
+      ∙ ap (λ (o : Option ℕ). Some (o, rest)) (optional_forth none x h);
+  skips = λ bytes. p.skips bytes ∙ behind_value (optional_of none) (f.get bytes);
 }
 
 -- ---- many

@@ -1,9 +1,8 @@
 -- The layout of a story's tables, field by field.
-use Rattle.std.proofs.Common.{◌≡◌, ℕ, refl, inl, inr, ◌⊎◌}
+use Rattle.std.proofs.Common.{◌≡◌, ℕ, Option, refl, inl, inr, ◌⊎◌}
 use Rattle.world_meaning.specs.declared.exits.Way.{Way}
 use Rattle.world_meaning.specs.declared.exits.Exits.{Exits}
-use Rattle.story_format.specs.Layouts.{Layout, u8s, u16s, u32s, optionals, texts, then, as_record, times, list_of, table_of}
-use Rattle.story_format.specs.declared.world_tables.KindEntry.{KindEntry}
+use Rattle.story_format.specs.Layouts.{Layout, u8s, u16s, u32s, optionals, optional_bytes, texts, then, as_record, times, list_of, table_of}
 use Rattle.story_format.specs.declared.world_tables.Granted.{Granted}
 use Rattle.story_format.specs.declared.world_tables.Variable.{Variable}
 use Rattle.story_format.specs.declared.world_tables.WorldTables.{WorldTables}
@@ -23,9 +22,9 @@ use Rattle.story_format.specs.declared.rule_tables.RuleTables.{RuleTables}
 use Rattle.story_format.specs.declared.tables.Entry.{Entry}
 use Rattle.story_format.specs.declared.tables.Tables.{Tables}
 
--- table 2: a kind's parent
-unfoldable pub kind_layout : Layout KindEntry
-kind_layout = as_record (λ p. record { parent = p }) (λ k. k.parent) (λ p. refl) (λ k. refl) u8s
+-- table 2: the kind above a kind
+unfoldable pub kind_layout : Layout (Option ℕ)
+kind_layout = optional_bytes
 
 -- tables 3 and 4: the kinds that have a property
 unfoldable pub granted_layout : Layout Granted

@@ -1,5 +1,5 @@
 -- A format together with the fact that it is one, so that each layout is written once.
-use Rattle.std.specs.Prelude.{◌≡◌, ℕ, List, Option}
+use Rattle.std.proofs.Common.{◌≡◌, ℕ, List, Option, refl}
 use Rattle.std.specs.Int.{w16, w32}
 use Rattle.story_format.specs.Formats.{Format, IsFormat, byte, number, pair, via, optional, exactly, counted, text}
 use Rattle.story_format.specs.FormatLaws.{byte_lawful, number16_lawful, number32_lawful, pair_lawful, via_lawful, optional_lawful, exactly_lawful, counted_lawful, text_lawful}
@@ -17,8 +17,13 @@ u16s = record { format = number w16; lawful = number16_lawful }
 abbrev pub u32s : Layout ℕ
 u32s = record { format = number w32; lawful = number32_lawful }
 
+-- 65,535 is none
 abbrev pub optionals : Layout (Option ℕ)
-optionals = record { format = optional; lawful = optional_lawful }
+optionals = record { format = optional 65535 (number w16); lawful = optional_lawful 65535 (number w16) number16_lawful (λ n. refl) }
+
+-- 255 is none
+abbrev pub optional_bytes : Layout (Option ℕ)
+optional_bytes = record { format = optional 255 byte; lawful = optional_lawful 255 byte byte_lawful (λ n. refl) }
 
 abbrev pub texts : Layout (List ℕ)
 texts = record { format = text; lawful = text_lawful }

@@ -4,6 +4,7 @@ pub mod Layouts
 pub mod Choices
 pub mod Layout
 pub mod Sizes
+pub mod WorldChecks
 pub mod Checks
 pub mod Soundness
 pub mod Facts

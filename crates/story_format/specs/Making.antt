@@ -10,22 +10,28 @@ use Rattle.world_meaning.specs.declared.place.Place.{Place}
 use Rattle.world_meaning.specs.declared.exits.Exits.{Exits}
 use Rattle.world_meaning.specs.declared.tale.Object.{Object}
 use Rattle.world_meaning.specs.declared.tale.Tale.{Tale}
-use Rattle.world_meaning.specs.Kinds.{room_kind}
+use Rattle.world_meaning.specs.Kinds.{built_in_parents, room_kind}
+use Rattle.world_meaning.specs.Properties.{built_in_properties, start_properties}
 use Rattle.story_format.specs.declared.tables.Entry.{Entry}
 use Rattle.story_format.specs.declared.tables.Tables.{Tables}
+use Rattle.story_format.specs.declared.world_tables.WorldTables.{WorldTables}
 use Rattle.object_words.specs.Mentions.{first_mentions, number_in}
 use Rattle.object_words.specs.Words.{words_for}
 
--- an object, and the words that a command may name it by
+-- an object, the words that a command may name it by, and the properties that it begins with
 pub record Worded : Type 0 where
   pub object : Object
   pub words : List (List ℕ)
+  pub properties : List ℕ
+
+abbrev pub worded_at : ℕ → Object → Worded
+worded_at o object = record { object = object; words = words_for o object.name; properties = start_properties built_in_parents o object.kind }
 
 abbrev pub worded_from : ℕ → List Object → List Worded
 worded_from o [] = []
-worded_from o (object ∷ objects) = record { object = object; words = words_for o object.name } ∷ worded_from (o + 1) objects
+worded_from o (object ∷ objects) = worded_at o object ∷ worded_from (o + 1) objects
 
--- the objects of a tale with their words, by number
+-- the objects of a tale with their words and properties, by number
 abbrev pub worded : List Object → List Worded
 worded objects = worded_from 0 objects
 
@@ -80,7 +86,7 @@ entry_of strings next w = record {
   words = map (number_in strings) w.words;
   relation = place_relation w.object.place;
   holder = place_holder w.object.place;
-  properties = [];
+  properties = w.properties;
   numbers = [];
 }
 
@@ -100,10 +106,14 @@ codes_of strings w = map (code_of strings) (code_strings w)
 abbrev pub ways_of : Worded → List Exits
 ways_of w = if w.object.kind == room_kind then w.object.exits ∷ [] else []
 
+-- tables 2 to 5 of a tale: the built-in entries
+unfoldable pub built_in_world : WorldTables
+built_in_world = record { kinds = built_in_parents; flags = map (λ p. record { kinds = p.kinds }) built_in_properties; numbers = []; variables = [] }
+
 unfoldable pub tables_with : List Worded → Tables
 tables_with ws = record {
   strings = strings_of ws;
-  world = record { kinds = []; flags = []; numbers = []; variables = [] };
+  world = built_in_world;
   objects = entries_of (strings_of ws) 0 ws;
   ways = flat_map ways_of ws;
   rules = record { actions = []; grammar = []; rules = []; books = []; scenes = [] };

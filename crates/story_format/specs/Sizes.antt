@@ -18,10 +18,10 @@ unfoldable pub are_different : List ℕ → Bool
 are_different [] = true
 are_different (n ∷ ns) = not (is_among n ns) && are_different ns
 
--- an article, a description's code or none, 32 words at most, none twice, and no properties
+-- an article, a description's code or none, and 32 words at most, none twice
 unfoldable pub is_right_entry : Sizes → Entry → Bool
 is_right_entry sizes e =
-    nat_le e.article 3 && ((e.description == 65535) || nat_lt e.description sizes.codes) && nat_le (length e.words) 32 && are_different e.words && (length e.properties == 0) && (length e.numbers == 0)
+    nat_le e.article 3 && ((e.description == 65535) || nat_lt e.description sizes.codes) && nat_le (length e.words) 32 && are_different e.words
 
 -- of n objects, this one is a room: they stand behind the player and the directions
 abbrev pub is_room_number : ℕ → ℕ → Bool

@@ -2,13 +2,13 @@
 ghost use Rattle.std.specs.Prelude.{◌≡◌, IfOk, count_by, map};
 ghost use Rattle.std.specs.List.{list_all, flat_map};
 ghost use Rattle.story_format.specs.Sizes.{sizes_of};
-ghost use Rattle.story_format.specs.Checks.{has_no_world, has_no_rules, are_distinct, is_named, begin_with, has_words, have_words, is_small_byte, is_small, is_small_at, has_small_words, is_player_entry, is_direction_entry, is_room_entry, are_direction_entries, are_in_place, are_named_in_order, strings_named, codes_named, is_of_room, are_right_objects, are_right};
+ghost use Rattle.story_format.specs.Checks.{has_no_rules, are_distinct, is_named, begin_with, has_words, have_words, is_small_byte, is_small, is_small_at, has_small_words, is_player_entry, is_direction_entry, is_room_entry, are_direction_entries, are_in_place, are_named_in_order, strings_named, codes_named, is_of_room, are_right_objects, are_right};
 
 use crate::place::NONE;
 use crate::row::{Sizes, all_right, is_room_number};
 use crate::rule_tables::RuleTables;
 use crate::tables::{Entry, Tables};
-use crate::world_tables::WorldTables;
+use crate::world_checks::{is_right_world, suit_kinds};
 use object_words::{Strings, words_for};
 use std::alloc::{AllocError, Global};
 use world_meaning::{Direction, KindNo, ObjNo, TextBytes};
@@ -21,15 +21,6 @@ fn sizes_of(tables: &Tables) -> Sizes
         objects: tables.objects.as_slice().len(),
         codes: tables.codes.as_slice().len(),
     }
-}
-
-fn has_no_world(world: &WorldTables) -> bool
-    ensures { result ≡ has_no_world world.now }
-{
-    world.kinds.as_slice().is_empty()
-        && world.flags.as_slice().is_empty()
-        && world.numbers.as_slice().is_empty()
-        && world.variables.as_slice().is_empty()
 }
 
 fn has_no_rules(rules: &RuleTables) -> bool
@@ -296,7 +287,8 @@ fn are_right_objects(alloc: Global, tables: &Tables) -> Result<bool, AllocError>
             && have_words(alloc, strings, entries)?
             && have_small_words(smallness(alloc, strings)?.as_slice(), entries)
             && are_named_in_order(strings_named(alloc, entries)?.as_slice())
-            && are_named_in_order(codes_named(alloc, entries)?.as_slice()),
+            && are_named_in_order(codes_named(alloc, entries)?.as_slice())
+            && suit_kinds(&tables.world, entries),
     )
 }
 
@@ -307,7 +299,7 @@ pub fn are_right(alloc: Global, tables: &Tables) -> Result<bool, AllocError>
 {
     let strings = tables.strings.as_slice();
     Ok(
-        has_no_world(&tables.world)
+        is_right_world(alloc, &tables.world)?
             && has_no_rules(&tables.rules)
             && strings.len() < 65535
             && are_distinct(alloc, strings)?

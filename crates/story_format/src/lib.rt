@@ -18,6 +18,8 @@ mod story;
 mod table;
 mod tables;
 mod text;
+mod world_checks;
+mod world_making;
 mod world_tables;
 mod writing;
 

@@ -10,16 +10,19 @@ use crate::place::NONE;
 use crate::rule_tables::RuleTables;
 use crate::table::{Listed, Table};
 use crate::tables::{Entry, Tables};
-use crate::world_tables::WorldTables;
+use crate::world_making::built_in_world;
 use object_words::{Strings, words_for};
 use std::alloc::{AllocError, Global};
-use world_meaning::{Article, Exits, KindNo, Object, Place, Rel, Tale, TextBytes};
+use world_meaning::{
+    Article, Exits, KindNo, Object, Place, Rel, Tale, TextBytes, built_in_parents, start_properties,
+};
 
-/// An object, and the words that a command may name it by.
+/// An object, the words that a command may name it by, and the properties that it begins with.
 #[derive(Drop)]
 pub struct Worded<'a> {
     object: &'a Object,
     words: Strings,
+    properties: Vec<u8>,
 }
 
 /// The byte that says a string.
@@ -38,16 +41,22 @@ fn mention_all(alloc: Global, strings: &mut Strings, others: &Strings) -> Result
     Ok(())
 }
 
-/// The objects with their words, by number.
+/// The objects with their words and properties, by number.
 fn with_words<'a>(alloc: Global, objects: &'a [Object]) -> Result<Vec<Worded<'a>>, AllocError>
     ensures { IfOk result (λ made. all_worded made.items ≡ worded objects.now) }
 {
+    let parents = built_in_parents(alloc)?;
     let mut made = Vec::new(alloc);
     let mut number = 0usize;
     let mut rest = objects;
     while let [object, after @ ..] = rest {
         let words = words_for(alloc, number, object.name.as_slice())?;
-        made.push(Worded { object, words })?;
+        let properties = start_properties(alloc, parents.as_slice(), number, object.kind)?;
+        made.push(Worded {
+            object,
+            words,
+            properties,
+        })?;
         number += 1;
         rest = after;
     }
@@ -201,7 +210,7 @@ fn entry_of(
         words: word_numbers(alloc, strings, &worded.words)?,
         relation: place_relation(object.place),
         holder: place_holder(object.place),
-        properties: Listed::new(Vec::new(alloc)),
+        properties: Listed::new(Vec::from_slice(alloc, worded.properties.as_slice())?),
         numbers: Listed::new(Vec::new(alloc)),
     })
 }
@@ -281,7 +290,7 @@ fn table_of(alloc: Global, strings: &Strings) -> Result<Table<TextBytes>, AllocE
 }
 
 /// A table without entries.
-fn empty<F: Drop>(alloc: Global) -> Table<F>
+pub fn empty<F: Drop>(alloc: Global) -> Table<F>
     ensures { result ≡ [] }
 {
     Table::new(Vec::new(alloc))
@@ -295,12 +304,7 @@ fn tables_with(alloc: Global, worded: &[Worded<'_>]) -> Result<Tables, AllocErro
     let strings = strings_of(alloc, worded)?;
     Ok(Tables {
         strings: table_of(alloc, &strings)?,
-        world: WorldTables {
-            kinds: empty(alloc),
-            flags: empty(alloc),
-            numbers: empty(alloc),
-            variables: empty(alloc),
-        },
+        world: built_in_world(alloc)?,
         objects: entries_of(alloc, &strings, worded)?,
         ways: ways_of(alloc, worded)?,
         rules: RuleTables {

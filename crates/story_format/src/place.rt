@@ -18,7 +18,7 @@ pub const NO_WAY: Way = Way {
 
 /// The object of a number, or none.
 pub fn object_of(number: u16) -> Option<ObjNo>
-    ensures { result ≡ optional_of number }
+    ensures { result ≡ optional_of 65535 number }
 {
     if number == NONE {
         None
@@ -29,7 +29,7 @@ pub fn object_of(number: u16) -> Option<ObjNo>
 
 /// The number of an object, or of none.
 pub fn number_of(object: Option<ObjNo>) -> u16
-    ensures { result ≡ optional_number object }
+    ensures { result ≡ optional_number 65535 object }
 {
     match object {
         None => NONE,

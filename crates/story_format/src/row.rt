@@ -66,8 +66,6 @@ impl Row for Entry {
             && (self.description == NONE || (self.description as usize) < sizes.codes)
             && self.words.as_slice().len() <= 32
             && are_different(self.words.as_slice())
-            && self.properties.as_slice().is_empty()
-            && self.numbers.as_slice().is_empty()
     }
 }
 

@@ -1,25 +1,45 @@
-//! Tables 2 to 5: kinds, properties and variables. This language has none of its own yet.
+//! Tables 2 to 5: kinds, properties and variables.
 ghost use Rattle.std.specs.Prelude.{◌≡◌};
+ghost use Rattle.story_format.specs.Formats.{optional_of, optional_number};
 
 use crate::field::{Field, read_fields, skip_fields, write_fields};
 use crate::table::{Listed, Table};
 use std::alloc::{AllocError, Global};
+use world_meaning::KindNo;
 
-/// A kind, as table 2 has it.
-#[derive(Debug, Drop)]
-pub struct KindEntry {
-    /// The kind above it; 255 none.
-    pub parent: u8,
+/// The kind of a number, or none.
+fn kind_of(number: u8) -> Option<KindNo>
+    ensures { result ≡ optional_of 255 number }
+{
+    if number == 255 {
+        None
+    } else {
+        Some(KindNo::new(number))
+    }
 }
 
+/// The number of a kind, or of none.
+fn number_of(kind: Option<KindNo>) -> u8
+    ensures { result ≡ optional_number 255 kind }
+{
+    match kind {
+        None => 255,
+        Some(kind) => kind.get(),
+    }
+}
+
+/// The kind above a kind, as table 2 has it.
 #[tactic(auto, unfolding(crate::specs::Layout::kind_layout))]
-impl Field for KindEntry {
+impl Field for Option<KindNo> {
     ghost use Rattle.story_format.specs.Layout.{kind_layout};
 
     ghost format = { kind_layout.format };
 
-    fn read(alloc: Global, bytes: &[u8]) -> Result<Option<(KindEntry, &[u8])>, AllocError> {
-        read_fields!(KindEntry, alloc, bytes, parent: u8)
+    fn read(alloc: Global, bytes: &[u8]) -> Result<Option<(Option<KindNo>, &[u8])>, AllocError> {
+        let Some((number, rest)) = u8::read(alloc, bytes)? else {
+            return Ok(None);
+        };
+        Ok(Some((kind_of(number), rest)))
     }
 
     fn skip(bytes: &[u8]) -> Option<&[u8]> {
@@ -27,7 +47,7 @@ impl Field for KindEntry {
     }
 
     fn write(&self, out: &mut Vec<u8>) -> Result<(), AllocError> {
-        write_fields!(self, out, parent)
+        number_of(*self).write(out)
     }
 
     ghost lawful = { kind_layout.lawful };
@@ -92,8 +112,8 @@ impl Field for Variable {
 /// Tables 2 to 5.
 #[derive(Debug, Drop)]
 pub struct WorldTables {
-    /// Table 2.
-    pub kinds: Table<KindEntry>,
+    /// Table 2: the kind above each kind.
+    pub kinds: Table<Option<KindNo>>,
     /// Table 3, the either-or properties.
     pub flags: Table<Granted>,
     /// Table 4, the number properties.
@@ -109,11 +129,11 @@ impl Field for WorldTables {
     ghost format = { world_layout.format };
 
     fn read(alloc: Global, bytes: &[u8]) -> Result<Option<(WorldTables, &[u8])>, AllocError> {
-        read_fields!(WorldTables, alloc, bytes, kinds: Table<KindEntry>, flags: Table<Granted>, numbers: Table<Granted>, variables: Table<Variable>)
+        read_fields!(WorldTables, alloc, bytes, kinds: Table<Option<KindNo>>, flags: Table<Granted>, numbers: Table<Granted>, variables: Table<Variable>)
     }
 
     fn skip(bytes: &[u8]) -> Option<&[u8]> {
-        skip_fields!(bytes, Table<KindEntry>, Table<Granted>, Table<Granted>, Table<Variable>)
+        skip_fields!(bytes, Table<Option<KindNo>>, Table<Granted>, Table<Granted>, Table<Variable>)
     }
 
     fn write(&self, out: &mut Vec<u8>) -> Result<(), AllocError> {

@@ -24,8 +24,13 @@ const STORY: &[u8] = &[
     0x00, 0x04, 0x68, 0x61, 0x6c, 0x6c, 0x00, 0x06, 0x47, 0x61, 0x72, 0x64, 0x65, 0x6e, 0x00, 0x06,
     0x67, 0x61, 0x72, 0x64, 0x65, 0x6e, 0x00, 0x0c, 0x41, 0x20, 0x62, 0x61, 0x72, 0x65, 0x20, 0x68,
     0x61, 0x6c, 0x6c, 0x2e,
-    // tables 2-5
-    0x00, 0x00, 0x00, 0x00, 0x00, 0x00, 0x00, 0x00,
+    // table 2
+    0x00, 0x0a, 0xff, 0xff, 0xff, 0x00, 0x00, 0x00, 0x00, 0x00, 0x06, 0x06,
+    // table 3
+    0x00, 0x0b, 0x02, 0x03, 0x04, 0x02, 0x03, 0x04, 0x01, 0x04, 0x01, 0x00, 0x01, 0x01, 0x01, 0x00,
+    0x01, 0x00, 0x01, 0x00, 0x01, 0x00, 0x01, 0x07, 0x01, 0x01,
+    // tables 4 and 5
+    0x00, 0x00, 0x00, 0x00,
     // table 6
     0x00, 0x0f, 0x06, 0x00, 0x00, 0x00, 0xff, 0xff, 0x04, 0x00, 0x00, 0x00, 0x01, 0x00, 0x02, 0x00,
     0x03, 0x00, 0x00, 0x0d, 0x00, 0x00, 0x02, 0x00, 0x04, 0x00, 0xff, 0xff, 0x02, 0x00, 0x04, 0x00,
@@ -41,8 +46,8 @@ const STORY: &[u8] = &[
     0x17, 0xff, 0xff, 0xff, 0x00, 0x00, 0x02, 0x00, 0x18, 0x00, 0xff, 0xff, 0x02, 0x00, 0x18, 0x00,
     0x19, 0xff, 0xff, 0xff, 0x00, 0x00, 0x02, 0x00, 0x1a, 0x00, 0xff, 0xff, 0x02, 0x00, 0x1a, 0x00,
     0x1b, 0xff, 0xff, 0xff, 0x00, 0x00, 0x01, 0x00, 0x1c, 0x01, 0x00, 0x00, 0x01, 0x00, 0x1d, 0xff,
-    0xff, 0xff, 0x00, 0x00, 0x01, 0x00, 0x1e, 0x01, 0xff, 0xff, 0x01, 0x00, 0x1f, 0xff, 0xff, 0xff,
-    0x00, 0x00,
+    0xff, 0xff, 0x01, 0x04, 0x00, 0x01, 0x00, 0x1e, 0x01, 0xff, 0xff, 0x01, 0x00, 0x1f, 0xff, 0xff,
+    0xff, 0x01, 0x04, 0x00,
     // table 7
     0x00, 0x02, 0x00, 0x0e, 0xff, 0xff, 0xff, 0xff, 0xff, 0xff, 0xff, 0xff, 0xff, 0xff, 0xff, 0xff,
     0xff, 0xff, 0xff, 0xff, 0xff, 0xff, 0xff, 0xff, 0xff, 0xff, 0xff, 0xff, 0xff, 0xff, 0xff, 0xff,
@@ -154,22 +159,31 @@ fn refuses_bad_tables(rt: HostRuntime) -> Result<(), Fail> {
     // places of bytes, and what is wrong with another byte there
     let tables = [
         (10usize, b'Y'), // the player's name
-        (228, 8), // the player's kind
-        (243, 1), // the player on a room
-        (245, 12), // the player in a direction
-        (245, 15), // the player in no object
-        (242, 2), // another word of the player
-        (250, 5), // another name of a direction
-        (251, 1), // a direction's article
-        (440, 0), // a thing for a room
-        (442, 40), // a name that is no string
-        (443, 4), // an article that is none
-        (445, 1), // a code that isn't there
-        (448, 28), // a word with a capital
-        (471, 12), // a way to a direction
-        (471, 15), // a way to no object
-        (473, 254), // a door
+        (262, 8), // the player's kind
+        (277, 1), // the player on a room
+        (279, 12), // the player in a direction
+        (279, 15), // the player in no object
+        (276, 2), // another word of the player
+        (284, 5), // another name of a direction
+        (285, 1), // a direction's article
+        (474, 0), // a thing for a room
+        (476, 40), // a name that is no string
+        (477, 4), // an article that is none
+        (479, 1), // a code that isn't there
+        (482, 28), // a word with a capital
+        (507, 12), // a way to a direction
+        (507, 15), // a way to no object
+        (509, 254), // a door
         (45, 115), // a string twice
+        (220, 0), // things under things
+        (224, 1), // containers under rooms
+        (229, 7), // women under devices
+        (233, 2), // doors without open
+        (234, 3), // kinds of a property that don't rise
+        (234, 10), // a kind that isn't there
+        (255, 0), // rooms without visited
+        (487, 3), // a lit room
+        (487, 11), // a property that isn't there
     ];
     for (place, byte) in &tables {
         assert_eq!(rt;
@@ -182,21 +196,17 @@ fn refuses_bad_tables(rt: HostRuntime) -> Result<(), Fail> {
 }
 
 /// Each table that this language leaves empty, with an entry: its count's place and the entry's bytes.
-const ENTRIES: [(usize, &[u8]); 11] = [
-    (219, &[255]),
-    (221, &[2, 0, 1]),
-    (223, &[0]),
-    (225, &[255, 255, 255, 255]),
-    (567, &[1, 0, 255, 0]),
-    (569, &[0, 2, 0, 5, 255, 254]),
+const ENTRIES: [(usize, &[u8]); 7] = [
+    (603, &[1, 0, 255, 0]),
+    (605, &[0, 2, 0, 5, 255, 254]),
     (
-        571,
+        607,
         &[0, 0, 0, 1, 0, 13, 2, 1, 1, 3, 0, 0, 255, 255, 255, 0, 0, 1],
     ),
-    (571, &[0, 0, 0, 0, 0, 0, 255, 255, 255, 1, 61]),
-    (571, &[0, 0, 0, 9, 0, 0, 255, 255, 255, 7]),
-    (573, &[0, 1, 0, 0]),
-    (575, &[0, 255, 255, 255, 255]),
+    (607, &[0, 0, 0, 0, 0, 0, 255, 255, 255, 1, 61]),
+    (607, &[0, 0, 0, 9, 0, 0, 255, 255, 255, 7]),
+    (609, &[0, 1, 0, 0]),
+    (611, &[0, 255, 255, 255, 255]),
 ];
 
 #[test]
@@ -227,6 +237,85 @@ fn refuses_entries_of_empty_tables(rt: HostRuntime) -> Result<(), Fail> {
     Ok(())
 }
 
+/// Entries of the author's in tables 2 to 5, and properties of the player: a byte that counts, where the bytes are
+/// put in, the bytes, and whether a story may have them.
+const OF_AUTHOR: [((usize, u8), usize, &[u8], bool); 21] = [
+    ((219, 11), 230, &[0], true), // a kind under thing
+    ((219, 12), 230, &[11, 8], true), // a kind under one that comes later
+    ((219, 11), 230, &[255], false), // a kind under none
+    ((219, 11), 230, &[10], false), // a kind under itself
+    ((219, 12), 230, &[11, 10], false), // two kinds under each other
+    ((219, 11), 230, &[11], false), // a kind under one that isn't there
+    ((232, 3), 235, &[6], true), // open persons
+    ((232, 3), 235, &[4], false), // a kind twice
+    ((232, 3), 235, &[10], false), // a kind that isn't there
+    ((231, 12), 256, &[1, 1], true), // a property of rooms
+    ((231, 12), 256, &[0], true), // a property of nothing
+    ((257, 1), 258, &[1, 7], true), // a number of devices
+    ((257, 1), 258, &[1, 1], false), // a number of rooms, which they have not
+    ((257, 1), 258, &[1, 0], false), // a number of things, which the player has not
+    ((259, 1), 260, &[255, 255, 255, 255], true), // a variable
+    ((280, 1), 281, &[8], true), // a described player
+    ((280, 2), 281, &[3, 8], true), // a lit and described player
+    ((280, 2), 281, &[8, 3], false), // properties that don't rise
+    ((280, 1), 281, &[4], false), // a lighted player
+    ((281, 1), 282, &[0, 0, 0, 0], false), // a number that the player's kind has not
+    ((486, 2), 488, &[10], true), // a room that was visited
+];
+
+#[test]
+fn takes_entries_of_the_author(rt: HostRuntime) -> Result<(), Fail> {
+    let alloc = rt.alloc();
+    for (count, later, added, stands) in &OF_AUTHOR {
+        let bytes = lengthened(alloc, *count, *later, added)?;
+        let fault = if *stands {
+            None
+        } else {
+            Some(LoadFault::BadTable)
+        };
+        assert_eq!(rt; fault_of(alloc, bytes.as_slice()), fault, "{added:?} at {later}");
+    }
+    Ok(())
+}
+
+/// The story with so many more entries of a table, the last bytes of its count and of itself being there.
+fn filled(
+    alloc: Global,
+    (place, count): (usize, u8),
+    later: usize,
+    entry: &[u8],
+    times: usize,
+) -> Result<Vec<u8>, AllocError> {
+    let mut added = Vec::new(alloc);
+    for _ in 0..times {
+        added.extend_from_slice(entry)?;
+    }
+    lengthened(alloc, (place, count), later, added.as_slice())
+}
+
+#[test]
+fn counts_the_entries_of_the_author(rt: HostRuntime) -> Result<(), Fail> {
+    let alloc = rt.alloc();
+    // of each table its count's place and its end, what it holds already, and an entry
+    let tables: [(usize, usize, u8, &[u8]); 4] = [
+        (219, 230, 10, &[0]),
+        (231, 256, 11, &[1, 1]),
+        (257, 258, 0, &[1, 7]),
+        (259, 260, 0, &[0, 0, 0, 0]),
+    ];
+    for (place, later, there, entry) in &tables {
+        let most = filled(alloc, (*place, 100), *later, entry, 100 - *there as usize)?;
+        assert_eq!(rt; fault_of(alloc, most.as_slice()), None, "100 at {place}");
+        let more = filled(alloc, (*place, 101), *later, entry, 101 - *there as usize)?;
+        assert_eq!(rt;
+            fault_of(alloc, more.as_slice()),
+            Some(LoadFault::BadTable),
+            "101 at {place}"
+        );
+    }
+    Ok(())
+}
+
 #[test]
 fn takes_the_words_of_the_author(rt: HostRuntime) -> Result<(), Fail> {
     let alloc = rt.alloc();
@@ -237,7 +326,7 @@ fn takes_the_words_of_the_author(rt: HostRuntime) -> Result<(), Fail> {
         (29, Some(LoadFault::BadTable)),
     ];
     for (word, fault) in &words {
-        let bytes = lengthened(alloc, (446, 2), 449, &[0, *word])?;
+        let bytes = lengthened(alloc, (480, 2), 483, &[0, *word])?;
         assert_eq!(rt; fault_of(alloc, bytes.as_slice()), *fault, "string {word}");
     }
     Ok(())
@@ -247,10 +336,10 @@ fn takes_the_words_of_the_author(rt: HostRuntime) -> Result<(), Fail> {
 fn refuses_bad_codes(rt: HostRuntime) -> Result<(), Fail> {
     let alloc = rt.alloc();
     let codes = [
-        (580usize, 35u8), // another instruction
-        (583, 56), // another end
-        (582, 33), // a string that isn't there
-        (582, 0), // a string that no code names is left
+        (616usize, 35u8), // another instruction
+        (619, 56), // another end
+        (618, 33), // a string that isn't there
+        (618, 0), // a string that no code names is left
     ];
     for (place, byte) in &codes {
         assert_eq!(rt;
@@ -260,7 +349,7 @@ fn refuses_bad_codes(rt: HostRuntime) -> Result<(), Fail> {
         );
     }
     // no description of the Hall, and the Hall's description as the Garden's too
-    for (place, byte) in &[(444usize, 255u8), (458, 0)] {
+    for (place, byte) in &[(478usize, 255u8), (493, 0)] {
         let mut bytes = changed(alloc, *place, *byte)?;
         if let Some(next) = bytes.get_mut(*place + 1) {
             *next = *byte;

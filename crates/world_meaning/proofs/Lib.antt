@@ -1,5 +1,6 @@
 pub mod Agreement
 pub mod Bools
 pub mod Chains
+pub mod Climbs
 pub mod Sights
 pub mod Placings

@@ -8,6 +8,7 @@ pub mod Games
 pub mod Kinds
 pub mod Placing
 pub mod Progress
+pub mod Properties
 pub mod Reading
 pub mod Rulebooks
 pub mod Session

@@ -1,4 +1,4 @@
-//! The numbers by which objects and kinds are named.
+//! The numbers by which objects are named.
 ghost use Rattle.std.specs.Prelude.{◌≡◌};
 
 use std::marker::Model;
@@ -30,45 +30,6 @@ impl ObjNo {
 
     /// The object's number.
     pub const fn get(self) -> u16
-        ensures { result ≡ self }
-    {
-        self.0
-    }
-}
-
-/// A kind's number: 0 thing, 1 room, 2 direction, then the kinds below them.
-#[derive(Clone, Copy, Debug, PartialEq, Eq)]
-pub struct KindNo(u8);
-
-impl Model for KindNo {
-    ghost use Rattle.std.specs.Prelude.{ℕ};
-
-    ghost Value = { ℕ };
-
-    ghost view = { λ k. k.0 };
-
-    ghost inverse = { λ n. record { 0 = n } };
-}
-
-impl KindNo {
-    /// The kind of rooms.
-    pub const ROOM: KindNo = KindNo(1);
-
-    /// The kind of the twelve directions.
-    pub const DIRECTION: KindNo = KindNo(2);
-
-    /// The kind of persons.
-    pub const PERSON: KindNo = KindNo(6);
-
-    /// The kind of this number.
-    pub const fn new(number: u8) -> KindNo
-        ensures { result ≡ number }
-    {
-        KindNo(number)
-    }
-
-    /// The kind's number.
-    pub const fn get(self) -> u8
         ensures { result ≡ self }
     {
         self.0
