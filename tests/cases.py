@@ -1,0 +1,53 @@
+#!/usr/bin/env python3
+"""Compiles the sources of tests/cases/*.json: each is refused with its code at its line, or accepted with its story's bytes.
+
+Use: tests/cases.py PROGRAM [NAME]    NAME: only cases whose name begins so
+
+A case is an object of a JSON list: its name, what it is about, its source (source_hex where it is no UTF-8), its
+refusal or null, and its story in hex or null."""
+import json
+import os
+import pathlib
+import subprocess
+import sys
+import tempfile
+
+program = str(pathlib.Path(sys.argv[1]).resolve())
+wanted = sys.argv[2] if len(sys.argv) > 2 else ""
+folder = pathlib.Path(__file__).resolve().parent / "cases"
+
+
+def fault_of(case):
+    """What is wrong with the program's answer to a case, or None."""
+    source = bytes.fromhex(case["source_hex"]) if case["source"] is None else case["source"].encode()
+    pathlib.Path("s.i7").write_bytes(source)
+    story = pathlib.Path("story")
+    story.unlink(missing_ok=True)
+    done = subprocess.run([program, "compile", "s.i7", "story"], capture_output=True, timeout=10)
+    told = done.stderr.decode(errors="replace").strip()
+    refusal = case["refusal"]
+    if refusal is None:
+        if done.returncode != 0:
+            return f"refused: {told}"
+        return None if story.read_bytes().hex() == case["story"] else "another story"
+    want = f"s.i7:{refusal['line']}: {refusal['code']} {refusal['name']}"
+    if done.returncode == 1 and told == want and not story.exists():
+        return None
+    return f"wanted {want}, got {done.returncode} {told}"
+
+
+passed = failed = 0
+with tempfile.TemporaryDirectory() as scratch:
+    os.chdir(scratch)
+    for file in sorted(folder.glob("*.json")):
+        for case in json.loads(file.read_text()):
+            if not case["name"].startswith(wanted):
+                continue
+            fault = fault_of(case)
+            if fault is None:
+                passed += 1
+            else:
+                failed += 1
+                print(f"cases: {file.name}: {case['name']}: {fault}")
+print(f"cases: {passed} passed, {failed} failed")
+sys.exit(1 if failed or not passed else 0)
