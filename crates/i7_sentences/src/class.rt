@@ -1,5 +1,7 @@
 //! The classes of words that a form's letters stand for: each a small automaton over tokens.
 ghost use Rattle.std.specs.Prelude.{◌≡◌};
+ghost use Rattle.std.specs.List.{list_any};
+ghost use Rattle.world_meaning.specs.Spelling.{is_spelled};
 ghost use Rattle.i7_sentences.specs.Automata.{accepts, alone_step, body_step, names_step, run_step, side_start, side_step, step};
 ghost use Rattle.i7_sentences.specs.Classes.{is_head_token, is_inner, is_choice, is_joint, is_name_word, is_vertical, opens_phrase};
 
@@ -106,13 +108,19 @@ fn is_head_token(token: &Tagged<'_>) -> bool
     token.is_word() || token.is_sign(Keyword::Open) || token.is_sign(Keyword::Close)
 }
 
+/// Whether the word is one of these.
+fn is_any(word: &[u8], words: &[&[u8]]) -> bool
+    ensures { result ≡ list_any (λ other. is_spelled word.now other.now) words.now }
+{
+    words.iter().any(|other| is_spelled(word, other))
+}
+
 /// Whether a phrase may begin with the token.
 #[tactic(auto, unfolding(crate::specs::Classes::opens_phrase))]
 fn opens_phrase(token: &Tagged<'_>) -> bool
     ensures { result ≡ opens_phrase token.now }
 {
-    let word = word_of(token.token());
-    PHRASES.iter().any(|opener| is_spelled(word, opener))
+    is_any(word_of(token.token()), &PHRASES)
 }
 
 /// Whether the token is a text, or `or`.
