@@ -11,7 +11,8 @@ ended_more part (next ∷ parts) some = refl
 split_some : (p : ℕ → Bool) (xs : List ℕ) → 0 < length (slice_split p xs)
 split_some p xs = let parts = length-slice_split p xs in omega (arith, parts)
 
-pub bracketed_first : (text : List ℕ) → position_or_len (is_byte 93) text < length text → bracketed text ≡ after_first (is_byte 91) (before_first (is_byte 93) text) ∷ bracketed (after_first (is_byte 93) text)
+pub bracketed_first : (text : List ℕ) → position_or_len (is_byte 93) text < length text
+    → bracketed text ≡ after_first (is_byte 91) (before_first (is_byte 93) text) ∷ bracketed (after_first (is_byte 93) text)
 bracketed_first text ends =
     let parts = ap ended (slice_split_first (is_byte 93) text 0 ends) in
     let more = ended_more (before_first (is_byte 93) text) (slice_split (is_byte 93) (after_first (is_byte 93) text)) (split_some (is_byte 93) (after_first (is_byte 93) text)) in

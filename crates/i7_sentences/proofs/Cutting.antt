@@ -18,13 +18,15 @@ Splits opens same is_open token tokens =
     cut_from opens same is_open token tokens
     ≡ (token ∷ take (more_len opens same is_open token tokens) tokens) ∷ cut opens same (drop (more_len opens same is_open token tokens) tokens)
 
-splits_onto : (opens : Token → Bool) (same : Bool → Token → Token → Bool) (is_open : Bool) (token next : Token) (rest : List Token) → same is_open token next ≡ true → Splits opens same (is_open || opens next) next rest → Splits opens same is_open token (next ∷ rest)
+splits_onto : (opens : Token → Bool) (same : Bool → Token → Token → Bool) (is_open : Bool) (token next : Token) (rest : List Token)
+    → same is_open token next ≡ true → Splits opens same (is_open || opens next) next rest → Splits opens same is_open token (next ∷ rest)
 unfolding Splits
 splits_onto opens same is_open token next rest joins later =
     let more = more_len opens same (is_open || opens next) next rest in
     rw (joins, one_taken more next rest, one_dropped more next rest) (ap (onto_first token) later)
 
-splits_before : (opens : Token → Bool) (same : Bool → Token → Token → Bool) (is_open : Bool) (token next : Token) (rest : List Token) → same is_open token next ≡ false → Splits opens same is_open token (next ∷ rest)
+splits_before : (opens : Token → Bool) (same : Bool → Token → Token → Bool) (is_open : Bool) (token next : Token) (rest : List Token)
+    → same is_open token next ≡ false → Splits opens same is_open token (next ∷ rest)
 unfolding Splits
 splits_before opens same is_open token next rest parts = rw parts refl
 
@@ -38,7 +40,8 @@ splits opens same is_open token (next ∷ rest) =
       | false ↦ λ parts. splits_before opens same is_open token next rest parts
     ] refl
 
-pub cut_piece : (opens : Token → Bool) (same : Bool → Token → Token → Bool) (tokens : List Token) → 0 < length tokens → cut opens same tokens ≡ take (piece_len opens same tokens) tokens ∷ cut opens same (drop (piece_len opens same tokens) tokens)
+pub cut_piece : (opens : Token → Bool) (same : Bool → Token → Token → Bool) (tokens : List Token) → 0 < length tokens
+    → cut opens same tokens ≡ take (piece_len opens same tokens) tokens ∷ cut opens same (drop (piece_len opens same tokens) tokens)
 unfolding Splits
 cut_piece opens same [] h = absurd (omega (arith, h))
 cut_piece opens same (token ∷ tokens) h =

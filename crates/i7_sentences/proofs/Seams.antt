@@ -6,10 +6,13 @@ use Rattle.i7_lexer.specs.declared.token.Token.{Token}
 use Rattle.i7_sentences.specs.Cuts.{cut, cut_from}
 use Rattle.i7_sentences.specs.Seams.{AreParted, GoesOn, IsCut, IsPiece, IsSeam, tokens_in}
 
-joined_same : (opens : Token → Bool) (same : Bool → Token → Token → Bool) (is_open : Bool) (token next : Token) (rest : List Token) → same is_open token next ≡ true → cut_from opens same is_open token (next ∷ rest) ≡ onto_first token (cut_from opens same (is_open || opens next) next rest)
+joined_same : (opens : Token → Bool) (same : Bool → Token → Token → Bool) (is_open : Bool) (token next : Token) (rest : List Token)
+    → same is_open token next ≡ true
+    → cut_from opens same is_open token (next ∷ rest) ≡ onto_first token (cut_from opens same (is_open || opens next) next rest)
 joined_same opens same is_open token next rest is = rw is refl
 
-parted_other : (opens : Token → Bool) (same : Bool → Token → Token → Bool) (is_open : Bool) (token next : Token) (rest : List Token) → same is_open token next ≡ false → cut_from opens same is_open token (next ∷ rest) ≡ (token ∷ []) ∷ cut_from opens same (opens next) next rest
+parted_other : (opens : Token → Bool) (same : Bool → Token → Token → Bool) (is_open : Bool) (token next : Token) (rest : List Token)
+    → same is_open token next ≡ false → cut_from opens same is_open token (next ∷ rest) ≡ (token ∷ []) ∷ cut_from opens same (opens next) next rest
 parted_other opens same is_open token next rest is = rw is refl
 
 -- the first piece from a token on, and the pieces behind it
@@ -23,7 +26,8 @@ record IsFrom (opens : Token → Bool) (same : Bool → Token → Token → Bool
   whole : All (IsPiece opens same) behind
   parted : AreParted opens same behind
 
-is_from : (opens : Token → Bool) (same : Bool → Token → Token → Bool) (is_open : Bool) (token : Token) (tokens : List Token) → IsFrom opens same is_open token tokens (cut_from opens same is_open token tokens)
+is_from : (opens : Token → Bool) (same : Bool → Token → Token → Bool) (is_open : Bool) (token : Token) (tokens : List Token)
+    → IsFrom opens same is_open token tokens (cut_from opens same is_open token tokens)
 is_from opens same is_open token [] = record { more = []; behind = []; place = refl; joined = refl; goes_on = tt; seam = tt; whole = All-nil (IsPiece opens same); parted = tt }
 is_from opens same is_open token (next ∷ rest) =
     let Goal : Bool → Type 0 = λ joins. same is_open token next ≡ joins → IsFrom opens same is_open token (next ∷ rest) (cut_from opens same is_open token (next ∷ rest))
@@ -66,7 +70,9 @@ is_cut opens same (token ∷ tokens) =
     subst (λ pieces. IsCut opens same (token ∷ tokens) pieces) (sym first.place) made
 
 -- a piece in front of a cut, with a seam between them
-cut_again : (opens : Token → Bool) (same : Bool → Token → Token → Bool) (is_open : Bool) (token : Token) (more : List Token) (pieces : List (List Token)) → cut opens same (tokens_in pieces) ≡ pieces → GoesOn opens same is_open token more → IsSeam opens same is_open token more pieces → cut_from opens same is_open token (more ++ tokens_in pieces) ≡ (token ∷ more) ∷ pieces
+cut_again : (opens : Token → Bool) (same : Bool → Token → Token → Bool) (is_open : Bool) (token : Token) (more : List Token) (pieces : List (List Token))
+    → cut opens same (tokens_in pieces) ≡ pieces → GoesOn opens same is_open token more → IsSeam opens same is_open token more pieces
+    → cut_from opens same is_open token (more ++ tokens_in pieces) ≡ (token ∷ more) ∷ pieces
 cut_again opens same is_open token [] [] is goes_on seam = refl
 cut_again opens same is_open token [] ([] ∷ pieces) is goes_on seam = absurd seam
 cut_again opens same is_open token [] ((first ∷ rest) ∷ pieces) is goes_on seam =
@@ -75,7 +81,8 @@ cut_again opens same is_open token (next ∷ more) pieces is goes_on seam =
     joined_same opens same is_open token next (more ++ tokens_in pieces) goes_on.0
     ∙ ap (onto_first token) (cut_again opens same (is_open || opens next) next more pieces is goes_on.1 seam)
 
-recut : (opens : Token → Bool) (same : Bool → Token → Token → Bool) (pieces : List (List Token)) → All (IsPiece opens same) pieces → AreParted opens same pieces → cut opens same (tokens_in pieces) ≡ pieces
+recut : (opens : Token → Bool) (same : Bool → Token → Token → Bool) (pieces : List (List Token)) → All (IsPiece opens same) pieces → AreParted opens same pieces
+    → cut opens same (tokens_in pieces) ≡ pieces
 recut opens same [] whole parted = refl
 recut opens same ([] ∷ pieces) whole parted = absurd parted
 recut opens same ((token ∷ more) ∷ pieces) whole parted =

@@ -88,6 +88,21 @@ const REFUSED: &[(&str, FaultCode, u32)] = &[
     ),
     ("", FaultCode::NoRoom, 1),
     ("2147483648 is a room.", FaultCode::NumberOutOfRange, 1),
+    (
+        "The Hall is a room.\nThe description of the ball is \"[9999999999]\".\n",
+        FaultCode::NumberOutOfRange,
+        2,
+    ),
+    (
+        "The Hall is a room.\nFrob \"9999999999\".\n",
+        FaultCode::NotUnderstood,
+        2,
+    ),
+    (
+        "Instead of jumping: say \"A.\" The ball is in the Hall.",
+        FaultCode::NotUnderstood,
+        1,
+    ),
     ("\"T\" by 2147483648", FaultCode::NoRoom, 1),
     ("\"T\" by Bob, 2147483648", FaultCode::NumberOutOfRange, 1),
     (
@@ -103,6 +118,8 @@ const TAKEN: &[&str] = &[
     "Hall are a room.",
     "007 is a room.",
     "2147483647 is a room.",
+    "The Hall is a room.\n\"9999999999.\"\n",
+    "The Hall is a room.. .\n.\nThe Yard is a room.",
     "The Hall is a room. \"One.\"\n\nThe Hall is a room.\n\"One.\"",
     "A1 is north of B1.\nA1 is north of B1.",
     "A1 is north of B1.\nB1 is south of A1.",
