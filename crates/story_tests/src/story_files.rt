@@ -362,23 +362,3 @@ fn refuses_bad_codes(rt: HostRuntime) -> Result<(), Fail> {
     }
     Ok(())
 }
-
-#[test]
-fn faults_are_named(rt: HostRuntime) -> Result<(), Fail> {
-    let alloc = rt.alloc();
-    let faults = [
-        (LoadFault::BadMagic, "L1 BadMagic"),
-        (LoadFault::BadVersion, "L2 BadVersion"),
-        (LoadFault::Truncated, "L3 Truncated"),
-        (LoadFault::TooLong, "L4 TooLong"),
-        (LoadFault::BadTable, "L5 BadTable"),
-        (LoadFault::BadCode, "L6 BadCode"),
-        (LoadFault::BadOrder, "L7 BadOrder"),
-        (LoadFault::Memory, "L8 Memory"),
-    ];
-    for (fault, text) in &faults {
-        let shown = format!(in alloc; "{fault}")?;
-        assert_eq!(rt; shown.as_str(), *text);
-    }
-    Ok(())
-}
