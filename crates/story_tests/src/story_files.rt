@@ -273,7 +273,11 @@ fn takes_entries_of_the_author(rt: HostRuntime) -> Result<(), Fail> {
         } else {
             Some(LoadFault::BadTable)
         };
-        assert_eq!(rt; fault_of(alloc, bytes.as_slice()), fault, "{added:?} at {later}");
+        assert_eq!(rt;
+            fault_of(alloc, bytes.as_slice()),
+            fault,
+            "{added:?} at {later}"
+        );
     }
     Ok(())
 }
