@@ -137,8 +137,8 @@ fn tale_said(alloc: Global, sentences: &[Sentence]) -> Result<Result<Tale, Fault
 }
 
 /// The tale that the sentences mean, or the refusal that stands, each code being looked for in the
-/// whole source before the next, the lowest line first: C5 of what has no meaning yet, C9, C8, C10, C12 of objects, C13, then C12
-/// of names and texts. Memory is C14, at line 1.
+/// whole source before the next, at the first sentence that shows it: C5 of what has no meaning yet, C9, C8,
+/// C10, C12 of objects, C13, then C12 of names and texts. Memory is C14, at line 1.
 pub fn tale_of(alloc: Global, sentences: &[Sentence]) -> Result<Tale, Fault>
     ensures told { IfOk result (λ tale. tale_said sentences.now ≡ Ok tale) }
     ensures refused { IfErr result (λ fault. (tale_said sentences.now ≡ Err fault) ⊎ (fault ≡ out_of_memory)) }

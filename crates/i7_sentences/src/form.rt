@@ -131,6 +131,16 @@ const LISTED: Piece = Word(Keyword::Listed);
 
 const SCENE: Piece = Word(Keyword::Scene);
 
+const AN: Piece = Word(Keyword::An);
+
+const ACTION: Piece = Word(Keyword::Action);
+
+const APPLYING: Piece = Word(Keyword::Applying);
+
+const OUT: Piece = Word(Keyword::Out);
+
+const WORLD: Piece = Word(Keyword::World);
+
 const USUALLY: Piece = Word(Keyword::Usually);
 
 const DESCRIPTION: Piece = Word(Keyword::Description);
@@ -153,10 +163,7 @@ pub const FORMS: [&[(Form, &[Piece])]; 30] = [
     &[(Form::BeforeRule, &[Word(Keyword::Before), HEAD, BODY])],
     &[(Form::InsteadRule, &[Word(Keyword::Instead), OF, HEAD, BODY])],
     &[(Form::CheckRule, &[Word(Keyword::Check), HEAD, BODY])],
-    &[(
-        Form::CarryOutRule,
-        &[Word(Keyword::Carry), Word(Keyword::Out), HEAD, BODY],
-    )],
+    &[(Form::CarryOutRule, &[Word(Keyword::Carry), OUT, HEAD, BODY])],
     &[(Form::AfterRule, &[Word(Keyword::After), HEAD, BODY])],
     &[(Form::ReportRule, &[Word(Keyword::Report), HEAD, BODY])],
     &[
@@ -236,10 +243,14 @@ pub const FORMS: [&[(Form, &[Piece])]; 30] = [
             ],
         ),
     ],
-    &[(
-        Form::Action,
-        &[WORDS, IS, Word(Keyword::An), Word(Keyword::Action), WORDS],
-    )],
+    &[
+        (Form::Action, &[WORDS, IS, AN, ACTION, APPLYING, WORDS]),
+        (Form::Action, &[WORDS, IS, AN, ACTION, OUT, OF, WORLD]),
+        (
+            Form::Action,
+            &[WORDS, IS, AN, ACTION, OUT, OF, WORLD, AND, APPLYING, WORDS],
+        ),
+    ],
     &[(Form::Rulebook, &[NAME, RULES, IS, A, RULEBOOK])],
     &[
         (Form::Scene, &[NAME, IS, A, SCENE]),

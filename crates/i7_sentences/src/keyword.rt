@@ -16,6 +16,7 @@ pub enum Keyword {
     An,
     And,
     Any,
+    Applying,
     As,
     Be,
     Before,
@@ -59,7 +60,6 @@ pub enum Keyword {
     Play,
     Recurring,
     Report,
-    Room,
     Rule,
     Rulebook,
     Rules,
@@ -73,6 +73,7 @@ pub enum Keyword {
     Varies,
     Wears,
     When,
+    World,
     Worn,
 }
 
@@ -116,7 +117,6 @@ pub const KEYWORDS: [&[(&[u8], Keyword)]; 12] = [
         (b"last", Keyword::Last),
         (b"part", Keyword::Part),
         (b"play", Keyword::Play),
-        (b"room", Keyword::Room),
         (b"rule", Keyword::Rule),
         (b"some", Keyword::Some),
         (b"that", Keyword::That),
@@ -135,6 +135,7 @@ pub const KEYWORDS: [&[(&[u8], Keyword)]; 12] = [
         (b"rules", Keyword::Rules),
         (b"scene", Keyword::Scene),
         (b"wears", Keyword::Wears),
+        (b"world", Keyword::World),
     ],
     &[
         (b"action", Keyword::Action),
@@ -155,7 +156,10 @@ pub const KEYWORDS: [&[(&[u8], Keyword)]; 12] = [
         (b"outside", Keyword::Outside),
         (b"usually", Keyword::Usually),
     ],
-    &[(b"rulebook", Keyword::Rulebook)],
+    &[
+        (b"applying", Keyword::Applying),
+        (b"rulebook", Keyword::Rulebook),
+    ],
     &[(b"recurring", Keyword::Recurring)],
     &[(b"understand", Keyword::Understand)],
     &[(b"description", Keyword::Description)],

@@ -222,8 +222,7 @@ fn read_through(alloc: Global, lexed: &Lexed) -> Result<Vec<Sentence>, Fault>
 
 /// The sentences that the tokens spell, or the refusal that stands: a literal out of range (C15),
 /// a sentence that isn't understood (C5), a reserved word in a name (C6); each is looked for in the
-/// whole source before the next, and the lowest line is given. Memory, C14, is at line 1, and only
-/// where a growth was refused.
+/// whole source before the next, and the lowest line is given. Memory, C14, is at line 1.
 pub fn read(alloc: Global, lexed: &Lexed) -> Result<Vec<Sentence>, Fault>
     ensures { MatchResult result (λ sentences. HasSentences lexed.now sentences.items) (IsRefused lexed.now) }
 {

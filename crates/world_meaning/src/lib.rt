@@ -25,7 +25,9 @@ pub use direction::Direction;
 pub use exits::{Exits, Way};
 pub use fault::{Fault, FaultCode};
 pub use kind_laws::steps_tell_kinds;
-pub use kinds::{KINDS, KindNo, KindRow, PROPERTIES, PropertyRow, ROOTS, built_in_parents, is_under};
+pub use kinds::{
+    KINDS, KindNo, KindRow, PROPERTIES, PropertyRow, ROOTS, built_in_parents, is_under,
+};
 pub use laws::agreeing_facts_have_one_game;
 pub use numbers::ObjNo;
 pub use place::{Place, Rel};
