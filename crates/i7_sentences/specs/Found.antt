@@ -1,6 +1,5 @@
 -- The found fit that a reading stands for.
 use Rattle.std.specs.Prelude.{map}
-use Rattle.i7_sentences.specs.Forms.{Variant}
 use Rattle.i7_sentences.specs.Matching.{Found}
 use Rattle.i7_sentences.specs.declared.reading.Reading.{Reading}
 
