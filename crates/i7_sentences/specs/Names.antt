@@ -1,5 +1,5 @@
 -- Names as sentences mention them.
-use Rattle.std.specs.Prelude.{ℕ, ◌+◌, true, ℕ, fold, Bool, false, List, [], ◌∷◌, ◌++◌, if◌then◌else◌}
+use Rattle.std.specs.Prelude.{ℕ, ◌+◌, true, fold, Bool, false, List, [], ◌∷◌, ◌++◌, if◌then◌else◌}
 use Rattle.i7_lexer.specs.declared.token.Token.{Token}
 use Rattle.i7_sentences.specs.Classes.{is_joint}
 use Rattle.i7_sentences.specs.Keywords.{is_article, is_sign}

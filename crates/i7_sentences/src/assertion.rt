@@ -1,5 +1,5 @@
 //! What a form says with its letters.
-ghost use Rattle.std.specs.Prelude.{◌≡◌, ◌∷◌, [], map, option_map, IfOk};
+ghost use Rattle.std.specs.Prelude.{◌≡◌, map, IfOk};
 ghost use Rattle.std.specs.List.{list_all};
 ghost use Rattle.i7_sentences.specs.Assertions.{are, assertion_of, being, can_be, can_be_either, described, described_object, description, description_of, direction_at, door_between, door_to, either_of, held, holder_by, holds, is_plain, kind_of_kind, number_in, number_of, number_property, plain_text, rulebook, scene, side_direction, side_of, usually, usually_number, variable, variable_is, way_assertion, way_from, way_to, what_held};
 
