@@ -4,3 +4,4 @@ pub mod Chains
 pub mod Climbs
 pub mod Sights
 pub mod Placings
+pub mod Ends

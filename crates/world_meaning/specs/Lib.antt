@@ -15,11 +15,14 @@ pub mod Rulebooks
 pub mod Session
 pub mod Sight
 pub mod SightExamples
+pub mod Sorts
 pub mod Spelling
 pub mod StandardGame
 pub mod StandardRules
+pub mod Standing
 pub mod Tale
 pub mod Texts
 pub mod Transcript
 pub mod Turns
+pub mod WellMade
 pub mod World

@@ -3,6 +3,8 @@
 #![tactic(auto)]
 
 mod article;
+mod chain_laws;
+mod holders;
 mod declared;
 mod direction;
 mod exits;
@@ -18,11 +20,14 @@ mod properties;
 mod reading;
 mod session;
 mod sight_laws;
+mod sorts;
 mod spelling;
 mod tale;
 mod text;
 
 pub use article::Article;
+pub use chain_laws::walks_tell_ends;
+pub use holders::have_ends;
 pub use declared::{Declared, Granted, built_in_declared};
 pub use direction::Direction;
 pub use exits::{Exits, Way};
@@ -42,6 +47,7 @@ pub use session::{Abandon, Ending, ReplyKind};
 pub use sight_laws::{
     boxes_hide_and_keep, light_comes_from_inside, places_are_seen, the_dark_hides,
 };
+pub use sorts::{Sorts, are_well_placed, is_at, sorts_of};
 pub use spelling::{is_spelled, lowered};
 pub use tale::{Object, Tale};
 pub use text::TextBytes;
