@@ -14,6 +14,9 @@ PLAYER_WORDS = ["yourself", "me", "myself", "self"]
 DIRECTIONS = [("north", "n"), ("northeast", "ne"), ("northwest", "nw"), ("south", "s"), ("southeast", "se"),
               ("southwest", "sw"), ("east", "e"), ("west", "w"), ("up", "u"), ("down", "d"), ("inside", "in"),
               ("outside", "out")]
+THING, ROOM, DIRECTION, DOOR, CONTAINER, SUPPORTER, PERSON = range(7)
+# the kinds that hold in, on, carrying, wearing and as a whole its parts
+HOLDERS = [[ROOM, CONTAINER], [SUPPORTER], [PERSON], [PERSON], [THING]]
 # the kinds above the built-in kinds, and the kinds that have the built-in properties
 KINDS = [NONE8, NONE8, NONE8, 0, 0, 0, 0, 0, 6, 6]
 FLAGS = [[3, 4], [3, 4], [4], [0], [1], [0], [0], [0], [0], [7], [1]]
@@ -109,17 +112,18 @@ def name_words(name):
 
 def kinds_above(t, kind):
     """The kind and those above it; none where they don't end at a root."""
-    found = []
-    while kind != NONE8:
-        if kind >= len(t["kinds"]) or kind in found:
-            return []
-        found.append(kind)
-        kind = t["kinds"][kind]
-    return found
+    known = t.setdefault("above", {})
+    if kind not in known:
+        found, above = [], kind
+        while above != NONE8 and above not in found and above < len(t["kinds"]):
+            found.append(above)
+            above = t["kinds"][above]
+        known[kind] = found if above == NONE8 else []
+    return known[kind]
 
 
 def has(t, kind, given):
-    return any(k in given for k in kinds_above(t, kind))
+    return not set(kinds_above(t, kind)).isdisjoint(given)
 
 
 def rises(numbers):
@@ -135,10 +139,42 @@ def judge_world(t):
     right(all(rises(given) and all(k < len(kinds) for k in given) for given in flags + t["numbers"]))
 
 
+def is_a(t, number, *kinds):
+    """Whether an object there is of one of these kinds or of kinds below them."""
+    return number < len(t["objects"]) and any(k in kinds for k in kinds_above(t, t["objects"][number]["kind"]))
+
+
+def judge_places(t):
+    objects = t["objects"]
+    for number, o in enumerate(objects):
+        nowhere = o["relation"] == NONE8 and o["holder"] == NONE16
+        right(nowhere or o["relation"] < len(HOLDERS))
+        if not nowhere:
+            right(is_a(t, number, THING) and not is_a(t, number, DOOR))
+            right(is_a(t, o["holder"], *HOLDERS[o["relation"]]))
+    for number in range(len(objects)):
+        seen = set()
+        while objects[number]["relation"] != NONE8:
+            right(number not in seen)
+            seen.add(number)
+            number = objects[number]["holder"]
+    right(objects[0]["relation"] == 0 and is_a(t, objects[0]["holder"], ROOM))
+    right(all(o["relation"] == NONE8 for o in objects[1:13]))
+
+
+def judge_ways(t):
+    right(len(t["ways"]) == sum(is_a(t, number, ROOM) for number in range(len(t["objects"]))))
+    for ways in t["ways"]:
+        for room, door in ways:
+            right(room == NONE16 or is_a(t, room, ROOM))
+            right(door == NONE16 or is_a(t, door, DOOR))
+
+
 def judge_objects(t):
     strings, objects = t["strings"], t["objects"]
-    right(14 <= len(objects) <= 1000 and len(t["ways"]) == len(objects) - 13)
+    right(13 <= len(objects) <= 1000)
     for number, o in enumerate(objects):
+        right(o["kind"] < len(t["kinds"]))
         right(o["name"] < len(strings) and all(w < len(strings) for w in o["words"]))
         right(o["code"] == NONE16 or o["code"] < len(t["codes"]))
         right(o["article"] <= 3)
@@ -147,19 +183,16 @@ def judge_objects(t):
         name, words = strings[o["name"]], [strings[w] for w in o["words"]]
         right(len(words) <= 32 and len(set(words)) == len(words))
         right(not any(65 <= b <= 90 for w in words for b in w))
+        own = name_words(name)
         if number == 0:
             own = [w.encode() for w in PLAYER_WORDS]
-            right(o["kind"] == 6 and o["article"] == 0 and name == b"yourself")
-            right(o["relation"] == 0 and 13 <= o["holder"] < len(objects))
+            right(is_a(t, number, PERSON) and o["article"] == 0 and name == own[0])
         elif number <= 12:
             own = [w.encode() for w in DIRECTIONS[number - 1]]
-            right(o["kind"] == 2 and o["article"] == 0 and name == own[0])
-        else:
-            own = name_words(name)
-            right(o["kind"] == 1)
-        if number > 0:
-            right(o["relation"] == NONE8 and o["holder"] == NONE16)
+            right(is_a(t, number, DIRECTION) and o["article"] == 0 and name == own[0])
         right(words[:len(own)] == own)
+    judge_places(t)
+    judge_ways(t)
 
 
 def in_first_order(numbers):
@@ -175,8 +208,6 @@ def judge_tables(t):
     judge_world(t)
     right(len(set(t["strings"])) == len(t["strings"]))
     judge_objects(t)
-    right(all(door == NONE16 and (room == NONE16 or 13 <= room < len(t["objects"]))
-              for ways in t["ways"] for room, door in ways))
     named = [o["code"] for o in t["objects"] if o["code"] != NONE16]
     first = in_first_order(named)
     right(first == list(range(len(first))))
@@ -209,8 +240,105 @@ def opening(data):
     return text + b"\n>"
 
 
+def written(t):
+    """The bytes of tables whose strings stand as themselves; those are numbered as they are named."""
+    strings = []
+
+    def u(width, n):
+        return n.to_bytes(width, "big")
+
+    def listed(width, numbers):
+        return u(1, len(numbers)) + b"".join(u(width, n) for n in numbers)
+
+    def table(entries):
+        entries = list(entries)
+        return u(2, len(entries)) + b"".join(entries)
+
+    def named(text):
+        if text not in strings:
+            strings.append(text)
+        return strings.index(text)
+
+    def entry(o):
+        return (u(1, o["kind"]) + u(2, named(o["name"])) + u(1, o["article"]) + u(2, o["code"])
+                + listed(2, [named(w) for w in o["words"]]) + u(1, o["relation"]) + u(2, o["holder"])
+                + listed(1, o["flags"]) + listed(4, o["numbers"]))
+
+    objects = table([entry(o) for o in t["objects"]])
+    codes = table([u(2, 4) + b"\x22" + u(2, named(text)) + b"\x37" for text in t["said"]])
+    ways = table(b"".join(u(2, room) + u(2, door) for room, door in ways) for ways in t["ways"])
+    return (b"I7ST" + u(2, 1) + table(u(2, len(text)) + text for text in strings)
+            + table(u(1, above) for above in t["kinds"]) + table(listed(1, given) for given in t["flags"])
+            + table(listed(1, given) for given in t["numbers"]) + table(u(4, v) for v in t["variables"])
+            + objects + ways + u(2, 0) * 5 + codes)
+
+
+def unnumbered(data):
+    """A story's tables, with the strings in the place of their numbers."""
+    t = tables(data)
+    said = [t["strings"][int.from_bytes(code[1:3], "big")] for code in t["codes"]]
+    objects = [dict(o, name=t["strings"][o["name"]], words=[t["strings"][w] for w in o["words"]]) for o in t["objects"]]
+    return dict(t, objects=objects, said=said)
+
+
+def furnished(story):
+    """A story of two rooms with kinds, things and a room more than the compiler writes today."""
+    t = unnumbered(story)
+
+    def add(kind, name, relation=NONE8, holder=NONE16, flags=(), numbers=()):
+        words = name_words(name)
+        t["objects"].append({"kind": kind, "name": name, "article": 1, "code": NONE16, "words": words,
+                             "relation": relation, "holder": holder, "flags": flags, "numbers": numbers})
+
+    t["kinds"] = KINDS + [ROOM, CONTAINER, 11, 8]
+    t["numbers"], t["variables"] = [[CONTAINER], [THING, 12]], [7, 2 ** 32 - 1]
+    t["objects"][0]["numbers"] = [1]
+    t["objects"][14]["kind"] = 10
+    add(11, b"box", 0, 13, [0, 8], [3, 4])
+    add(THING, b"Silver coin", 0, 15, [3, 8], [2 ** 31])
+    add(SUPPORTER, b"table", 0, 13, [6, 8], [0])
+    add(9, b"Ann", 0, 14, [8], [0])
+    add(THING, b"hat", 3, 18, [7, 8], [0])
+    add(THING, b"ball", 2, 0, [8], [0])
+    add(THING, b"handle", 4, 15, [8], [0])
+    add(DOOR, b"gate", NONE8, NONE16, [1, 6, 8], [0])
+    add(ROOM, b"Cave", NONE8, NONE16, [4])
+    add(12, b"bag", 1, 17, [0], [1, 2])
+    add(13, b"Tom", 0, 23, [8], [5])
+    t["ways"].append([(14, NONE16), (13, 22)] + [(NONE16, NONE16)] * 9 + [(NONE16, 22)])
+    t["ways"][0][1] = (23, 22)
+    return written(t)
+
+
+def crowded(story):
+    """A story at its limits: 1,000 objects in a chain, 100 kinds in a chain, 100 properties given to many."""
+    t = unnumbered(story)
+    t["kinds"] = KINDS + [CONTAINER] + list(range(10, 99))
+    t["flags"] = FLAGS + [list(range(99, 9, -1))[::-1]] * 89
+    t["numbers"] = [list(range(10, 100))] * 60
+    for number in range(15, 1000):
+        name = b"box %d" % number
+        t["objects"].append({"kind": 99, "name": name, "article": 1, "code": NONE16, "words": name_words(name),
+                             "relation": 0, "holder": number + 1 if number < 999 else 13,
+                             "flags": [0] + list(range(11, 100)), "numbers": [0] * 60})
+    return written(t)
+
+
+def changed(story, turns):
+    chance = random.Random(8)
+    for turn in range(turns):
+        data = bytearray(story)
+        for _ in range(turn % 2 + 1):
+            data[chance.randrange(len(data))] = chance.choice([*range(26), 99, 255])
+        yield f"furnished, change {turn}", bytes(data)
+
+
 def damaged(story):
     yield "whole", story
+    furniture = furnished(story)
+    yield "furnished", furniture
+    yield from changed(furniture, 6000)
+    yield "crowded", crowded(story)
     for length in range(len(story)):
         yield f"cut to {length}", story[:length]
     yield "a byte more", story + b"\0"

@@ -1,5 +1,5 @@
 -- A story file holds the tale that sentences mean.
-use Rattle.std.proofs.Common.{◌≡◌, ℕ, suc, ◌+◌, ◌-◌, ◌<◌, ◌≤◌, Bool, true, false, cond, not, ◌&&◌, ◌||◌, ltb, leb, eqb, List, [], ◌∷◌, ◌++◌, length, map, Option, Some, None, Ok, refl, sym, ap, subst, ◌∙◌, arith, inl, inr}
+use Rattle.std.proofs.Common.{◌≡◌, ℕ, ◌+◌, ◌-◌, ◌<◌, ◌≤◌, Bool, true, false, cond, not, ◌&&◌, ◌||◌, ltb, leb, eqb, List, [], ◌∷◌, ◌++◌, length, map, Option, Some, None, Ok, refl, sym, ap, subst, ◌∙◌, arith, inl, inr}
 use Rattle.std.specs.Prelude.{Result, find, fold, slice_get}
 use Rattle.std.specs.List.{list_all, list_any, position_or_len}
 use Rattle.std.specs.Option.{option_map}
@@ -8,11 +8,11 @@ use Rattle.std.proofs.lemmas.Bool.{ltb-false, lt-ltb, le-leb, ne_eqb}
 use Rattle.std.proofs.lemmas.List.Folds.{list_any-append}
 use Rattle.std.proofs.lemmas.Option.{slice_get_past}
 use Rattle.world_meaning.proofs.Bools.{both, both_are, either}
-use Rattle.world_meaning.specs.Declarations.{are_right_kinds, are_rising, begin_with_kinds, begin_with_properties, built_in_declared, count_of_numbers, has_properties, is_well_declared, suits_kind}
-use Rattle.world_meaning.specs.Kinds.{built_in_parents, is_under}
-use Rattle.world_meaning.specs.Properties.{built_in_properties, start_properties}
-use Rattle.world_meaning.specs.Directions.{all_directions, direction_number, opposite_of}
-use Rattle.world_meaning.specs.declared.direction.Direction.{Direction}
+use Rattle.world_meaning.specs.Declarations.{built_in_declared}
+use Rattle.world_meaning.specs.Sorts.{is_at, kinds_told}
+use Rattle.world_meaning.specs.Standing.{leads}
+use Rattle.world_meaning.specs.WellMade.{IsWellMade}
+use Rattle.world_meaning.specs.Directions.{all_directions, opposite_of}
 use Rattle.world_meaning.specs.declared.fault.Fault.{Fault}
 use Rattle.world_meaning.specs.declared.fault.FaultCode.TheVariants.{NoRoom, TooMany, Twice, TwoPlaces, WrongKind}
 use Rattle.world_meaning.specs.declared.tale.Tale.{Tale}
@@ -28,12 +28,11 @@ use Rattle.i7_kinds.specs.declared.descriptions.Description.{Description as Desc
 use Rattle.i7_kinds.specs.declared.statements.Numbered.{Numbered}
 use Rattle.i7_kinds.specs.declared.statements.Numbered.TheVariants as numbered
 use Rattle.i7_kinds.specs.declared.statements.NumberedSentence.{NumberedSentence}
-use Rattle.i7_kinds.specs.Tales.{direction_object, earlier, exits_of, frame_refusal, has_long_name, has_long_text, is_too_long, judged, limit_refusal, name_too_long, no_room, object_too_many, objects_of, or_refused, refusal_at, room_of, rooms_from, tale_said, text_too_long, unless_unmeant, unmeant, way_to}
+use Rattle.i7_kinds.specs.Tales.{earlier, frame_refusal, has_long_name, has_long_text, is_too_long, judged, limit_refusal, name_too_long, no_room, object_too_many, objects_of, or_refused, refusal_at, room_of, rooms_from, tale_said, text_too_long, unless_unmeant, unmeant}
 use Rattle.i7_kinds.proofs.Bounds.{counted-source, few_objects, first_none_both, unmapped, unrefused}
+use Rattle.story_file.proofs.MadeObjects.{all_lead, all_placed, begins_held, built_in_held, is_room_number, is_room_or_none, kinds_held, player_held, room_at, room_or_none_at, sorts_of_objects, suited_held, tree_held}
 use Rattle.story_format.specs.Holding.{has_few_words, has_short_texts, is_short, is_short_or_none, IsHeld}
 use Rattle.story_format.specs.Making.{worded, worded_from}
-use Rattle.story_format.specs.Shape.{are_directions, has_shape, is_direction, is_player, is_room}
-use Rattle.story_format.specs.Sizes.{is_room_number, is_room_or_none, leads_to_room}
 use Rattle.story_format.proofs.Known.{text_is_itself, passes_at}
 
 none_or : (a b : Bool) → (a || b) ≡ false → (a ≡ false) × (b ≡ false)
@@ -214,56 +213,9 @@ either_room n (Some o) b h k = h
 targets_rooms : (n : ℕ) (statements : List NumberedSentence) → list_all (are_of_rooms n) statements ≡ true → (room direction : ℕ) → is_room_or_none n (target_of statements room direction) ≡ true
 targets_rooms n statements h room direction = either_room n (first_target (stated_leads statements) room direction) (first_target (implied_leads statements) room direction) (stated_rooms n statements room direction h) (implied_rooms n statements room direction h)
 
-ways_lead : (n : ℕ) (targets : Direction → Option ℕ) (ds : List Direction) → ((d : Direction) → is_room_or_none n (targets d) ≡ true) → list_all (leads_to_room n) (map (λ d. way_to (targets d)) ds) ≡ true
-ways_lead n targets [] h = refl
-ways_lead n targets (d ∷ ds) h = both (leads_to_room n (way_to (targets d))) (list_all (leads_to_room n) (map (λ d. way_to (targets d)) ds)) (h d) (ways_lead n targets ds h)
-
-room_is : (n : ℕ) (statements : List NumberedSentence) (o : ℕ) (at : NameAt) → list_all (are_of_rooms n) statements ≡ true → is_room n (room_of statements o at) ≡ true
-unfolding is_room room_of exits_of
-room_is n statements o at h = ways_lead n (λ d. target_of statements o (direction_number d)) all_directions (λ d. targets_rooms n statements h o (direction_number d))
-
-rooms_are : (n : ℕ) (statements : List NumberedSentence) (o : ℕ) (mentions : List NameAt) → list_all (are_of_rooms n) statements ≡ true → list_all (is_room n) (rooms_from statements o mentions) ≡ true
-rooms_are n statements o [] h = refl
-rooms_are n statements o (at ∷ mentions) h = both (is_room n (room_of statements o at)) (list_all (is_room n) (rooms_from statements (o + 1) mentions)) (room_is n statements o at h) (rooms_are n statements (o + 1) mentions h)
-
-rooms_counted : (statements : List NumberedSentence) (o : ℕ) (mentions : List NameAt) → length (rooms_from statements o mentions) ≡ length mentions
-rooms_counted statements o [] = refl
-rooms_counted statements o (at ∷ mentions) = ap suc (rooms_counted statements (o + 1) mentions)
-
 some_room : (mentions : List NameAt) → no_room mentions ≡ None → 1 ≤ length mentions
 some_room [] h = absurd cc
 some_room (at ∷ mentions) h = omega arith
-
-shape_held : (statements : List NumberedSentence) (mentions : List NameAt) → 13 + length mentions ≤ 1000 → 1 ≤ length mentions → list_all (are_of_rooms (13 + length mentions)) statements ≡ true → has_shape (objects_of statements mentions) ≡ true
-unfolding has_shape objects_of is_player are_directions is_direction
-shape_held statements mentions few some h =
-    let rooms = rooms_from statements 13 mentions in
-    let others = map direction_object all_directions ++ rooms in
-    let count : length others ≡ 12 + length mentions = omega (arith, rooms_counted statements 13 mentions) in
-    let few_others : leb (length others) 999 ≡ true = le-leb _ _ (omega (arith, count, few)) in
-    let many_others : leb 12 (length others) ≡ true = le-leb _ _ (omega (arith, count)) in
-    let n : length others + 1 ≡ 13 + length mentions = omega (arith, count) in
-    let start : ltb 13 (length others + 1) ≡ true = lt-ltb _ _ (omega (arith, count, some)) in
-    let all : list_all (is_room (length others + 1)) rooms ≡ true = ap (λ k. list_all (is_room k) rooms) n ∙ rooms_are (13 + length mentions) statements 13 mentions h in
-    rw (few_others, many_others, start) all
-
--- ---- what is declared, and what the objects have of it
-
-built_in_held : is_well_declared built_in_declared ≡ true
-unfolding is_well_declared are_right_kinds begin_with_kinds begin_with_properties are_rising built_in_declared built_in_parents built_in_properties is_under
-built_in_held = refl
-
-room_suits : (statements : List NumberedSentence) (o : ℕ) (at : NameAt) → suits_kind built_in_declared (room_of statements o at) ≡ true
-unfolding suits_kind has_properties count_of_numbers room_of are_rising start_properties built_in_declared built_in_parents built_in_properties is_under
-room_suits statements o at = refl
-
-rooms_suit : (statements : List NumberedSentence) (o : ℕ) (mentions : List NameAt) → list_all (suits_kind built_in_declared) (rooms_from statements o mentions) ≡ true
-rooms_suit statements o [] = refl
-rooms_suit statements o (at ∷ mentions) = both (suits_kind built_in_declared (room_of statements o at)) (list_all (suits_kind built_in_declared) (rooms_from statements (o + 1) mentions)) (room_suits statements o at) (rooms_suit statements (o + 1) mentions)
-
-suited_held : (statements : List NumberedSentence) (mentions : List NameAt) → list_all (suits_kind built_in_declared) (objects_of statements mentions) ≡ true
-unfolding objects_of suits_kind has_properties count_of_numbers are_rising start_properties built_in_declared built_in_parents built_in_properties is_under
-suited_held statements mentions = rooms_suit statements 13 mentions
 
 -- ---- names and texts are short
 
@@ -373,13 +325,31 @@ limit_parts statements mentions none =
     let t = earlier_none (name_too_long mentions) (text_too_long (descriptions_of statements)) (unrefused TooMany (earlier (name_too_long mentions) (text_too_long (descriptions_of statements))) none) in
     (none_found has_long_name mentions (unmapped line_at (find has_long_name mentions) t.0), none_found has_long_text (descriptions_of statements) (unmapped line_of_description (find has_long_text (descriptions_of statements)) t.1))
 
+objects_made : (statements : List NumberedSentence) (mentions : List NameAt) → list_all (are_below (13 + length mentions)) statements ≡ true → frame_refusal statements mentions ≡ None → IsWellMade (record { declared = built_in_declared; objects = objects_of statements mentions })
+unfolding built_in_declared
+objects_made statements mentions below none =
+    let frame = frame_parts statements mentions none in
+    let few = few_objects mentions frame.1 in
+    let some = some_room mentions frame.2 in
+    let sorts = sorts_of_objects statements mentions in
+    let start : is_at sorts.rooms 13 ≡ true = room_at statements mentions 13 (lt-ltb _ _ (omega (arith, some))) in
+    let between = all_of_rooms (13 + length mentions) None statements frame.0 below in
+    let lead = λ (room direction : ℕ). room_or_none_at statements mentions (target_of statements room direction) (targets_rooms (13 + length mentions) statements between room direction) in
+    record {
+      declared = built_in_held;
+      begins = begins_held sorts.rooms statements mentions few start;
+      kinds = kinds_held statements mentions;
+      suited = suited_held statements mentions;
+      placed = all_placed (kinds_told sorts) statements mentions (player_held statements mentions) start;
+      tree = tree_held statements mentions;
+      exits = all_lead sorts statements mentions lead;
+    }
+
 objects_held : (statements : List NumberedSentence) (mentions : List NameAt) → list_all (are_below (13 + length mentions)) statements ≡ true → first_of (frame_refusal statements mentions) (limit_refusal statements mentions) ≡ None → IsHeld (record { declared = built_in_declared; objects = objects_of statements mentions })
 objects_held statements mentions below none =
     let t = first_none_both (frame_refusal statements mentions) (limit_refusal statements mentions) none in
-    let frame = frame_parts statements mentions t.0 in
     let limits = limit_parts statements mentions t.1 in
-    let rooms = all_of_rooms (13 + length mentions) None statements frame.0 below in
-    record { shape = shape_held statements mentions (few_objects mentions frame.1) (some_room mentions frame.2) rooms; declared = built_in_held; suited = suited_held statements mentions; texts = texts_held statements mentions limits.0 limits.1; words = words_held statements mentions limits.0 }
+    record { made = objects_made statements mentions below t.0; texts = texts_held statements mentions limits.0 limits.1; words = words_held statements mentions limits.0 }
 
 meant_whole : (line : Option ℕ) (said : Result Tale Fault) (tale : Tale) → unless_unmeant line said ≡ Ok tale → said ≡ Ok tale
 meant_whole None said tale meant = meant

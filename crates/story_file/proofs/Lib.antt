@@ -1,2 +1,3 @@
+mod MadeObjects
 pub mod Held
 pub mod Outcomes

@@ -1,15 +1,16 @@
 -- The tables of a tale say of each object what the tale says.
-use Rattle.std.proofs.Common.{◌≡◌, ℕ, zero, suc, ◌+◌, ◌-◌, ◌<◌, ◌≤◌, true, false, cond, ltb, eqb, List, [], ◌∷◌, ◌++◌, length, map, take, drop, Option, Some, None, refl, sym, ap, ◌∙◌, append_assoc, arith, inl, inr}
+use Rattle.std.proofs.Common.{◌≡◌, ℕ, zero, suc, ◌+◌, ◌-◌, ◌<◌, Bool, true, false, cond, eqb, List, [], ◌∷◌, ◌++◌, length, map, take, Option, Some, None, refl, sym, ap, ◌∙◌, append_assoc, arith, inl, inr}
 use Rattle.std.specs.Prelude.{min, slice_get, is_none}
 use Rattle.std.specs.List.{list_all, flat_map}
-use Rattle.std.proofs.lemmas.Bool.{ne_eqb, ltb-true, ltb-false, eqb-true}
-use Rattle.std.proofs.lemmas.List.{length-append, take-append-drop, take-map, drop-map}
-use Rattle.std.proofs.lemmas.Option.{get_or_from_slice_get}
+use Rattle.std.proofs.lemmas.Bool.{ne_eqb}
+use Rattle.std.proofs.lemmas.List.{length-append}
+use Rattle.std.specs.Option.{option_map}
+use Rattle.std.proofs.lemmas.Option.{get_or_from_slice_get, slice_get-map}
 use Rattle.world_meaning.proofs.Bools.{both_are, either}
 use Rattle.world_meaning.specs.Tale.{description_in as told_description, name_in as told_name, holder_in as told_holder, place_in as told_place, room_beyond, way_in as told_way}
-use Rattle.world_meaning.specs.declared.direction.Direction.{Direction}
-use Rattle.world_meaning.specs.Directions.{all_directions}
-use Rattle.world_meaning.specs.declared.exits.Exits.{Exits}
+use Rattle.world_meaning.specs.Kinds.{is_under}
+use Rattle.world_meaning.specs.WellMade.{are_closed, begin_rightly, has_right_exits, is_closed, sorts_in, stands_in_room}
+use Rattle.world_meaning.specs.declared.sorts.Sorts.{Sorts}
 use Rattle.world_meaning.specs.declared.exits.Way.{Way}
 use Rattle.world_meaning.specs.declared.place.Place.{Place}
 use Rattle.world_meaning.specs.declared.tale.Object.{Object}
@@ -17,22 +18,19 @@ use Rattle.world_meaning.specs.declared.tale.Tale.{Tale}
 use Rattle.object_words.specs.Mentions.{number_in}
 use Rattle.object_words.proofs.StringLemmas.{length_mapped}
 use Rattle.story_format.specs.Carrying.{Carries}
-use Rattle.story_format.specs.Facts.{description_in, exits_at, holder_in, name_in, said, text_at, way_in}
+use Rattle.story_format.specs.Facts.{description_in, exits_at, holder_in, is_room_in, name_in, rooms_before, said, text_at, way_in}
 use Rattle.story_format.specs.Holding.{IsHeld}
-use Rattle.story_format.specs.Making.{Worded, worded, texts_of, code_strings, strings_of, place_holder, code_number, entry_of, entries_of, code_of, codes_of, ways_of, tables_with, tables_of}
-use Rattle.story_format.specs.Shape.{is_closed, are_closed, stands_in_room, is_direction, is_room, are_directions, has_shape}
+use Rattle.story_format.specs.Making.{Worded, worded, texts_of, code_strings, strings_of, place_holder, code_number, entry_of, entries_of, code_of, codes_of, ways_of, tables_with, tables_of, world_of}
+use Rattle.story_format.specs.Placed.{is_room_entry}
 use Rattle.story_format.specs.Soundness.{string_said}
-use Rattle.story_format.proofs.StoryLemmas.{parts, player_parts, direction_parts, room_parts, get_dropped}
+use Rattle.story_format.proofs.StoryLemmas.{all_at, parts, player_parts}
 use Rattle.story_format.proofs.Known.{found_by_number, is_known, is_told, told_in_strings}
 use Rattle.story_format.proofs.OrderLemmas.{at_most_one}
 use Rattle.story_format.proofs.SoundLemmas.{said_back}
-use Rattle.story_format.proofs.TableLemmas.{entries_counted, objects_back, objects_in}
+use Rattle.story_format.proofs.EntryLemmas.{counted_more, counted_same, entry_room, objects_back, objects_in}
+use Rattle.story_format.proofs.TableLemmas.{entries_counted}
 use Rattle.story_format.proofs.Fits.{few_strings}
 use Rattle.story_format.proofs.Stories.{few_objects}
-
-empty_shape : has_shape [] ≡ true → ⊥
-unfolding has_shape
-empty_shape h = absurd cc
 
 -- ---- names
 
@@ -91,109 +89,85 @@ closed_beyond (w ∷ ws) zero h = let t = both_are (is_closed w) (list_all is_cl
 closed_beyond (w ∷ ws) (suc i) h = closed_beyond ws i (both_are (is_closed w) (list_all is_closed ws) h).1
 
 closed_way : (object : Object) (direction : ℕ) → are_closed object.exits ≡ true → told_way (Some object) direction ≡ None
-closed_way object direction h = closed_beyond object.exits.ways (direction - 1) (both_are (eqb (length object.exits.ways) 12) (list_all is_closed object.exits.ways) h).1
+closed_way object direction h = closed_beyond object.exits.ways (direction - 1) h
 
-no_ways : (kind k : ℕ) (exits : Exits) → eqb kind k ≡ true → eqb k 1 ≡ false → cond (eqb kind 1) (exits ∷ []) [] ≡ []
-no_ways kind k exits h other = let isnt : eqb kind 1 ≡ false = ap (λ j. eqb j 1) (eqb-true kind k h) ∙ other in rw isnt refl
+some_is : {A : Type 0} (x y : A) → Some x ≡ Some y → x ≡ y
+some_is x y e = cc
 
--- the directions have no ways, told or in the tables
-directions_way : (ds : List Direction) (ws : List Worded) → are_directions ds (objects_in ws) ≡ true → flat_map ways_of ws ≡ []
-unfolding are_directions
-directions_way [] [] h = refl
-directions_way [] (w ∷ ws) h = absurd cc
-directions_way (d ∷ ds) [] h = absurd cc
-directions_way (d ∷ ds) (w ∷ ws) h =
-    let t = both_are (is_direction d w.object) (are_directions ds (objects_in ws)) h in
-    ap (λ (front : List Exits). front ++ flat_map ways_of ws) (no_ways w.object.kind 2 w.object.exits (direction_parts d w.object t.0).0 refl) ∙ directions_way ds ws t.1
+abbrev is_room_of : List (Option ℕ) → Option Worded → Bool
+is_room_of parents None = false
+is_room_of parents (Some w) = is_under parents w.object.kind 1
 
-directions_closed : (ds : List Direction) (objects : List Object) (o direction : ℕ) → are_directions ds objects ≡ true → told_way (slice_get objects o) direction ≡ None
-unfolding are_directions
-directions_closed [] [] o direction h = refl
-directions_closed [] (object ∷ objects) o direction h = absurd cc
-directions_closed (d ∷ ds) [] o direction h = absurd cc
-directions_closed (d ∷ ds) (object ∷ objects) zero direction h = closed_way object direction (direction_parts d object (both_are (is_direction d object) (are_directions ds objects) h).0).4
-directions_closed (d ∷ ds) (object ∷ objects) (suc o) direction h = directions_closed ds objects o direction (both_are (is_direction d object) (are_directions ds objects) h).1
+room_same : (parents : List (Option ℕ)) (strings : List (List ℕ)) (ws : List Worded) (next o : ℕ) → is_room_in parents (slice_get (entries_of strings next ws) o) ≡ is_room_of parents (slice_get ws o)
+unfolding entries_of
+room_same parents strings [] next o = refl
+room_same parents strings (w ∷ ws) next zero = entry_room parents strings next w
+room_same parents strings (w ∷ ws) next (suc o) = room_same parents strings ws (next + length (code_strings w)) o
 
-rooms_way : (n : ℕ) (ws : List Worded) (o direction : ℕ) → list_all (is_room n) (objects_in ws) ≡ true → way_in (slice_get (flat_map ways_of ws) o) direction ≡ told_way (slice_get (objects_in ws) o) direction
-rooms_way n [] o direction h = refl
-rooms_way n (w ∷ ws) zero direction h =
-    let t = both_are (is_room n w.object) (list_all (is_room n) (objects_in ws)) h in
-    rw (room_parts n w.object t.0).0 refl
-rooms_way n (w ∷ ws) (suc o) direction h =
-    let t = both_are (is_room n w.object) (list_all (is_room n) (objects_in ws)) h in
-    rw (room_parts n w.object t.0).0 (rooms_way n ws o direction t.1)
+-- a room's ways stand behind those of the rooms before it
+ways_there : (parents : List (Option ℕ)) (strings : List (List ℕ)) (ws : List Worded) (next o : ℕ) (w : Worded) → slice_get ws o ≡ Some w → is_under parents w.object.kind 1 ≡ true
+    → slice_get (flat_map (ways_of parents) ws) (rooms_before parents (entries_of strings next ws) o) ≡ Some w.object.exits
+unfolding entries_of
+ways_there parents strings [] next o w e room = absurd cc
+ways_there parents strings (x ∷ ws) next zero w e room =
+    let same : x ≡ w = some_is x w e in
+    let here : is_under parents x.object.kind 1 ≡ true = ap (λ (y : Worded). is_under parents y.object.kind 1) same ∙ room in
+    rw here (ap (λ (y : Worded). Some y.object.exits) same)
+ways_there parents strings (x ∷ ws) next (suc o) w e room =
+    let after = next + length (code_strings x) in
+    let later = ways_there parents strings ws after o w e room in
+    elim (either (is_under parents x.object.kind 1)) [
+      | inl is ↦ rw (is, counted_more (is_room_entry parents) (entry_of strings next x) (take o (entries_of strings after ws)) (entry_room parents strings next x ∙ is)) later
+      | inr isnt ↦ rw (isnt, counted_same (is_room_entry parents) (entry_of strings next x) (take o (entries_of strings after ws)) (entry_room parents strings next x ∙ isnt)) later
+    ]
 
-flat_both : (xs ys : List Worded) → flat_map ways_of (xs ++ ys) ≡ flat_map ways_of xs ++ flat_map ways_of ys
-flat_both [] ys = refl
-flat_both (x ∷ xs) ys = ap (λ (later : List Exits). ways_of x ++ later) (flat_both xs ys) ∙ sym (append_assoc (ways_of x) (flat_map ways_of xs) (flat_map ways_of ys))
-
-ways_behind : (player : Worded) (others : List Worded) → has_shape (objects_in (player ∷ others)) ≡ true → flat_map ways_of (player ∷ others) ≡ flat_map ways_of (drop 12 others)
-ways_behind player others h =
-    let p = parts player.object (objects_in others) h in
-    let none = no_ways player.object.kind 6 player.object.exits (player_parts _ player.object p.player).0 refl in
-    let directions : are_directions all_directions (objects_in (take 12 others)) ≡ true = ap (are_directions all_directions) (sym (take-map (λ (w : Worded). w.object) 12 others)) ∙ p.directions in
-    ap (λ (front : List Exits). front ++ flat_map ways_of others) none
-    ∙ ap (flat_map ways_of) (sym (take-append-drop 12 others)) ∙ flat_both (take 12 others) (drop 12 others)
-    ∙ ap (λ (front : List Exits). front ++ flat_map ways_of (drop 12 others)) (directions_way all_directions (take 12 others) directions)
-
-get_taken : {A : Type 0} (n i : ℕ) (xs : List A) → i < n → slice_get (take n xs) i ≡ slice_get xs i
-get_taken zero i xs lt = absurd (omega arith)
-get_taken (suc n) i [] lt = refl
-get_taken (suc n) zero (x ∷ xs) lt = refl
-get_taken (suc n) (suc i) (x ∷ xs) lt = get_taken n i xs (omega arith)
-
--- nobody leaves the player or a direction
-front_closed : (player : Object) (others : List Object) (o direction : ℕ) → has_shape (player ∷ others) ≡ true → o < 13 → told_way (slice_get (player ∷ others) o) direction ≡ None
-front_closed player others zero direction h lt = let p = parts player others h in closed_way player direction (player_parts _ player p.player).4
-front_closed player others (suc o) direction h lt =
-    let p = parts player others h in
-    ap (λ (object : Option Object). told_way object direction) (sym (get_taken 12 o others (omega arith))) ∙ directions_closed all_directions (take 12 others) o direction p.directions
-
-ways_carried : (ws : List Worded) (o direction : ℕ) → has_shape (objects_in ws) ≡ true → way_in (exits_at (flat_map ways_of ws) o) direction ≡ told_way (slice_get (objects_in ws) o) direction
-ways_carried [] o direction h = absurd (empty_shape h)
-ways_carried (player ∷ others) o direction h =
-    elim (either (ltb o 13)) [
-      | inl is ↦ rw is (sym (front_closed player.object (objects_in others) o direction h (ltb-true _ _ is)))
-      | inr isnt ↦
-          let p = parts player.object (objects_in others) h in
-          let le : 13 ≤ o = ltb-false _ _ isnt in
-          let rooms : list_all (is_room (length (objects_in others) + 1)) (objects_in (drop 12 others)) ≡ true = ap (list_all (is_room (length (objects_in others) + 1))) (sym (drop-map (λ (w : Worded). w.object) 12 others)) ∙ p.rooms in
-          let place : suc (o - 1) ≡ o = omega arith in
-          let there : slice_get (objects_in (drop 12 others)) (o - 13) ≡ slice_get (objects_in (player ∷ others)) o =
-          ap (λ (objects : List Object). slice_get objects (o - 13)) (sym (drop-map (λ (w : Worded). w.object) 12 others))
-          ∙ get_dropped 12 (o - 13) (o - 1) (objects_in others) (omega arith) ∙ ap (slice_get (objects_in (player ∷ others))) place in
-          rw isnt (ap (λ (ways : List Exits). way_in (slice_get ways (o - 13)) direction) (ways_behind player others h) ∙ rooms_way (length (objects_in others) + 1) (drop 12 others) (o - 13) direction rooms ∙ ap (λ (object : Option Object). told_way object direction) there)
+ways_found : (parents : List (Option ℕ)) (sorts : Sorts) (strings : List (List ℕ)) (ws : List Worded) (o direction : ℕ) (found : Option Worded) → slice_get ws o ≡ found → list_all (has_right_exits parents sorts) (objects_in ws) ≡ true
+    → way_in (exits_at parents (entries_of strings 0 ws) (flat_map (ways_of parents) ws) o) direction ≡ told_way (slice_get (objects_in ws) o) direction
+unfolding has_right_exits
+ways_found parents sorts strings ws o direction None e h =
+    let room : is_room_in parents (slice_get (entries_of strings 0 ws) o) ≡ false = room_same parents strings ws 0 o ∙ ap (is_room_of parents) e in
+    let object : slice_get (objects_in ws) o ≡ None = slice_get-map (λ (w : Worded). w.object) ws o ∙ ap (λ (found : Option Worded). option_map (λ w. w.object) found) e in
+    rw (room, object) refl
+ways_found parents sorts strings ws o direction (Some w) e h =
+    let room : is_room_in parents (slice_get (entries_of strings 0 ws) o) ≡ is_under parents w.object.kind 1 = room_same parents strings ws 0 o ∙ ap (is_room_of parents) e in
+    let object : slice_get (objects_in ws) o ≡ Some w.object = slice_get-map (λ (w : Worded). w.object) ws o ∙ ap (λ (found : Option Worded). option_map (λ w. w.object) found) e in
+    let right : has_right_exits parents sorts w.object ≡ true = all_at (has_right_exits parents sorts) (objects_in ws) o w.object h object in
+    elim (either (is_under parents w.object.kind 1)) [
+      | inl is ↦ rw (room, is, ways_there parents strings ws 0 o w e is, object) refl
+      | inr isnt ↦ let closed : are_closed w.object.exits ≡ true = rw isnt at right in rw (room, isnt, object) (sym (closed_way w.object direction closed))
     ]
 
 -- ---- the start
 
-place_carried : (n : ℕ) (p : Option Place) → stands_in_room n p ≡ true → place_holder p ≡ told_holder p
-place_carried n None h = absurd cc
-place_carried n (Some place) h = refl
+place_carried : (rooms : List Bool) (p : Option Place) → stands_in_room rooms p ≡ true → place_holder p ≡ told_holder p
+place_carried rooms None h = absurd cc
+place_carried rooms (Some place) h = refl
 
-start_carried : (strings : List (List ℕ)) (ws : List Worded) → has_shape (objects_in ws) ≡ true → holder_in (slice_get (entries_of strings 0 ws) 0) ≡ told_place (slice_get (objects_in ws) 0)
-unfolding entries_of entry_of
-start_carried strings [] h = absurd (empty_shape h)
-start_carried strings (player ∷ others) h =
-    let p = parts player.object (objects_in others) h in
-    place_carried (length (objects_in others) + 1) player.object.place (player_parts _ player.object p.player).3
+start_carried : (parents : List (Option ℕ)) (rooms : List Bool) (strings : List (List ℕ)) (ws : List Worded) → begin_rightly parents rooms (objects_in ws) ≡ true → holder_in (slice_get (entries_of strings 0 ws) 0) ≡ told_place (slice_get (objects_in ws) 0)
+unfolding entries_of entry_of begin_rightly
+start_carried parents rooms strings [] h = absurd cc
+start_carried parents rooms strings (player ∷ others) h =
+    let p = parts parents rooms player.object (objects_in others) h in
+    place_carried rooms player.object.place (player_parts parents rooms player.object p.player).3
 
 -- ---- all of it
 
 pub tale_carried : (t : Tale) → IsHeld t → Carries (tables_of t) t
-unfolding tables_with
+unfolding tables_with world_of
 tale_carried t held =
     let ws = worded t.objects in
     let strings = strings_of ws in
     let back : objects_in ws ≡ t.objects = objects_back 0 t.objects in
     let le = few_objects t held in
     let few = few_strings ws held.words le in
-    let shape : has_shape (objects_in ws) ≡ true = ap has_shape back ∙ held.shape in
+    let parents = t.declared.kinds in
+    let sorts = sorts_in t in
+    let exits : list_all (has_right_exits parents sorts) (objects_in ws) ≡ true = ap (list_all (has_right_exits parents sorts)) back ∙ held.made.exits in
     let told = told_in_strings ws in
     record {
       count = entries_counted strings 0 ws ∙ sym (length_mapped (λ (w : Worded). w.object) ws) ∙ ap length back;
       names = λ o. names_carried strings ws 0 o told few ∙ ap (λ (objects : List Object). told_name (slice_get objects o)) back;
       descriptions = λ o. descriptions_carried strings (flat_map (codes_of strings) ws) [] ws o few (omega (arith, le)) told refl ∙ ap (λ (objects : List Object). told_description (slice_get objects o)) back;
-      ways = λ o direction. ways_carried ws o direction shape ∙ ap (λ (objects : List Object). told_way (slice_get objects o) direction) back;
-      start = start_carried strings ws shape ∙ ap (λ (objects : List Object). told_place (slice_get objects 0)) back;
+      ways = λ o direction. ways_found parents sorts strings ws o direction (slice_get ws o) refl exits ∙ ap (λ (objects : List Object). told_way (slice_get objects o) direction) back;
+      start = start_carried parents sorts.rooms strings ws (ap (begin_rightly parents sorts.rooms) back ∙ held.made.begins) ∙ ap (λ (objects : List Object). told_place (slice_get objects 0)) back;
     }

@@ -1,10 +1,10 @@
 -- The tables of a tale have room in their bytes.
-use Rattle.std.proofs.Common.{◌≡◌, ℕ, ◌+◌, ◌*◌, ◌<◌, ◌≤◌, Bool, true, ◌&&◌, ltb, leb, eqb, List, [], ◌∷◌, ◌++◌, length, map, take, drop, Option, Some, None, refl, sym, ap, ◌∙◌, arith, inl, inr}
-use Rattle.std.specs.Prelude.{fold, is_none}
+use Rattle.std.proofs.Common.{◌≡◌, ℕ, zero, suc, ◌+◌, ◌*◌, ◌<◌, ◌≤◌, Bool, true, ◌&&◌, ltb, eqb, List, [], ◌∷◌, ◌++◌, length, map, Option, Some, None, refl, sym, ap, ◌∙◌, arith, inl, inr}
+use Rattle.std.specs.Prelude.{fold}
 use Rattle.std.specs.List.{list_any, list_all, flat_map}
 use Rattle.std.specs.Str.{bytes_eq}
-use Rattle.std.proofs.lemmas.Bool.{lt-ltb, ltb-true, leb-true, eqb-true}
-use Rattle.std.proofs.lemmas.List.{length-append, take-append-drop}
+use Rattle.std.proofs.lemmas.Bool.{lt-ltb, ltb-true, leb-true}
+use Rattle.std.proofs.lemmas.List.{length-append}
 use Rattle.std.proofs.lemmas.List.Folds.{list_all-append}
 use Rattle.world_meaning.proofs.Bools.{both, both_are, either}
 use Rattle.world_meaning.specs.declared.article.Article.{Article}
@@ -14,10 +14,12 @@ use Rattle.world_meaning.specs.declared.place.Rel.TheVariants as relations
 use Rattle.world_meaning.specs.declared.place.Place.{Place}
 use Rattle.world_meaning.specs.declared.exits.Exits.{Exits}
 use Rattle.world_meaning.specs.declared.exits.Way.{Way}
-use Rattle.world_meaning.specs.declared.direction.Direction.{Direction}
-use Rattle.world_meaning.specs.Directions.{all_directions}
-use Rattle.world_meaning.specs.Declarations.{is_well_declared}
-use Rattle.world_meaning.specs.Declarations.{suits_kind as object_suits}
+use Rattle.world_meaning.specs.Declarations.{is_below}
+use Rattle.world_meaning.specs.Kinds.{is_under}
+use Rattle.world_meaning.specs.Placing.{can_be_held, can_hold}
+use Rattle.world_meaning.specs.Sorts.{is_at, kinds_told, sorts_of, under_each}
+use Rattle.world_meaning.specs.Standing.{are_well_placed, is_at_or_none, is_well_placed, lead_rightly, leads}
+use Rattle.world_meaning.specs.WellMade.{IsWellMade, has_right_exits, kinds_of, places_of}
 use Rattle.world_meaning.specs.declared.declared.Declared.{Declared}
 use Rattle.world_meaning.specs.declared.tale.Object.{Object}
 use Rattle.object_words.specs.Mentions.{mention, number_or_none, number_in}
@@ -26,13 +28,12 @@ use Rattle.story_format.specs.Formats.{fits_optional}
 use Rattle.story_format.specs.Layout.{entry_layout, way_layout, exits_layout, action_layout, line_layout, rule_layout, book_layout, scene_layout, rules_layout, tables_layout}
 use Rattle.story_format.specs.Making.{Worded, worded, numbers_of, texts_of, entry_strings, code_strings, strings_of, article_number, relation_number, place_relation, place_holder, code_number, entry_of, entries_of, code_of, codes_of, ways_of, tables_with}
 use Rattle.story_format.specs.Holding.{has_few_words, has_short_texts, is_short, is_short_or_none}
-use Rattle.story_format.specs.Shape.{stands_in_room, is_in, is_direction, is_room, are_directions, has_shape}
-use Rattle.story_format.specs.Sizes.{is_room_number, is_room_or_none, leads_to_room, lead_to_rooms}
-use Rattle.story_format.proofs.StoryLemmas.{all_weaker, parts, player_parts, direction_parts, room_parts, three}
+use Rattle.story_format.proofs.StoryLemmas.{all_both, all_mapped, all_weaker, few_begin, three}
 use Rattle.story_format.proofs.OrderLemmas.{at_most_one, mention_new, mention_old}
-use Rattle.story_format.proofs.DeclaredLemmas.{all_own_fit, are_bytes, fits_own, is_word, world_fits}
+use Rattle.story_format.proofs.DeclaredLemmas.{all_own_fit, are_bytes, declared_parts, few_kinds, fits_own, is_word, world_fits}
 use Rattle.story_format.proofs.WordFacts.{all_mentioned, is_good}
-use Rattle.story_format.proofs.TableLemmas.{all_good_words, all_may, codes_few, entries_counted, good_words, leads_with_words, object_leads_on, objects_back, objects_in, rooms_lead}
+use Rattle.story_format.proofs.EntryLemmas.{objects_back, objects_in, rooms_lead}
+use Rattle.story_format.proofs.TableLemmas.{all_good_words, codes_few, entries_counted, good_words}
 
 -- ---- how many strings there are
 
@@ -136,46 +137,50 @@ relation_fits (Some place) = held_by place.relation
 abbrev pub fits_object : Object → Bool
 fits_object object = ltb object.kind 256 && ltb (place_holder object.place) 65536
 
-kind_fits : (kind k : ℕ) → eqb kind k ≡ true → k < 256 → ltb kind 256 ≡ true
-kind_fits kind k h lt = lt-ltb _ _ (omega (arith, eqb-true kind k h, lt))
+told_below : (parents : List (Option ℕ)) (kinds : List ℕ) (other o : ℕ) → is_at (under_each parents kinds other) o ≡ true → o < length kinds
+told_below parents [] other o h = absurd cc
+told_below parents (kind ∷ kinds) other zero h = omega arith
+told_below parents (kind ∷ kinds) other (suc o) h = omega (arith, told_below parents kinds other o h)
 
-room_fits : (n : ℕ) (p : Option Place) → n ≤ 1000 → stands_in_room n p ≡ true → ltb (place_holder p) 65536 ≡ true
-room_fits n None le h = refl
-room_fits n (Some place) le h =
-    let t = both_are (is_in place.relation) (is_room_number n place.holder) h in
-    let u = both_are (leb 13 place.holder) (ltb place.holder n) t.1 in
-    lt-ltb _ _ (omega (arith, ltb-true _ _ u.1, le))
+-- what holds something is an object
+holder_below : (parents : List (Option ℕ)) (kinds : List ℕ) (relation : Rel) (holder : ℕ) → can_hold (kinds_told (sorts_of parents kinds)) relation holder ≡ true → holder < length kinds
+unfolding sorts_of
+holder_below parents kinds relations.In holder h =
+    elim (either (is_at (under_each parents kinds 1) holder)) [
+      | inl is ↦ told_below parents kinds 1 holder is
+      | inr isnt ↦ let box : is_at (under_each parents kinds 4) holder ≡ true = rw isnt at h in told_below parents kinds 4 holder box
+    ]
+holder_below parents kinds relations.On holder h = told_below parents kinds 5 holder h
+holder_below parents kinds relations.Carried holder h = told_below parents kinds 6 holder h
+holder_below parents kinds relations.Worn holder h = told_below parents kinds 6 holder h
+holder_below parents kinds relations.Part holder h = told_below parents kinds 0 holder h
 
-nowhere_fits : (p : Option Place) → is_none p ≡ true → ltb (place_holder p) 65536 ≡ true
-nowhere_fits None h = refl
-nowhere_fits (Some place) h = absurd cc
+place_fits : (parents : List (Option ℕ)) (kinds : List ℕ) (o : ℕ) (p : Option Place) → length kinds ≤ 1000 → is_well_placed (kinds_told (sorts_of parents kinds)) o p ≡ true → ltb (place_holder p) 65536 ≡ true
+place_fits parents kinds o None le h = refl
+place_fits parents kinds o (Some place) le h =
+    let all = kinds_told (sorts_of parents kinds) in
+    let t = both_are (can_be_held all o) (can_hold all place.relation place.holder) h in
+    lt-ltb _ _ (omega (arith, le, holder_below parents kinds place.relation place.holder t.1))
 
-direction_fits : (d : Direction) (object : Object) → is_direction d object ≡ true → fits_object object ≡ true
-direction_fits d object h = let p = direction_parts d object h in both (ltb object.kind 256) (ltb (place_holder object.place) 65536) (kind_fits object.kind 2 p.0 (omega arith)) (nowhere_fits object.place p.3)
+places_fit : (parents : List (Option ℕ)) (kinds : List ℕ) (o : ℕ) (places : List (Option Place)) → length kinds ≤ 1000 → are_well_placed (kinds_told (sorts_of parents kinds)) o places ≡ true → list_all (λ p. ltb (place_holder p) 65536) places ≡ true
+unfolding are_well_placed
+places_fit parents kinds o [] le h = refl
+places_fit parents kinds o (p ∷ places) le h =
+    let all = kinds_told (sorts_of parents kinds) in
+    let t = both_are (is_well_placed all o p) (are_well_placed all (o + 1) places) h in
+    both (ltb (place_holder p) 65536) (list_all (λ q. ltb (place_holder q) 65536) places) (place_fits parents kinds o p le t.0) (places_fit parents kinds (o + 1) places le t.1)
 
-is_room_fits : (n : ℕ) (object : Object) → is_room n object ≡ true → fits_object object ≡ true
-is_room_fits n object h = let p = room_parts n object h in both (ltb object.kind 256) (ltb (place_holder object.place) 65536) (kind_fits object.kind 1 p.0 (omega arith)) (nowhere_fits object.place p.1)
+kind_fits : (n : ℕ) → n ≤ 100 → (kind : ℕ) → is_below n kind ≡ true → ltb kind 256 ≡ true
+kind_fits n le kind h = let lt : kind < n = ltb-true _ _ h in lt-ltb _ _ (omega (arith, lt, le))
 
-directions_fit : (ds : List Direction) (objects : List Object) → are_directions ds objects ≡ true → list_all fits_object objects ≡ true
-unfolding are_directions
-directions_fit [] [] h = refl
-directions_fit [] (object ∷ objects) h = absurd cc
-directions_fit (d ∷ ds) [] h = absurd cc
-directions_fit (d ∷ ds) (object ∷ objects) h =
-    let t = both_are (is_direction d object) (are_directions ds objects) h in
-    both (fits_object object) (list_all fits_object objects) (direction_fits d object t.0) (directions_fit ds objects t.1)
-
-objects_fit : (objects : List Object) → has_shape objects ≡ true → list_all fits_object objects ≡ true
-unfolding has_shape
-objects_fit [] h = absurd cc
-objects_fit (player ∷ others) h =
-    let p = parts player others h in
-    let n = length others + 1 in
-    let front = directions_fit all_directions (take 12 others) p.directions in
-    let back = all_weaker (is_room n) fits_object (is_room_fits n) (drop 12 others) p.rooms in
-    let rest : list_all fits_object others ≡ true = ap (list_all fits_object) (sym (take-append-drop 12 others)) ∙ list_all-append fits_object (take 12 others) (drop 12 others) ∙ both (list_all fits_object (take 12 others)) (list_all fits_object (drop 12 others)) front back in
-    let q = player_parts n player p.player in
-    both (fits_object player) (list_all fits_object others) (both (ltb player.kind 256) (ltb (place_holder player.place) 65536) (kind_fits player.kind 6 q.0 (omega arith)) (room_fits n player.place (omega (arith, p.few)) q.3)) rest
+objects_fit : (d : Declared) (objects : List Object) → IsWellMade (record { declared = d; objects = objects }) → list_all fits_object objects ≡ true
+objects_fit d objects made =
+    let kinds = kinds_of objects in
+    let declared = few_kinds d.kinds (declared_parts d made.declared).kinds in
+    let few : length kinds ≤ 1000 = omega (arith, few_begin d.kinds (sorts_of d.kinds kinds).rooms objects made.begins, length_mapped (λ (o : Object). o.kind) objects) in
+    let small = all_mapped (λ kind. ltb kind 256) (λ (o : Object). o.kind) objects (all_weaker (is_below (length d.kinds)) (λ kind. ltb kind 256) (kind_fits (length d.kinds) declared) kinds made.kinds) in
+    let held = all_mapped (λ p. ltb (place_holder p) 65536) (λ (o : Object). o.place) objects (places_fit d.kinds kinds 0 (places_of objects) few made.placed) in
+    all_both (λ (o : Object). ltb o.kind 256) (λ (o : Object). ltb (place_holder o.place) 65536) objects small held
 
 entry_fits : (strings : List (List ℕ)) (next : ℕ) (w : Worded) → has_few_words w ≡ true → fits_object w.object ≡ true → fits_own w.object ≡ true → entry_layout.format.fits (entry_of strings next w) ≡ true
 unfolding entry_layout entry_of
@@ -198,32 +203,28 @@ entries_fit strings next (w ∷ ws) few h k =
 
 -- ---- each way has room
 
-none_fits : (o : Option ℕ) → is_none o ≡ true → fits_optional 65535 o ≡ true
-none_fits None h = refl
-none_fits (Some n) h = absurd cc
+beyond_fits : (parents : List (Option ℕ)) (kinds : List ℕ) (other : ℕ) (o : Option ℕ) → length kinds ≤ 1000 → is_at_or_none (under_each parents kinds other) o ≡ true → fits_optional 65535 o ≡ true
+beyond_fits parents kinds other None le h = refl
+beyond_fits parents kinds other (Some o) le h = lt-ltb _ _ (omega (arith, told_below parents kinds other o h, le))
 
-beyond_fits : (n : ℕ) (o : Option ℕ) → n ≤ 1000 → is_room_or_none n o ≡ true → fits_optional 65535 o ≡ true
-beyond_fits n None le h = refl
-beyond_fits n (Some o) le h = let t = both_are (leb 13 o) (ltb o n) h in lt-ltb _ _ (omega (arith, ltb-true _ _ t.1, le))
+way_fits : (parents : List (Option ℕ)) (kinds : List ℕ) → length kinds ≤ 1000 → (w : Way) → leads (sorts_of parents kinds) w ≡ true → way_layout.format.fits w ≡ true
+unfolding way_layout sorts_of
+way_fits parents kinds le w h =
+    let t = both_are (is_at_or_none (under_each parents kinds 1) w.room) (is_at_or_none (under_each parents kinds 3) w.door) h in
+    both (fits_optional 65535 w.room) (fits_optional 65535 w.door) (beyond_fits parents kinds 1 w.room le t.0) (beyond_fits parents kinds 3 w.door le t.1)
 
-way_fits : (n : ℕ) → n ≤ 1000 → (w : Way) → leads_to_room n w ≡ true → way_layout.format.fits w ≡ true
-unfolding way_layout
-way_fits n le w h =
-    let t = both_are (is_none w.door) (is_room_or_none n w.room) h in
-    both (fits_optional 65535 w.room) (fits_optional 65535 w.door) (beyond_fits n w.room le t.1) (none_fits w.door t.0)
+exits_fit : (parents : List (Option ℕ)) (kinds : List ℕ) → length kinds ≤ 1000 → (e : Exits) → lead_rightly (sorts_of parents kinds) e ≡ true → exits_layout.format.fits e ≡ true
+unfolding exits_layout lead_rightly
+exits_fit parents kinds le e h =
+    let t = both_are (eqb (length e.ways) 12) (list_all (leads (sorts_of parents kinds)) e.ways) h in
+    both (eqb (length e.ways) 12) (list_all way_layout.format.fits e.ways) t.0 (all_weaker (leads (sorts_of parents kinds)) way_layout.format.fits (way_fits parents kinds le) e.ways t.1)
 
-exits_fit : (n : ℕ) → n ≤ 1000 → (e : Exits) → lead_to_rooms n e ≡ true → exits_layout.format.fits e ≡ true
-unfolding exits_layout
-exits_fit n le e h =
-    let t = both_are (eqb (length e.ways) 12) (list_all (leads_to_room n) e.ways) h in
-    both (eqb (length e.ways) 12) (list_all way_layout.format.fits e.ways) t.0 (all_weaker (leads_to_room n) way_layout.format.fits (way_fits n le) e.ways t.1)
-
-ways_few : (ws : List Worded) → length (flat_map ways_of ws) ≤ length ws
-ways_few [] = omega arith
-ways_few (w ∷ ws) =
-    elim (either (eqb w.object.kind 1)) [
-      | inl is ↦ rw is (omega (arith, ways_few ws))
-      | inr isnt ↦ rw isnt (omega (arith, ways_few ws))
+ways_few : (parents : List (Option ℕ)) (ws : List Worded) → length (flat_map (ways_of parents) ws) ≤ length ws
+ways_few parents [] = omega arith
+ways_few parents (w ∷ ws) =
+    elim (either (is_under parents w.object.kind 1)) [
+      | inl is ↦ rw is (omega (arith, ways_few parents ws))
+      | inr isnt ↦ rw isnt (omega (arith, ways_few parents ws))
     ]
 
 -- ---- each code has room
@@ -239,24 +240,23 @@ all_codes_short strings (w ∷ ws) =
 
 -- ---- all of it
 
-pub tables_fit : (d : Declared) (objects : List Object) → is_well_declared d ≡ true → has_shape objects ≡ true → list_all (object_suits d) objects ≡ true → list_all has_short_texts objects ≡ true → list_all has_few_words (worded objects) ≡ true
-    → tables_layout.format.fits (tables_with d (worded objects)) ≡ true
+pub tables_fit : (d : Declared) (objects : List Object) → IsWellMade (record { declared = d; objects = objects }) → list_all has_short_texts objects ≡ true → list_all has_few_words (worded objects) ≡ true → tables_layout.format.fits (tables_with d (worded objects)) ≡ true
 unfolding tables_layout tables_with rules_layout action_layout line_layout rule_layout book_layout scene_layout
-tables_fit d objects declared shape suited texts few_words =
+tables_fit d objects made texts few_words =
     let ws = worded objects in
     let strings = strings_of ws in
     let back : objects_in ws ≡ objects = objects_back 0 objects in
     let count : length ws ≡ length objects = sym (length_mapped (λ (w : Worded). w.object) ws) ∙ ap length back in
-    let may = all_may objects shape in
-    let few = few_strings ws few_words (omega (arith, may.1, count)) in
-    let n = length ws in
-    let le : n ≤ 1000 = omega (arith, may.1, count) in
+    let sorts = sorts_of d.kinds (kinds_of objects) in
+    let few_objects = few_begin d.kinds sorts.rooms objects made.begins in
+    let few_of_kinds : length (kinds_of objects) ≤ 1000 = omega (arith, few_objects, length_mapped (λ (o : Object). o.kind) objects) in
+    let le : length ws ≤ 1000 = omega (arith, few_objects, count) in
+    let few = few_strings ws few_words le in
     let string_count : ltb (length strings) 65536 ≡ true = lt-ltb _ _ (omega (arith, few)) in
     let strings_fit = strings_short ws (ap (list_all has_short_texts) back ∙ texts) (all_good_words 0 objects texts) in
     let entry_count : ltb (length (entries_of strings 0 ws)) 65536 ≡ true = lt-ltb _ _ (omega (arith, le, entries_counted strings 0 ws)) in
-    let entries = entries_fit strings 0 ws few_words (ap (list_all fits_object) back ∙ objects_fit objects shape) (ap (list_all fits_own) back ∙ all_own_fit d declared objects suited) in
-    let way_count : ltb (length (flat_map ways_of ws)) 65536 ≡ true = lt-ltb _ _ (omega (arith, le, ways_few ws)) in
-    let leads_on : list_all (object_leads_on n) (objects_in ws) ≡ true = ap (λ k. list_all (object_leads_on k) (objects_in ws)) count ∙ ap (list_all (object_leads_on (length objects))) back ∙ may.0 in
-    let exits = all_weaker (lead_to_rooms n) exits_layout.format.fits (exits_fit n le) (flat_map ways_of ws) (rooms_lead n ws (leads_with_words n ws leads_on)) in
+    let entries = entries_fit strings 0 ws few_words (ap (list_all fits_object) back ∙ objects_fit d objects made) (ap (list_all fits_own) back ∙ all_own_fit d made.declared objects made.suited) in
+    let way_count : ltb (length (flat_map (ways_of d.kinds) ws)) 65536 ≡ true = lt-ltb _ _ (omega (arith, le, ways_few d.kinds ws)) in
+    let exits = all_weaker (lead_rightly sorts) exits_layout.format.fits (exits_fit d.kinds (kinds_of objects) few_of_kinds) (flat_map (ways_of d.kinds) ws) (rooms_lead d.kinds sorts ws (ap (list_all (has_right_exits d.kinds sorts)) back ∙ made.exits)) in
     let code_count : ltb (length (flat_map (codes_of strings) ws)) 65536 ≡ true = lt-ltb _ _ (omega (arith, le, codes_few strings ws)) in
-    rw (string_count, strings_fit, world_fits d declared, entry_count, entries, way_count, exits, code_count, all_codes_short strings ws) refl
+    rw (string_count, strings_fit, world_fits d made.declared, entry_count, entries, way_count, exits, code_count, all_codes_short strings ws) refl

@@ -7,6 +7,7 @@ pub mod Known
 pub mod OrderLemmas
 pub mod SoundLemmas
 pub mod WordFacts
+pub mod EntryLemmas
 pub mod TableLemmas
 pub mod Fits
 pub mod Stories

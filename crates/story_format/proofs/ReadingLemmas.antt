@@ -1,7 +1,5 @@
 -- What is known of bytes whose tables were read, and of bytes that were refused.
-use Rattle.std.proofs.Common.{◌≡◌, ◌≢◌, ℕ, ◌+◌, ◌<◌, ◌≤◌, Bool, true, false, cond, ◌&&◌, ltb, eqb, List, [], ◌∷◌, ◌++◌, length, take, drop, Option, Some, None, Result, Ok, Err, refl, sym, ap, subst, ◌∙◌, arith, inl, inr, ◌⊎◌}
-use Rattle.std.specs.Prelude.{count_by}
-use Rattle.std.specs.List.{list_all}
+use Rattle.std.proofs.Common.{◌≡◌, ◌≢◌, ℕ, ◌+◌, ◌<◌, ◌≤◌, Bool, true, false, cond, ltb, leb, eqb, List, [], ◌∷◌, ◌++◌, length, take, drop, Option, Some, None, Result, Ok, Err, refl, sym, ap, subst, ◌∙◌, arith, inl, inr, ◌⊎◌}
 use Rattle.std.specs.Str.{bytes_eq}
 use Rattle.std.specs.Int.{w16, to_be_bytes, from_be_bytes}
 use Rattle.std.proofs.Math.Dec.{eqb-suc-zero}
@@ -17,12 +15,11 @@ use Rattle.story_format.specs.FormatLaws.{number16_lawful, IsBytes-drop}
 use Rattle.story_format.specs.Reading.{whole, body_at, body_read, tables_in, tables_read, FaultGiven}
 use Rattle.story_format.specs.Refusals.{Holds, IsRefused}
 use Rattle.story_format.specs.Layout.{tables_layout}
-use Rattle.story_format.specs.Checks.{has_no_rules, are_distinct, is_of_room, are_right_objects, are_right}
-use Rattle.story_format.specs.Sizes.{is_right_exits, sizes_of}
+use Rattle.story_format.specs.Checks.{has_no_rules, are_distinct, are_right_objects, are_right_ways, is_right_frame, stand_rightly, are_right}
 use Rattle.story_format.specs.Soundness.{are_sound}
 use Rattle.story_format.specs.WorldChecks.{is_right_world}
 use Rattle.story_format.specs.Spells.{magic, head, are_ordered, Spells}
-use Rattle.story_format.proofs.StoryLemmas.{last_of_five, three}
+use Rattle.story_format.proofs.StoryLemmas.{last_of_five, four}
 
 -- ---- reading what was put
 
@@ -185,10 +182,10 @@ memory_fault bytes t fits e = (t, tables_stand bytes t fits e)
 
 -- right tables have no books, so none out of order
 no_books : (t : Tables) → are_right t ≡ true → eqb (length t.rules.books) 0 ≡ true
-unfolding are_right
+unfolding are_right is_right_frame
 no_books t right =
-    let p = last_of_five (is_right_world t.world && has_no_rules t.rules && ltb (length t.strings) 65535) (are_distinct t.strings) (are_right_objects t) (eqb (length t.ways) (count_by is_of_room t.objects)) (list_all (is_right_exits (sizes_of t)) t.ways) right in
-    let q = three (is_right_world t.world) (has_no_rules t.rules) (ltb (length t.strings) 65535) p.0 in
+    let p = last_of_five (is_right_frame t) (are_distinct t.strings) (are_right_objects t) (stand_rightly t) (are_right_ways t) right in
+    let q = four (is_right_world t.world) (has_no_rules t.rules) (leb (length t.objects) 1000) (ltb (length t.strings) 65535) p.0 in
     (last_of_five (eqb (length t.rules.actions) 0) (eqb (length t.rules.grammar) 0) (eqb (length t.rules.rules) 0) (eqb (length t.rules.books) 0) (eqb (length t.rules.scenes) 0) q.1).3
 
 pub right_ordered : (t : Tables) → are_right t ≡ true → are_ordered t ≡ true

@@ -1,6 +1,6 @@
 -- Stories that say the same are one: each string is named, in order, and each code.
-use Rattle.std.proofs.Common.{◌≡◌, ℕ, zero, suc, ◌+◌, ◌<◌, ◌≤◌, Bool, true, false, ◌&&◌, ltb, leb, eqb, List, [], ◌∷◌, ◌++◌, length, take, drop, Option, Some, None, inl, inr, refl, sym, ap, ◌∙◌, arith, subst}
-use Rattle.std.specs.Prelude.{count_by, fold, map, max, slice_get}
+use Rattle.std.proofs.Common.{◌≡◌, ℕ, zero, suc, ◌+◌, ◌<◌, ◌≤◌, Bool, true, false, ltb, leb, eqb, List, [], ◌∷◌, ◌++◌, length, take, drop, Option, Some, None, inl, inr, refl, sym, ap, ◌∙◌, arith, subst}
+use Rattle.std.specs.Prelude.{fold, map, max, slice_get}
 use Rattle.std.specs.List.{flat_map, list_all, list_any, position_or_len}
 use Rattle.std.specs.Str.{bytes_eq}
 use Rattle.std.proofs.Math.Seq.{drop-cons, drop-length, take-length}
@@ -15,12 +15,10 @@ use Rattle.object_words.proofs.MentionLemmas.{mentioned_few}
 use Rattle.object_words.specs.Mentions.{first_mentions, mention}
 use Rattle.story_format.specs.declared.tables.Entry.{Entry}
 use Rattle.story_format.specs.declared.tables.Tables.{Tables}
-use Rattle.story_format.specs.Checks.{are_distinct, are_right, are_right_objects, codes_named, has_no_rules, is_of_room, strings_named}
+use Rattle.story_format.specs.Checks.{are_distinct, are_right, are_right_objects, are_right_ways, codes_named, is_right_frame, stand_rightly, strings_named}
 use Rattle.story_format.specs.Facts.{description_in, text_at}
-use Rattle.story_format.specs.Sizes.{is_right_exits, sizes_of}
 use Rattle.story_format.specs.Soundness.{are_all_named, are_in_turn, are_sound, saying, says_string, string_said, strings_read}
 use Rattle.story_format.specs.Spells.{IsStory}
-use Rattle.story_format.specs.WorldChecks.{is_right_world}
 use Rattle.story_format.specs.Telling.{AreToldAlike, ToldObject, told_object, unnumbered}
 use Rattle.story_format.proofs.Known.{fold_finds, same_texts, text_is_itself}
 use Rattle.story_format.proofs.StoryLemmas.{last_of_five, three}
@@ -328,8 +326,8 @@ same_strings strings others codes codes' es fs one other told =
 strings_differ : (t : Tables) → are_right t ≡ true → are_distinct t.strings ≡ true
 unfolding are_right
 strings_differ t right =
-    let p = last_of_five (is_right_world t.world && has_no_rules t.rules && ltb (length t.strings) 65535) (are_distinct t.strings) (are_right_objects t)
-    (eqb (length t.ways) (count_by is_of_room t.objects)) (list_all (is_right_exits (sizes_of t)) t.ways) right in
+    let p = last_of_five (is_right_frame t) (are_distinct t.strings) (are_right_objects t)
+    (stand_rightly t) (are_right_ways t) right in
     p.1
 
 is_numbered : (t : Tables) → IsStory t → IsNumbered t.strings t.codes t.objects

@@ -1,17 +1,20 @@
 -- What tables 1 to 12 of a story say together, test by test, whatever the codes are.
-use Rattle.std.specs.Prelude.{ℕ, ◌+◌, max, Bool, true, false, not, ◌&&◌, ◌==◌, nat_le, nat_lt, List, [], ◌∷◌, length, take, drop, slice_get, slice_index_or, Option, Some, None, codes, count_by, filter, map}
+use Rattle.std.specs.Prelude.{ℕ, ◌+◌, max, Bool, true, false, not, ◌&&◌, ◌==◌, nat_le, nat_lt, List, [], ◌∷◌, length, take, slice_get, slice_index_or, Option, Some, None, codes, count_by, filter, map}
 use Rattle.std.specs.List.{list_all, flat_map}
 use Rattle.std.specs.Str.{bytes_eq}
 use Rattle.std.specs.Char.{to_ascii_lowercase}
 use Rattle.world_meaning.specs.declared.direction.Direction.{Direction}
 use Rattle.world_meaning.specs.Directions.{all_directions, direction_name}
-use Rattle.world_meaning.specs.Kinds.{direction_kind, person_kind, room_kind}
+use Rattle.world_meaning.specs.Kinds.{direction_kind, is_under, person_kind}
+use Rattle.world_meaning.specs.Sorts.{is_at, kinds_told}
+use Rattle.world_meaning.specs.Standing.{are_well_placed, have_ends, lead_rightly}
 use Rattle.object_words.specs.Mentions.{first_mentions}
 use Rattle.object_words.specs.Words.{words_for}
 use Rattle.story_format.specs.declared.rule_tables.RuleTables.{RuleTables}
 use Rattle.story_format.specs.declared.tables.Entry.{Entry}
 use Rattle.story_format.specs.declared.tables.Tables.{Tables}
-use Rattle.story_format.specs.Sizes.{is_right_entry, is_right_exits, is_room_number, sizes_of}
+use Rattle.story_format.specs.Placed.{is_room_entry, places_in, sorts_in}
+use Rattle.story_format.specs.Sizes.{is_right_entry, sizes_of}
 use Rattle.story_format.specs.WorldChecks.{is_right_world, suits_kind}
 
 -- this language has no actions, grammar, rules and scenes of its own
@@ -62,27 +65,24 @@ is_small_at small n = slice_index_or small n false
 abbrev pub has_small_words : List Bool → Entry → Bool
 has_small_words small e = list_all (is_small_at small) e.words
 
-unfoldable pub is_player_entry : List (List ℕ) → ℕ → Entry → Bool
-is_player_entry strings count e = (e.kind == person_kind) && is_named strings e.name (codes "yourself") && (e.article == 0) && (e.relation == 0) && is_room_number count e.holder
+-- the player is in a room, where it is told of each object whether it is one
+unfoldable pub is_player_entry : List (List ℕ) → List (Option ℕ) → List Bool → Entry → Bool
+is_player_entry strings parents rooms e = is_under parents e.kind person_kind && is_named strings e.name (codes "yourself") && (e.article == 0) && (e.relation == 0) && is_at rooms e.holder
 
-unfoldable pub is_direction_entry : List (List ℕ) → Direction → Entry → Bool
-is_direction_entry strings d e = (e.kind == direction_kind) && is_named strings e.name (direction_name d) && (e.article == 0) && (e.relation == 255) && (e.holder == 65535)
+unfoldable pub is_direction_entry : List (List ℕ) → List (Option ℕ) → Direction → Entry → Bool
+is_direction_entry strings parents d e = is_under parents e.kind direction_kind && is_named strings e.name (direction_name d) && (e.article == 0) && (e.relation == 255) && (e.holder == 65535)
 
-unfoldable pub is_room_entry : Entry → Bool
-is_room_entry e = (e.kind == room_kind) && (e.relation == 255) && (e.holder == 65535)
+unfoldable pub are_direction_entries : List (List ℕ) → List (Option ℕ) → List Direction → List Entry → Bool
+are_direction_entries strings parents [] [] = true
+are_direction_entries strings parents [] (e ∷ es) = false
+are_direction_entries strings parents (d ∷ ds) [] = false
+are_direction_entries strings parents (d ∷ ds) (e ∷ es) = is_direction_entry strings parents d e && are_direction_entries strings parents ds es
 
-unfoldable pub are_direction_entries : List (List ℕ) → List Direction → List Entry → Bool
-are_direction_entries strings [] [] = true
-are_direction_entries strings [] (e ∷ es) = false
-are_direction_entries strings (d ∷ ds) [] = false
-are_direction_entries strings (d ∷ ds) (e ∷ es) = is_direction_entry strings d e && are_direction_entries strings ds es
-
--- the player, the directions, and rooms
-unfoldable pub are_in_place : List (List ℕ) → List Entry → Bool
-are_in_place strings [] = false
-are_in_place strings (player ∷ others) =
-    nat_le (length others) 999 && nat_le 12 (length others) && is_player_entry strings (length others + 1) player && are_direction_entries strings all_directions (take 12 others)
-    && list_all is_room_entry (drop 12 others)
+-- the player, the directions, and any others
+unfoldable pub are_in_place : List (List ℕ) → List (Option ℕ) → List Bool → List Entry → Bool
+are_in_place strings parents rooms [] = false
+are_in_place strings parents rooms (player ∷ others) =
+    nat_le 12 (length others) && is_player_entry strings parents rooms player && are_direction_entries strings parents all_directions (take 12 others)
 
 -- each number is at most one above those before it
 unfoldable pub are_named_in_order : ℕ → List ℕ → Bool
@@ -98,17 +98,24 @@ is_some_code n = not (n == 65535)
 abbrev pub codes_named : List Entry → List ℕ
 codes_named entries = filter is_some_code (map (λ e. e.description) entries)
 
-abbrev pub is_of_room : Entry → Bool
-is_of_room e = e.kind == room_kind
-
 -- the objects are those of a story, and named in order
 unfoldable pub are_right_objects : Tables → Bool
 are_right_objects t =
-    list_all (is_right_entry (sizes_of t)) t.objects && are_in_place t.strings t.objects && have_words t.strings 0 t.objects && list_all (has_small_words (map is_small t.strings)) t.objects
+    list_all (is_right_entry (sizes_of t)) t.objects && are_in_place t.strings t.world.kinds (sorts_in t).rooms t.objects && have_words t.strings 0 t.objects && list_all (has_small_words (map is_small t.strings)) t.objects
     && are_named_in_order 0 (flat_map strings_named t.objects) && are_named_in_order 0 (codes_named t.objects) && list_all (suits_kind t.world) t.objects
+
+-- each object is where it may be, and none stands in itself
+unfoldable pub stand_rightly : Tables → Bool
+stand_rightly t = are_well_placed (kinds_told (sorts_in t)) 0 (places_in t.objects) && have_ends (places_in t.objects)
+
+-- each room has ways, to rooms and by doors
+unfoldable pub are_right_ways : Tables → Bool
+are_right_ways t = (length t.ways == count_by (is_room_entry t.world.kinds) t.objects) && list_all (lead_rightly (sorts_in t)) t.ways
+
+-- what else has no other place in a story, and how much there is
+unfoldable pub is_right_frame : Tables → Bool
+is_right_frame t = is_right_world t.world && has_no_rules t.rules && nat_le (length t.objects) 1000 && nat_lt (length t.strings) 65535
 
 -- Tables 1 to 12 are those of a story.
 unfoldable pub are_right : Tables → Bool
-are_right t =
-    is_right_world t.world && has_no_rules t.rules && nat_lt (length t.strings) 65535 && are_distinct t.strings && are_right_objects t
-    && (length t.ways == count_by is_of_room t.objects) && list_all (is_right_exits (sizes_of t)) t.ways
+are_right t = is_right_frame t && are_distinct t.strings && are_right_objects t && stand_rightly t && are_right_ways t

@@ -1,7 +1,8 @@
 -- What a story's tables say of its objects, by number; nothing of a number that no object has.
-use Rattle.std.specs.Prelude.{ℕ, ◌-◌, ◌==◌, nat_lt, List, [], length, slice_get, slice_index_or, Option, Some, None, if◌then◌else◌}
+use Rattle.std.specs.Prelude.{ℕ, ◌-◌, Bool, false, ◌==◌, List, [], length, take, count_by, slice_get, slice_index_or, Option, Some, None, if◌then◌else◌}
 use Rattle.world_meaning.specs.Tale.{room_beyond}
 use Rattle.world_meaning.specs.declared.exits.Exits.{Exits}
+use Rattle.story_format.specs.Placed.{is_room_entry}
 use Rattle.story_format.specs.declared.tables.Entry.{Entry}
 use Rattle.story_format.specs.declared.tables.Tables.{Tables}
 use Rattle.story_format.specs.Soundness.{string_said}
@@ -34,9 +35,17 @@ description_in strings codes (Some entry) = if entry.description == 65535 then N
 abbrev pub description_of : Tables → ℕ → Option (List ℕ)
 description_of t o = description_in t.strings t.codes (slice_get t.objects o)
 
--- the ways of a room: the rooms stand behind the player and the directions
-abbrev pub exits_at : List Exits → ℕ → Option Exits
-exits_at ways o = if nat_lt o 13 then None else slice_get ways (o - 13)
+-- how many rooms stand before an object
+abbrev pub rooms_before : List (Option ℕ) → List Entry → ℕ → ℕ
+rooms_before parents entries o = count_by (is_room_entry parents) (take o entries)
+
+abbrev pub is_room_in : List (Option ℕ) → Option Entry → Bool
+is_room_in parents None = false
+is_room_in parents (Some entry) = is_room_entry parents entry
+
+-- the ways of a room: they stand in the order of the rooms
+abbrev pub exits_at : List (Option ℕ) → List Entry → List Exits → ℕ → Option Exits
+exits_at parents entries ways o = if is_room_in parents (slice_get entries o) then slice_get ways (rooms_before parents entries o) else None
 
 abbrev pub way_in : Option Exits → ℕ → Option ℕ
 way_in None direction = None
@@ -44,7 +53,7 @@ way_in (Some exits) direction = room_beyond (slice_get exits.ways (direction - 1
 
 -- the room to which a direction, by its number, leads from a room
 abbrev pub way_of : Tables → ℕ → ℕ → Option ℕ
-way_of t room direction = way_in (exits_at t.ways room) direction
+way_of t room direction = way_in (exits_at t.world.kinds t.objects t.ways room) direction
 
 abbrev pub holder_in : Option Entry → ℕ
 holder_in None = 0

@@ -11,10 +11,10 @@ pub mod Facts
 pub mod FaultTexts
 pub mod Spells
 pub mod Telling
+pub mod Placed
 pub mod Reading
 pub mod Refusals
 pub mod Making
 pub mod WordedViews
-pub mod Shape
 pub mod Holding
 pub mod Carrying

@@ -1,5 +1,5 @@
 -- The tables of a tale.
-use Rattle.std.specs.Prelude.{ℕ, ℤ, ◌+◌, ◌==◌, List, [], ◌∷◌, ◌++◌, length, map, min, Option, Some, None, if◌then◌else◌}
+use Rattle.std.specs.Prelude.{ℕ, ℤ, ◌+◌, List, [], ◌∷◌, ◌++◌, length, map, min, Option, Some, None, if◌then◌else◌}
 use Rattle.std.specs.List.{flat_map}
 use Rattle.std.specs.Int.{w16, w32, cast_unsigned, to_be_bytes}
 use Rattle.world_meaning.specs.declared.article.Article.{Article}
@@ -11,7 +11,7 @@ use Rattle.world_meaning.specs.declared.exits.Exits.{Exits}
 use Rattle.world_meaning.specs.declared.tale.Object.{Object}
 use Rattle.world_meaning.specs.declared.tale.Tale.{Tale}
 use Rattle.world_meaning.specs.declared.declared.Declared.{Declared}
-use Rattle.world_meaning.specs.Kinds.{room_kind}
+use Rattle.world_meaning.specs.Kinds.{is_under, room_kind}
 use Rattle.story_format.specs.declared.tables.Entry.{Entry}
 use Rattle.story_format.specs.declared.tables.Tables.{Tables}
 use Rattle.story_format.specs.declared.world_tables.Variable.{Variable}
@@ -107,8 +107,8 @@ abbrev pub codes_of : List (List ℕ) → Worded → List (List ℕ)
 codes_of strings w = map (code_of strings) (code_strings w)
 
 -- the ways of a room
-abbrev pub ways_of : Worded → List Exits
-ways_of w = if w.object.kind == room_kind then w.object.exits ∷ [] else []
+abbrev pub ways_of : List (Option ℕ) → Worded → List Exits
+ways_of parents w = if is_under parents w.object.kind room_kind then w.object.exits ∷ [] else []
 
 abbrev pub variable_of : ℤ → Variable
 variable_of number = record { start = cast_unsigned w32 number }
@@ -122,7 +122,7 @@ tables_with d ws = record {
   strings = strings_of ws;
   world = world_of d;
   objects = entries_of (strings_of ws) 0 ws;
-  ways = flat_map ways_of ws;
+  ways = flat_map (ways_of d.kinds) ws;
   rules = record { actions = []; grammar = []; rules = []; books = []; scenes = [] };
   codes = flat_map (codes_of (strings_of ws)) ws;
 }

@@ -1,24 +1,26 @@
 //! What tables 1 to 12 say together, whatever the codes are: each test is named after what it asks.
-ghost use Rattle.std.specs.Prelude.{◌≡◌, IfOk, count_by, map};
+ghost use Rattle.std.specs.Prelude.{◌≡◌, IfOk, map};
 ghost use Rattle.std.specs.List.{list_all, flat_map};
+ghost use Rattle.story_format.specs.Placed.{sorts_in};
 ghost use Rattle.story_format.specs.Sizes.{sizes_of};
-ghost use Rattle.story_format.specs.Checks.{has_no_rules, are_distinct, is_named, begin_with, has_words, have_words, is_small_byte, is_small, is_small_at, has_small_words, is_player_entry, is_direction_entry, is_room_entry, are_direction_entries, are_in_place, are_named_in_order, strings_named, codes_named, is_of_room, are_right_objects, are_right};
+ghost use Rattle.story_format.specs.Checks.{has_no_rules, are_distinct, is_named, begin_with, has_words, have_words, is_small_byte, is_small, is_small_at, has_small_words, is_player_entry, is_direction_entry, are_direction_entries, are_in_place, are_named_in_order, strings_named, codes_named, are_right_objects, is_right_frame, are_right};
 
 use crate::place::NONE;
-use crate::row::{Sizes, all_right, is_room_number};
+use crate::row::{Sizes, are_right_entries};
 use crate::rule_tables::RuleTables;
+use crate::standing::{are_right_ways, sorts_in, stand_rightly};
 use crate::tables::{Entry, Tables};
 use crate::world_checks::{is_right_world, suit_kinds};
 use object_words::{Strings, words_for};
 use std::alloc::{AllocError, Global};
-use world_meaning::{Direction, KindNo, ObjNo, TextBytes};
+use world_meaning::{Direction, KindNo, Sorts, TextBytes, is_at, is_under};
 
 /// How many entries the tables have.
 fn sizes_of(tables: &Tables) -> Sizes
     ensures { result ≡ sizes_of tables.now }
 {
     Sizes {
-        objects: tables.objects.as_slice().len(),
+        kinds: tables.world.kinds.as_slice().len(),
         codes: tables.codes.as_slice().len(),
     }
 }
@@ -151,44 +153,53 @@ fn have_small_words(small: &[bool], entries: &[Entry]) -> bool
 }
 
 #[tactic(auto, unfolding(crate::specs::Checks::is_player_entry))]
-fn is_player_entry(strings: &[TextBytes], count: usize, entry: &Entry) -> bool
-    ensures { result ≡ is_player_entry strings.now count entry.now }
+fn is_player_entry(
+    strings: &[TextBytes],
+    parents: &[Option<KindNo>],
+    rooms: &[bool],
+    entry: &Entry,
+) -> bool
+    ensures { result ≡ is_player_entry strings.now parents.now rooms.now entry.now }
 {
-    entry.kind == KindNo::PERSON.get()
+    is_under(parents, KindNo::new(entry.kind), KindNo::PERSON)
         && is_named(strings, entry.name, b"yourself")
         && entry.article == 0
         && entry.relation == 0
-        && is_room_number(count, ObjNo::new(entry.holder))
+        && is_at(rooms, entry.holder as usize)
 }
 
 #[tactic(auto, unfolding(crate::specs::Checks::is_direction_entry))]
-fn is_direction_entry(strings: &[TextBytes], direction: Direction, entry: &Entry) -> bool
-    ensures { result ≡ is_direction_entry strings.now direction entry.now }
+fn is_direction_entry(
+    strings: &[TextBytes],
+    parents: &[Option<KindNo>],
+    direction: Direction,
+    entry: &Entry,
+) -> bool
+    ensures { result ≡ is_direction_entry strings.now parents.now direction entry.now }
 {
-    entry.kind == KindNo::DIRECTION.get()
+    is_under(parents, KindNo::new(entry.kind), KindNo::DIRECTION)
         && is_named(strings, entry.name, direction.name())
         && entry.article == 0
         && entry.relation == 255
         && entry.holder == NONE
 }
 
-#[tactic(auto, unfolding(crate::specs::Checks::is_room_entry))]
-fn is_room_entry(entry: &Entry) -> bool
-    ensures { result ≡ is_room_entry entry.now }
-{
-    entry.kind == KindNo::ROOM.get() && entry.relation == 255 && entry.holder == NONE
-}
-
 #[tactic(auto, unfolding(crate::specs::Checks::are_direction_entries))]
-fn are_direction_entries(strings: &[TextBytes], directions: &[Direction], entries: &[Entry]) -> bool
-    ensures { result ≡ are_direction_entries strings.now directions.now entries.now }
+fn are_direction_entries(
+    strings: &[TextBytes],
+    parents: &[Option<KindNo>],
+    directions: &[Direction],
+    entries: &[Entry],
+) -> bool
+    ensures { result ≡ are_direction_entries strings.now parents.now directions.now entries.now }
 {
     let mut directions = directions;
     let mut entries = entries;
     while let [direction, others @ ..] = directions {
         match entries {
-            [entry, after @ ..] if is_direction_entry(strings, *direction, entry) => entries =
-                after,
+            [entry, after @ ..] if is_direction_entry(strings, parents, *direction, entry) => {
+                entries = after
+            }
             _ => return false,
         }
         directions = others;
@@ -196,28 +207,25 @@ fn are_direction_entries(strings: &[TextBytes], directions: &[Direction], entrie
     entries.is_empty()
 }
 
-fn are_room_entries(entries: &[Entry]) -> bool
-    ensures { result ≡ list_all is_room_entry entries.now }
-{
-    entries.iter().all(|entry| is_room_entry(entry))
-}
-
-/// Whether the entries are the player, the directions and rooms, in this order.
+/// Whether the entries begin with the player and the directions.
 #[tactic(auto, unfolding(crate::specs::Checks::are_in_place))]
-fn are_in_place(strings: &[TextBytes], entries: &[Entry]) -> bool
-    ensures { result ≡ are_in_place strings.now entries.now }
+fn are_in_place(
+    strings: &[TextBytes],
+    parents: &[Option<KindNo>],
+    rooms: &[bool],
+    entries: &[Entry],
+) -> bool
+    ensures { result ≡ are_in_place strings.now parents.now rooms.now entries.now }
 {
     match entries {
         [] => false,
         [player, others @ ..] => {
-            if others.len() > 999 || others.len() < 12 {
+            if others.len() < 12 {
                 return false;
             }
-            let count = others.len() + 1;
-            let (directions, rooms) = others.split_at(12);
-            is_player_entry(strings, count, player)
-                && are_direction_entries(strings, &Direction::ALL, directions)
-                && are_room_entries(rooms)
+            let (directions, _) = others.split_at(12);
+            is_player_entry(strings, parents, rooms, player)
+                && are_direction_entries(strings, parents, &Direction::ALL, directions)
         }
     }
 }
@@ -265,25 +273,18 @@ pub fn codes_named(alloc: Global, entries: &[Entry]) -> Result<Vec<u16>, AllocEr
     Ok(numbers)
 }
 
-fn count_of_rooms(entries: &[Entry]) -> usize
-    ensures { result ≡ count_by is_of_room entries.now }
-{
-    entries
-        .iter()
-        .filter(|entry| entry.kind == KindNo::ROOM.get())
-        .count()
-}
-
 /// Whether the objects are those of a story, and name strings and codes in order.
 #[tactic(auto, unfolding(crate::specs::Checks::are_right_objects))]
-fn are_right_objects(alloc: Global, tables: &Tables) -> Result<bool, AllocError>
+fn are_right_objects(alloc: Global, tables: &Tables, sorts: &Sorts) -> Result<bool, AllocError>
+    requires { sorts.now ≡ sorts_in tables.now }
     ensures { IfOk result (λ right. right ≡ are_right_objects tables.now) }
 {
     let strings = tables.strings.as_slice();
     let entries = tables.objects.as_slice();
+    let parents = tables.world.kinds.as_slice();
     Ok(
-        all_right(sizes_of(tables), &tables.objects)
-            && are_in_place(strings, entries)
+        are_right_entries(sizes_of(tables), entries)
+            && are_in_place(strings, parents, sorts.rooms.as_slice(), entries)
             && have_words(alloc, strings, entries)?
             && have_small_words(smallness(alloc, strings)?.as_slice(), entries)
             && are_named_in_order(strings_named(alloc, entries)?.as_slice())
@@ -292,19 +293,32 @@ fn are_right_objects(alloc: Global, tables: &Tables) -> Result<bool, AllocError>
     )
 }
 
+/// Whether tables 2 to 5 and 8 to 12 are a story's, and the others not too long.
+#[tactic(auto, unfolding(crate::specs::Checks::is_right_frame))]
+fn is_right_frame(alloc: Global, tables: &Tables) -> Result<bool, AllocError>
+    ensures { IfOk result (λ right. right ≡ is_right_frame tables.now) }
+{
+    Ok(
+        is_right_world(alloc, &tables.world)?
+            && has_no_rules(&tables.rules)
+            && tables.objects.as_slice().len() <= 1000
+            && tables.strings.as_slice().len() < 65535,
+    )
+}
+
 /// Whether tables 1 to 12 are those of a story.
 #[tactic(auto, unfolding(crate::specs::Checks::are_right))]
 pub fn are_right(alloc: Global, tables: &Tables) -> Result<bool, AllocError>
     ensures { IfOk result (λ right. right ≡ are_right tables.now) }
 {
-    let strings = tables.strings.as_slice();
+    if !is_right_frame(alloc, tables)? {
+        return Ok(false);
+    }
+    let sorts = sorts_in(alloc, tables)?;
     Ok(
-        is_right_world(alloc, &tables.world)?
-            && has_no_rules(&tables.rules)
-            && strings.len() < 65535
-            && are_distinct(alloc, strings)?
-            && are_right_objects(alloc, tables)?
-            && tables.ways.as_slice().len() == count_of_rooms(tables.objects.as_slice())
-            && all_right(sizes_of(tables), &tables.ways),
+        are_distinct(alloc, tables.strings.as_slice())?
+            && are_right_objects(alloc, tables, &sorts)?
+            && stand_rightly(alloc, tables, &sorts)?
+            && are_right_ways(tables, &sorts),
     )
 }

@@ -1,13 +1,15 @@
 //! What holds of stories whatever the bytes are.
 ghost use Rattle.std.specs.Prelude.{◌≡◌, ◌≢◌, ◌⊎◌, ℕ, List, true};
+ghost use Rattle.world_meaning.specs.Sorts.{is_at};
+ghost use Rattle.world_meaning.specs.Standing.{is_at_or_none};
 ghost use Rattle.world_meaning.specs.declared.tale.Tale.{Tale};
 ghost use Rattle.story_format.specs.declared.fault.LoadFault.{LoadFault};
 ghost use Rattle.story_format.specs.declared.fault.LoadFault.TheVariants.{Memory};
 ghost use Rattle.story_format.specs.declared.tables.Tables.{Tables};
 ghost use Rattle.story_format.specs.Carrying.{Carries};
-ghost use Rattle.story_format.specs.Facts.{object_count_of, start_of, way_of};
+ghost use Rattle.story_format.specs.Facts.{start_of, way_of};
 ghost use Rattle.story_format.specs.Formats.{IsBytes};
-ghost use Rattle.story_format.specs.Sizes.{is_room_number, is_room_or_none};
+ghost use Rattle.story_format.specs.Placed.{sorts_in};
 ghost use Rattle.story_format.specs.Holding.{IsHeld};
 ghost use Rattle.story_format.specs.Making.{tables_of};
 ghost use Rattle.story_format.specs.Spells.{IsStory, Spells};
@@ -51,8 +53,8 @@ pub fn story_carries_tale()
 
 /// A story begins in one of its rooms, and each way leads to one of them or nowhere.
 pub fn stories_lead_to_rooms()
-    ensures start { (tables : Tables) → IsStory tables → is_room_number (object_count_of tables) (start_of tables) ≡ true }
-    ensures ways { (tables : Tables) (room direction : ℕ) → IsStory tables → is_room_or_none (object_count_of tables) (way_of tables room direction) ≡ true }
+    ensures start { (tables : Tables) → IsStory tables → is_at (sorts_in tables).rooms (start_of tables) ≡ true }
+    ensures ways { (tables : Tables) (room direction : ℕ) → IsStory tables → is_at_or_none (sorts_in tables).rooms (way_of tables room direction) ≡ true }
 {}
 
 /// Stories that say the same of their objects, text by text, are one: a renumbering of a story's strings or

@@ -14,6 +14,7 @@ mod row;
 mod rule_entry;
 mod rule_tables;
 mod soundness;
+mod standing;
 mod story;
 mod table;
 mod tables;

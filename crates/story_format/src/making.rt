@@ -14,7 +14,7 @@ use crate::world_making::{numbers_of, world_of};
 use object_words::{Strings, words_for};
 use std::alloc::{AllocError, Global};
 use world_meaning::{
-    Article, Declared, Exits, KindNo, Listed, Object, Place, Rel, Tale, TextBytes,
+    Article, Declared, Exits, KindNo, Listed, Object, Place, Rel, Tale, TextBytes, is_under,
 };
 
 /// An object, and the words that a command may name it by.
@@ -257,13 +257,17 @@ fn codes_of(
     Ok(Table::new(codes))
 }
 
-fn ways_of(alloc: Global, worded: &[Worded<'_>]) -> Result<Table<Exits>, AllocError>
-    ensures { IfOk result (λ ways. ways ≡ flat_map ways_of (all_worded worded.now)) }
+fn ways_of(
+    alloc: Global,
+    parents: &[Option<KindNo>],
+    worded: &[Worded<'_>],
+) -> Result<Table<Exits>, AllocError>
+    ensures { IfOk result (λ ways. ways ≡ flat_map (ways_of parents.now) (all_worded worded.now)) }
 {
     let mut ways = Vec::new(alloc);
     let mut rest = worded;
     while let [one, after @ ..] = rest {
-        if one.object.kind == KindNo::ROOM {
+        if is_under(parents, one.object.kind, KindNo::ROOM) {
             ways.push(one.object.exits)?;
         }
         rest = after;
@@ -303,7 +307,7 @@ fn tables_with(
         strings: table_of(alloc, &strings)?,
         world: world_of(alloc, declared)?,
         objects: entries_of(alloc, &strings, worded)?,
-        ways: ways_of(alloc, worded)?,
+        ways: ways_of(alloc, declared.kinds.as_slice(), worded)?,
         rules: RuleTables {
             actions: empty(alloc),
             grammar: empty(alloc),

@@ -1,11 +1,13 @@
 //! What a story file says of places: numbers that may be none, and a room's ways.
 ghost use Rattle.std.specs.Prelude.{◌≡◌};
 ghost use Rattle.story_format.specs.Formats.{optional_of, optional_number};
+ghost use Rattle.story_format.specs.Placed.{is_place, place_of, relation_of};
 
 use crate::field::{Field, skip_fields};
 use crate::table::{read_many, skip_many, write_all};
+use crate::tables::Entry;
 use std::alloc::{AllocError, Global};
-use world_meaning::{Exits, ObjNo, Way};
+use world_meaning::{Exits, ObjNo, Place, Rel, Way};
 
 /// The number that stands for none.
 pub const NONE: u16 = 65535;
@@ -35,6 +37,44 @@ pub fn number_of(object: Option<ObjNo>) -> u16
         None => NONE,
         Some(object) => object.get(),
     }
+}
+
+fn relation_of(number: u8) -> Option<Rel>
+    ensures { result ≡ relation_of number }
+{
+    if number == 0 {
+        Some(Rel::In)
+    } else if number == 1 {
+        Some(Rel::On)
+    } else if number == 2 {
+        Some(Rel::Carried)
+    } else if number == 3 {
+        Some(Rel::Worn)
+    } else if number == 4 {
+        Some(Rel::Part)
+    } else {
+        None
+    }
+}
+
+/// Where an object is.
+pub fn place_of(entry: &Entry) -> Option<Place>
+    ensures { result ≡ place_of entry.now }
+{
+    match relation_of(entry.relation) {
+        None => None,
+        Some(relation) => Some(Place {
+            relation,
+            holder: ObjNo::new(entry.holder),
+        }),
+    }
+}
+
+/// Whether an entry has a relation, or neither a relation nor a holder.
+pub fn is_place(entry: &Entry) -> bool
+    ensures { result ≡ is_place entry.now }
+{
+    relation_of(entry.relation).is_some() || (entry.relation == 255 && entry.holder == NONE)
 }
 
 #[tactic(auto, unfolding(crate::specs::Layout::way_layout))]

@@ -5,12 +5,10 @@ ghost use Rattle.story_format.specs.Facts.{description_of, exits_at, name_of, ob
 
 use crate::place::NONE;
 use crate::soundness::string_said;
-use crate::tables::Tables;
+use crate::standing::{count_of_rooms, is_room_entry};
+use crate::tables::{Entry, Tables};
 use std::marker::Model;
-use world_meaning::{Direction, Exits, ObjNo, TextBytes};
-
-/// The number of the first room: the player and the directions stand before it.
-const FIRST_ROOM: u16 = 13;
+use world_meaning::{Direction, Exits, KindNo, ObjNo, TextBytes};
 
 /// A story: its tables.
 #[derive(Debug, Drop)]
@@ -39,14 +37,22 @@ fn text_at(strings: &[TextBytes], number: u16) -> &[u8]
     }
 }
 
-/// The ways of a room.
-fn exits_at(ways: &[Exits], room: u16) -> Option<Exits>
-    ensures { result ≡ exits_at ways.now room }
+/// The ways of a room: they stand in the order of the rooms.
+fn exits_at(
+    parents: &[Option<KindNo>],
+    entries: &[Entry],
+    ways: &[Exits],
+    room: usize,
+) -> Option<Exits>
+    ensures { result ≡ exits_at parents.now entries.now ways.now room }
 {
-    if room < FIRST_ROOM {
-        return None;
+    match entries.get(room) {
+        Some(entry) if is_room_entry(parents, entry) => {
+            let (before, _) = entries.split_at(room);
+            ways.get(count_of_rooms(parents, before)).copied()
+        }
+        _ => None,
     }
-    ways.get((room - FIRST_ROOM) as usize).copied()
 }
 
 impl Story {
@@ -61,7 +67,7 @@ impl Story {
         Story { tables }
     }
 
-    /// How many objects there are: the player, the directions and the rooms.
+    /// How many objects there are: the player, the directions and the author's.
     pub fn object_count(&self) -> usize
         ensures { result ≡ object_count_of self.now }
     {
@@ -99,7 +105,12 @@ impl Story {
     pub fn way(&self, room: ObjNo, direction: Direction) -> Option<ObjNo>
         ensures { result ≡ way_of self.now room (direction_number direction) }
     {
-        let exits = exits_at(self.tables.ways.as_slice(), room.get())?;
+        let exits = exits_at(
+            self.tables.world.kinds.as_slice(),
+            self.tables.objects.as_slice(),
+            self.tables.ways.as_slice(),
+            room.get() as usize,
+        )?;
         let number = direction.number().get();
         if number == 0 {
             return None;

@@ -4,11 +4,11 @@
 
 mod article;
 mod chain_laws;
-mod holders;
 mod declared;
 mod direction;
 mod exits;
 mod fault;
+mod holders;
 mod kind_laws;
 mod kinds;
 mod laws;
@@ -27,11 +27,11 @@ mod text;
 
 pub use article::Article;
 pub use chain_laws::walks_tell_ends;
-pub use holders::have_ends;
 pub use declared::{Declared, Granted, built_in_declared};
 pub use direction::Direction;
 pub use exits::{Exits, Way};
 pub use fault::{Fault, FaultCode};
+pub use holders::have_ends;
 pub use kind_laws::steps_tell_kinds;
 pub use kinds::{
     KINDS, KindNo, KindRow, PROPERTIES, PropertyRow, ROOTS, built_in_parents, is_under,
