@@ -8,11 +8,13 @@ use Rattle.play_meaning.specs.Worlds.{World}
 use Rattle.play_meaning.specs.declared.action.ActionNow.{ActionNow}
 use Rattle.play_meaning.specs.declared.action.Needs.{Needs}
 
--- what is asked when a phrase of a command means several things: of which noun, and which they are
+-- what is asked where a phrase of a command means several things: the nouns that are chosen, those of which one is
+-- meant, and those that the slots behind it may mean
 pub record Question : Type 0 where
-  pub action : ActionNow
-  pub slot : ℕ
+  pub action : ℕ
+  pub chosen : List ℕ
   pub candidates : List ℕ
+  pub others : List (List ℕ)
 
 -- what a line means
 pub data Reading : Type 0 where

@@ -1,60 +1,64 @@
--- Small stories by hand, and what is to be seen of them.
+-- What small stories written by hand are made of, and what is written of them.
 use Rattle.std.specs.Prelude.{◌≡◌, ℕ, ℤ, pos, Bool, true, false, List, [], ◌∷◌, ◌++◌, Option, None, Some, codes, map}
-use Rattle.world_meaning.specs.Directions.{all_directions, direction_name}
-use Rattle.world_meaning.specs.Texts.{said}
+use Rattle.world_meaning.specs.Directions.{all_directions, direction_name, short_word}
 use Rattle.world_meaning.specs.declared.article.Article.{Article}
 use Rattle.world_meaning.specs.declared.article.Article.TheVariants as article
 use Rattle.world_meaning.specs.declared.place.Place.{Place}
-use Rattle.world_meaning.specs.declared.place.Rel.TheVariants.{In}
-use Rattle.play_meaning.specs.Consulting.{instead_book}
-use Rattle.play_meaning.specs.Games.{Acts, Reading}
-use Rattle.play_meaning.specs.Rules.{Anything, Aspect, Exactly, InOrder, OfKind, Rule}
+use Rattle.world_meaning.specs.declared.place.Rel.{Rel}
+use Rattle.world_meaning.specs.declared.place.Rel.TheVariants.{In, On, Carried}
+use Rattle.play_meaning.specs.Rules.{Anything, Aspect, InOrder, Listed, Rule, Unlisted}
 use Rattle.play_meaning.specs.Sketches.{Item, Sketch, game_of_sketch}
-use Rattle.play_meaning.specs.StandardActions.{taking}
-use Rattle.play_meaning.specs.StandardRules.{line}
-use Rattle.play_meaning.specs.Trees.{Body, End, Leave, Say, Then}
+use Rattle.play_meaning.specs.StandardRules.{line, only, standard_rules}
+use Rattle.play_meaning.specs.Trees.{Body, Condition, End, Leave, Phrase, Say, Then}
 use Rattle.play_meaning.specs.Transcripts.{transcript}
-use Rattle.play_meaning.specs.declared.action.ActionNow.{ActionNow}
 use Rattle.play_meaning.specs.declared.outcome.Flow.TheVariants.{NoDecision}
 
+-- ---- objects
+
 abbrev pub item : ℕ → List ℕ → Article → Option Place → List ℕ → Item
-item kind name article place flags = record { kind = kind; name = name; article = article; place = place; flags = flags; description = None }
+item kind name article place flags = record { kind = kind; name = name; article = article; place = place; flags = flags; description = None; words = [] }
 
-abbrev pub inside_of : ℕ → Option Place
-inside_of holder = Some (record { relation = In; holder = holder })
+abbrev pub at : Rel → ℕ → Option Place
+at relation holder = Some (record { relation = relation; holder = holder })
 
--- the player in room 13, the directions, and the hall, which is lighted
-abbrev pub hall_and : List Item → List Item
-hall_and items =
-    item 6 (codes "yourself") article.None (inside_of 13) []
-    ∷ map (λ d. item 2 (direction_name d) article.None None []) all_directions
-    ++ item 1 (codes "Hall") article.A None (4 ∷ []) ∷ items
+abbrev pub player : Item
+player = record { kind = 6; name = codes "yourself"; article = article.None; place = at In 13; flags = []; description = None; words = codes "me" ∷ codes "myself" ∷ codes "self" ∷ [] }
 
-abbrev pub tries : List ℕ → ℕ → Option ℕ → List ℕ × Reading
-tries typed action noun = (typed, Acts (record { action = action; noun = noun; second = None; silent = false }))
+-- the player, who is in number 13, the directions, and these
+abbrev pub among_directions : List Item → List Item
+among_directions items =
+    player ∷ map (λ d. record { kind = 2; name = direction_name d; article = article.None; place = None; flags = []; description = None; words = short_word d ∷ [] }) all_directions ++ items
 
-abbrev pub then_on : List ℕ → Body
-then_on text = Then (Say (line text)) (Then (Leave NoDecision) End)
+-- a room that is lighted
+abbrev pub bright : List ℕ → Item
+bright name = item 1 name article.A None (4 ∷ [])
 
-abbrev pub instead_of_taking : Aspect → Body → Rule
-instead_of_taking noun body = record { book = instead_book; action = Some taking; noun = noun; second = Anything; place = Anything; scene = None; condition = None; body = body; listed = InOrder }
+-- a thing in the first room that is described, of a kind
+abbrev pub here : ℕ → List ℕ → List ℕ → Item
+here kind name flags = item kind name article.A (at In 13) (8 ∷ flags)
 
--- a box in the hall, and three rules instead of taking it, the most general first
-unfoldable pub specific_rules_first : Sketch
-specific_rules_first = record {
-  kinds = [];
-  items = hall_and (item 4 (codes "box") article.A (inside_of 13) (0 ∷ 8 ∷ []) ∷ []);
-  exits = [];
-  variables = [];
-  actions = [];
-  rules =
-    instead_of_taking Anything (then_on (codes "One."))
-    ∷ instead_of_taking (OfKind 4 []) (then_on (codes "Two."))
-    ∷ instead_of_taking (Exactly 14) (then_on (codes "Three."))
-    ∷ [];
-  scenes = [];
-  lines = tries (codes "take box") taking (Some 14) ∷ [];
-}
+-- ---- stories
 
-abbrev pub Plays : Sketch → List (List ℕ) → List ℕ → Type 0
-Plays sketch lines text = transcript (game_of_sketch sketch) true [] lines ≡ text
+abbrev pub with_rules : List Item → List Rule → Sketch
+with_rules items rules = record { kinds = []; items = among_directions items; exits = []; variables = []; actions = []; lines = []; rules = rules; scenes = [] }
+
+abbrev pub in_hall : List Item → List Rule → Sketch
+in_hall items rules = with_rules (bright (codes "Hall") ∷ items) (standard_rules ++ rules)
+
+abbrev pub rule_of : ℕ → Option ℕ → Aspect → Aspect → Option Condition → Body → Rule
+rule_of book action noun place condition body = record { book = book; action = action; noun = noun; second = Anything; place = place; scene = None; condition = condition; body = body; listed = InOrder }
+
+abbrev pub say_and_go_on : List ℕ → Body
+say_and_go_on text = Then (Say (line text)) (only (Leave NoDecision))
+
+abbrev pub says : List ℕ → Body
+says text = only (Say (line text))
+
+-- the same rule, where sentences list it otherwise
+abbrev pub listing : Listed → Rule → Rule
+listing listed rule = record rule { listed = listed }
+
+-- ---- what is written
+
+abbrev pub typed : List (List ℕ) → List ℕ → Sketch → Type 0
+typed lines text sketch = transcript (game_of_sketch sketch) true [] lines ≡ text

@@ -42,10 +42,20 @@ free text question s = record { text = text; kind = Free; state = record s { que
 abbrev pub abandoned : Abandon → State → Answer
 abandoned reason s = record { text = abandon_text reason; kind = Abandoned reason; state = record s { question = None } }
 
+abbrev pub ends_in_break : List ℕ → Bool
+ends_in_break [] = false
+ends_in_break (byte ∷ []) = byte == 10
+ends_in_break (byte ∷ next ∷ more) = ends_in_break (next ∷ more)
+
+-- a text that says anything ends with a line break
+abbrev pub completed : List ℕ → List ℕ
+completed [] = []
+completed (byte ∷ bytes) = if ends_in_break (byte ∷ bytes) then byte ∷ bytes else (byte ∷ bytes) ++ 10 ∷ []
+
 -- where the story ended, a closing line is the last part of the text
 abbrev pub closed : ReplyKind → List World → Progress → Option (List ℕ) → Answer
-closed kind kept p None = record { text = p.text; kind = kind; state = record { world = p.world; kept = kept; question = None; ending = None } }
-closed kind kept p (Some ending) = record { text = p.text ++ closing_text ending; kind = Ended; state = record { world = p.world; kept = kept; question = None; ending = Some Story } }
+closed kind kept p None = record { text = completed p.text; kind = kind; state = record { world = p.world; kept = kept; question = None; ending = None } }
+closed kind kept p (Some ending) = record { text = completed p.text ++ closing_text ending; kind = Ended; state = record { world = p.world; kept = kept; question = None; ending = Some Story } }
 
 -- what play gives, of this kind where the story goes on, with these worlds kept
 abbrev pub played : ReplyKind → List World → State → Attempt Progress → Answer

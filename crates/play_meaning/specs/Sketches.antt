@@ -1,19 +1,22 @@
 -- A story written by hand, to compute examples on: the built-in kinds and properties and those of its own, objects,
 -- rules, and what its lines mean.
-use Rattle.std.specs.Prelude.{ℕ, ◌+◌, zero, suc, ℤ, pos, Bool, true, false, ◌&&◌, ◌==◌, bytes_eq, List, [], ◌∷◌, ◌++◌, length, map, find, is_some, Option, None, Some, option_map, slice_get, slice_index_or, if◌then◌else◌}
+use Rattle.std.specs.Prelude.{ℕ, ◌+◌, zero, suc, ℤ, pos, Bool, true, false, ◌&&◌, ◌==◌, List, [], ◌∷◌, ◌++◌, length, map, find, is_some, Option, None, Some, option_map, slice_get, slice_index_or, if◌then◌else◌}
 use Rattle.std.specs.List.{list_any, range_with_len}
 use Rattle.world_meaning.specs.Kinds.{built_in_parents, is_under, is_under_one}
 use Rattle.world_meaning.specs.Properties.{built_in_properties}
-use Rattle.world_meaning.specs.Texts.{no_verb_text}
+use Rattle.world_meaning.specs.Reading.{words_of}
+use Rattle.world_meaning.specs.Spelling.{lowered}
 use Rattle.world_meaning.specs.declared.article.Article.{Article}
 use Rattle.world_meaning.specs.declared.article.Article.TheVariants as article
 use Rattle.world_meaning.specs.declared.place.Place.{Place}
-use Rattle.play_meaning.specs.Games.{Game, Reading, Says}
+use Rattle.play_meaning.specs.Commands.{read}
+use Rattle.play_meaning.specs.Games.{Game}
+use Rattle.play_meaning.specs.Grammar.{Grammar, Line}
 use Rattle.play_meaning.specs.Rules.{Rule}
 use Rattle.play_meaning.specs.Scripts.{Scene, Script, game_of}
 use Rattle.play_meaning.specs.Settings.{Setting}
 use Rattle.play_meaning.specs.StandardActions.{standard_needs}
-use Rattle.play_meaning.specs.StandardRules.{standard_rules}
+use Rattle.play_meaning.specs.StandardGrammar.{standard_lines}
 use Rattle.play_meaning.specs.Trees.{Text}
 use Rattle.play_meaning.specs.Worlds.{World}
 use Rattle.play_meaning.specs.declared.action.Needs.{Needs}
@@ -27,6 +30,8 @@ pub record Item : Type 0 where
   -- the properties that are true of it as the story begins
   pub flags : List ℕ
   pub description : Option Text
+  -- the words that it goes by besides those of its name
+  pub words : List (List ℕ)
 
 -- a way out of a room
 pub record Exit : Type 0 where
@@ -41,12 +46,12 @@ pub record Sketch : Type 0 where
   pub items : List Item
   pub exits : List Exit
   pub variables : List ℤ
-  -- the author's actions and rules
+  -- the author's actions, and the lines of their commands
   pub actions : List Needs
+  pub lines : List Line
+  -- the standard rules and the author's
   pub rules : List Rule
   pub scenes : List Scene
-  -- what its lines mean
-  pub lines : List (List ℕ × Reading)
 
 abbrev pub parents_of : Sketch → List (Option ℕ)
 parents_of k = built_in_parents ++ k.kinds
@@ -112,12 +117,17 @@ start_of k = record {
 abbrev pub no_needs : Needs
 no_needs = record { noun = Absent; second = Absent; light = false; out_of_world = false }
 
-abbrev pub meaning_of : Option (List ℕ × Reading) → Reading
-meaning_of None = Says no_verb_text
-meaning_of (Some line) = line.1
+-- the words of its name, and those that it goes by besides
+abbrev pub words_in : Option Item → List (List ℕ)
+words_in None = []
+words_in (Some item) = words_of (lowered item.name) ++ item.words
 
-abbrev pub says_line : List ℕ → (List ℕ × Reading) → Bool
-says_line typed line = bytes_eq typed line.0
+unfoldable pub grammar_of : Sketch → Grammar
+grammar_of k = record {
+  setting = setting_of k;
+  words = λ o. words_in (slice_get k.items o);
+  lines = k.lines ++ standard_lines;
+}
 
 unfoldable pub script_of : Sketch → Script
 script_of k = record {
@@ -125,9 +135,9 @@ script_of k = record {
   start = start_of k;
   needs = λ action. slice_index_or (standard_needs ++ k.actions) action no_needs;
   descriptions = λ o. in_item None (λ item. item.description) (slice_get k.items o);
-  rules = standard_rules ++ k.rules;
+  rules = k.rules;
   scenes = k.scenes;
-  reads = λ question sees line. meaning_of (find (says_line line) k.lines);
+  reads = read (grammar_of k);
 }
 
 abbrev pub game_of_sketch : Sketch → Game

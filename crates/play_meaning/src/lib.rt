@@ -8,6 +8,6 @@ mod outcome;
 mod scene;
 
 pub use action::{ActNo, ActionNow, Needs, Slot};
-pub use laws::specific_rules_are_asked_first;
+pub use laws::{rules_decide, rules_stand_in_order};
 pub use outcome::{Flow, Outcome};
 pub use scene::{SceneNo, SceneNow};
