@@ -23,3 +23,45 @@ pub fn rules_decide()
     ensures behind { typed (codes "jump" ∷ codes "look" ∷ []) (codes "Kitchen\n\n>jump\nYou jump on the spot.\n\n>look\nYard\n\n>") left_behind }
     ensures met { typed (codes "jump" ∷ []) (codes "Kitchen\n\n>jump\nCold.\nYou jump on the spot.\n\n>") met_on_the_way }
 {}
+
+/// What an action passes: what it asks of its nouns, taking first, darkness, and actions within actions.
+pub fn actions_pass_their_stages()
+    ensures taken_first { typed (codes "weigh ball with scales" ∷ codes "weigh coin with scales" ∷ codes "take coin" ∷ []) (codes "Hall\nYou can see a ball, a scales and a box here.\n\n>weigh ball with scales\n(first taking the ball)\nWeighed.\n\n>weigh coin with scales\nYou can't reach the coin.\n\n>take coin\nYou can't reach the coin.\n\n>") weighing }
+    ensures dark { typed (codes "x lamp" ∷ codes "open bag" ∷ codes "look" ∷ []) (codes "Darkness\nIt is pitch dark, and you can't see a thing.\n\n>x lamp\nYou can't see any such thing.\n\n>open bag\nYou open the bag.\n\n>look\nCave\n\n>") lamp_in_bag }
+    ensures too_deep { typed (codes "jump" ∷ []) (codes "Hall\n\n>jump\n[The turn was abandoned: nested too deep.]\n\n>") endless_jumping }
+    ensures sixteen { typed (codes "jump" ∷ codes "z" ∷ []) (codes "Hall\n\n>jump\nYou jump on the spot.\n\n>z\n16.\n\n>") sixteen_deep }
+    ensures seventeen { typed (codes "jump" ∷ codes "z" ∷ []) (codes "Hall\n\n>jump\n[The turn was abandoned: nested too deep.]\n\n>z\n0.\n\n>") seventeen_deep }
+    ensures following { typed (codes "jump" ∷ []) (codes "Hall\n\n>jump\n[The turn was abandoned: nested too deep.]\n\n>") endless_following }
+    ensures top { typed (codes "jump" ∷ codes "jump" ∷ codes "z" ∷ []) (codes "Hall\n\n>jump\n1, 2147483647.\n\n>jump\n[The turn was abandoned: number out of range.]\n\n>z\n1, 2147483647.\n\n>") score_at_its_top }
+    ensures condition { typed (codes "take lamp" ∷ codes "take ball" ∷ []) (codes "Hall\nYou can see a ball and a lamp here.\n\n>take lamp\nTaken.\n\n>take ball\n[The turn was abandoned: number out of range.]\n\n>") ball_out_of_range }
+{}
+
+/// What commands mean, and what is asked where they mean several things.
+pub fn commands_are_read()
+    ensures verbs { typed (codes "x table" ∷ codes "take ball" ∷ codes "i" ∷ [] ∷ codes "xyzzy" ∷ codes "take" ∷ codes "take lamp" ∷ []) (codes "Hall\nYou can see a table here.\n\n>x table\nYou see nothing special about the table.\nOn the table is a ball.\n\n>take ball\nTaken.\n\n>i\nYou are carrying a ball.\n\n>\nI beg your pardon?\n\n>xyzzy\nI don't know that verb.\n\n>take\nI didn't understand that sentence.\n\n>take lamp\nYou can't see any such thing.\n\n>") ball_on_table }
+    ensures within { typed (codes "x box" ∷ codes "put box in ball" ∷ []) (codes "Hall\nYou can see a box here.\n\n>x box\nYou see nothing special about the box.\nIn the box is a ball.\n\n>put box in ball\n(first taking the box)\nYou can't put things into the ball.\n\n>") ball_in_box }
+    ensures asked { typed (codes "open box" ∷ codes "red" ∷ codes "open box" ∷ codes "look" ∷ []) (codes "Hall\nYou can see a red box and a blue box here.\n\n>open box\nWhich do you mean, the red box or the blue box?\n\n>red\nYou open the red box.\n\n>open box\nWhich do you mean, the red box or the blue box?\n\n>look\nHall\nYou can see a red box and a blue box here.\n\n>") two_boxes }
+{}
+
+/// Scenes begin and end, a story ends, and nothing follows its end.
+pub fn scenes_and_stories_end()
+    ensures once { typed (codes "z" ∷ codes "z" ∷ codes "z" ∷ []) (codes "Hall\n\n>z\nTime passes.\nThunder.\n\n>z\nTime passes.\nCalm.\n\n>z\nTime passes.\n\n>") one_storm }
+    ensures again { typed (codes "z" ∷ codes "z" ∷ codes "z" ∷ []) (codes "Hall\n\n>z\nTime passes.\nThunder.\n\n>z\nTime passes.\nCalm.\nThunder.\n\n>z\nTime passes.\nCalm.\nThunder.\nCalm.\nThunder.\n\n>") storms }
+    ensures won { typed (codes "jump" ∷ codes "look" ∷ []) (codes "Hall\n\n>jump\n\n*** You have won ***\n") winning }
+    ensures at_once { typed (codes "look" ∷ []) (codes "\n*** The End ***\n") over_at_once }
+{}
+
+/// Undo brings back the world before the last kept turn, eight times; an action out of world and an abandoned turn
+/// are none.
+pub fn turns_are_undone()
+    ensures eight { typed (codes "z" ∷ codes "z" ∷ codes "z" ∷ codes "z" ∷ codes "z" ∷ codes "z" ∷ codes "z" ∷ codes "z" ∷ codes "z" ∷ codes "undo" ∷ codes "undo" ∷ codes "undo" ∷ codes "undo" ∷ codes "undo" ∷ codes "undo" ∷ codes "undo" ∷ codes "undo" ∷ codes "undo" ∷ []) (codes "Hall\n\n>z\nTime passes.\n\n>z\nTime passes.\n\n>z\nTime passes.\n\n>z\nTime passes.\n\n>z\nTime passes.\n\n>z\nTime passes.\n\n>z\nTime passes.\n\n>z\nTime passes.\n\n>z\nTime passes.\n\n>undo\nPrevious turn undone.\n\n>undo\nPrevious turn undone.\n\n>undo\nPrevious turn undone.\n\n>undo\nPrevious turn undone.\n\n>undo\nPrevious turn undone.\n\n>undo\nPrevious turn undone.\n\n>undo\nPrevious turn undone.\n\n>undo\nPrevious turn undone.\n\n>undo\nYou can't undo any further.\n\n>") empty_hall }
+    ensures abandoned { typed (codes "z" ∷ codes "z" ∷ codes "jump" ∷ codes "undo" ∷ codes "undo" ∷ codes "undo" ∷ []) (codes "Hall\n\n>z\nTime passes.\n\n>z\nTime passes.\n\n>jump\n[The turn was abandoned: nested too deep.]\n\n>undo\nPrevious turn undone.\n\n>undo\nPrevious turn undone.\n\n>undo\nYou can't undo any further.\n\n>") endless_jumping }
+    ensures out_of_world { typed (codes "jump" ∷ codes "score" ∷ codes "jump" ∷ codes "undo" ∷ codes "jump" ∷ codes "undo" ∷ codes "undo" ∷ codes "jump" ∷ []) (codes "Hall\n\n>jump\n0.\n\n>score\n\n>jump\n1.\n\n>undo\nPrevious turn undone.\n\n>jump\n1.\n\n>undo\nPrevious turn undone.\n\n>undo\nPrevious turn undone.\n\n>jump\n0.\n\n>") scoring }
+{}
+
+/// What texts say: sums, choices and quotes; a number out of range abandons the turn.
+pub fn texts_are_said()
+    ensures choices { typed (codes "z" ∷ []) (codes "Hall\n\n>z\nTime passes.\n2, zero.\n\n>") sums_and_choices }
+    ensures range { typed (codes "z" ∷ []) (codes "Hall\n\n>z\n[The turn was abandoned: number out of range.]\n\n>") past_the_top }
+    ensures quotes { typed (codes "z" ∷ []) (codes "Hall\n\n>z\nTime passes.\n\"Isn't it?\" 'x'\n\n>") without_stop }
+{}

@@ -8,6 +8,9 @@ mod outcome;
 mod scene;
 
 pub use action::{ActNo, ActionNow, Needs, Slot};
-pub use laws::{rules_decide, rules_stand_in_order};
+pub use laws::{
+    actions_pass_their_stages, commands_are_read, rules_decide, rules_stand_in_order, scenes_and_stories_end,
+    texts_are_said, turns_are_undone,
+};
 pub use outcome::{Flow, Outcome};
 pub use scene::{SceneNo, SceneNow};
