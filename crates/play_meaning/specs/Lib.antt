@@ -1,4 +1,5 @@
 pub mod Acting
+pub mod Agreement
 pub mod ActionRows
 pub mod Changes
 pub mod Commands

@@ -1,5 +1,5 @@
 -- A line and what it gives, and a session: the opening, and the answers to lines one behind the other.
-use Rattle.std.specs.Prelude.{ℕ, ◌==◌, Bool, true, false, List, [], ◌∷◌, ◌++◌, take, Option, None, Some, Ok, Err, codes, if◌then◌else◌}
+use Rattle.std.specs.Prelude.{◌≡◌, ℕ, ◌==◌, Bool, true, false, List, [], ◌∷◌, ◌++◌, take, Option, None, Some, Ok, Err, codes, if◌then◌else◌}
 use Rattle.world_meaning.specs.Progress.{Attempt}
 use Rattle.world_meaning.specs.Session.{abandon_text, refuses}
 use Rattle.world_meaning.specs.Texts.{closing_text, prompt, said}
@@ -87,6 +87,10 @@ unless_ended (Some ending) s answer = record { text = []; kind = Over; state = s
 -- what a line gives
 unfoldable pub answer_of : Game → Option ℕ → State → List ℕ → Answer
 answer_of g refused s line = unless_ended s.ending s (read_answer g refused s (g.reads s.question (is_visible g.telling.setting s.world) line))
+
+-- in a state a line means that a turn is to be undone
+abbrev pub MeansUndo : Game → State → List ℕ → Type 0
+MeansUndo g s line = g.reads s.question (is_visible g.telling.setting s.world) line ≡ Undo
 
 -- the story begins; an abandoned opening leaves the start world
 unfoldable pub opened : Game → Answer

@@ -3,11 +3,15 @@
 #![tactic(auto)]
 
 mod action;
+mod game_laws;
 mod laws;
 mod outcome;
 mod scene;
 
 pub use action::{ActNo, ActionNow, Needs, Slot};
+pub use game_laws::{
+    abandoned_lines_change_nothing, agreeing_games_are_one, decisions_end_consultations, undo_brings_back_the_world,
+};
 pub use laws::{
     actions_pass_their_stages, commands_are_read, rules_decide, rules_stand_in_order, scenes_and_stories_end,
     texts_are_said, turns_are_undone,
