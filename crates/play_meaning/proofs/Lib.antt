@@ -1,3 +1,4 @@
 pub mod Agreement
 pub mod Consultations
 pub mod Lines
+pub mod Ordering

@@ -1,10 +1,11 @@
 -- The order of a rulebook: those listed first, the latest sentence in front; then the more specific rules before the
 -- less; then those listed last.
-use Rattle.std.specs.Prelude.{ℕ, ◌+◌, ◌*◌, ℤ, pos, neg_ℤ, Bool, true, false, ◌&&◌, ◌==◌, List, [], ◌∷◌, length, filter, Option, None, Some, slice_get, if◌then◌else◌}
-use Rattle.std.specs.List.{range_with_len}
+use Rattle.std.specs.Prelude.{◌≡◌, ⊤, ℕ, ◌+◌, ◌*◌, ℤ, pos, neg_ℤ, Bool, true, false, ◌&&◌, ◌==◌, List, [], ◌∷◌, length, Option, None, Some, slice_get, if◌then◌else◌}
+use Rattle.std.specs.Cmp.Lexicographic.{slice_cmp}
+use Rattle.std.specs.List.{AllByRecursion}
+use Rattle.std.specs.Ordering.{int_cmp, is_lt}
 use Rattle.play_meaning.specs.Rules.{Aspect, Anything, Exactly, InOrder, Listed, ListedFirst, ListedLast, OfKind, Rule, Unlisted}
 use Rattle.play_meaning.specs.Settings.{Setting}
-use Rattle.play_meaning.specs.Truth.{is_equal, is_less}
 
 -- ---- how specific a rule is
 
@@ -40,12 +41,6 @@ key_by s number rule Unlisted = []
 abbrev pub key_of : Setting → ℕ → Rule → List ℤ
 key_of s number rule = key_by s number rule rule.listed
 
-abbrev pub comes_before : List ℤ → List ℤ → Bool
-comes_before [] [] = false
-comes_before [] (b ∷ bs) = true
-comes_before (a ∷ more) [] = false
-comes_before (a ∷ more) (b ∷ bs) = if is_equal a b then comes_before more bs else is_less a b
-
 -- ---- a book
 
 abbrev pub is_listed : Listed → Bool
@@ -65,8 +60,9 @@ abbrev pub key_in : Setting → List Rule → ℕ → List ℤ
 key_in s rules number = key_at s number (slice_get rules number)
 
 abbrev pub is_before : Setting → List Rule → ℕ → ℕ → Bool
-is_before s rules a b = comes_before (key_in s rules a) (key_in s rules b)
+is_before s rules a b = is_lt (slice_cmp int_cmp (key_in s rules a) (key_in s rules b))
 
+-- a rule's place is behind those that it isn't before
 abbrev pub put_in : (ℕ → ℕ → Bool) → ℕ → List ℕ → List ℕ
 put_in is_before n [] = n ∷ []
 put_in is_before n (m ∷ ms) = if is_before n m then n ∷ m ∷ ms else m ∷ put_in is_before n ms
@@ -75,6 +71,23 @@ abbrev pub sorted : (ℕ → ℕ → Bool) → List ℕ → List ℕ
 sorted is_before [] = []
 sorted is_before (n ∷ ns) = put_in is_before n (sorted is_before ns)
 
--- the rules of a book, by their numbers, in its order: exactly its listed rules, their keys rising
+-- the numbers of a book's listed rules, the first of these rules having this number
+abbrev pub listed_from : ℕ → ℕ → List Rule → List ℕ
+listed_from book n [] = []
+listed_from book n (rule ∷ rules) = if is_of_book book (Some rule) then n ∷ listed_from book (n + 1) rules else listed_from book (n + 1) rules
+
+-- the rules of a book, by their numbers, in its order
 unfoldable pub book_of : Setting → List Rule → ℕ → List ℕ
-book_of s rules book = sorted (is_before s rules) (filter (λ n. is_of_book book (slice_get rules n)) (range_with_len 0 (length rules)))
+book_of s rules book = sorted (is_before s rules) (listed_from book 0 rules)
+
+-- ---- what an order is
+
+-- how often a number stands in a list
+abbrev pub times : ℕ → List ℕ → ℕ
+times k [] = 0
+times k (n ∷ ns) = (if n == k then 1 else 0) + times k ns
+
+-- none is before one that stands in front of it
+abbrev pub Rises : (ℕ → ℕ → Bool) → List ℕ → Type 0
+Rises is_before [] = ⊤
+Rises is_before (n ∷ ns) = AllByRecursion (λ m. is_before m n ≡ false) ns × Rises is_before ns

@@ -1,7 +1,8 @@
 -- Whether a condition holds, in a world, an action and the open repeats. All its parts are looked at, from left to
 -- right. Of nothing every condition is false in front of a `not`, but that nothing is nothing.
-use Rattle.std.specs.Prelude.{ℕ, ℤ, pos, negsuc, nat_lt, Bool, true, false, not, ◌&&◌, ◌||◌, ◌==◌, List, Option, None, Some, Ok}
+use Rattle.std.specs.Prelude.{ℕ, ℤ, int_le, int_lt, Bool, false, not, ◌&&◌, ◌||◌, List, Option, None, Some, Ok}
 use Rattle.std.specs.List.{list_any}
+use Rattle.std.specs.Ordering.{int_eq}
 use Rattle.world_meaning.specs.declared.place.Place.{Place}
 use Rattle.world_meaning.specs.declared.place.Rel.{Rel}
 use Rattle.world_meaning.specs.declared.place.Rel.TheVariants.{Carried, Worn}
@@ -18,18 +19,6 @@ of_some (Some o) holds = holds o
 
 abbrev pub of_both : Option ℕ → Option ℕ → (ℕ → ℕ → Bool) → Bool
 of_both a b holds = of_some a (λ m. of_some b (λ n. holds m n))
-
-abbrev pub is_equal : ℤ → ℤ → Bool
-is_equal (pos m) (pos n) = m == n
-is_equal (pos m) (negsuc n) = false
-is_equal (negsuc m) (pos n) = false
-is_equal (negsuc m) (negsuc n) = m == n
-
-abbrev pub is_less : ℤ → ℤ → Bool
-is_less (pos m) (pos n) = nat_lt m n
-is_less (pos m) (negsuc n) = false
-is_less (negsuc m) (pos n) = true
-is_less (negsuc m) (negsuc n) = nat_lt n m
 
 abbrev pub compared : Attempt ℤ → Attempt ℤ → (ℤ → ℤ → Bool) → Attempt Bool
 compared a b is_so = next a (λ m. next b (λ n. Ok (is_so m n)))
@@ -50,9 +39,9 @@ truth_in s scope w (IsHeldByOne o relation description) = Ok (of_some (object_in
 truth_in s scope w (Has holder o) = Ok (of_both (object_in s scope w holder) (object_in s scope w o) (has_thing w))
 truth_in s scope w (Encloses holder o) = Ok (of_both (object_in s scope w holder) (object_in s scope w o) (encloses w))
 truth_in s scope w (HasDescription o) = Ok (of_some (object_in s scope w o) s.has_description)
-truth_in s scope w (Equals a b) = compared (number_in s scope w a) (number_in s scope w b) is_equal
-truth_in s scope w (IsLess a b) = compared (number_in s scope w a) (number_in s scope w b) is_less
-truth_in s scope w (IsAtMost a b) = compared (number_in s scope w a) (number_in s scope w b) (λ m n. not (is_less n m))
+truth_in s scope w (Equals a b) = compared (number_in s scope w a) (number_in s scope w b) int_eq
+truth_in s scope w (IsLess a b) = compared (number_in s scope w a) (number_in s scope w b) int_lt
+truth_in s scope w (IsAtMost a b) = compared (number_in s scope w a) (number_in s scope w b) int_le
 truth_in s scope w (Happens scene) = Ok (scene_of w scene).happens
 truth_in s scope w InDarkness = Ok (not (has_light s w))
 truth_in s scope w (Not a) = next (truth_in s scope w a) (λ x. Ok (not x))

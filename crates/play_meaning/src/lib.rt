@@ -5,6 +5,7 @@
 mod action;
 mod game_laws;
 mod laws;
+mod order_laws;
 mod outcome;
 mod scene;
 
@@ -16,5 +17,6 @@ pub use laws::{
     actions_pass_their_stages, commands_are_read, rules_decide, rules_stand_in_order, scenes_and_stories_end,
     texts_are_said, turns_are_undone,
 };
+pub use order_laws::rulebooks_are_in_order;
 pub use outcome::{Flow, Outcome};
 pub use scene::{SceneNo, SceneNow};
