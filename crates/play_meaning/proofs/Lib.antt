@@ -2,3 +2,4 @@ pub mod Agreement
 pub mod Consultations
 pub mod Lines
 pub mod Ordering
+pub mod Work

@@ -8,6 +8,7 @@ mod laws;
 mod order_laws;
 mod outcome;
 mod scene;
+mod work_laws;
 
 pub use action::{ActNo, ActionNow, Needs, Slot};
 pub use game_laws::{
@@ -20,3 +21,4 @@ pub use laws::{
 pub use order_laws::rulebooks_are_in_order;
 pub use outcome::{Flow, Outcome};
 pub use scene::{SceneNo, SceneNow};
+pub use work_laws::work_is_bounded;
