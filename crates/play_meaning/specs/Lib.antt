@@ -1,6 +1,6 @@
 pub mod Acting
-pub mod Agreement
 pub mod ActionRows
+pub mod Agreement
 pub mod Changes
 pub mod Commands
 pub mod Consulting
@@ -27,4 +27,5 @@ pub mod Trees
 pub mod Truth
 pub mod Turns
 pub mod Values
+pub mod WorldRows
 pub mod Worlds

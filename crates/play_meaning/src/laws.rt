@@ -3,6 +3,7 @@ ghost use Rattle.play_meaning.specs.ActionRows.{ball_in_box, ball_on_table, ball
 ghost use Rattle.play_meaning.specs.Rows.{typed};
 ghost use Rattle.play_meaning.specs.RuleRows.{closed_box, got_it, got_it_and_goes_on, left_behind, listed_first, met_on_the_way, open_box, scenery_goes, scenery_stays, three_rules, unlisted};
 ghost use Rattle.play_meaning.specs.SessionRows.{empty_hall, one_storm, over_at_once, past_the_top, scoring, storms, sums_and_choices, winning, without_stop};
+ghost use Rattle.play_meaning.specs.WorldRows.{bulb_of_closed_box, closed_gate, dark_cave, hall_and_garden, jar_in_tank, lamp_here, lamp_in_closed_box, lamp_in_jar, lamp_of_bob, many_things, open_box_in_closed_sack};
 ghost use Rattle.std.specs.Prelude.{[], ◌∷◌, codes};
 
 /// The more specific rule is asked first, but for rules that are listed first; an unlisted one is not asked.
@@ -64,4 +65,31 @@ pub fn texts_are_said()
     ensures choices { typed (codes "z" ∷ []) (codes "Hall\n\n>z\nTime passes.\n2, zero.\n\n>") sums_and_choices }
     ensures range { typed (codes "z" ∷ []) (codes "Hall\n\n>z\n[The turn was abandoned: number out of range.]\n\n>") past_the_top }
     ensures quotes { typed (codes "z" ∷ []) (codes "Hall\n\n>z\nTime passes.\n\"Isn't it?\" 'x'\n\n>") without_stop }
+{}
+
+/// Ways lead from room to room, and a closed door lets nobody through.
+pub fn ways_and_doors_are_gone_through()
+    ensures rooms { typed (codes "n" ∷ codes "look" ∷ codes "s" ∷ []) (codes "Hall\nA bare hall.\n\n>n\nGarden\n\n>look\nGarden\n\n>s\nHall\nA bare hall.\n\n>") hall_and_garden }
+    ensures nowhere { typed (codes "e" ∷ codes "go lamp" ∷ codes "go" ∷ codes "xyzzy" ∷ [] ∷ codes "quit" ∷ []) (codes "Hall\nA bare hall.\n\n>e\nYou can't go that way.\n\n>go lamp\nYou can't see any such thing.\n\n>go\nI didn't understand that sentence.\n\n>xyzzy\nI don't know that verb.\n\n>\nI beg your pardon?\n\n>quit\n") hall_and_garden }
+    ensures closed { typed (codes "n" ∷ []) (codes "Hall\nYou can see a ball here.\n\n>n\nThe gate is closed.\n\n>") closed_gate }
+    ensures opened { typed (codes "open gate" ∷ codes "n" ∷ codes "s" ∷ codes "take knob" ∷ []) (codes "Hall\nYou can see a ball here.\n\n>open gate\nYou open the gate.\n\n>n\nYard\n\n>s\nHall\nYou can see a ball here.\n\n>take knob\nYou can't see any such thing.\n\n>") closed_gate }
+{}
+
+/// Where light comes from, and what it shows.
+pub fn light_shows_things()
+    ensures dark { typed (codes "look" ∷ []) (codes "Darkness\nIt is pitch dark, and you can't see a thing.\n\n>look\nDarkness\nIt is pitch dark, and you can't see a thing.\n\n>") dark_cave }
+    ensures lamp { typed [] (codes "Cave\nYou can see a lamp here.\n\n>") lamp_here }
+    ensures closed { typed [] (codes "Darkness\nIt is pitch dark, and you can't see a thing.\n\n>") lamp_in_closed_box }
+    ensures glass { typed [] (codes "Cave\nYou can see a jar here.\n\n>") lamp_in_jar }
+    ensures within_closed { typed [] (codes "Darkness\nIt is pitch dark, and you can't see a thing.\n\n>") open_box_in_closed_sack }
+    ensures within_glass { typed [] (codes "Cave\nYou can see a tank here.\n\n>") jar_in_tank }
+    ensures part { typed [] (codes "Cave\nYou can see a box here.\n\n>") bulb_of_closed_box }
+    ensures carried { typed [] (codes "Cave\nYou can see Bob here.\n\n>") lamp_of_bob }
+{}
+
+/// What the player does with things.
+pub fn things_are_handled()
+    ensures worn { typed (codes "wear hat" ∷ codes "i" ∷ codes "take off hat" ∷ codes "put hat on table" ∷ codes "x table" ∷ []) (codes "Hall\nYou can see a hat, a table, a box, a ball, a lamp and some sand here.\n\n>wear hat\n(first taking the hat)\nYou put on the hat.\n\n>i\nYou are carrying nothing.\nYou are wearing a hat.\n\n>take off hat\nYou take off the hat.\n\n>put hat on table\nYou put the hat on the table.\n\n>x table\nYou see nothing special about the table.\nOn the table is a hat.\n\n>") many_things }
+    ensures put { typed (codes "insert ball into box" ∷ codes "drop ball" ∷ codes "open box" ∷ codes "take table" ∷ codes "take me" ∷ []) (codes "Hall\nYou can see a hat, a table, a box, a ball, a lamp and some sand here.\n\n>insert ball into box\n(first taking the ball)\nYou put the ball into the box.\n\n>drop ball\nYou don't have that.\n\n>open box\nYou can't open that.\n\n>take table\nThat is fixed in place.\n\n>take me\nYou can't take yourself.\n\n>") many_things }
+    ensures switched { typed (codes "switch on lamp" ∷ codes "x lamp" ∷ codes "turn off lamp" ∷ codes "turn off lamp" ∷ codes "drop sand" ∷ []) (codes "Hall\nYou can see a hat, a table, a box, a ball, a lamp and some sand here.\n\n>switch on lamp\nYou switch the lamp on.\n\n>x lamp\nYou see nothing special about the lamp.\nThe lamp is switched on.\n\n>turn off lamp\nYou switch the lamp off.\n\n>turn off lamp\nThat is already off.\n\n>drop sand\nYou don't have that.\n\n>") many_things }
 {}
