@@ -2,4 +2,5 @@ pub mod Agreement
 pub mod Consultations
 pub mod Lines
 pub mod Ordering
+pub mod Seen
 pub mod Work

@@ -19,6 +19,7 @@ pub mod SessionRows
 pub mod Sessions
 pub mod Settings
 pub mod Sketches
+pub mod Soundness
 pub mod StandardActions
 pub mod StandardGrammar
 pub mod StandardRules

@@ -8,6 +8,7 @@ mod laws;
 mod order_laws;
 mod outcome;
 mod scene;
+mod sight_laws;
 mod work_laws;
 
 pub use action::{ActNo, ActionNow, Needs, Slot};
@@ -21,4 +22,5 @@ pub use laws::{
 pub use order_laws::rulebooks_are_in_order;
 pub use outcome::{Flow, Outcome};
 pub use scene::{SceneNo, SceneNow};
+pub use sight_laws::sight_is_by_chains;
 pub use work_laws::work_is_bounded;
