@@ -8,6 +8,7 @@ pub mod Doing
 pub mod Games
 pub mod Grammar
 pub mod Order
+pub mod PhraseRows
 pub mod Progress
 pub mod Rows
 pub mod RuleRows

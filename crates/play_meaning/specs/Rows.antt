@@ -40,7 +40,7 @@ here kind name flags = item kind name article.A (at In 13) (8 ∷ flags)
 -- ---- stories
 
 abbrev pub with_rules : List Item → List Rule → Sketch
-with_rules items rules = record { kinds = []; items = among_directions items; exits = []; variables = []; actions = []; lines = []; rules = rules; scenes = [] }
+with_rules items rules = record { kinds = []; items = among_directions items; exits = []; variables = []; numbers = []; actions = []; lines = []; rules = rules; scenes = [] }
 
 abbrev pub in_hall : List Item → List Rule → Sketch
 in_hall items rules = with_rules (bright (codes "Hall") ∷ items) (standard_rules ++ rules)

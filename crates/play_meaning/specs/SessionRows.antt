@@ -9,7 +9,6 @@ use Rattle.play_meaning.specs.Sketches.{Sketch}
 use Rattle.play_meaning.specs.StandardActions.{jumping}
 use Rattle.play_meaning.specs.StandardRules.{line, only, plain}
 use Rattle.play_meaning.specs.Trees.{Body, Bytes, Condition, End, EndStory, Equals, Figure, IfSaid, IsAtMost, Literal, NowVariable, Number, Plus, Say, Text, Then, Variable}
-use Rattle.play_meaning.specs.Turns.{begins_book, ends_book}
 use Rattle.play_meaning.specs.declared.action.Needs.{Needs}
 use Rattle.play_meaning.specs.declared.action.Slot.TheVariants.{Absent}
 
@@ -29,7 +28,7 @@ is_at_least n = IsAtMost (Literal (pos n)) score
 -- a storm that begins with a score of 1 and ends with 2
 abbrev pub storm : Bool → Sketch
 storm recurs = record (with_score 0
-    (rule_in every_turn_book (one_more 0 End) ∷ rule_in (begins_book 0) (says (codes "Thunder.")) ∷ rule_in (ends_book 0) (says (codes "Calm.")) ∷ [])) {
+    (rule_in every_turn_book (one_more 0 End) ∷ rule_in 8 (says (codes "Thunder.")) ∷ rule_in 9 (says (codes "Calm.")) ∷ [])) {
   scenes = record { recurs = recurs; begins = Some (is_at_least 1); ends = Some (is_at_least 2) } ∷ [];
 }
 

@@ -49,6 +49,9 @@ person_kind = 6
 abbrev pub device_kind : ℕ
 device_kind = 7
 
+abbrev pub man_kind : ℕ
+man_kind = 8
+
 -- ---- the numbers of the built-in properties
 
 abbrev pub open_flag : ℕ

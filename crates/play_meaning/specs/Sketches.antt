@@ -46,6 +46,8 @@ pub record Sketch : Type 0 where
   pub items : List Item
   pub exits : List Exit
   pub variables : List ℤ
+  -- the kinds that have each number property: each object's is 0 as the story begins
+  pub numbers : List (List ℕ)
   -- the author's actions, and the lines of their commands
   pub actions : List Needs
   pub lines : List Line
@@ -94,7 +96,7 @@ setting_of k = record {
   is_of = λ o kind. in_item false (λ item. is_under (parents_of k) item.kind kind) (slice_get k.items o);
   depth = depth_of (parents_of k) 100;
   has_flag = λ o property. in_item false (λ item. is_under_one (parents_of k) (property_kinds property) item.kind) (slice_get k.items o);
-  has_number = λ o property. false;
+  has_number = λ o property. in_item false (λ item. is_under_one (parents_of k) (slice_index_or k.numbers property []) item.kind) (slice_get k.items o);
   room_beyond = λ room direction. option_map (λ exit. exit.to) (exit_at k room direction);
   door_beyond = λ room direction. door_in (exit_at k room direction);
   has_description = λ o. in_item false (λ item. is_some item.description) (slice_get k.items o);
@@ -107,7 +109,7 @@ unfoldable pub start_of : Sketch → World
 start_of k = record {
   places = map (λ item. item.place) k.items;
   flags = map (λ property. map (has_flag property) k.items) (range_with_len 0 (length built_in_properties));
-  numbers = [];
+  numbers = map (λ kinds. map (λ item. pos 0) k.items) k.numbers;
   variables = k.variables;
   scenes = map (λ scene. record { happens = false; has_begun = false }) k.scenes;
   turns = 1;

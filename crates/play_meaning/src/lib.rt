@@ -7,6 +7,7 @@ mod game_laws;
 mod laws;
 mod order_laws;
 mod outcome;
+mod phrase_laws;
 mod scene;
 mod sight_laws;
 mod work_laws;
@@ -21,6 +22,9 @@ pub use laws::{
 };
 pub use order_laws::rulebooks_are_in_order;
 pub use outcome::{Flow, Outcome};
+pub use phrase_laws::{
+    bodies_are_done, conditions_hold, names_and_numbers_are_said, phrases_change_the_world,
+};
 pub use scene::{SceneNo, SceneNow};
 pub use sight_laws::sight_is_by_chains;
 pub use work_laws::work_is_bounded;
