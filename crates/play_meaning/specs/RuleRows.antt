@@ -3,8 +3,8 @@ use Rattle.std.specs.Prelude.{ℕ, pos, List, [], ◌∷◌, ◌++◌, length, O
 use Rattle.world_meaning.specs.declared.place.Rel.TheVariants.{In}
 use Rattle.play_meaning.specs.Consulting.{after_book, before_book, instead_book}
 use Rattle.play_meaning.specs.Rows.{bright, here, in_hall, listing, rule_of, say_and_go_on, says, with_rules}
-use Rattle.play_meaning.specs.Rules.{Anything, Aspect, Exactly, InOrder, Listed, ListedFirst, OfKind, Rule, Unlisted}
-use Rattle.play_meaning.specs.Settings.{container_kind, open_flag, openable_flag, scenery_flag, thing_kind}
+use Rattle.play_meaning.specs.Rules.{Anything, Aspect, Exactly, InOrder, Listed, ListedFirst, ListedLast, OfKind, Rule, Unlisted}
+use Rattle.play_meaning.specs.Settings.{container_kind, open_flag, openable_flag, room_kind, scenery_flag, thing_kind}
 use Rattle.play_meaning.specs.Sketches.{Item, Sketch}
 use Rattle.play_meaning.specs.StandardActions.{jumping, taking}
 use Rattle.play_meaning.specs.StandardRules.{only, standard_rules}
@@ -85,3 +85,19 @@ left_behind = kitchen_and_yard (before_jumping 13 to_the_yard ∷ before_jumping
 
 unfoldable pub met_on_the_way : Sketch
 met_on_the_way = kitchen_and_yard (before_jumping 13 to_the_yard ∷ before_jumping 14 (says (codes "Cold.")) ∷ [])
+
+-- rules of as many aspects, the less particular first, and three that are listed
+abbrev pub in_place : Aspect → Aspect → List ℕ → Rule
+in_place noun place text = rule_of instead_book (Some taking) noun place None (say_and_go_on text)
+
+unfoldable pub graded : Sketch
+graded = in_hall (here container_kind (codes "box") (open_flag ∷ []) ∷ [])
+    (listing (ListedLast 2) (in_place (Exactly 14) (Exactly 13) (codes "last."))
+    ∷ listing (ListedLast 1) (in_place (Exactly 14) (Exactly 13) (codes "last but one."))
+    ∷ in_place (OfKind thing_kind []) (OfKind room_kind []) (codes "thing.")
+    ∷ in_place (OfKind container_kind []) (OfKind room_kind []) (codes "container.")
+    ∷ in_place (OfKind container_kind (Quality open_flag First ∷ [])) (OfKind room_kind []) (codes "open container.")
+    ∷ in_place (OfKind container_kind (Quality open_flag First ∷ [])) (Exactly 13) (codes "here.")
+    ∷ in_place (Exactly 14) (OfKind room_kind []) (codes "box.")
+    ∷ listing (ListedFirst 3) (in_place Anything Anything (codes "first."))
+    ∷ [])

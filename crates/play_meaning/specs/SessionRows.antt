@@ -25,18 +25,22 @@ rule_in book body = rule_of book None Anything Anything None body
 abbrev pub is_at_least : ℕ → Condition
 is_at_least n = IsAtMost (Literal (pos n)) score
 
--- a storm that begins with a score of 1 and ends with 2
-abbrev pub storm : Bool → Sketch
-storm recurs = record (with_score 0
-    (rule_in every_turn_book (one_more 0 End) ∷ rule_in 8 (says (codes "Thunder.")) ∷ rule_in 9 (says (codes "Calm.")) ∷ [])) {
+-- a storm that begins with a score of 1 and ends with 2, and these rules
+abbrev pub storm_and : Bool → List Rule → Sketch
+storm_and recurs rules = record (with_score 0
+    (rule_in every_turn_book (one_more 0 End) ∷ rule_in 8 (says (codes "Thunder.")) ∷ rule_in 9 (says (codes "Calm.")) ∷ rules)) {
   scenes = record { recurs = recurs; begins = Some (is_at_least 1); ends = Some (is_at_least 2) } ∷ [];
 }
 
 unfoldable pub one_storm : Sketch
-one_storm = storm false
+one_storm = storm_and false []
 
 unfoldable pub storms : Sketch
-storms = storm true
+storms = storm_and true []
+
+-- instead of jumping during the storm
+unfoldable pub wet_jumping : Sketch
+wet_jumping = storm_and false (record (rule_of instead_book (Some jumping) Anything Anything None (says (codes "Wet."))) { scene = Some 0 } ∷ [])
 
 unfoldable pub winning : Sketch
 winning = in_hall [] (rule_of instead_book (Some jumping) Anything Anything None (only (EndStory (codes "You have won"))) ∷ [])

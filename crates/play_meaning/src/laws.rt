@@ -1,8 +1,8 @@
 //! The definitions, computed on small stories written by hand: each clause is the transcript of one session.
 ghost use Rattle.play_meaning.specs.ActionRows.{ball_in_box, ball_on_table, ball_out_of_range, endless_following, endless_jumping, lamp_in_bag, score_at_its_top, seventeen_deep, sixteen_deep, two_boxes, weighing};
 ghost use Rattle.play_meaning.specs.Rows.{typed};
-ghost use Rattle.play_meaning.specs.RuleRows.{closed_box, got_it, got_it_and_goes_on, left_behind, listed_first, met_on_the_way, open_box, scenery_goes, scenery_stays, three_rules, unlisted};
-ghost use Rattle.play_meaning.specs.SessionRows.{empty_hall, one_storm, over_at_once, past_the_top, scoring, storms, sums_and_choices, winning, without_stop};
+ghost use Rattle.play_meaning.specs.RuleRows.{closed_box, got_it, got_it_and_goes_on, graded, left_behind, listed_first, met_on_the_way, open_box, scenery_goes, scenery_stays, three_rules, unlisted};
+ghost use Rattle.play_meaning.specs.SessionRows.{empty_hall, one_storm, over_at_once, past_the_top, scoring, storms, sums_and_choices, wet_jumping, winning, without_stop};
 ghost use Rattle.play_meaning.specs.WorldRows.{bulb_of_closed_box, closed_gate, dark_cave, hall_and_garden, jar_in_tank, lamp_here, lamp_in_closed_box, lamp_in_jar, lamp_of_bob, many_things, open_box_in_closed_sack};
 ghost use Rattle.std.specs.Prelude.{[], ◌∷◌, codes};
 
@@ -13,6 +13,7 @@ pub fn rules_stand_in_order()
     ensures opened { typed (codes "take box" ∷ []) (codes "ash.\nHall\nYou can see a box here.\n\n>take box\noak.\nelm.\nfir.\ncedar.\nbirch.\nash.\nTaken.\n\n>") open_box }
     ensures listed { typed (codes "take box" ∷ []) (codes "ash.\nHall\nYou can see a box here.\n\n>take box\nash.\ncedar.\noak.\nelm.\nfir.\nbirch.\nTaken.\n\n>") listed_first }
     ensures unlisted { typed (codes "take box" ∷ []) (codes "Hall\nYou can see a box here.\n\n>take box\ncedar.\noak.\nelm.\nfir.\nbirch.\nTaken.\n\n>") unlisted }
+    ensures graded { typed (codes "take box" ∷ []) (codes "Hall\nYou can see a box here.\n\n>take box\nfirst.\nbox.\nhere.\nopen container.\ncontainer.\nthing.\nlast but one.\nlast.\nTaken.\n\n>") graded }
     ensures stays { typed (codes "take statue" ∷ []) (codes "Hall\n\n>take statue\nThat is hardly portable.\n\n>") scenery_stays }
     ensures goes { typed (codes "take statue" ∷ []) (codes "Hall\n\n>take statue\nTaken.\n\n>") scenery_goes }
 {}
@@ -48,6 +49,7 @@ pub fn commands_are_read()
 pub fn scenes_and_stories_end()
     ensures once { typed (codes "z" ∷ codes "z" ∷ codes "z" ∷ []) (codes "Hall\n\n>z\nTime passes.\nThunder.\n\n>z\nTime passes.\nCalm.\n\n>z\nTime passes.\n\n>") one_storm }
     ensures again { typed (codes "z" ∷ codes "z" ∷ codes "z" ∷ []) (codes "Hall\n\n>z\nTime passes.\nThunder.\n\n>z\nTime passes.\nCalm.\nThunder.\n\n>z\nTime passes.\nCalm.\nThunder.\nCalm.\nThunder.\n\n>") storms }
+    ensures during { typed (codes "jump" ∷ codes "jump" ∷ codes "jump" ∷ []) (codes "Hall\n\n>jump\nYou jump on the spot.\nThunder.\n\n>jump\nWet.\nCalm.\n\n>jump\nYou jump on the spot.\n\n>") wet_jumping }
     ensures won { typed (codes "jump" ∷ codes "look" ∷ []) (codes "Hall\n\n>jump\n\n*** You have won ***\n") winning }
     ensures at_once { typed (codes "look" ∷ []) (codes "\n*** The End ***\n") over_at_once }
 {}
