@@ -10,7 +10,7 @@ use Rattle.play_meaning.specs.Settings.{container_kind, described_flag, lit_flag
 use Rattle.play_meaning.specs.Sketches.{Sketch}
 use Rattle.play_meaning.specs.StandardActions.{asking, jumping, taking, waiting}
 use Rattle.play_meaning.specs.StandardRules.{line, only, standard_rules}
-use Rattle.play_meaning.specs.Trees.{Body, Bytes, Figure, Follow, IsAtMost, IsLess, Literal, Nothing, NowVariable, Plus, Say, Then, Try, Variable}
+use Rattle.play_meaning.specs.Trees.{Body, Bytes, Figure, Follow, IsAtMost, IsLess, Literal, Nothing, NowVariable, Plus, Say, The, Then, Try, Variable}
 use Rattle.play_meaning.specs.declared.action.Slot.TheVariants.{Carried as Held, Touched}
 
 -- a ball, scales, and a coin in a closed box of glass; weighing wants its first noun carried and its second touched
@@ -86,3 +86,8 @@ ball_out_of_range = record (in_hall (here thing_kind (codes "ball") [] ∷ here 
     (rule_of instead_book (Some taking) (Exactly 14) Anything (Some (IsAtMost (Literal (pos 1)) (Plus (Variable 0) (Literal (pos 1))))) (says (codes "No.")) ∷ [])) {
   variables = pos 2147483647 ∷ [];
 }
+
+-- jumping tries to take a coin in a closed box, which isn't seen
+unfoldable pub coin_out_of_sight : Sketch
+coin_out_of_sight = in_hall (item thing_kind (codes "coin") article.A (at In 15) (described_flag ∷ []) ∷ here container_kind (codes "box") [] ∷ [])
+    (rule_of instead_book (Some jumping) Anything Anything None (only (Try false taking (The 14) Nothing)) ∷ [])

@@ -4,9 +4,9 @@ use Rattle.world_meaning.specs.declared.place.Rel.TheVariants.{In}
 use Rattle.play_meaning.specs.Consulting.{after_book, before_book, instead_book}
 use Rattle.play_meaning.specs.Rows.{bright, here, in_hall, listing, rule_of, say_and_go_on, says, with_rules}
 use Rattle.play_meaning.specs.Rules.{Anything, Aspect, Exactly, InOrder, Listed, ListedFirst, ListedLast, OfKind, Rule, Unlisted}
-use Rattle.play_meaning.specs.Settings.{container_kind, open_flag, openable_flag, room_kind, scenery_flag, thing_kind}
+use Rattle.play_meaning.specs.Settings.{container_kind, open_flag, openable_flag, room_kind, scenery_flag, supporter_kind, thing_kind}
 use Rattle.play_meaning.specs.Sketches.{Item, Sketch}
-use Rattle.play_meaning.specs.StandardActions.{jumping, taking}
+use Rattle.play_meaning.specs.StandardActions.{jumping, putting_on, taking}
 use Rattle.play_meaning.specs.StandardRules.{only, standard_rules}
 use Rattle.play_meaning.specs.Trees.{Body, Condition, Equals, First, Literal, NowHeld, Quality, The, TurnCount}
 
@@ -51,6 +51,10 @@ statue = bright (codes "Hall") ∷ here thing_kind (codes "statue") (scenery_fla
 
 unfoldable pub scenery_stays : Sketch
 scenery_stays = with_rules statue standard_rules
+
+-- a rule instead of an action goes before the checks of the action
+unfoldable pub statue_spoken_for : Sketch
+statue_spoken_for = with_rules statue (standard_rules ++ instead_of_taking (Exactly 14) (says (codes "It is at home here.")) ∷ [])
 
 abbrev pub unlisted_at : List Rule → ℕ → Option Rule → List Rule
 unlisted_at rules n None = rules
@@ -100,4 +104,15 @@ graded = in_hall (here container_kind (codes "box") (open_flag ∷ []) ∷ [])
     ∷ in_place (OfKind container_kind (Quality open_flag First ∷ [])) (Exactly 13) (codes "here.")
     ∷ in_place (Exactly 14) (OfKind room_kind []) (codes "box.")
     ∷ listing (ListedFirst 3) (in_place Anything Anything (codes "first."))
+    ∷ [])
+
+-- rules about two nouns: the first noun's grade goes before the second's
+abbrev pub instead_of_putting : Aspect → Aspect → List ℕ → Rule
+instead_of_putting noun second text = record (rule_of instead_book (Some putting_on) noun Anything None (say_and_go_on text)) { second = second }
+
+unfoldable pub two_nouns : Sketch
+two_nouns = in_hall (here thing_kind (codes "ball") [] ∷ here supporter_kind (codes "table") [] ∷ [])
+    (instead_of_putting (OfKind thing_kind []) (Exactly 15) (codes "on the table.")
+    ∷ instead_of_putting (OfKind thing_kind []) (OfKind supporter_kind []) (codes "on a supporter.")
+    ∷ instead_of_putting (Exactly 14) (OfKind thing_kind []) (codes "the ball.")
     ∷ [])

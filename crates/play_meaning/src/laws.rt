@@ -1,7 +1,7 @@
 //! The definitions, computed on small stories written by hand: each clause is the transcript of one session.
-ghost use Rattle.play_meaning.specs.ActionRows.{ball_in_box, ball_on_table, ball_out_of_range, endless_following, endless_jumping, lamp_in_bag, score_at_its_top, seventeen_deep, sixteen_deep, two_boxes, weighing};
+ghost use Rattle.play_meaning.specs.ActionRows.{ball_in_box, ball_on_table, ball_out_of_range, coin_out_of_sight, endless_following, endless_jumping, lamp_in_bag, score_at_its_top, seventeen_deep, sixteen_deep, two_boxes, weighing};
 ghost use Rattle.play_meaning.specs.Rows.{typed};
-ghost use Rattle.play_meaning.specs.RuleRows.{closed_box, got_it, got_it_and_goes_on, graded, left_behind, listed_first, met_on_the_way, open_box, scenery_goes, scenery_stays, three_rules, unlisted};
+ghost use Rattle.play_meaning.specs.RuleRows.{closed_box, got_it, got_it_and_goes_on, graded, left_behind, listed_first, met_on_the_way, open_box, scenery_goes, scenery_stays, statue_spoken_for, three_rules, two_nouns, unlisted};
 ghost use Rattle.play_meaning.specs.SessionRows.{empty_hall, one_storm, over_at_once, past_the_top, scoring, storms, sums_and_choices, wet_jumping, winning, without_stop};
 ghost use Rattle.play_meaning.specs.WorldRows.{bulb_of_closed_box, closed_gate, dark_cave, hall_and_garden, jar_in_tank, lamp_here, lamp_in_closed_box, lamp_in_jar, lamp_of_bob, many_things, open_box_in_closed_sack};
 ghost use Rattle.std.specs.Prelude.{[], ◌∷◌, codes};
@@ -14,6 +14,8 @@ pub fn rules_stand_in_order()
     ensures listed { typed (codes "take box" ∷ []) (codes "ash.\nHall\nYou can see a box here.\n\n>take box\nash.\ncedar.\noak.\nelm.\nfir.\nbirch.\nTaken.\n\n>") listed_first }
     ensures unlisted { typed (codes "take box" ∷ []) (codes "Hall\nYou can see a box here.\n\n>take box\ncedar.\noak.\nelm.\nfir.\nbirch.\nTaken.\n\n>") unlisted }
     ensures graded { typed (codes "take box" ∷ []) (codes "Hall\nYou can see a box here.\n\n>take box\nfirst.\nbox.\nhere.\nopen container.\ncontainer.\nthing.\nlast but one.\nlast.\nTaken.\n\n>") graded }
+    ensures nouns { typed (codes "put ball on table" ∷ []) (codes "Hall\nYou can see a ball and a table here.\n\n>put ball on table\n(first taking the ball)\nthe ball.\non the table.\non a supporter.\nYou put the ball on the table.\n\n>") two_nouns }
+    ensures spoken_for { typed (codes "take statue" ∷ []) (codes "Hall\n\n>take statue\nIt is at home here.\n\n>") statue_spoken_for }
     ensures stays { typed (codes "take statue" ∷ []) (codes "Hall\n\n>take statue\nThat is hardly portable.\n\n>") scenery_stays }
     ensures goes { typed (codes "take statue" ∷ []) (codes "Hall\n\n>take statue\nTaken.\n\n>") scenery_goes }
 {}
@@ -30,6 +32,7 @@ pub fn rules_decide()
 pub fn actions_pass_their_stages()
     ensures taken_first { typed (codes "weigh ball with scales" ∷ codes "weigh coin with scales" ∷ codes "take coin" ∷ []) (codes "Hall\nYou can see a ball, a scales and a box here.\n\n>weigh ball with scales\n(first taking the ball)\nWeighed.\n\n>weigh coin with scales\nYou can't reach the coin.\n\n>take coin\nYou can't reach the coin.\n\n>") weighing }
     ensures dark { typed (codes "x lamp" ∷ codes "open bag" ∷ codes "look" ∷ []) (codes "Darkness\nIt is pitch dark, and you can't see a thing.\n\n>x lamp\nYou can't see any such thing.\n\n>open bag\nYou open the bag.\n\n>look\nCave\n\n>") lamp_in_bag }
+    ensures unseen { typed (codes "jump" ∷ []) (codes "Hall\nYou can see a box here.\n\n>jump\nYou can't see any such thing.\n\n>") coin_out_of_sight }
     ensures too_deep { typed (codes "jump" ∷ []) (codes "Hall\n\n>jump\n[The turn was abandoned: nested too deep.]\n\n>") endless_jumping }
     ensures sixteen { typed (codes "jump" ∷ codes "z" ∷ []) (codes "Hall\n\n>jump\nYou jump on the spot.\n\n>z\n16.\n\n>") sixteen_deep }
     ensures seventeen { typed (codes "jump" ∷ codes "z" ∷ []) (codes "Hall\n\n>jump\n[The turn was abandoned: nested too deep.]\n\n>z\n0.\n\n>") seventeen_deep }
