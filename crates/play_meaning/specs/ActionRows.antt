@@ -1,0 +1,93 @@
+-- Small stories about what an action passes, and about commands.
+use Rattle.std.specs.Prelude.{ℕ, pos, true, false, List, [], ◌∷◌, ◌++◌, Option, None, Some, codes}
+use Rattle.world_meaning.specs.declared.article.Article.TheVariants as article
+use Rattle.world_meaning.specs.declared.place.Rel.TheVariants.{In, On, Carried}
+use Rattle.play_meaning.specs.Consulting.{instead_book, report_book}
+use Rattle.play_meaning.specs.Grammar.{Something, Word}
+use Rattle.play_meaning.specs.Rows.{at, bright, here, in_hall, item, rule_of, says, with_rules}
+use Rattle.play_meaning.specs.Rules.{Anything, Exactly}
+use Rattle.play_meaning.specs.Settings.{container_kind, described_flag, lit_flag, open_flag, openable_flag, room_kind, supporter_kind, thing_kind, transparent_flag}
+use Rattle.play_meaning.specs.Sketches.{Sketch}
+use Rattle.play_meaning.specs.StandardActions.{asking, jumping, taking, waiting}
+use Rattle.play_meaning.specs.StandardRules.{line, only, standard_rules}
+use Rattle.play_meaning.specs.Trees.{Body, Bytes, Figure, Follow, IsAtMost, IsLess, Literal, Nothing, NowVariable, Plus, Say, The, Then, Try, Variable}
+use Rattle.play_meaning.specs.declared.action.Slot.TheVariants.{Carried as Held, Touched}
+
+-- a ball, scales, and a coin in a closed box of glass; weighing wants its first noun carried and its second touched
+unfoldable pub weighing : Sketch
+weighing = record (in_hall
+    (here thing_kind (codes "ball") [] ∷ here thing_kind (codes "scales") []
+    ∷ item thing_kind (codes "coin") article.A (at In 17) (described_flag ∷ []) ∷ here container_kind (codes "box") (transparent_flag ∷ []) ∷ [])
+    (rule_of report_book (Some 16) Anything Anything None (says (codes "Weighed.")) ∷ [])) {
+  actions = asking Held Touched false ∷ [];
+  lines = record { action = 16; tokens = Word (codes "weigh") ∷ Something ∷ Word (codes "with") ∷ Something ∷ [] } ∷ [];
+}
+
+-- a dark cave, and a lit lamp in a closed bag that the player carries
+unfoldable pub lamp_in_bag : Sketch
+lamp_in_bag = with_rules
+    (item room_kind (codes "Cave") article.A None [] ∷ item container_kind (codes "bag") article.A (at Carried 0) (openable_flag ∷ described_flag ∷ [])
+    ∷ item thing_kind (codes "lamp") article.A (at In 14) (lit_flag ∷ described_flag ∷ []) ∷ [])
+    standard_rules
+
+-- a ball on a table
+unfoldable pub ball_on_table : Sketch
+ball_on_table = in_hall (item thing_kind (codes "ball") article.A (at On 15) (described_flag ∷ []) ∷ here supporter_kind (codes "table") [] ∷ []) []
+
+-- a ball in a box
+unfoldable pub ball_in_box : Sketch
+ball_in_box = in_hall (item thing_kind (codes "ball") article.A (at In 15) (described_flag ∷ []) ∷ here container_kind (codes "box") (open_flag ∷ []) ∷ []) []
+
+-- two closed boxes that can be opened
+unfoldable pub two_boxes : Sketch
+two_boxes = in_hall (here container_kind (codes "red box") (openable_flag ∷ []) ∷ here container_kind (codes "blue box") (openable_flag ∷ []) ∷ []) []
+
+abbrev pub try_jumping : Body
+try_jumping = only (Try false jumping Nothing Nothing)
+
+unfoldable pub endless_jumping : Sketch
+endless_jumping = in_hall [] (rule_of instead_book (Some jumping) Anything Anything None try_jumping ∷ [])
+
+abbrev pub one_more : ℕ → Body → Body
+one_more v body = Then (NowVariable v (Plus (Variable v) (Literal (pos 1)))) body
+
+-- jumping is tried anew while the level is below a number; waiting says the level
+abbrev pub jumping_up_to : ℕ → Sketch
+jumping_up_to most = record (in_hall []
+    (rule_of instead_book (Some jumping) Anything Anything (Some (IsLess (Variable 0) (Literal (pos most)))) (one_more 0 try_jumping)
+    ∷ rule_of instead_book (Some waiting) Anything Anything None (only (Say (Figure (Variable 0) (line (codes "."))))) ∷ [])) {
+  variables = pos 0 ∷ [];
+}
+
+unfoldable pub sixteen_deep : Sketch
+sixteen_deep = jumping_up_to 16
+
+unfoldable pub seventeen_deep : Sketch
+seventeen_deep = jumping_up_to 17
+
+-- a rule of the author's rulebook follows that rulebook
+unfoldable pub endless_following : Sketch
+endless_following = in_hall [] (rule_of 8 None Anything Anything None (only (Follow 8)) ∷ rule_of instead_book (Some jumping) Anything Anything None (only (Follow 8)) ∷ [])
+
+-- two variables and what is said of them
+abbrev pub say_both : Body
+say_both = only (Say (Figure (Variable 0) (Bytes (codes ", ") (Figure (Variable 1) (line (codes "."))))))
+
+unfoldable pub score_at_its_top : Sketch
+score_at_its_top = record (in_hall []
+    (rule_of instead_book (Some jumping) Anything Anything None (one_more 0 (one_more 1 say_both))
+    ∷ rule_of instead_book (Some waiting) Anything Anything None say_both ∷ [])) {
+  variables = pos 0 ∷ pos 2147483646 ∷ [];
+}
+
+-- a condition out of range, of a rule about the ball
+unfoldable pub ball_out_of_range : Sketch
+ball_out_of_range = record (in_hall (here thing_kind (codes "ball") [] ∷ here thing_kind (codes "lamp") [] ∷ [])
+    (rule_of instead_book (Some taking) (Exactly 14) Anything (Some (IsAtMost (Literal (pos 1)) (Plus (Variable 0) (Literal (pos 1))))) (says (codes "No.")) ∷ [])) {
+  variables = pos 2147483647 ∷ [];
+}
+
+-- jumping tries to take a coin in a closed box, which isn't seen
+unfoldable pub coin_out_of_sight : Sketch
+coin_out_of_sight = in_hall (item thing_kind (codes "coin") article.A (at In 15) (described_flag ∷ []) ∷ here container_kind (codes "box") [] ∷ [])
+    (rule_of instead_book (Some jumping) Anything Anything None (only (Try false taking (The 14) Nothing)) ∷ [])

@@ -1,0 +1,52 @@
+-- What changes of the world do: one that is not allowed, or that is of nothing, does nothing.
+use Rattle.std.specs.Prelude.{ℕ, ℤ, Bool, not, ◌&&◌, ◌||◌, ◌==◌, Option, None, Some, if◌then◌else◌}
+use Rattle.world_meaning.specs.Placing.{can_be_held, can_hold, keeps_player, may_be_taken}
+use Rattle.world_meaning.specs.declared.place.Place.{Place}
+use Rattle.world_meaning.specs.declared.place.Rel.{Rel}
+use Rattle.world_meaning.specs.declared.place.Rel.TheVariants.{In, On, Carried}
+use Rattle.play_meaning.specs.Seeing.{encloses}
+use Rattle.play_meaning.specs.Settings.{Setting, container_kind, kinds_of, person_kind, room_kind, supporter_kind}
+use Rattle.play_meaning.specs.Worlds.{World, set_flag, set_number, set_place}
+
+-- a thing may be put there: the kinds allow it, the player stays directly in a room, and nothing comes to stand in itself
+unfoldable pub may_be_put : Setting → World → ℕ → Place → Bool
+may_be_put s w o to =
+    can_be_held (kinds_of s) o && can_hold (kinds_of s) to.relation to.holder && keeps_player (kinds_of s) o to
+    && not ((o == to.holder) || encloses w o to.holder)
+
+abbrev pub put_at : Setting → ℕ → Place → World → World
+put_at s o to w = if may_be_put s w o to then set_place o (Some to) w else w
+
+abbrev pub put : Setting → Option ℕ → Rel → Option ℕ → World → World
+put s None relation holder w = w
+put s (Some o) relation None w = w
+put s (Some o) relation (Some holder) w = put_at s o (record { relation = relation; holder = holder }) w
+
+abbrev pub take_away : Setting → Option ℕ → World → World
+take_away s None w = w
+take_away s (Some o) w = if may_be_taken (kinds_of s) o then set_place o None w else w
+
+-- how a holder of its kind holds what is moved to it
+abbrev pub relation_to : Setting → ℕ → Option Rel
+relation_to s holder =
+    if s.is_of holder room_kind || s.is_of holder container_kind then Some In
+    else if s.is_of holder supporter_kind then Some On
+    else if s.is_of holder person_kind then Some Carried
+    else None
+
+abbrev pub put_if : Setting → ℕ → ℕ → Option Rel → World → World
+put_if s o holder None w = w
+put_if s o holder (Some relation) w = put_at s o (record { relation = relation; holder = holder }) w
+
+abbrev pub move : Setting → Option ℕ → Option ℕ → World → World
+move s None holder w = w
+move s (Some o) None w = w
+move s (Some o) (Some holder) w = put_if s o holder (relation_to s holder) w
+
+abbrev pub make_so : Setting → Option ℕ → ℕ → Bool → World → World
+make_so s None property value w = w
+make_so s (Some o) property value w = if s.has_flag o property then set_flag property o value w else w
+
+abbrev pub make_number : Setting → Option ℕ → ℕ → ℤ → World → World
+make_number s None property value w = w
+make_number s (Some o) property value w = if s.has_number o property then set_number property o value w else w

@@ -1,0 +1,64 @@
+-- What small stories written by hand are made of, and what is written of them.
+use Rattle.std.specs.Prelude.{◌≡◌, ℕ, ℤ, pos, Bool, true, false, List, [], ◌∷◌, ◌++◌, Option, None, Some, codes, map}
+use Rattle.world_meaning.specs.Directions.{all_directions, direction_name, short_word}
+use Rattle.world_meaning.specs.declared.article.Article.{Article}
+use Rattle.world_meaning.specs.declared.article.Article.TheVariants as article
+use Rattle.world_meaning.specs.declared.place.Place.{Place}
+use Rattle.world_meaning.specs.declared.place.Rel.{Rel}
+use Rattle.world_meaning.specs.declared.place.Rel.TheVariants.{In, On, Carried}
+use Rattle.play_meaning.specs.Rules.{Anything, Aspect, InOrder, Listed, Rule, Unlisted}
+use Rattle.play_meaning.specs.Sketches.{Item, Sketch, game_of_sketch}
+use Rattle.play_meaning.specs.StandardRules.{line, only, standard_rules}
+use Rattle.play_meaning.specs.Trees.{Body, Condition, End, Leave, Phrase, Say, Then}
+use Rattle.play_meaning.specs.Transcripts.{transcript}
+use Rattle.play_meaning.specs.declared.outcome.Flow.TheVariants.{NoDecision}
+
+-- ---- objects
+
+abbrev pub item : ℕ → List ℕ → Article → Option Place → List ℕ → Item
+item kind name article place flags = record { kind = kind; name = name; article = article; place = place; flags = flags; description = None; words = [] }
+
+abbrev pub at : Rel → ℕ → Option Place
+at relation holder = Some (record { relation = relation; holder = holder })
+
+abbrev pub player : Item
+player = record { kind = 6; name = codes "yourself"; article = article.None; place = at In 13; flags = []; description = None; words = codes "me" ∷ codes "myself" ∷ codes "self" ∷ [] }
+
+-- the player, who is in number 13, the directions, and these
+abbrev pub among_directions : List Item → List Item
+among_directions items =
+    player ∷ map (λ d. record { kind = 2; name = direction_name d; article = article.None; place = None; flags = []; description = None; words = short_word d ∷ [] }) all_directions ++ items
+
+-- a room that is lighted
+abbrev pub bright : List ℕ → Item
+bright name = item 1 name article.A None (4 ∷ [])
+
+-- a thing in the first room that is described, of a kind
+abbrev pub here : ℕ → List ℕ → List ℕ → Item
+here kind name flags = item kind name article.A (at In 13) (8 ∷ flags)
+
+-- ---- stories
+
+abbrev pub with_rules : List Item → List Rule → Sketch
+with_rules items rules = record { kinds = []; items = among_directions items; exits = []; variables = []; numbers = []; actions = []; lines = []; rules = rules; scenes = [] }
+
+abbrev pub in_hall : List Item → List Rule → Sketch
+in_hall items rules = with_rules (bright (codes "Hall") ∷ items) (standard_rules ++ rules)
+
+abbrev pub rule_of : ℕ → Option ℕ → Aspect → Aspect → Option Condition → Body → Rule
+rule_of book action noun place condition body = record { book = book; action = action; noun = noun; second = Anything; place = place; scene = None; condition = condition; body = body; listed = InOrder }
+
+abbrev pub say_and_go_on : List ℕ → Body
+say_and_go_on text = Then (Say (line text)) (only (Leave NoDecision))
+
+abbrev pub says : List ℕ → Body
+says text = only (Say (line text))
+
+-- the same rule, where sentences list it otherwise
+abbrev pub listing : Listed → Rule → Rule
+listing listed rule = record rule { listed = listed }
+
+-- ---- what is written
+
+abbrev pub typed : List (List ℕ) → List ℕ → Sketch → Type 0
+typed lines text sketch = transcript (game_of_sketch sketch) true [] lines ≡ text

@@ -1,0 +1,81 @@
+-- Small stories about scenes, endings, undo and texts.
+use Rattle.std.specs.Prelude.{ℕ, ℤ, pos, Bool, true, false, List, [], ◌∷◌, ◌++◌, Option, None, Some, codes}
+use Rattle.play_meaning.specs.ActionRows.{one_more, say_both}
+use Rattle.play_meaning.specs.Consulting.{carry_out_book, every_turn_book, instead_book, play_begins_book}
+use Rattle.play_meaning.specs.Grammar.{Word}
+use Rattle.play_meaning.specs.Rows.{in_hall, rule_of, says}
+use Rattle.play_meaning.specs.Rules.{Anything, Rule}
+use Rattle.play_meaning.specs.Sketches.{Sketch}
+use Rattle.play_meaning.specs.StandardActions.{jumping}
+use Rattle.play_meaning.specs.StandardRules.{line, only, plain}
+use Rattle.play_meaning.specs.Trees.{Body, Bytes, Condition, End, EndStory, Equals, Figure, IfSaid, IsAtMost, Literal, NowVariable, Number, Plus, Say, Text, Then, Variable}
+use Rattle.play_meaning.specs.declared.action.Needs.{Needs}
+use Rattle.play_meaning.specs.declared.action.Slot.TheVariants.{Absent}
+
+abbrev pub score : Number
+score = Variable 0
+
+abbrev pub with_score : ℕ → List Rule → Sketch
+with_score start rules = record (in_hall [] rules) { variables = pos start ∷ [] }
+
+-- a rule of a book outside actions
+abbrev pub rule_in : ℕ → Body → Rule
+rule_in book body = rule_of book None Anything Anything None body
+
+abbrev pub is_at_least : ℕ → Condition
+is_at_least n = IsAtMost (Literal (pos n)) score
+
+-- a storm that begins with a score of 1 and ends with 2, and these rules
+abbrev pub storm_and : Bool → List Rule → Sketch
+storm_and recurs rules = record (with_score 0
+    (rule_in every_turn_book (one_more 0 End) ∷ rule_in 8 (says (codes "Thunder.")) ∷ rule_in 9 (says (codes "Calm.")) ∷ rules)) {
+  scenes = record { recurs = recurs; begins = Some (is_at_least 1); ends = Some (is_at_least 2) } ∷ [];
+}
+
+unfoldable pub one_storm : Sketch
+one_storm = storm_and false []
+
+unfoldable pub storms : Sketch
+storms = storm_and true []
+
+-- instead of jumping during the storm
+unfoldable pub wet_jumping : Sketch
+wet_jumping = storm_and false (record (rule_of instead_book (Some jumping) Anything Anything None (says (codes "Wet."))) { scene = Some 0 } ∷ [])
+
+unfoldable pub winning : Sketch
+winning = in_hall [] (rule_of instead_book (Some jumping) Anything Anything None (only (EndStory (codes "You have won"))) ∷ [])
+
+unfoldable pub over_at_once : Sketch
+over_at_once = in_hall [] (rule_in play_begins_book (only (EndStory (codes "The End"))) ∷ [])
+
+unfoldable pub empty_hall : Sketch
+empty_hall = in_hall [] []
+
+abbrev pub out_of_world : Needs
+out_of_world = record { noun = Absent; second = Absent; light = false; out_of_world = true }
+
+-- scoring is an action out of world, and jumping says the score
+unfoldable pub scoring : Sketch
+scoring = record (with_score 0
+    (rule_of carry_out_book (Some 16) Anything Anything None (one_more 0 End)
+    ∷ rule_of instead_book (Some jumping) Anything Anything None (only (Say (Figure score (line (codes "."))))) ∷ [])) {
+  actions = out_of_world ∷ [];
+  lines = record { action = 16; tokens = Word (codes "score") ∷ [] } ∷ [];
+}
+
+-- what is said every turn
+abbrev pub every_turn : ℕ → Body → Sketch
+every_turn start body = with_score start (rule_in every_turn_book body ∷ [])
+
+abbrev pub zero_or_more : Text
+zero_or_more = Figure (Plus score (Literal (pos 2))) (Bytes (codes ", ") (IfSaid (Equals score (Literal (pos 0))) (plain (codes "zero")) (plain (codes "more")) (line (codes "."))))
+
+unfoldable pub sums_and_choices : Sketch
+sums_and_choices = every_turn 0 (only (Say zero_or_more))
+
+unfoldable pub past_the_top : Sketch
+past_the_top = every_turn 0 (Then (NowVariable 0 (Literal (pos 2147483647))) (one_more 0 End))
+
+-- a text without a full stop: the reply ends with a line break all the same
+unfoldable pub without_stop : Sketch
+without_stop = every_turn 0 (only (Say (plain (codes "\"Isn't it?\" 'x'"))))

@@ -1,0 +1,103 @@
+-- What of a story's objects never changes while it is played, by number; nothing of a number that no object has.
+use Rattle.std.specs.Prelude.{ℕ, Bool, List, Option}
+use Rattle.std.specs.List.{range_with_len}
+use Rattle.world_meaning.specs.Placing.{Kinds}
+use Rattle.world_meaning.specs.declared.article.Article.{Article}
+
+pub record Setting : Type 0 where
+  -- how many objects there are
+  pub count : ℕ
+  -- the name as it is printed, without its article
+  pub name : ℕ → List ℕ
+  pub article : ℕ → Article
+  -- whether an object is of a kind, or of one below it
+  pub is_of : ℕ → ℕ → Bool
+  -- how many kinds lie on the way from a kind up to its root, both counted
+  pub depth : ℕ → ℕ
+  -- whether an object's kind has an either-or property
+  pub has_flag : ℕ → ℕ → Bool
+  -- whether an object's kind has a number property
+  pub has_number : ℕ → ℕ → Bool
+  -- the room to which a direction, by its number, leads from a room, and the door on the way
+  pub room_beyond : ℕ → ℕ → Option ℕ
+  pub door_beyond : ℕ → ℕ → Option ℕ
+  pub has_description : ℕ → Bool
+
+-- ---- the numbers of the built-in kinds
+
+abbrev pub thing_kind : ℕ
+thing_kind = 0
+
+abbrev pub room_kind : ℕ
+room_kind = 1
+
+abbrev pub direction_kind : ℕ
+direction_kind = 2
+
+abbrev pub door_kind : ℕ
+door_kind = 3
+
+abbrev pub container_kind : ℕ
+container_kind = 4
+
+abbrev pub supporter_kind : ℕ
+supporter_kind = 5
+
+abbrev pub person_kind : ℕ
+person_kind = 6
+
+abbrev pub device_kind : ℕ
+device_kind = 7
+
+abbrev pub man_kind : ℕ
+man_kind = 8
+
+-- ---- the numbers of the built-in properties
+
+abbrev pub open_flag : ℕ
+open_flag = 0
+
+abbrev pub openable_flag : ℕ
+openable_flag = 1
+
+abbrev pub transparent_flag : ℕ
+transparent_flag = 2
+
+abbrev pub lit_flag : ℕ
+lit_flag = 3
+
+abbrev pub lighted_flag : ℕ
+lighted_flag = 4
+
+abbrev pub scenery_flag : ℕ
+scenery_flag = 5
+
+abbrev pub fixed_in_place_flag : ℕ
+fixed_in_place_flag = 6
+
+abbrev pub wearable_flag : ℕ
+wearable_flag = 7
+
+abbrev pub described_flag : ℕ
+described_flag = 8
+
+abbrev pub switched_on_flag : ℕ
+switched_on_flag = 9
+
+abbrev pub visited_flag : ℕ
+visited_flag = 10
+
+-- the objects, by rising number
+abbrev pub objects_of : Setting → List ℕ
+objects_of s = range_with_len 0 s.count
+
+-- the kinds that decide what may be put where
+abbrev pub kinds_of : Setting → Kinds
+kinds_of s = record {
+  is_thing = λ o. s.is_of o thing_kind;
+  is_room = λ o. s.is_of o room_kind;
+  is_door = λ o. s.is_of o door_kind;
+  is_container = λ o. s.is_of o container_kind;
+  is_supporter = λ o. s.is_of o supporter_kind;
+  is_person = λ o. s.is_of o person_kind;
+}

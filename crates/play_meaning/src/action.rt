@@ -1,0 +1,72 @@
+//! Actions: which is tried, on what, and what it asks for.
+ghost use Rattle.std.specs.Prelude.{◌≡◌};
+
+use std::marker::Model;
+use world_meaning::ObjNo;
+
+/// An action's number: the built-in ones, then the author's.
+#[derive(Clone, Copy, Debug, PartialEq, Eq)]
+pub struct ActNo(u8);
+
+impl Model for ActNo {
+    ghost use Rattle.std.specs.Prelude.{ℕ};
+
+    ghost Value = { ℕ };
+
+    ghost view = { λ a. a.0 };
+
+    ghost inverse = { λ n. record { 0 = n } };
+}
+
+impl ActNo {
+    /// The number that stands for no action.
+    pub const NONE: ActNo = ActNo(255);
+
+    /// The action of this number.
+    pub const fn new(number: u8) -> ActNo
+        ensures { result ≡ number }
+    {
+        ActNo(number)
+    }
+
+    /// The action's number.
+    pub const fn get(self) -> u8
+        ensures { result ≡ self }
+    {
+        self.0
+    }
+}
+
+/// An action that is tried, with its nouns.
+#[derive(Clone, Copy, Debug, PartialEq, Eq)]
+pub struct ActionNow {
+    pub action: ActNo,
+    pub noun: Option<ObjNo>,
+    pub second: Option<ObjNo>,
+    /// Whether it leaves out its report.
+    pub silent: bool,
+}
+
+/// What an action asks of a noun (*Writing with Inform*, chapter 12).
+#[derive(Clone, Copy, Debug, PartialEq, Eq)]
+pub enum Slot {
+    /// The action has no such noun.
+    Absent,
+    /// It must be seen.
+    Visible,
+    /// It must be touched.
+    Touched,
+    /// It must be held by the player; it is taken first.
+    Carried,
+}
+
+/// What an action asks for.
+#[derive(Clone, Copy, Debug, PartialEq, Eq)]
+pub struct Needs {
+    pub noun: Slot,
+    pub second: Slot,
+    /// Whether it can't be done in darkness.
+    pub light: bool,
+    /// Whether it is about the game, and no part of the world's time.
+    pub out_of_world: bool,
+}

@@ -1,0 +1,30 @@
+//! What phrases, rules and actions mean: a story's rulebooks consulted rule by rule over the world's relations.
+//! This crate holds definitions and what follows from them, and runs nothing.
+#![tactic(auto)]
+
+mod action;
+mod game_laws;
+mod laws;
+mod order_laws;
+mod outcome;
+mod phrase_laws;
+mod scene;
+mod sight_laws;
+mod work_laws;
+
+pub use action::{ActNo, ActionNow, Needs, Slot};
+pub use game_laws::{
+    abandoned_lines_change_nothing, agreeing_games_are_one, decisions_end_consultations, undo_brings_back_the_world,
+};
+pub use laws::{
+    actions_pass_their_stages, commands_are_read, light_shows_things, rules_decide, rules_stand_in_order,
+    scenes_and_stories_end, texts_are_said, things_are_handled, turns_are_undone, ways_and_doors_are_gone_through,
+};
+pub use order_laws::rulebooks_are_in_order;
+pub use outcome::{Flow, Outcome};
+pub use phrase_laws::{
+    bodies_are_done, conditions_hold, names_and_numbers_are_said, phrases_change_the_world,
+};
+pub use scene::{SceneNo, SceneNow};
+pub use sight_laws::sight_is_by_chains;
+pub use work_laws::work_is_bounded;
