@@ -1,3 +1,8 @@
+pub mod SortScans
+pub mod BookScans
+pub mod Lowest
+pub mod NameScans
+pub mod Kept
 pub mod Bounds
 pub mod Exits
 pub mod Firsts

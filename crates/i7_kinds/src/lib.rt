@@ -2,17 +2,26 @@
 //! say together, and the tale that they mean.
 #![tactic(auto)]
 
+mod built_in;
+mod claim;
+mod claim_laws;
+mod claiming;
 mod descriptions;
 mod kinds;
 mod lent_text;
 mod limits;
 mod meant;
+mod name_faults;
 mod names;
 mod objects;
 mod quotes;
 mod reserved_names;
+mod scans;
+mod sorts;
+mod standings;
 mod statements;
 mod tale;
 mod ways;
 
+pub use claim_laws::{books_twice_are_found, names_too_many_are_found, names_twice_are_found};
 pub use tale::tale_of;

@@ -18,15 +18,18 @@ use Rattle.i7_sentences.specs.declared.sentence.Assertion.{Assertion}
 use Rattle.i7_sentences.specs.declared.sentence.Assertion.TheVariants.{Description, Way, Are}
 use Rattle.i7_sentences.specs.declared.sentence.Sentence.{Sentence}
 use Rattle.object_words.specs.Words.{more_words, words_for}
-use Rattle.i7_kinds.specs.Demands.{Lead, descriptions_of, description_of, first_target, implied_in, implied_leads, is_exit, is_wrong, lead_of, line_at, line_of_description, second_description, second_target, stated_in, stated_leads, subject_of, taken_name, target_of, wrong_after, wrong_kind}
+use Rattle.i7_kinds.specs.Demands.{Lead, descriptions_of, description_of, first_target, implied_in, implied_leads, is_exit, is_wrong, lead_of, line_at, line_of_description, second_description, second_target, stated_in, stated_leads, subject_of, target_of, wrong_after, wrong_kind}
+use Rattle.i7_kinds.specs.Claims.{claims_of}
+use Rattle.i7_kinds.specs.Scans.{earlier}
+use Rattle.i7_kinds.specs.declared.name_faults.NameFaults.{NameFaults}
 use Rattle.i7_kinds.specs.Firsts.{first_of}
 use Rattle.i7_kinds.specs.Statements.{NameAt, Named, built_in_keys, numbered_in, numbered_room, rooms_in, has_key, key_of, named_by, names_at, number_in, stated_by, statement_in, with_name, with_names_of}
 use Rattle.i7_kinds.specs.declared.descriptions.Description.{Description as Described}
 use Rattle.i7_kinds.specs.declared.statements.Numbered.{Numbered}
 use Rattle.i7_kinds.specs.declared.statements.Numbered.TheVariants as numbered
 use Rattle.i7_kinds.specs.declared.statements.NumberedSentence.{NumberedSentence}
-use Rattle.i7_kinds.specs.Tales.{direction_object, earlier, exits_of, frame_refusal, has_long_name, has_long_text, is_too_long, judged, limit_refusal, name_too_long, no_room, object_too_many, objects_of, or_refused, refusal_at, room_of, rooms_from, tale_said, text_too_long, unless_unmeant, unmeant, way_to}
-use Rattle.i7_kinds.proofs.Bounds.{counted-source, few_objects, first_none_both, unmapped, unrefused}
+use Rattle.i7_kinds.specs.Tales.{direction_object, exits_of, frame_refusal, has_long_name, has_long_text, is_too_long, judged, limit_refusal, name_too_long, no_room, object_too_many, objects_of, or_refused, refusal_at, room_of, rooms_from, tale_said, text_too_long, name_faults, unless_unmeant, unmeant, way_to}
+use Rattle.i7_kinds.proofs.Bounds.{counted-source, earlier_none, few_objects, first_none_both, unmapped, unrefused}
 use Rattle.story_format.specs.Holding.{has_few_words, has_short_texts, is_short, is_short_or_none, IsHeld}
 use Rattle.story_format.specs.Making.{worded, worded_from}
 use Rattle.story_format.specs.Shape.{are_directions, has_shape, is_direction, is_player, is_room}
@@ -328,23 +331,18 @@ words_held statements mentions h = rooms_few statements 13 13 mentions (omega ar
 
 -- ---- all of it
 
-earlier_none : (a b : Option ℕ) → earlier a b ≡ None → (a ≡ None) × (b ≡ None)
-earlier_none None b h = (refl, h)
-earlier_none (Some a) None h = absurd cc
-earlier_none (Some a) (Some b) h = absurd cc
-
 meant_none : (refusal : Option Fault) (t tale : Tale) → or_refused refusal t ≡ Ok tale → (refusal ≡ None) × (t ≡ tale)
 meant_none None t tale h = (refl, cc)
 meant_none (Some fault) t tale h = absurd cc
 
-frame_parts : (statements : List NumberedSentence) (mentions : List NameAt) → frame_refusal statements mentions ≡ None → (wrong_kind statements ≡ None) × (object_too_many mentions ≡ None) × (no_room mentions ≡ None)
+frame_parts : (faults : NameFaults) (statements : List NumberedSentence) (mentions : List NameAt) → frame_refusal faults statements mentions ≡ None → (wrong_kind statements ≡ None) × (object_too_many mentions ≡ None) × (no_room mentions ≡ None)
 unfolding frame_refusal
-frame_parts statements mentions none =
-    let a = first_none_both (refusal_at Twice (earlier (taken_name mentions) (second_description (descriptions_of statements)))) _ none in
+frame_parts faults statements mentions none =
+    let a = first_none_both (refusal_at Twice faults.twice) _ none in
     let b = first_none_both (refusal_at WrongKind (wrong_kind statements)) _ a.1 in
     let c = first_none_both (refusal_at TwoPlaces (second_target statements)) _ b.1 in
-    let d = first_none_both (refusal_at TooMany (object_too_many mentions)) (refusal_at NoRoom (no_room mentions)) c.1 in
-    (unrefused WrongKind (wrong_kind statements) b.0, unrefused TooMany (object_too_many mentions) d.0, unrefused NoRoom (no_room mentions) d.1)
+    let d = first_none_both (refusal_at TooMany (earlier (object_too_many mentions) faults.too_many)) (refusal_at NoRoom (no_room mentions)) c.1 in
+    (unrefused WrongKind (wrong_kind statements) b.0, (earlier_none (object_too_many mentions) faults.too_many (unrefused TooMany (earlier (object_too_many mentions) faults.too_many) d.0)).0, unrefused NoRoom (no_room mentions) d.1)
 
 limit_parts : (statements : List NumberedSentence) (mentions : List NameAt) → limit_refusal statements mentions ≡ None → (list_all has_short_name mentions ≡ true) × (list_all (λ d. not (has_long_text d)) (descriptions_of statements) ≡ true)
 unfolding limit_refusal
@@ -352,10 +350,10 @@ limit_parts statements mentions none =
     let t = earlier_none (name_too_long mentions) (text_too_long (descriptions_of statements)) (unrefused TooMany (earlier (name_too_long mentions) (text_too_long (descriptions_of statements))) none) in
     (none_found has_long_name mentions (unmapped line_at (find has_long_name mentions) t.0), none_found has_long_text (descriptions_of statements) (unmapped line_of_description (find has_long_text (descriptions_of statements)) t.1))
 
-objects_held : (statements : List NumberedSentence) (mentions : List NameAt) → list_all (are_below (13 + length mentions)) statements ≡ true → first_of (frame_refusal statements mentions) (limit_refusal statements mentions) ≡ None → IsHeld (record { objects = objects_of statements mentions })
-objects_held statements mentions below none =
-    let t = first_none_both (frame_refusal statements mentions) (limit_refusal statements mentions) none in
-    let frame = frame_parts statements mentions t.0 in
+objects_held : (faults : NameFaults) (statements : List NumberedSentence) (mentions : List NameAt) → list_all (are_below (13 + length mentions)) statements ≡ true → first_of (frame_refusal faults statements mentions) (limit_refusal statements mentions) ≡ None → IsHeld (record { objects = objects_of statements mentions })
+objects_held faults statements mentions below none =
+    let t = first_none_both (frame_refusal faults statements mentions) (limit_refusal statements mentions) none in
+    let frame = frame_parts faults statements mentions t.0 in
     let limits = limit_parts statements mentions t.1 in
     let rooms = all_of_rooms (13 + length mentions) None statements frame.0 below in
     record { shape = shape_held statements mentions (few_objects mentions frame.1) (some_room mentions frame.2) rooms; texts = texts_held statements mentions limits.0 limits.1; words = words_held statements mentions limits.0 }
@@ -367,7 +365,8 @@ meant_whole (Some line) said tale meant = absurd cc
 -- a story file holds the tale that sentences mean
 pub tale_held : (sentences : List Sentence) (tale : Tale) → tale_said sentences ≡ Ok tale → IsHeld tale
 tale_held sentences tale meant =
+    let claims = claims_of sentences in
     let statements = stated_by sentences in
     let mentions = (named_by sentences).mentions in
-    let t = meant_none (first_of (frame_refusal statements mentions) (limit_refusal statements mentions)) (record { objects = objects_of statements mentions }) tale (meant_whole (unmeant sentences) (judged statements mentions) tale meant) in
-    subst IsHeld t.1 (objects_held statements mentions (source_below sentences) t.0)
+    let t = meant_none (first_of (frame_refusal (name_faults claims statements) statements mentions) (limit_refusal statements mentions)) (record { objects = objects_of statements mentions }) tale (meant_whole (unmeant sentences) (judged claims statements mentions) tale meant) in
+    subst IsHeld t.1 (objects_held (name_faults claims statements) statements mentions (source_below sentences) t.0)

@@ -7,4 +7,4 @@ use Rattle.i7_kinds.proofs.tale.judged.Goals as goal
 pub objects_of-requires-clause-within : goal.objects_of-requires-clause-within
 objects_of-requires-clause-within c =
     subst (λ statements. LeadWithin statements) (sym c.in_ok-ways.ensures)
-    (frame_within c.args.statements.now (mentions_of c.args.mentions.now) c.requires (sym c.frame_refusal.ensures ∙ c.in_default.is))
+    (frame_within _ c.args.statements.now (mentions_of c.args.mentions.now) c.requires (sym c.frame_refusal.ensures ∙ c.in_default.is))
