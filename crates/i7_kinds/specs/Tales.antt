@@ -14,7 +14,9 @@ use Rattle.world_meaning.specs.declared.place.Place.{Place}
 use Rattle.world_meaning.specs.declared.place.Rel.TheVariants.{In}
 use Rattle.world_meaning.specs.declared.tale.Object.{Object}
 use Rattle.world_meaning.specs.declared.tale.Tale.{Tale}
-use Rattle.world_meaning.specs.Kinds.{direction_kind, person_kind, room_kind}
+use Rattle.world_meaning.specs.Declarations.{built_in_declared}
+use Rattle.world_meaning.specs.Kinds.{built_in_parents, direction_kind, person_kind, room_kind}
+use Rattle.world_meaning.specs.Properties.{start_properties}
 use Rattle.i7_sentences.specs.declared.name.NameArticle.{NameArticle}
 use Rattle.i7_sentences.specs.declared.name.NameArticle.TheVariants as written
 use Rattle.i7_sentences.specs.declared.sentence.Sentence.{Sentence}
@@ -76,15 +78,25 @@ exits_of statements room = record { ways = map (λ d. way_to (target_of statemen
 abbrev pub no_exits : Exits
 no_exits = record { ways = replicate 12 (way_to None) }
 
-abbrev pub built_in : ℕ → List ℕ → Option Place → Object
-built_in kind name place = record { kind = kind; name = name; article = article.None; description = None; place = place; exits = no_exits }
+-- a built-in object, by its number
+abbrev pub built_in : ℕ → ℕ → List ℕ → Option Place → Object
+built_in o kind name place = record {
+  kind = kind;
+  name = name;
+  article = article.None;
+  description = None;
+  place = place;
+  exits = no_exits;
+  properties = start_properties built_in_parents o kind;
+  numbers = [];
+}
 
 -- the player stands in the lowest-numbered room
 abbrev pub player : Object
-player = built_in person_kind (codes "yourself") (Some (record { relation = In; holder = first_of_author }))
+player = built_in 0 person_kind (codes "yourself") (Some (record { relation = In; holder = first_of_author }))
 
 abbrev pub direction_object : Direction → Object
-direction_object d = built_in direction_kind (direction_name d) None
+direction_object d = built_in (direction_number d) direction_kind (direction_name d) None
 
 -- a room of the author's, by its number and its first mention
 unfoldable pub room_of : List NumberedSentence → ℕ → NameAt → Object
@@ -95,6 +107,8 @@ room_of statements o at = record {
   description = description_of (descriptions_of statements) o;
   place = None;
   exits = exits_of statements o;
+  properties = start_properties built_in_parents o room_kind;
+  numbers = [];
 }
 
 abbrev pub rooms_from : List NumberedSentence → ℕ → List NameAt → List Object
@@ -141,7 +155,7 @@ or_refused (Some fault) tale = Err fault
 
 -- the tale, unless a refusal stands
 abbrev pub judged : List Claim → List NumberedSentence → List NameAt → Result Tale Fault
-judged claims statements mentions = or_refused (first_of (frame_refusal (name_faults claims statements) statements mentions) (limit_refusal statements mentions)) (record { objects = objects_of statements mentions })
+judged claims statements mentions = or_refused (first_of (frame_refusal (name_faults claims statements) statements mentions) (limit_refusal statements mentions)) (record { declared = built_in_declared; objects = objects_of statements mentions })
 
 abbrev pub is_unmeant : Sentence → Bool
 is_unmeant sentence = not (is_meant sentence.said)

@@ -1,6 +1,8 @@
 //! The objects of a tale: the player, the directions, and the author's rooms.
 ghost use Rattle.std.specs.Prelude.{◌≡◌, ◌++◌, ◌∷◌, [], IfOk, OnOk, map, option_copied};
 ghost use Rattle.world_meaning.specs.Directions.{all_directions, direction_number};
+ghost use Rattle.world_meaning.specs.Kinds.{built_in_parents};
+ghost use Rattle.world_meaning.specs.Properties.{start_properties};
 ghost use Rattle.i7_kinds.specs.Bounds.{LeadWithin};
 ghost use Rattle.i7_kinds.specs.Demands.{descriptions_of, first_of_author, target_of};
 ghost use Rattle.i7_kinds.specs.Described.{descriptions_in};
@@ -14,7 +16,8 @@ use crate::ways::Ways;
 use i7_sentences::NameArticle;
 use std::alloc::{AllocError, Global};
 use world_meaning::{
-    Article, Direction, Exits, KindNo, ObjNo, Object, Objects, Place, Rel, TextBytes, Way,
+    Article, Direction, Exits, KindNo, Listed, ObjNo, Object, Place, Rel, TextBytes, Way,
+    built_in_parents, start_properties,
 };
 
 /// No way.
@@ -53,14 +56,29 @@ fn article_of(article: NameArticle, name: &[u8]) -> Article
     }
 }
 
+/// The properties that an object of a built-in kind begins with.
+fn begins_with(
+    alloc: Global,
+    parents: &[Option<KindNo>],
+    number: usize,
+    kind: KindNo,
+) -> Result<Listed<u8>, AllocError>
+    ensures { IfOk result (λ properties. properties ≡ start_properties parents.now number kind) }
+{
+    Ok(Listed::new(start_properties(alloc, parents, number, kind)?))
+}
+
 /// A built-in object.
 fn built_in(
     alloc: Global,
+    parents: &[Option<KindNo>],
+    number: usize,
     kind: KindNo,
     name: &[u8],
     place: Option<Place>,
 ) -> Result<Object, AllocError>
-    ensures { IfOk result (λ object. object ≡ built_in kind name.now place) }
+    requires { parents.now ≡ built_in_parents }
+    ensures { IfOk result (λ object. object ≡ built_in number kind name.now place) }
 {
     Ok(Object {
         kind,
@@ -71,27 +89,54 @@ fn built_in(
         exits: Exits {
             ways: [NOWHERE; 12],
         },
+        properties: begins_with(alloc, parents, number, kind)?,
+        numbers: Listed::new(Vec::new(alloc)),
     })
 }
 
 /// The player, in the lowest-numbered room.
-fn player(alloc: Global) -> Result<Object, AllocError>
+fn player(alloc: Global, parents: &[Option<KindNo>]) -> Result<Object, AllocError>
+    requires { parents.now ≡ built_in_parents }
     ensures { IfOk result (λ object. object ≡ player) }
 {
     let place = Place {
         relation: Rel::In,
         holder: ObjNo::FIRST_OF_AUTHOR,
     };
-    built_in(alloc, KindNo::PERSON, b"yourself", Some(place))
+    built_in(alloc, parents, 0, KindNo::PERSON, b"yourself", Some(place))
+}
+
+fn direction_object(
+    alloc: Global,
+    parents: &[Option<KindNo>],
+    direction: Direction,
+) -> Result<Object, AllocError>
+    requires { parents.now ≡ built_in_parents }
+    ensures { IfOk result (λ object. object ≡ direction_object direction) }
+{
+    let number = direction.number().get() as usize;
+    built_in(
+        alloc,
+        parents,
+        number,
+        KindNo::DIRECTION,
+        direction.name(),
+        None,
+    )
 }
 
 /// Puts the directions behind the objects.
-fn push_directions(alloc: Global, objects: &mut Vec<Object>) -> Result<(), AllocError>
+fn push_directions(
+    alloc: Global,
+    objects: &mut Vec<Object>,
+    parents: &[Option<KindNo>],
+) -> Result<(), AllocError>
+    requires { parents.now ≡ built_in_parents }
     ensures { OnOk result (objects.new.items ≡ objects.old.items ++ map direction_object all_directions) }
 {
     let mut rest: &[Direction] = &Direction::ALL;
     while let [direction, after @ ..] = rest {
-        objects.push(built_in(alloc, KindNo::DIRECTION, direction.name(), None)?)?;
+        objects.push(direction_object(alloc, parents, *direction)?)?;
         rest = after;
     }
     Ok(())
@@ -152,7 +197,9 @@ fn room_of(
     ways: &Ways<'_>,
     number: usize,
     mention: &Mention<'_>,
+    parents: &[Option<KindNo>],
 ) -> Result<Object, AllocError>
+    requires known { parents.now ≡ built_in_parents }
     requires within { LeadWithin (stated ways.now) }
     requires described { descriptions_in descriptions.now ≡ descriptions_of (stated ways.now) }
     ensures { IfOk result (λ room. room ≡ room_of (stated ways.now) number (mention_of mention.now)) }
@@ -165,6 +212,8 @@ fn room_of(
         description: copied(alloc, descriptions.of(number))?,
         place: None,
         exits: exits_of(ways, number),
+        properties: begins_with(alloc, parents, number, KindNo::ROOM)?,
+        numbers: Listed::new(Vec::new(alloc)),
     })
 }
 
@@ -176,12 +225,14 @@ fn push_room(
     ways: &Ways<'_>,
     number: usize,
     mention: &Mention<'_>,
+    parents: &[Option<KindNo>],
 ) -> Result<(), AllocError>
+    requires known { parents.now ≡ built_in_parents }
     requires within { LeadWithin (stated ways.now) }
     requires described { descriptions_in descriptions.now ≡ descriptions_of (stated ways.now) }
     ensures { OnOk result (objects.new.items ≡ objects.old.items ++ room_of (stated ways.now) number (mention_of mention.now) ∷ []) }
 {
-    objects.push(room_of(alloc, descriptions, ways, number, mention)?)?;
+    objects.push(room_of(alloc, descriptions, ways, number, mention, parents)?)?;
     Ok(())
 }
 
@@ -193,7 +244,9 @@ fn push_rooms(
     mentions: &[Mention<'_>],
     descriptions: &Descriptions<'_>,
     ways: &Ways<'_>,
+    parents: &[Option<KindNo>],
 ) -> Result<(), AllocError>
+    requires known { parents.now ≡ built_in_parents }
     requires within { LeadWithin (stated ways.now) }
     requires described { descriptions_in descriptions.now ≡ descriptions_of (stated ways.now) }
     ensures { OnOk result (objects.new.items ≡ objects.old.items ++ rooms_from (stated ways.now) first_of_author (mentions_of mentions.now)) }
@@ -201,7 +254,7 @@ fn push_rooms(
     let mut number = FIRST_OF_AUTHOR;
     let mut rest = mentions;
     while let [mention, after @ ..] = rest {
-        push_room(alloc, objects, descriptions, ways, number, mention)?;
+        push_room(alloc, objects, descriptions, ways, number, mention, parents)?;
         number += 1;
         rest = after;
     }
@@ -215,14 +268,16 @@ pub fn objects_of(
     mentions: &[Mention<'_>],
     descriptions: &Descriptions<'_>,
     ways: &Ways<'_>,
-) -> Result<Objects, AllocError>
+) -> Result<Listed<Object>, AllocError>
     requires within { LeadWithin (stated ways.now) }
     requires described { descriptions_in descriptions.now ≡ descriptions_of (stated ways.now) }
     ensures { IfOk result (λ objects. objects ≡ objects_of (stated ways.now) (mentions_of mentions.now)) }
 {
+    let built_in = built_in_parents(alloc)?;
+    let parents = built_in.as_slice();
     let mut objects = Vec::new(alloc);
-    objects.push(player(alloc)?)?;
-    push_directions(alloc, &mut objects)?;
-    push_rooms(alloc, &mut objects, mentions, descriptions, ways)?;
-    Ok(Objects::new(objects))
+    objects.push(player(alloc, parents)?)?;
+    push_directions(alloc, &mut objects, parents)?;
+    push_rooms(alloc, &mut objects, mentions, descriptions, ways, parents)?;
+    Ok(Listed::new(objects))
 }

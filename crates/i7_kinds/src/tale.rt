@@ -22,7 +22,7 @@ use crate::statements::{NumberedSentence, statements_in};
 use crate::ways::Ways;
 use i7_sentences::Sentence;
 use std::alloc::{AllocError, Global};
-use world_meaning::{Fault, FaultCode, Tale};
+use world_meaning::{Fault, FaultCode, Tale, built_in_declared};
 
 /// The refusal at a line, if there is one.
 fn refusal_at(code: FaultCode, line: Option<u32>) -> Option<Fault>
@@ -108,7 +108,8 @@ fn judged(
         return Ok(Err(fault));
     }
     let objects = objects_of(alloc, mentions, &descriptions, &ways)?;
-    Ok(Ok(Tale { objects }))
+    let declared = built_in_declared(alloc)?;
+    Ok(Ok(Tale { declared, objects }))
 }
 
 /// What the sentences mean: a tale or a refusal.

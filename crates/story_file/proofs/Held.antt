@@ -8,6 +8,9 @@ use Rattle.std.proofs.lemmas.Bool.{ltb-false, lt-ltb, le-leb, ne_eqb}
 use Rattle.std.proofs.lemmas.List.Folds.{list_any-append}
 use Rattle.std.proofs.lemmas.Option.{slice_get_past}
 use Rattle.world_meaning.proofs.Bools.{both, both_are, either}
+use Rattle.world_meaning.specs.Declarations.{are_right_kinds, are_rising, begin_with_kinds, begin_with_properties, built_in_declared, count_of_numbers, has_properties, is_well_declared, suits_kind}
+use Rattle.world_meaning.specs.Kinds.{built_in_parents, is_under}
+use Rattle.world_meaning.specs.Properties.{built_in_properties, start_properties}
 use Rattle.world_meaning.specs.Directions.{all_directions, direction_number, opposite_of}
 use Rattle.world_meaning.specs.declared.direction.Direction.{Direction}
 use Rattle.world_meaning.specs.declared.fault.Fault.{Fault}
@@ -247,6 +250,24 @@ shape_held statements mentions few some h =
     let all : list_all (is_room (length others + 1)) rooms ≡ true = ap (λ k. list_all (is_room k) rooms) n ∙ rooms_are (13 + length mentions) statements 13 mentions h in
     rw (few_others, many_others, start) all
 
+-- ---- what is declared, and what the objects have of it
+
+built_in_held : is_well_declared built_in_declared ≡ true
+unfolding is_well_declared are_right_kinds begin_with_kinds begin_with_properties are_rising built_in_declared built_in_parents built_in_properties is_under
+built_in_held = refl
+
+room_suits : (statements : List NumberedSentence) (o : ℕ) (at : NameAt) → suits_kind built_in_declared (room_of statements o at) ≡ true
+unfolding suits_kind has_properties count_of_numbers room_of are_rising start_properties built_in_declared built_in_parents built_in_properties is_under
+room_suits statements o at = refl
+
+rooms_suit : (statements : List NumberedSentence) (o : ℕ) (mentions : List NameAt) → list_all (suits_kind built_in_declared) (rooms_from statements o mentions) ≡ true
+rooms_suit statements o [] = refl
+rooms_suit statements o (at ∷ mentions) = both (suits_kind built_in_declared (room_of statements o at)) (list_all (suits_kind built_in_declared) (rooms_from statements (o + 1) mentions)) (room_suits statements o at) (rooms_suit statements (o + 1) mentions)
+
+suited_held : (statements : List NumberedSentence) (mentions : List NameAt) → list_all (suits_kind built_in_declared) (objects_of statements mentions) ≡ true
+unfolding objects_of suits_kind has_properties count_of_numbers are_rising start_properties built_in_declared built_in_parents built_in_properties is_under
+suited_held statements mentions = rooms_suit statements 13 mentions
+
 -- ---- names and texts are short
 
 none_found : {A : Type 0} (p : A → Bool) (xs : List A) → find p xs ≡ None → list_all (λ x. not (p x)) xs ≡ true
@@ -350,13 +371,13 @@ limit_parts statements mentions none =
     let t = earlier_none (name_too_long mentions) (text_too_long (descriptions_of statements)) (unrefused TooMany (earlier (name_too_long mentions) (text_too_long (descriptions_of statements))) none) in
     (none_found has_long_name mentions (unmapped line_at (find has_long_name mentions) t.0), none_found has_long_text (descriptions_of statements) (unmapped line_of_description (find has_long_text (descriptions_of statements)) t.1))
 
-objects_held : (faults : NameFaults) (statements : List NumberedSentence) (mentions : List NameAt) → list_all (are_below (13 + length mentions)) statements ≡ true → first_of (frame_refusal faults statements mentions) (limit_refusal statements mentions) ≡ None → IsHeld (record { objects = objects_of statements mentions })
+objects_held : (faults : NameFaults) (statements : List NumberedSentence) (mentions : List NameAt) → list_all (are_below (13 + length mentions)) statements ≡ true → first_of (frame_refusal faults statements mentions) (limit_refusal statements mentions) ≡ None → IsHeld (record { declared = built_in_declared; objects = objects_of statements mentions })
 objects_held faults statements mentions below none =
     let t = first_none_both (frame_refusal faults statements mentions) (limit_refusal statements mentions) none in
     let frame = frame_parts faults statements mentions t.0 in
     let limits = limit_parts statements mentions t.1 in
     let rooms = all_of_rooms (13 + length mentions) None statements frame.0 below in
-    record { shape = shape_held statements mentions (few_objects mentions frame.1) (some_room mentions frame.2) rooms; texts = texts_held statements mentions limits.0 limits.1; words = words_held statements mentions limits.0 }
+    record { shape = shape_held statements mentions (few_objects mentions frame.1) (some_room mentions frame.2) rooms; declared = built_in_held; suited = suited_held statements mentions; texts = texts_held statements mentions limits.0 limits.1; words = words_held statements mentions limits.0 }
 
 meant_whole : (line : Option ℕ) (said : Result Tale Fault) (tale : Tale) → unless_unmeant line said ≡ Ok tale → said ≡ Ok tale
 meant_whole None said tale meant = meant
@@ -368,5 +389,5 @@ tale_held sentences tale meant =
     let claims = claims_of sentences in
     let statements = stated_by sentences in
     let mentions = (named_by sentences).mentions in
-    let t = meant_none (first_of (frame_refusal (name_faults claims statements) statements mentions) (limit_refusal statements mentions)) (record { objects = objects_of statements mentions }) tale (meant_whole (unmeant sentences) (judged claims statements mentions) tale meant) in
+    let t = meant_none (first_of (frame_refusal (name_faults claims statements) statements mentions) (limit_refusal statements mentions)) (record { declared = built_in_declared; objects = objects_of statements mentions }) tale (meant_whole (unmeant sentences) (judged claims statements mentions) tale meant) in
     subst IsHeld t.1 (objects_held (name_faults claims statements) statements mentions (source_below sentences) t.0)

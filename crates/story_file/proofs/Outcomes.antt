@@ -5,7 +5,6 @@ use Rattle.world_meaning.specs.declared.fault.Fault.{Fault}
 use Rattle.world_meaning.specs.declared.fault.FaultCode.TheVariants.{Memory}
 use Rattle.world_meaning.specs.declared.tale.Tale.{Tale}
 use Rattle.i7_lexer.proofs.LawLemmas.{spelled-refused, tokens-same}
-use Rattle.i7_lexer.specs.declared.token.Token.{Token}
 use Rattle.i7_sentences.proofs.Verdicts.{sentences_same, spelled_refused}
 use Rattle.i7_sentences.specs.Sources.{HasSentences, IsRefused as IsUnread}
 use Rattle.i7_sentences.specs.declared.sentence.Sentence.{Sentence}

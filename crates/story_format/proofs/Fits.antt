@@ -16,18 +16,21 @@ use Rattle.world_meaning.specs.declared.exits.Exits.{Exits}
 use Rattle.world_meaning.specs.declared.exits.Way.{Way}
 use Rattle.world_meaning.specs.declared.direction.Direction.{Direction}
 use Rattle.world_meaning.specs.Directions.{all_directions}
+use Rattle.world_meaning.specs.Declarations.{is_well_declared}
+use Rattle.world_meaning.specs.Declarations.{suits_kind as object_suits}
+use Rattle.world_meaning.specs.declared.declared.Declared.{Declared}
 use Rattle.world_meaning.specs.declared.tale.Object.{Object}
 use Rattle.object_words.specs.Mentions.{mention, number_or_none, number_in}
 use Rattle.object_words.proofs.StringLemmas.{length_mapped}
 use Rattle.story_format.specs.Formats.{fits_optional}
 use Rattle.story_format.specs.Layout.{entry_layout, way_layout, exits_layout, action_layout, line_layout, rule_layout, book_layout, scene_layout, rules_layout, tables_layout}
-use Rattle.story_format.specs.Making.{Worded, worded, texts_of, entry_strings, code_strings, strings_of, article_number, relation_number, place_relation, place_holder, code_number, entry_of, entries_of, code_of, codes_of, ways_of, tables_with}
+use Rattle.story_format.specs.Making.{Worded, worded, numbers_of, texts_of, entry_strings, code_strings, strings_of, article_number, relation_number, place_relation, place_holder, code_number, entry_of, entries_of, code_of, codes_of, ways_of, tables_with}
 use Rattle.story_format.specs.Holding.{has_few_words, has_short_texts, is_short, is_short_or_none}
 use Rattle.story_format.specs.Shape.{stands_in_room, is_in, is_direction, is_room, are_directions, has_shape}
 use Rattle.story_format.specs.Sizes.{is_room_number, is_room_or_none, leads_to_room, lead_to_rooms}
-use Rattle.story_format.proofs.StoryLemmas.{all_weaker, parts, player_parts, direction_parts, room_parts}
+use Rattle.story_format.proofs.StoryLemmas.{all_weaker, parts, player_parts, direction_parts, room_parts, three}
 use Rattle.story_format.proofs.OrderLemmas.{at_most_one, mention_new, mention_old}
-use Rattle.story_format.proofs.StartLemmas.{fits_properties, kinds_of_tale, properties_fit, world_fits}
+use Rattle.story_format.proofs.DeclaredLemmas.{all_own_fit, are_bytes, fits_own, is_word, world_fits}
 use Rattle.story_format.proofs.WordFacts.{all_mentioned, is_good}
 use Rattle.story_format.proofs.TableLemmas.{all_good_words, all_may, codes_few, entries_counted, good_words, leads_with_words, object_leads_on, objects_back, objects_in, rooms_lead}
 
@@ -174,22 +177,23 @@ objects_fit (player ∷ others) h =
     let q = player_parts n player p.player in
     both (fits_object player) (list_all fits_object others) (both (ltb player.kind 256) (ltb (place_holder player.place) 65536) (kind_fits player.kind 6 q.0 (omega arith)) (room_fits n player.place (omega (arith, p.few)) q.3)) rest
 
-entry_fits : (strings : List (List ℕ)) (next : ℕ) (w : Worded) → has_few_words w ≡ true → fits_object w.object ≡ true → fits_properties w ≡ true → entry_layout.format.fits (entry_of strings next w) ≡ true
+entry_fits : (strings : List (List ℕ)) (next : ℕ) (w : Worded) → has_few_words w ≡ true → fits_object w.object ≡ true → fits_own w.object ≡ true → entry_layout.format.fits (entry_of strings next w) ≡ true
 unfolding entry_layout entry_of
 entry_fits strings next w few h k =
     let t = both_are (ltb w.object.kind 256) (ltb (place_holder w.object.place) 65536) h in
-    let u = both_are (ltb (length w.properties) 256) (list_all (λ n. ltb n 256) w.properties) k in
+    let v = three (are_bytes w.object.properties) (ltb (length (numbers_of w.object.numbers)) 256) (list_all is_word (numbers_of w.object.numbers)) k in
+    let u = both_are (ltb (length w.object.properties) 256) (list_all (λ n. ltb n 256) w.object.properties) v.0 in
     let le : length w.words ≤ 32 = leb-true _ _ few in
     let count : ltb (length (map (number_in strings) w.words)) 256 ≡ true = lt-ltb _ _ (omega (arith, le, length_mapped (number_in strings) w.words)) in
-    rw (t.0, named_small strings w.object.name, article_fits w.object.article, code_fits next w.object.description, count, all_named_small strings w.words, relation_fits w.object.place, t.1, u.0, u.1) refl
+    rw (t.0, named_small strings w.object.name, article_fits w.object.article, code_fits next w.object.description, count, all_named_small strings w.words, relation_fits w.object.place, t.1, u.0, u.1, v.1) v.2
 
-entries_fit : (strings : List (List ℕ)) (next : ℕ) (ws : List Worded) → list_all has_few_words ws ≡ true → list_all fits_object (objects_in ws) ≡ true → list_all fits_properties ws ≡ true → list_all entry_layout.format.fits (entries_of strings next ws) ≡ true
+entries_fit : (strings : List (List ℕ)) (next : ℕ) (ws : List Worded) → list_all has_few_words ws ≡ true → list_all fits_object (objects_in ws) ≡ true → list_all fits_own (objects_in ws) ≡ true → list_all entry_layout.format.fits (entries_of strings next ws) ≡ true
 unfolding entries_of
 entries_fit strings next [] few h k = refl
 entries_fit strings next (w ∷ ws) few h k =
     let t = both_are (has_few_words w) (list_all has_few_words ws) few in
     let u = both_are (fits_object w.object) (list_all fits_object (objects_in ws)) h in
-    let v = both_are (fits_properties w) (list_all fits_properties ws) k in
+    let v = both_are (fits_own w.object) (list_all fits_own (objects_in ws)) k in
     both (entry_layout.format.fits (entry_of strings next w)) (list_all entry_layout.format.fits (entries_of strings (next + length (code_strings w)) ws)) (entry_fits strings next w t.0 u.0 v.0) (entries_fit strings (next + length (code_strings w)) ws t.1 u.1 v.1)
 
 -- ---- each way has room
@@ -235,9 +239,10 @@ all_codes_short strings (w ∷ ws) =
 
 -- ---- all of it
 
-pub tables_fit : (objects : List Object) → has_shape objects ≡ true → list_all has_short_texts objects ≡ true → list_all has_few_words (worded objects) ≡ true → tables_layout.format.fits (tables_with (worded objects)) ≡ true
+pub tables_fit : (d : Declared) (objects : List Object) → is_well_declared d ≡ true → has_shape objects ≡ true → list_all (object_suits d) objects ≡ true → list_all has_short_texts objects ≡ true → list_all has_few_words (worded objects) ≡ true
+    → tables_layout.format.fits (tables_with d (worded objects)) ≡ true
 unfolding tables_layout tables_with rules_layout action_layout line_layout rule_layout book_layout scene_layout
-tables_fit objects shape texts few_words =
+tables_fit d objects declared shape suited texts few_words =
     let ws = worded objects in
     let strings = strings_of ws in
     let back : objects_in ws ≡ objects = objects_back 0 objects in
@@ -249,9 +254,9 @@ tables_fit objects shape texts few_words =
     let string_count : ltb (length strings) 65536 ≡ true = lt-ltb _ _ (omega (arith, few)) in
     let strings_fit = strings_short ws (ap (list_all has_short_texts) back ∙ texts) (all_good_words 0 objects texts) in
     let entry_count : ltb (length (entries_of strings 0 ws)) 65536 ≡ true = lt-ltb _ _ (omega (arith, le, entries_counted strings 0 ws)) in
-    let entries = entries_fit strings 0 ws few_words (ap (list_all fits_object) back ∙ objects_fit objects shape) (properties_fit objects 0 (kinds_of_tale objects shape)) in
+    let entries = entries_fit strings 0 ws few_words (ap (list_all fits_object) back ∙ objects_fit objects shape) (ap (list_all fits_own) back ∙ all_own_fit d declared objects suited) in
     let way_count : ltb (length (flat_map ways_of ws)) 65536 ≡ true = lt-ltb _ _ (omega (arith, le, ways_few ws)) in
     let leads_on : list_all (object_leads_on n) (objects_in ws) ≡ true = ap (λ k. list_all (object_leads_on k) (objects_in ws)) count ∙ ap (list_all (object_leads_on (length objects))) back ∙ may.0 in
     let exits = all_weaker (lead_to_rooms n) exits_layout.format.fits (exits_fit n le) (flat_map ways_of ws) (rooms_lead n ws (leads_with_words n ws leads_on)) in
     let code_count : ltb (length (flat_map (codes_of strings) ws)) 65536 ≡ true = lt-ltb _ _ (omega (arith, le, codes_few strings ws)) in
-    rw (string_count, strings_fit, world_fits, entry_count, entries, way_count, exits, code_count, all_codes_short strings ws) refl
+    rw (string_count, strings_fit, world_fits d declared, entry_count, entries, way_count, exits, code_count, all_codes_short strings ws) refl

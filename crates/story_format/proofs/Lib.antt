@@ -1,6 +1,6 @@
 pub mod Loops
 pub mod StoryLemmas
-pub mod StartLemmas
+pub mod DeclaredLemmas
 pub mod ReadingLemmas
 pub mod FaultLemmas
 pub mod Known

@@ -6,6 +6,7 @@ use Rattle.std.proofs.lemmas.Bool.{lt-ltb}
 use Rattle.std.proofs.lemmas.Nat.{from_be_bytes-to_be_bytes_2}
 use Rattle.std.proofs.lemmas.List.{map-append}
 use Rattle.world_meaning.proofs.Bools.{both, both_are}
+use Rattle.world_meaning.specs.declared.declared.Declared.{Declared}
 use Rattle.object_words.specs.Mentions.{number_or_none, number_in}
 use Rattle.story_format.specs.Making.{Worded, texts_of, entry_strings, code_strings, strings_of, entries_of, code_of, codes_of, tables_with}
 use Rattle.story_format.specs.Checks.{strings_named}
@@ -69,9 +70,9 @@ numbers_read strings ws =
     ∙ ap (λ (ns : List ℕ). map (number_in strings) (flat_map entry_strings ws) ++ ns) (numbers_said strings ws)
     ∙ sym (map-append (number_in strings) (flat_map entry_strings ws) (flat_map code_strings ws))
 
-pub tables_sound : (ws : List Worded) → length (strings_of ws) < 65535 → length ws ≤ 1000 → are_sound (tables_with ws) ≡ true
+pub tables_sound : (d : Declared) (ws : List Worded) → length (strings_of ws) < 65535 → length ws ≤ 1000 → are_sound (tables_with d ws) ≡ true
 unfolding are_sound strings_read tables_with
-tables_sound ws few short =
+tables_sound d ws few short =
     let strings = strings_of ws in
     let say = codes_say strings ws (told_in_strings ws) few in
     let turn = codes_in_turn strings ws 0 (length (flat_map (codes_of strings) ws)) (omega arith) (omega (arith, short)) in

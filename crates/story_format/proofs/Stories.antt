@@ -20,5 +20,5 @@ pub tale_is_story : (t : Tale) → IsHeld t → IsStory (tables_of t)
 tale_is_story t held =
     let le = few_objects t held in
     let few = few_strings (worded t.objects) held.words le in
-    let right = tables_right t.objects held.shape held.texts held.words few in
-    record { fits = tables_fit t.objects held.shape held.texts held.words; right = right; sound = tables_sound (worded t.objects) few le; ordered = right_ordered (tables_of t) right }
+    let right = tables_right t.declared t.objects held.declared held.shape held.suited held.texts held.words few in
+    record { fits = tables_fit t.declared t.objects held.declared held.shape held.suited held.texts held.words; right = right; sound = tables_sound t.declared (worded t.objects) few le; ordered = right_ordered (tables_of t) right }

@@ -19,6 +19,9 @@ use Rattle.world_meaning.specs.declared.place.Place.{Place}
 use Rattle.world_meaning.specs.declared.direction.Direction.{Direction}
 use Rattle.world_meaning.specs.Directions.{all_directions, direction_name}
 use Rattle.world_meaning.specs.declared.exits.Exits.{Exits}
+use Rattle.world_meaning.specs.Declarations.{is_among, is_well_declared}
+use Rattle.world_meaning.specs.Declarations.{suits_kind as object_suits}
+use Rattle.world_meaning.specs.declared.declared.Declared.{Declared}
 use Rattle.world_meaning.specs.declared.tale.Object.{Object}
 use Rattle.object_words.specs.Mentions.{number_in}
 use Rattle.object_words.specs.Words.{words_for}
@@ -28,12 +31,12 @@ use Rattle.story_format.specs.declared.tables.Entry.{Entry}
 use Rattle.story_format.specs.Making.{Worded, worded_at, worded_from, worded, texts_of, entry_strings, code_strings, strings_of, article_number, relation_number, place_relation, place_holder, code_number, entry_of, entries_of, code_of, codes_of, ways_of, tables_with}
 use Rattle.story_format.specs.Holding.{has_few_words, has_short_texts, is_short, is_short_or_none}
 use Rattle.story_format.specs.Shape.{has_no_article, is_in, stands_in_room, is_player, is_direction, is_room, are_directions, has_shape}
-use Rattle.story_format.specs.Sizes.{are_different, is_among, is_right_entry, is_right_exits, is_room_number, lead_to_rooms}
+use Rattle.story_format.specs.Sizes.{are_different, is_right_entry, is_right_exits, is_room_number, lead_to_rooms}
 use Rattle.story_format.specs.Checks.{is_named, begin_with, has_words, have_words, is_small, is_small_at, has_small_words, is_of_room, is_player_entry, is_direction_entry, is_room_entry, are_direction_entries, are_in_place, are_right_objects, are_right}
 use Rattle.story_format.proofs.StoryLemmas.{all_weaker, parts, player_parts, direction_parts, room_parts}
 use Rattle.story_format.proofs.Known.{text_is_itself, found_by_number, is_known, texts_known, any_left, any_right, fold_finds}
 use Rattle.story_format.proofs.OrderLemmas.{at_most_one, strings_distinct, strings_in_order, codes_in_order}
-use Rattle.story_format.proofs.StartLemmas.{all_suit, built_in_right, kinds_of_tale}
+use Rattle.story_format.proofs.DeclaredLemmas.{all_suit, world_right}
 use Rattle.story_format.proofs.WordFacts.{differ, is_good, words_differ, words_good}
 
 -- ---- each entry is plain
@@ -401,9 +404,10 @@ unfolding is_right_exits
 leads_right sizes [] h = refl
 leads_right sizes (e ∷ ways) h = let t = both_are (lead_to_rooms sizes.objects e) (list_all (lead_to_rooms sizes.objects) ways) h in both (is_right_exits sizes e) (list_all (is_right_exits sizes) ways) t.0 (leads_right sizes ways t.1)
 
-pub tables_right : (objects : List Object) → has_shape objects ≡ true → list_all has_short_texts objects ≡ true → list_all has_few_words (worded objects) ≡ true → length (strings_of (worded objects)) < 65535 → are_right (tables_with (worded objects)) ≡ true
+pub tables_right : (d : Declared) (objects : List Object) → is_well_declared d ≡ true → has_shape objects ≡ true → list_all (object_suits d) objects ≡ true → list_all has_short_texts objects ≡ true → list_all has_few_words (worded objects) ≡ true → length (strings_of (worded objects)) < 65535
+    → are_right (tables_with d (worded objects)) ≡ true
 unfolding are_right are_right_objects tables_with
-tables_right objects shape texts few_words few =
+tables_right d objects declared shape suited texts few_words few =
     let ws = worded objects in
     let strings = strings_of ws in
     let back : objects_in ws ≡ objects = objects_back 0 objects in
@@ -420,6 +424,6 @@ tables_right objects shape texts few_words few =
     let counted : eqb (length (flat_map ways_of ws)) (count_by is_of_room (entries_of strings 0 ws)) ≡ true = eq-eqb _ _ (rooms_counted strings ws 0) in
     let leads_on : list_all (object_leads_on (length ws)) (objects_in ws) ≡ true = ap (λ k. list_all (object_leads_on k) (objects_in ws)) count ∙ ap (list_all (object_leads_on (length objects))) back ∙ may.0 in
     let lead : list_all (lead_to_rooms n) (flat_map ways_of ws) ≡ true = ap (λ k. list_all (lead_to_rooms k) (flat_map ways_of ws)) (entries_counted strings 0 ws) ∙ rooms_lead (length ws) ws (leads_with_words (length ws) ws leads_on) in
-    let suit = all_suit strings objects 0 0 (kinds_of_tale objects shape) in
+    let suit = all_suit d strings objects 0 0 suited in
     let right = leads_right (record { objects = n; codes = length (flat_map (codes_of strings) ws) }) (flat_map ways_of ws) lead in
-    rw (built_in_right, few_strings, strings_distinct ws, plain, in_place, words, small, strings_in_order ws few, codes_in_order ws (omega (arith, may.1, count)), suit, counted, right) refl
+    rw (world_right d declared, few_strings, strings_distinct ws, plain, in_place, words, small, strings_in_order ws few, codes_in_order ws (omega (arith, may.1, count)), suit, counted, right) refl

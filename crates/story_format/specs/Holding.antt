@@ -1,6 +1,7 @@
 -- The tales that a story file holds.
 use Rattle.std.specs.Prelude.{◌≡◌, ℕ, Bool, true, ◌&&◌, nat_lt, nat_le, List, length, Option, Some, None}
 use Rattle.std.specs.List.{list_all}
+use Rattle.world_meaning.specs.Declarations.{is_well_declared, suits_kind}
 use Rattle.world_meaning.specs.declared.tale.Object.{Object}
 use Rattle.world_meaning.specs.declared.tale.Tale.{Tale}
 use Rattle.story_format.specs.Making.{Worded, worded}
@@ -25,5 +26,7 @@ has_few_words w = nat_le (length w.words) 32
 pub record IsHeld (t : Tale) : Type 0 where
   -- the player, the directions and rooms, 1,000 objects at most
   pub shape : has_shape t.objects ≡ true
+  pub declared : is_well_declared t.declared ≡ true
+  pub suited : list_all (suits_kind t.declared) t.objects ≡ true
   pub texts : list_all has_short_texts t.objects ≡ true
   pub words : list_all has_few_words (worded t.objects) ≡ true

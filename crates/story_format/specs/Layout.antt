@@ -3,7 +3,7 @@ use Rattle.std.proofs.Common.{◌≡◌, ℕ, Option, refl, inl, inr, ◌⊎◌}
 use Rattle.world_meaning.specs.declared.exits.Way.{Way}
 use Rattle.world_meaning.specs.declared.exits.Exits.{Exits}
 use Rattle.story_format.specs.Layouts.{Layout, u8s, u16s, u32s, optionals, optional_bytes, texts, then, as_record, times, list_of, table_of}
-use Rattle.story_format.specs.declared.world_tables.Granted.{Granted}
+use Rattle.world_meaning.specs.declared.declared.Granted.{Granted}
 use Rattle.story_format.specs.declared.world_tables.Variable.{Variable}
 use Rattle.story_format.specs.declared.world_tables.WorldTables.{WorldTables}
 use Rattle.story_format.specs.Choices.{no_sort, nothings, sort}

@@ -1,7 +1,7 @@
 -- The tables of a tale.
-use Rattle.std.specs.Prelude.{ℕ, ◌+◌, ◌==◌, List, [], ◌∷◌, ◌++◌, length, map, min, Option, Some, None, if◌then◌else◌}
+use Rattle.std.specs.Prelude.{ℕ, ℤ, ◌+◌, ◌==◌, List, [], ◌∷◌, ◌++◌, length, map, min, Option, Some, None, if◌then◌else◌}
 use Rattle.std.specs.List.{flat_map}
-use Rattle.std.specs.Int.{w16, to_be_bytes}
+use Rattle.std.specs.Int.{w16, w32, cast_unsigned, to_be_bytes}
 use Rattle.world_meaning.specs.declared.article.Article.{Article}
 use Rattle.world_meaning.specs.declared.article.Article.TheVariants as articles
 use Rattle.world_meaning.specs.declared.place.Rel.{Rel}
@@ -10,28 +10,28 @@ use Rattle.world_meaning.specs.declared.place.Place.{Place}
 use Rattle.world_meaning.specs.declared.exits.Exits.{Exits}
 use Rattle.world_meaning.specs.declared.tale.Object.{Object}
 use Rattle.world_meaning.specs.declared.tale.Tale.{Tale}
-use Rattle.world_meaning.specs.Kinds.{built_in_parents, room_kind}
-use Rattle.world_meaning.specs.Properties.{built_in_properties, start_properties}
+use Rattle.world_meaning.specs.declared.declared.Declared.{Declared}
+use Rattle.world_meaning.specs.Kinds.{room_kind}
 use Rattle.story_format.specs.declared.tables.Entry.{Entry}
 use Rattle.story_format.specs.declared.tables.Tables.{Tables}
+use Rattle.story_format.specs.declared.world_tables.Variable.{Variable}
 use Rattle.story_format.specs.declared.world_tables.WorldTables.{WorldTables}
 use Rattle.object_words.specs.Mentions.{first_mentions, number_in}
 use Rattle.object_words.specs.Words.{words_for}
 
--- an object, the words that a command may name it by, and the properties that it begins with
+-- an object, and the words that a command may name it by
 pub record Worded : Type 0 where
   pub object : Object
   pub words : List (List ℕ)
-  pub properties : List ℕ
 
 abbrev pub worded_at : ℕ → Object → Worded
-worded_at o object = record { object = object; words = words_for o object.name; properties = start_properties built_in_parents o object.kind }
+worded_at o object = record { object = object; words = words_for o object.name }
 
 abbrev pub worded_from : ℕ → List Object → List Worded
 worded_from o [] = []
 worded_from o (object ∷ objects) = worded_at o object ∷ worded_from (o + 1) objects
 
--- the objects of a tale with their words and properties, by number
+-- the objects of a tale with their words, by number
 abbrev pub worded : List Object → List Worded
 worded objects = worded_from 0 objects
 
@@ -77,6 +77,10 @@ abbrev pub code_number : ℕ → Option (List ℕ) → ℕ
 code_number next None = 65535
 code_number next (Some text) = min next 65535
 
+-- numbers as their two's complements
+abbrev pub numbers_of : List ℤ → List ℕ
+numbers_of numbers = map (cast_unsigned w32) numbers
+
 unfoldable pub entry_of : List (List ℕ) → ℕ → Worded → Entry
 entry_of strings next w = record {
   kind = w.object.kind;
@@ -86,8 +90,8 @@ entry_of strings next w = record {
   words = map (number_in strings) w.words;
   relation = place_relation w.object.place;
   holder = place_holder w.object.place;
-  properties = w.properties;
-  numbers = [];
+  properties = w.object.properties;
+  numbers = numbers_of w.object.numbers;
 }
 
 -- an entry for each object; each description has the next code
@@ -106,14 +110,17 @@ codes_of strings w = map (code_of strings) (code_strings w)
 abbrev pub ways_of : Worded → List Exits
 ways_of w = if w.object.kind == room_kind then w.object.exits ∷ [] else []
 
--- tables 2 to 5 of a tale: the built-in entries
-unfoldable pub built_in_world : WorldTables
-built_in_world = record { kinds = built_in_parents; flags = map (λ p. record { kinds = p.kinds }) built_in_properties; numbers = []; variables = [] }
+abbrev pub variable_of : ℤ → Variable
+variable_of number = record { start = cast_unsigned w32 number }
 
-unfoldable pub tables_with : List Worded → Tables
-tables_with ws = record {
+-- tables 2 to 5 of what a source declares
+unfoldable pub world_of : Declared → WorldTables
+world_of d = record { kinds = d.kinds; flags = d.flags; numbers = d.numbers; variables = map variable_of d.variables }
+
+unfoldable pub tables_with : Declared → List Worded → Tables
+tables_with d ws = record {
   strings = strings_of ws;
-  world = built_in_world;
+  world = world_of d;
   objects = entries_of (strings_of ws) 0 ws;
   ways = flat_map ways_of ws;
   rules = record { actions = []; grammar = []; rules = []; books = []; scenes = [] };
@@ -121,4 +128,4 @@ tables_with ws = record {
 }
 
 abbrev pub tables_of : Tale → Tables
-tables_of t = tables_with (worded t.objects)
+tables_of t = tables_with t.declared (worded t.objects)

@@ -1,17 +1,15 @@
 -- What an entry may say by itself, where the tables have so many entries.
 use Rattle.std.specs.Prelude.{ℕ, Bool, true, not, ◌&&◌, ◌||◌, ◌==◌, nat_le, nat_lt, List, [], ◌∷◌, length, Option, Some, None, is_none}
-use Rattle.std.specs.List.{list_all, list_any}
+use Rattle.std.specs.List.{list_all}
 use Rattle.world_meaning.specs.declared.exits.Exits.{Exits}
 use Rattle.world_meaning.specs.declared.exits.Way.{Way}
+use Rattle.world_meaning.specs.Declarations.{is_among}
 use Rattle.story_format.specs.declared.row.Sizes.{Sizes}
 use Rattle.story_format.specs.declared.tables.Entry.{Entry}
 use Rattle.story_format.specs.declared.tables.Tables.{Tables}
 
 abbrev pub sizes_of : Tables → Sizes
 sizes_of t = record { objects = length t.objects; codes = length t.codes }
-
-abbrev pub is_among : ℕ → List ℕ → Bool
-is_among n ns = list_any (λ m. n == m) ns
 
 -- no number twice
 unfoldable pub are_different : List ℕ → Bool

@@ -8,21 +8,20 @@ ghost use Rattle.story_format.specs.WordedViews.{worded_of, all_worded};
 
 use crate::place::NONE;
 use crate::rule_tables::RuleTables;
-use crate::table::{Listed, Table};
+use crate::table::Table;
 use crate::tables::{Entry, Tables};
-use crate::world_making::built_in_world;
+use crate::world_making::{numbers_of, world_of};
 use object_words::{Strings, words_for};
 use std::alloc::{AllocError, Global};
 use world_meaning::{
-    Article, Exits, KindNo, Object, Place, Rel, Tale, TextBytes, built_in_parents, start_properties,
+    Article, Declared, Exits, KindNo, Listed, Object, Place, Rel, Tale, TextBytes,
 };
 
-/// An object, the words that a command may name it by, and the properties that it begins with.
+/// An object, and the words that a command may name it by.
 #[derive(Drop)]
 pub struct Worded<'a> {
     object: &'a Object,
     words: Strings,
-    properties: Vec<u8>,
 }
 
 /// The byte that says a string.
@@ -41,22 +40,16 @@ fn mention_all(alloc: Global, strings: &mut Strings, others: &Strings) -> Result
     Ok(())
 }
 
-/// The objects with their words and properties, by number.
+/// The objects with their words, by number.
 fn with_words<'a>(alloc: Global, objects: &'a [Object]) -> Result<Vec<Worded<'a>>, AllocError>
     ensures { IfOk result (λ made. all_worded made.items ≡ worded objects.now) }
 {
-    let parents = built_in_parents(alloc)?;
     let mut made = Vec::new(alloc);
     let mut number = 0usize;
     let mut rest = objects;
     while let [object, after @ ..] = rest {
         let words = words_for(alloc, number, object.name.as_slice())?;
-        let properties = start_properties(alloc, parents.as_slice(), number, object.kind)?;
-        made.push(Worded {
-            object,
-            words,
-            properties,
-        })?;
+        made.push(Worded { object, words })?;
         number += 1;
         rest = after;
     }
@@ -210,8 +203,8 @@ fn entry_of(
         words: word_numbers(alloc, strings, &worded.words)?,
         relation: place_relation(object.place),
         holder: place_holder(object.place),
-        properties: Listed::new(Vec::from_slice(alloc, worded.properties.as_slice())?),
-        numbers: Listed::new(Vec::new(alloc)),
+        properties: Listed::new(Vec::from_slice(alloc, object.properties.as_slice())?),
+        numbers: Listed::new(numbers_of(alloc, object.numbers.as_slice())?),
     })
 }
 
@@ -290,21 +283,25 @@ fn table_of(alloc: Global, strings: &Strings) -> Result<Table<TextBytes>, AllocE
 }
 
 /// A table without entries.
-pub fn empty<F: Drop>(alloc: Global) -> Table<F>
+fn empty<F: Drop>(alloc: Global) -> Table<F>
     ensures { result ≡ [] }
 {
     Table::new(Vec::new(alloc))
 }
 
-/// The tables of objects with their words.
+/// The tables of what is declared and objects with their words.
 #[tactic(auto, unfolding(crate::specs::Making::tables_with))]
-fn tables_with(alloc: Global, worded: &[Worded<'_>]) -> Result<Tables, AllocError>
-    ensures { IfOk result (λ tables. tables ≡ tables_with (all_worded worded.now)) }
+fn tables_with(
+    alloc: Global,
+    declared: &Declared,
+    worded: &[Worded<'_>],
+) -> Result<Tables, AllocError>
+    ensures { IfOk result (λ tables. tables ≡ tables_with declared.now (all_worded worded.now)) }
 {
     let strings = strings_of(alloc, worded)?;
     Ok(Tables {
         strings: table_of(alloc, &strings)?,
-        world: built_in_world(alloc)?,
+        world: world_of(alloc, declared)?,
         objects: entries_of(alloc, &strings, worded)?,
         ways: ways_of(alloc, worded)?,
         rules: RuleTables {
@@ -323,5 +320,5 @@ pub fn tables_of(alloc: Global, tale: &Tale) -> Result<Tables, AllocError>
     ensures { IfOk result (λ tables. tables ≡ tables_of tale.now) }
 {
     let worded = with_words(alloc, tale.objects.as_slice())?;
-    tables_with(alloc, worded.as_slice())
+    tables_with(alloc, &tale.declared, worded.as_slice())
 }

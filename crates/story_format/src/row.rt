@@ -1,7 +1,8 @@
 //! Entries that are tested one by one: each says what it may, where the tables have so many entries.
 ghost use Rattle.std.specs.Prelude.{◌≡◌};
 ghost use Rattle.std.specs.List.{list_all};
-ghost use Rattle.story_format.specs.Sizes.{are_different, is_among, is_right_entry, is_right_exits, is_room_number, is_room_or_none, leads_to_room};
+ghost use Rattle.world_meaning.specs.Declarations.{is_among};
+ghost use Rattle.story_format.specs.Sizes.{are_different, is_right_entry, is_right_exits, is_room_number, is_room_or_none, leads_to_room};
 
 use crate::place::NONE;
 use crate::table::Table;

@@ -2,8 +2,8 @@
 ghost use Rattle.std.specs.Prelude.{◌≡◌};
 
 use crate::field::{Field, read_fields, skip_fields, write_fields};
-use crate::table::Listed;
 use std::alloc::{AllocError, Global};
+use world_meaning::Listed;
 
 /// A property that an aspect asks, and which of its names.
 #[derive(Debug, Drop)]

@@ -3,8 +3,9 @@ ghost use Rattle.std.specs.Prelude.{◌≡◌};
 
 use crate::field::{Field, read_fields, skip_fields, write_fields};
 use crate::rule_entry::RuleEntry;
-use crate::table::{Listed, Table};
+use crate::table::Table;
 use std::alloc::{AllocError, Global};
+use world_meaning::Listed;
 
 /// An action, as table 8 has it.
 #[derive(Debug, Drop)]

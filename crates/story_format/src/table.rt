@@ -1,4 +1,4 @@
-//! Lists of values: a table behind a count of two bytes, a list behind a count of one.
+//! The formats of lists of values: a table behind a count of two bytes, a list behind a count of one.
 ghost use Rattle.std.specs.Prelude.{◌≡◌, ◌++◌, IfOk, OnOk, IsTrue};
 ghost use Rattle.std.specs.List.{flat_map, list_all};
 ghost use Rattle.story_format.specs.Formats.{get_many, left, seen_all, skip_many};
@@ -7,6 +7,7 @@ use crate::field::Field;
 use crate::number::number16;
 use std::alloc::{AllocError, Global};
 use std::marker::Model;
+use world_meaning::Listed;
 
 /// The entries of a table, in order.
 #[derive(Debug, Drop)]
@@ -31,36 +32,6 @@ impl<F> Table<F> {
     }
 
     /// The entries, in order.
-    pub fn as_slice(&self) -> &[F]
-        ensures { result.now ≡ self.now }
-    {
-        self.all.as_slice()
-    }
-}
-
-/// The items of a short list, in order.
-#[derive(Debug, Drop)]
-pub struct Listed<F> {
-    all: Vec<F>,
-}
-
-impl<F> Model for Listed<F> {
-    ghost use Rattle.std.specs.Prelude.{List};
-
-    ghost Value = { List F };
-
-    ghost view = { λ list. list.all.items };
-}
-
-impl<F> Listed<F> {
-    /// The list of these items.
-    pub fn new(all: Vec<F>) -> Listed<F>
-        ensures { result ≡ all.items }
-    {
-        Listed { all }
-    }
-
-    /// The items, in order.
     pub fn as_slice(&self) -> &[F]
         ensures { result.now ≡ self.now }
     {
@@ -157,7 +128,7 @@ impl<F: Field> Field for Listed<F> {
         let Some((all, rest)) = read_many(alloc, count as usize, rest)? else {
             return Ok(None);
         };
-        Ok(Some((Listed { all }, rest)))
+        Ok(Some((Listed::new(all), rest)))
     }
 
     fn skip(bytes: &[u8]) -> Option<&[u8]> {
@@ -168,8 +139,8 @@ impl<F: Field> Field for Listed<F> {
     }
 
     fn write(&self, out: &mut Vec<u8>) -> Result<(), AllocError> {
-        (self.all.len() as u8).write(out)?;
-        write_all(self.all.as_slice(), out)
+        (self.as_slice().len() as u8).write(out)?;
+        write_all(self.as_slice(), out)
     }
 
     ghost lawful = { counted_lawful byte F.format byte_lawful F.lawful };

@@ -3,10 +3,10 @@ ghost use Rattle.std.specs.Prelude.{◌≡◌};
 
 use crate::field::{Field, read_fields, skip_fields, write_fields};
 use crate::rule_tables::RuleTables;
-use crate::table::{Listed, Table};
+use crate::table::Table;
 use crate::world_tables::WorldTables;
 use std::alloc::{AllocError, Global};
-use world_meaning::{Exits, TextBytes};
+use world_meaning::{Exits, Listed, TextBytes};
 
 /// An object as table 6 has it.
 #[derive(Debug, Drop)]

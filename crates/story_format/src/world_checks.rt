@@ -2,17 +2,19 @@
 ghost use Rattle.std.specs.Prelude.{◌≡◌, IfOk, count_by, map};
 ghost use Rattle.world_meaning.specs.Properties.{built_in_properties};
 ghost use Rattle.std.specs.List.{list_all};
-ghost use Rattle.story_format.specs.Sizes.{is_among};
-ghost use Rattle.story_format.specs.WorldChecks.{are_right_grants, are_right_kinds, are_rising, begin_with_kinds, begin_with_properties};
-ghost use Rattle.story_format.specs.WorldChecks.{has_property, is_below, is_granted, is_had, is_right_grant, is_right_world, is_rooted, is_same_kind, suits_kind};
+ghost use Rattle.world_meaning.specs.Declarations.{are_right_grants, are_right_kinds, are_rising, begin_with_kinds, begin_with_properties};
+ghost use Rattle.world_meaning.specs.Declarations.{count_of_numbers, has_properties, has_property, is_below, is_granted, is_had, is_right_grant, is_rooted, is_same_kind};
+ghost use Rattle.story_format.specs.WorldChecks.{is_right_world, suits_kind};
 
 use crate::tables::Entry;
-use crate::world_tables::{Granted, WorldTables};
+use crate::world_tables::WorldTables;
 use std::alloc::{AllocError, Global};
-use world_meaning::{KindNo, PROPERTIES, PropertyRow, ROOTS, built_in_parents, is_under_one};
+use world_meaning::{
+    Granted, KindNo, PROPERTIES, PropertyRow, ROOTS, built_in_parents, is_under_one,
+};
 
 /// Whether each number is above the one before it.
-#[tactic(auto, unfolding(crate::specs::WorldChecks::are_rising))]
+#[tactic(auto, unfolding(world_meaning::specs::Declarations::are_rising))]
 fn are_rising(numbers: &[u8]) -> bool
     ensures { result ≡ are_rising 0 numbers.now }
 {
@@ -40,7 +42,7 @@ fn is_same_kind(kind: Option<KindNo>, other: Option<KindNo>) -> bool
 }
 
 /// Whether the first kinds lie under these, in order.
-#[tactic(auto, unfolding(crate::specs::WorldChecks::begin_with_kinds))]
+#[tactic(auto, unfolding(world_meaning::specs::Declarations::begin_with_kinds))]
 fn begin_with_kinds(parents: &[Option<KindNo>], others: &[Option<KindNo>]) -> bool
     ensures { result ≡ begin_with_kinds parents.now others.now }
 {
@@ -72,7 +74,7 @@ fn are_rooted(parents: &[Option<KindNo>], kinds: &[Option<KindNo>]) -> bool
 }
 
 /// Whether the kinds are the built-in ones and the author's.
-#[tactic(auto, unfolding(crate::specs::WorldChecks::are_right_kinds))]
+#[tactic(auto, unfolding(world_meaning::specs::Declarations::are_right_kinds))]
 fn are_right_kinds(alloc: Global, parents: &[Option<KindNo>]) -> Result<bool, AllocError>
     ensures { IfOk result (λ right. right ≡ are_right_kinds parents.now) }
 {
@@ -100,7 +102,7 @@ fn are_granted(kinds: &[u8], others: &[u8]) -> bool
 }
 
 /// Whether the first properties are had by the kinds of these rows at least, in order.
-#[tactic(auto, unfolding(crate::specs::WorldChecks::begin_with_properties))]
+#[tactic(auto, unfolding(world_meaning::specs::Declarations::begin_with_properties))]
 fn begin_with_properties(granted: &[Granted], rows: &[PropertyRow<'_>]) -> bool
     ensures { result ≡ begin_with_properties granted.now (map (λ row. record { kinds = row.2.now; true_of = row.3.now }) rows.now) }
 {
@@ -170,26 +172,45 @@ fn is_had(parents: &[Option<KindNo>], kind: KindNo, granted: &Granted) -> bool
     is_under_one(parents, granted.kinds.as_slice(), kind)
 }
 
-fn has_property(world: &WorldTables, kind: KindNo, number: u8) -> bool
-    ensures { result ≡ has_property world.now kind number }
+fn has_property(parents: &[Option<KindNo>], flags: &[Granted], kind: KindNo, number: u8) -> bool
+    ensures { result ≡ has_property parents.now flags.now kind number }
 {
-    match world.flags.as_slice().get(number as usize) {
+    match flags.get(number as usize) {
         None => false,
-        Some(granted) => is_had(world.kinds.as_slice(), kind, granted),
+        Some(granted) => is_had(parents, kind, granted),
     }
 }
 
-fn has_properties(world: &WorldTables, kind: KindNo, numbers: &[u8]) -> bool
-    ensures { result ≡ list_all (has_property world.now kind) numbers.now }
+fn has_each_property(
+    parents: &[Option<KindNo>],
+    flags: &[Granted],
+    kind: KindNo,
+    numbers: &[u8],
+) -> bool
+    ensures { result ≡ list_all (has_property parents.now flags.now kind) numbers.now }
 {
     numbers
         .iter()
-        .all(|number| has_property(world, kind, *number))
+        .all(|number| has_property(parents, flags, kind, *number))
+}
+
+/// Whether these properties rise and are those that a kind has.
+#[tactic(auto, unfolding(world_meaning::specs::Declarations::has_properties))]
+fn has_properties(
+    parents: &[Option<KindNo>],
+    flags: &[Granted],
+    kind: KindNo,
+    numbers: &[u8],
+) -> bool
+    ensures { result ≡ has_properties parents.now flags.now kind numbers.now }
+{
+    are_rising(numbers) && has_each_property(parents, flags, kind, numbers)
 }
 
 /// How many of the number properties a kind has.
-fn count_of_numbers(parents: &[Option<KindNo>], kind: KindNo, numbers: &[Granted]) -> usize
-    ensures { result ≡ count_by (is_had parents.now kind) numbers.now }
+#[tactic(auto, unfolding(world_meaning::specs::Declarations::count_of_numbers))]
+fn count_of_numbers(parents: &[Option<KindNo>], numbers: &[Granted], kind: KindNo) -> usize
+    ensures { result ≡ count_of_numbers parents.now numbers.now kind }
 {
     numbers
         .iter()
@@ -203,11 +224,13 @@ fn suits_kind(world: &WorldTables, entry: &Entry) -> bool
     ensures { result ≡ suits_kind world.now entry.now }
 {
     let kind = KindNo::new(entry.kind);
-    let properties = entry.properties.as_slice();
-    are_rising(properties)
-        && has_properties(world, kind, properties)
-        && entry.numbers.as_slice().len()
-            == count_of_numbers(world.kinds.as_slice(), kind, world.numbers.as_slice())
+    let parents = world.kinds.as_slice();
+    has_properties(
+        parents,
+        world.flags.as_slice(),
+        kind,
+        entry.properties.as_slice(),
+    ) && entry.numbers.as_slice().len() == count_of_numbers(parents, world.numbers.as_slice(), kind)
 }
 
 /// Whether each object has what its kind has.

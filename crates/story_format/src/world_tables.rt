@@ -3,9 +3,9 @@ ghost use Rattle.std.specs.Prelude.{◌≡◌};
 ghost use Rattle.story_format.specs.Formats.{optional_of, optional_number};
 
 use crate::field::{Field, read_fields, skip_fields, write_fields};
-use crate::table::{Listed, Table};
+use crate::table::Table;
 use std::alloc::{AllocError, Global};
-use world_meaning::KindNo;
+use world_meaning::{Granted, KindNo, Listed};
 
 /// The kind of a number, or none.
 fn kind_of(number: u8) -> Option<KindNo>
@@ -54,12 +54,6 @@ impl Field for Option<KindNo> {
 }
 
 /// A property, as tables 3 (either-or) and 4 (numbers) have it.
-#[derive(Debug, Drop)]
-pub struct Granted {
-    /// The kinds that have it, rising.
-    pub kinds: Listed<u8>,
-}
-
 #[tactic(auto, unfolding(crate::specs::Layout::granted_layout))]
 impl Field for Granted {
     ghost use Rattle.story_format.specs.Layout.{granted_layout};

@@ -1,6 +1,7 @@
 pub mod Acting
 pub mod Chains
 pub mod Consulting
+pub mod Declarations
 pub mod Directions
 pub mod Facts
 pub mod Faults

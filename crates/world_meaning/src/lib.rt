@@ -3,12 +3,14 @@
 #![tactic(auto)]
 
 mod article;
+mod declared;
 mod direction;
 mod exits;
 mod fault;
 mod kind_laws;
 mod kinds;
 mod laws;
+mod listed;
 mod numbers;
 mod place;
 mod placing_laws;
@@ -21,6 +23,7 @@ mod tale;
 mod text;
 
 pub use article::Article;
+pub use declared::{Declared, Granted, built_in_declared};
 pub use direction::Direction;
 pub use exits::{Exits, Way};
 pub use fault::{Fault, FaultCode};
@@ -29,6 +32,7 @@ pub use kinds::{
     KINDS, KindNo, KindRow, PROPERTIES, PropertyRow, ROOTS, built_in_parents, is_under,
 };
 pub use laws::agreeing_facts_have_one_game;
+pub use listed::Listed;
 pub use numbers::ObjNo;
 pub use place::{Place, Rel};
 pub use placing_laws::placing_keeps_its_rules;
@@ -39,5 +43,5 @@ pub use sight_laws::{
     boxes_hide_and_keep, light_comes_from_inside, places_are_seen, the_dark_hides,
 };
 pub use spelling::{is_spelled, lowered};
-pub use tale::{Object, Objects, Tale};
+pub use tale::{Object, Tale};
 pub use text::TextBytes;

@@ -1,11 +1,10 @@
 use Rattle.std.proofs.Common.{◌≡◌, ◌++◌, ◌+◌, ◌≤◌, length}
-use Rattle.world_meaning.specs.Kinds.{built_in_parents}
 use Rattle.story_format.specs.Making.{worded, worded_from}
 use Rattle.story_format.specs.WordedViews.{all_worded}
 use Rattle.story_format.proofs.making.with_words.Given as goal
 
 abbrev pub invariant-loop-rest : goal.invariant-loop-rest
-invariant-loop-rest l = record { built_in : l.parents.items ≡ built_in_parents; made : all_worded l.made.items ++ worded_from l.number l.rest ≡ worded l.objects; bound : l.number + length l.rest ≤ length l.objects }
+invariant-loop-rest l = record { made : all_worded l.made.items ++ worded_from l.number l.rest ≡ worded l.objects; bound : l.number + length l.rest ≤ length l.objects }
 
 abbrev pub decreases-loop-rest : goal.decreases-loop-rest
 decreases-loop-rest l = length l.rest

@@ -1,5 +1,5 @@
 use Rattle.std.proofs.Common.{◌≡◌, ◌≤◌, length}
-use Rattle.story_format.specs.WorldChecks.{are_rising}
+use Rattle.world_meaning.specs.Declarations.{are_rising}
 use Rattle.story_format.proofs.world_checks.are_rising.Given as goal
 
 abbrev pub invariant-loop-rest : goal.invariant-loop-rest

@@ -1,5 +1,5 @@
 use Rattle.std.proofs.Common.{◌≡◌, length}
-use Rattle.story_format.specs.WorldChecks.{begin_with_kinds}
+use Rattle.world_meaning.specs.Declarations.{begin_with_kinds}
 use Rattle.story_format.proofs.world_checks.begin_with_kinds.Given as goal
 
 abbrev pub invariant-loop-others : goal.invariant-loop-others

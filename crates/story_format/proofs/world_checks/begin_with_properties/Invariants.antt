@@ -1,5 +1,5 @@
 use Rattle.std.proofs.Common.{◌≡◌, length, map}
-use Rattle.story_format.specs.WorldChecks.{begin_with_properties}
+use Rattle.world_meaning.specs.Declarations.{begin_with_properties}
 use Rattle.story_format.proofs.world_checks.begin_with_properties.Given as goal
 
 abbrev pub invariant-loop-rows : goal.invariant-loop-rows
