@@ -11,7 +11,7 @@ use Rattle.i7_sentences.specs.declared.sentence.Assertion.{Assertion}
 use Rattle.i7_sentences.specs.declared.sentence.Assertion.TheVariants.{Description, Way, Are}
 use Rattle.world_meaning.specs.Directions.{opposite_of}
 use Rattle.world_meaning.specs.declared.fault.FaultCode.{FaultCode}
-use Rattle.world_meaning.specs.declared.fault.FaultCode.TheVariants.{NoRoom, TooMany, Twice, TwoPlaces, WrongKind}
+use Rattle.world_meaning.specs.declared.fault.FaultCode.TheVariants.{Cycle, NoRoom, TooMany, Twice, TwoPlaces, UnknownName, WrongKind}
 use Rattle.i7_kinds.specs.Bounds.{AreWithin, IsSmall, IsWithin, LeadWithin}
 use Rattle.i7_kinds.specs.Demands.{Lead, first_target, line_at, second_target, wrong_kind, implied_in, implied_leads, is_exit, lead_of, stated_in, stated_leads}
 use Rattle.i7_kinds.specs.Scans.{earlier}
@@ -150,10 +150,24 @@ pub frame_few : (faults : NameFaults) (statements : List NumberedSentence) (ment
 unfolding frame_refusal
 frame_few faults statements mentions none =
     let a = first_none_both (refusal_at Twice faults.twice) _ none in
-    let b = first_none_both (refusal_at WrongKind (wrong_kind statements)) _ a.1 in
+    let u = first_none_both (refusal_at UnknownName faults.unknown) _ a.1 in
+    let v = first_none_both (refusal_at Cycle faults.cycle) _ u.1 in
+    let b = first_none_both (refusal_at WrongKind (wrong_kind statements)) _ v.1 in
     let c = first_none_both (refusal_at TwoPlaces (second_target statements)) _ b.1 in
     let d = first_none_both (refusal_at TooMany (earlier (object_too_many mentions) faults.too_many)) (refusal_at NoRoom (no_room mentions)) c.1 in
     few_objects mentions (earlier_none (object_too_many mentions) faults.too_many (unrefused TooMany (earlier (object_too_many mentions) faults.too_many) d.0)).0
+
+-- where no refusal stands, no name is too many
+pub frame_names : (faults : NameFaults) (statements : List NumberedSentence) (mentions : List NameAt) → frame_refusal faults statements mentions ≡ None → (faults.unknown ≡ None) × (faults.cycle ≡ None) × (faults.too_many ≡ None)
+unfolding frame_refusal
+frame_names faults statements mentions none =
+    let a = first_none_both (refusal_at Twice faults.twice) _ none in
+    let u = first_none_both (refusal_at UnknownName faults.unknown) _ a.1 in
+    let v = first_none_both (refusal_at Cycle faults.cycle) _ u.1 in
+    let b = first_none_both (refusal_at WrongKind (wrong_kind statements)) _ v.1 in
+    let c = first_none_both (refusal_at TwoPlaces (second_target statements)) _ b.1 in
+    let d = first_none_both (refusal_at TooMany (earlier (object_too_many mentions) faults.too_many)) (refusal_at NoRoom (no_room mentions)) c.1 in
+    (unrefused UnknownName faults.unknown u.0, unrefused Cycle faults.cycle v.0, (earlier_none (object_too_many mentions) faults.too_many (unrefused TooMany (earlier (object_too_many mentions) faults.too_many) d.0)).1)
 
 -- so a source without refusal leads within a story
 pub frame_within : (faults : NameFaults) (statements : List NumberedSentence) (mentions : List NameAt) → AreWithin (13 + length mentions) statements → frame_refusal faults statements mentions ≡ None → LeadWithin statements

@@ -1,3 +1,5 @@
+pub mod Rooted
+pub mod KindScans
 pub mod SortScans
 pub mod BookScans
 pub mod Lowest

@@ -10,11 +10,11 @@ use Rattle.i7_kinds.specs.declared.claim.Claim.{Claim}
 use Rattle.i7_kinds.specs.declared.sorts.Sort.{Sort}
 use Rattle.i7_kinds.proofs.Lowest.{lowest_is}
 
-not_true : (b : Bool) → not b ≡ true → b ≡ false
+pub not_true : (b : Bool) → not b ≡ true → b ≡ false
 not_true true h = absurd cc
 not_true false h = refl
 
-not_false : (b : Bool) → b ≡ false → not b ≡ true
+pub not_false : (b : Bool) → b ≡ false → not b ≡ true
 not_false true h = absurd cc
 not_false false h = refl
 

@@ -1,4 +1,4 @@
--- The names of each sort, in the order of their first claims, and how many there may be.
+-- The names of each sort but kinds, in the order of their first claims, and how many there may be.
 use Rattle.std.specs.Prelude.{◌≡◌, ℕ, ◌≤◌, Bool, true, false, not, ◌&&◌, nat_le, List, [], length, map, fold, Option, Some, None}
 use Rattle.world_meaning.specs.declared.kinds.TheConstants.{KINDS, PROPERTIES}
 use Rattle.object_words.specs.Mentions.{mention}
@@ -12,14 +12,10 @@ use Rattle.i7_kinds.specs.declared.claim.Standing.TheVariants as stands
 use Rattle.i7_kinds.specs.declared.sorts.Sort.{Sort}
 use Rattle.i7_kinds.specs.declared.sorts.Sort.TheVariants as sort
 
--- built-in kinds and properties are counted
+-- built-in properties are counted
 abbrev pub most_names : Sort → ℕ
 most_names sort.Scene = 50
 most_names _ = 100
-
-abbrev pub is_kind : Sort → Bool
-is_kind sort.Kind = true
-is_kind _ = false
 
 abbrev pub is_either_or : Sort → Bool
 is_either_or sort.EitherOr = true
@@ -43,7 +39,6 @@ is_scene _ = false
 
 -- an either-or property is counted by its first name
 abbrev pub is_of : Sort → Standing → Bool
-is_of s stands.Kind = is_kind s
 is_of s (stands.First second) = is_either_or s
 is_of s stands.Number = is_number s
 is_of s stands.Variable = is_variable s
@@ -74,7 +69,6 @@ unfoldable pub built_in_either_ors : List (List ℕ)
 built_in_either_ors = mention_firsts [] (map (λ property. property.0.now) PROPERTIES)
 
 abbrev pub built_in_names : Sort → List (List ℕ)
-built_in_names sort.Kind = built_in_kinds
 built_in_names sort.EitherOr = built_in_either_ors
 built_in_names _ = []
 
@@ -102,5 +96,5 @@ too_many_as s claims = lowest (shows_too_many s) (with_claimed s) (built_in_name
 -- the lowest line of a name that is one too many of its sort
 abbrev pub name_too_many : List Claim → Option ℕ
 name_too_many claims =
-    earlier (too_many_as sort.Kind claims) (earlier (too_many_as sort.EitherOr claims) (earlier (too_many_as sort.Number claims)
-    (earlier (too_many_as sort.Variable claims) (earlier (too_many_as sort.Rulebook claims) (too_many_as sort.Scene claims)))))
+    earlier (too_many_as sort.EitherOr claims) (earlier (too_many_as sort.Number claims)
+    (earlier (too_many_as sort.Variable claims) (earlier (too_many_as sort.Rulebook claims) (too_many_as sort.Scene claims))))

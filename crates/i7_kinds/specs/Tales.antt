@@ -9,12 +9,11 @@ use Rattle.world_meaning.specs.declared.exits.Exits.{Exits}
 use Rattle.world_meaning.specs.declared.exits.Way.{Way}
 use Rattle.world_meaning.specs.declared.fault.Fault.{Fault}
 use Rattle.world_meaning.specs.declared.fault.FaultCode.{FaultCode}
-use Rattle.world_meaning.specs.declared.fault.FaultCode.TheVariants.{NotUnderstood, Twice, WrongKind, TwoPlaces, TooMany, NoRoom}
+use Rattle.world_meaning.specs.declared.fault.FaultCode.TheVariants.{NotUnderstood, Twice, UnknownName, Cycle, WrongKind, TwoPlaces, TooMany, NoRoom}
 use Rattle.world_meaning.specs.declared.place.Place.{Place}
 use Rattle.world_meaning.specs.declared.place.Rel.TheVariants.{In}
 use Rattle.world_meaning.specs.declared.tale.Object.{Object}
 use Rattle.world_meaning.specs.declared.tale.Tale.{Tale}
-use Rattle.world_meaning.specs.Declarations.{built_in_declared}
 use Rattle.world_meaning.specs.Kinds.{built_in_parents, direction_kind, person_kind, room_kind}
 use Rattle.world_meaning.specs.Properties.{start_properties}
 use Rattle.i7_sentences.specs.declared.name.NameArticle.{NameArticle}
@@ -24,6 +23,7 @@ use Rattle.i7_kinds.specs.Demands.{wrong_kind, descriptions_of, description_of, 
 use Rattle.object_words.specs.Words.{words_for}
 use Rattle.i7_kinds.specs.Claims.{claims_of}
 use Rattle.i7_kinds.specs.Firsts.{first_of}
+use Rattle.i7_kinds.specs.KindClaims.{declared_by, kind_cycle, kind_names, kind_too_many, unknown_kind}
 use Rattle.i7_kinds.specs.NameScans.{book_twice, name_twice}
 use Rattle.i7_kinds.specs.declared.claim.Claim.{Claim}
 use Rattle.i7_kinds.specs.declared.name_faults.NameFaults.{NameFaults}
@@ -129,21 +129,26 @@ refusal_at code None = None
 refusal_at code (Some line) = Some (record { code = code; line = line })
 
 -- what names may not be, by the lowest lines: C9 of a name that stands for two things, of a rulebook's that is
--- another's and of a second description; C12 of a name that is one too many
+-- another's and of a second description; C7 of a kind that isn't there; C11 of a cycle of kinds; C12 of a name
+-- that is one too many
 abbrev pub name_faults : List Claim → List NumberedSentence → NameFaults
 name_faults claims statements = record {
   twice = earlier (name_twice claims) (earlier (book_twice claims) (second_description (descriptions_of statements)));
-  too_many = name_too_many claims;
+  unknown = unknown_kind (kind_names claims) claims;
+  cycle = kind_cycle (kind_names claims) claims;
+  too_many = earlier (kind_too_many claims) (name_too_many claims);
 }
 
 -- what the statements may not say together: each code is looked for in all of them before the next
 unfoldable pub frame_refusal : NameFaults → List NumberedSentence → List NameAt → Option Fault
 frame_refusal faults statements mentions =
     first_of (refusal_at Twice faults.twice)
+    (first_of (refusal_at UnknownName faults.unknown)
+    (first_of (refusal_at Cycle faults.cycle)
     (first_of (refusal_at WrongKind (wrong_kind statements))
     (first_of (refusal_at TwoPlaces (second_target statements))
     (first_of (refusal_at TooMany (earlier (object_too_many mentions) faults.too_many))
-    (refusal_at NoRoom (no_room mentions)))))
+    (refusal_at NoRoom (no_room mentions)))))))
 
 -- what is too long
 unfoldable pub limit_refusal : List NumberedSentence → List NameAt → Option Fault
@@ -155,7 +160,7 @@ or_refused (Some fault) tale = Err fault
 
 -- the tale, unless a refusal stands
 abbrev pub judged : List Claim → List NumberedSentence → List NameAt → Result Tale Fault
-judged claims statements mentions = or_refused (first_of (frame_refusal (name_faults claims statements) statements mentions) (limit_refusal statements mentions)) (record { declared = built_in_declared; objects = objects_of statements mentions })
+judged claims statements mentions = or_refused (first_of (frame_refusal (name_faults claims statements) statements mentions) (limit_refusal statements mentions)) (record { declared = declared_by claims; objects = objects_of statements mentions })
 
 abbrev pub is_unmeant : Sentence → Bool
 is_unmeant sentence = not (is_meant sentence.said)

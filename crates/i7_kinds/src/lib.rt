@@ -2,6 +2,7 @@
 //! say together, and the tale that they mean.
 #![tactic(auto)]
 
+mod author_kinds;
 mod built_in;
 mod claim;
 mod claim_laws;

@@ -59,7 +59,7 @@ pub fn built_in_keys(alloc: Global) -> Result<Strings, AllocError>
 }
 
 /// The place of a key.
-fn number_in(keys: &Strings, key: &[u8]) -> usize
+pub fn number_in(keys: &Strings, key: &[u8]) -> usize
     ensures { result ≡ number_in keys.now key.now }
 {
     match keys.place_of(key) {

@@ -1,4 +1,4 @@
-//! The sorts of names that a story file holds few of, each sort's names numbered by their first claim.
+//! The sorts of names, besides kinds, that there may be few of, each sort's names numbered by their first claim.
 ghost use Rattle.std.specs.Prelude.{◌≡◌, IfOk, OnOk, map, option_map};
 ghost use Rattle.i7_kinds.specs.Sorts.{built_in_either_ors, built_in_kinds, built_in_names, claimed_as, is_of, is_too_many, mention_firsts, named_if, most_names, names_as, too_many_as, with_name};
 
@@ -11,7 +11,6 @@ use world_meaning::{KINDS, KindRow, PROPERTIES, PropertyRow};
 /// A sort of names.
 #[derive(Clone, Copy, Debug, PartialEq, Eq)]
 pub enum Sort {
-    Kind,
     EitherOr,
     Number,
     Variable,
@@ -19,7 +18,7 @@ pub enum Sort {
     Scene,
 }
 
-/// The most kinds, properties, variables or rulebooks, built-in kinds and properties counted.
+/// The most properties, variables or rulebooks, built-in properties counted.
 const MOST: usize = 100;
 
 /// The most scenes.
@@ -40,7 +39,6 @@ fn is_of(sort: Sort, standing: &Standing) -> bool
     ensures { result ≡ is_of sort standing.now }
 {
     match standing {
-        Standing::Kind => matches!(sort, Sort::Kind),
         Standing::First(_) => matches!(sort, Sort::EitherOr),
         Standing::Number => matches!(sort, Sort::Number),
         Standing::Variable => matches!(sort, Sort::Variable),
@@ -100,7 +98,7 @@ fn mention_properties(
 
 /// The names of the built-in kinds.
 #[tactic(auto, unfolding(crate::specs::Sorts::built_in_kinds))]
-fn built_in_kinds(alloc: Global) -> Result<Strings, AllocError>
+pub fn built_in_kinds(alloc: Global) -> Result<Strings, AllocError>
     ensures { IfOk result (λ names. names ≡ built_in_kinds) }
 {
     let mut names = Strings::new(alloc);
@@ -123,7 +121,6 @@ fn built_in_names(alloc: Global, sort: Sort) -> Result<Strings, AllocError>
     ensures { IfOk result (λ names. names ≡ built_in_names sort) }
 {
     match sort {
-        Sort::Kind => built_in_kinds(alloc),
         Sort::EitherOr => built_in_either_ors(alloc),
         _ => Ok(Strings::new(alloc)),
     }

@@ -8,6 +8,7 @@ ghost use Rattle.i7_kinds.specs.StatedWays.{stated};
 ghost use Rattle.i7_kinds.specs.Tales.{frame_refusal, judged, limit_refusal, no_room, refusal_at, tale_said};
 ghost use Rattle.i7_kinds.specs.Views.{mentions_of};
 
+use crate::author_kinds::{declared_by, kind_names};
 use crate::claim::Claim;
 use crate::claiming::claims_of;
 use crate::descriptions::Descriptions;
@@ -22,7 +23,7 @@ use crate::statements::{NumberedSentence, statements_in};
 use crate::ways::Ways;
 use i7_sentences::Sentence;
 use std::alloc::{AllocError, Global};
-use world_meaning::{Fault, FaultCode, Tale, built_in_declared};
+use world_meaning::{Fault, FaultCode, Tale};
 
 /// The refusal at a line, if there is one.
 fn refusal_at(code: FaultCode, line: Option<u32>) -> Option<Fault>
@@ -44,7 +45,8 @@ fn no_room(mentions: &[Mention<'_>]) -> Option<u32>
     }
 }
 
-/// What the statements may not say together: a name or a description twice, a wrong kind, an exit of
+/// What the statements may not say together: a name or a description twice, a kind that isn't
+/// there, a cycle of kinds, a wrong kind, an exit of
 /// two targets, an object too many, no room; each is looked for in all of them before the next.
 #[tactic(auto, unfolding(crate::specs::Tales::frame_refusal))]
 fn frame_refusal(
@@ -57,6 +59,12 @@ fn frame_refusal(
     ensures { result ≡ frame_refusal faults statements.now (mentions_of mentions.now) }
 {
     if let Some(fault) = refusal_at(FaultCode::Twice, faults.twice) {
+        return Some(fault);
+    }
+    if let Some(fault) = refusal_at(FaultCode::UnknownName, faults.unknown) {
+        return Some(fault);
+    }
+    if let Some(fault) = refusal_at(FaultCode::Cycle, faults.cycle) {
         return Some(fault);
     }
     if let Some(fault) = refusal_at(FaultCode::WrongKind, wrong_kind(statements)) {
@@ -100,7 +108,8 @@ fn judged(
 {
     let descriptions = Descriptions::new(alloc, statements)?;
     let ways = Ways::new(alloc, statements)?;
-    let faults = name_faults(alloc, claims, statements, &descriptions)?;
+    let kinds = kind_names(alloc, claims)?;
+    let faults = name_faults(alloc, &kinds, claims, statements, &descriptions)?;
     if let Some(fault) = frame_refusal(faults, mentions, statements, &ways) {
         return Ok(Err(fault));
     }
@@ -108,7 +117,7 @@ fn judged(
         return Ok(Err(fault));
     }
     let objects = objects_of(alloc, mentions, &descriptions, &ways)?;
-    let declared = built_in_declared(alloc)?;
+    let declared = declared_by(alloc, &kinds, claims)?;
     Ok(Ok(Tale { declared, objects }))
 }
 
@@ -135,7 +144,7 @@ fn tale_said(alloc: Global, sentences: &[Sentence]) -> Result<Result<Tale, Fault
 }
 
 /// The tale that the sentences mean, or the refusal that stands, each code being looked for in the
-/// whole source before the next, at the first sentence that shows it: C5 of what has no meaning yet, C9, C8,
+/// whole source before the next, at the first sentence that shows it: C5 of what has no meaning yet, C9, C7, C11, C8,
 /// C10, C12 of objects, C13, then C12 of names and texts. Memory is C14, at line 1.
 pub fn tale_of(alloc: Global, sentences: &[Sentence]) -> Result<Tale, Fault>
     ensures told { IfOk result (λ tale. tale_said sentences.now ≡ Ok tale) }

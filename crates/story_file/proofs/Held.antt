@@ -8,13 +8,14 @@ use Rattle.std.proofs.lemmas.Bool.{ltb-false, lt-ltb, le-leb, ne_eqb}
 use Rattle.std.proofs.lemmas.List.Folds.{list_any-append}
 use Rattle.std.proofs.lemmas.Option.{slice_get_past}
 use Rattle.world_meaning.proofs.Bools.{both, both_are, either}
-use Rattle.world_meaning.specs.Declarations.{are_right_kinds, are_rising, begin_with_kinds, begin_with_properties, built_in_declared, count_of_numbers, has_properties, is_well_declared, suits_kind}
+use Rattle.world_meaning.specs.Declarations.{are_right_grants, are_right_kinds, are_rising, begin_with_kinds, begin_with_properties, built_in_declared, count_of_numbers, has_properties, is_rooted, is_well_declared, suits_kind}
+use Rattle.world_meaning.specs.declared.declared.Declared.{Declared}
 use Rattle.world_meaning.specs.Kinds.{built_in_parents, is_under}
 use Rattle.world_meaning.specs.Properties.{built_in_properties, start_properties}
 use Rattle.world_meaning.specs.Directions.{all_directions, direction_number, opposite_of}
 use Rattle.world_meaning.specs.declared.direction.Direction.{Direction}
 use Rattle.world_meaning.specs.declared.fault.Fault.{Fault}
-use Rattle.world_meaning.specs.declared.fault.FaultCode.TheVariants.{NoRoom, TooMany, Twice, TwoPlaces, WrongKind}
+use Rattle.world_meaning.specs.declared.fault.FaultCode.TheVariants.{Cycle, NoRoom, TooMany, Twice, TwoPlaces, UnknownName, WrongKind}
 use Rattle.world_meaning.specs.declared.tale.Tale.{Tale}
 use Rattle.i7_sentences.specs.declared.name.Name.{Name}
 use Rattle.i7_sentences.specs.declared.sentence.Assertion.{Assertion}
@@ -23,7 +24,11 @@ use Rattle.i7_sentences.specs.declared.sentence.Sentence.{Sentence}
 use Rattle.object_words.specs.Words.{more_words, words_for}
 use Rattle.i7_kinds.specs.Demands.{Lead, descriptions_of, description_of, first_target, implied_in, implied_leads, is_exit, is_wrong, lead_of, line_at, line_of_description, second_description, second_target, stated_in, stated_leads, subject_of, target_of, wrong_after, wrong_kind}
 use Rattle.i7_kinds.specs.Claims.{claims_of}
+use Rattle.i7_kinds.specs.KindClaims.{declared_by, kind_names}
 use Rattle.i7_kinds.specs.Scans.{earlier}
+use Rattle.i7_kinds.specs.declared.claim.Claim.{Claim}
+use Rattle.i7_kinds.proofs.KindScans.{kinds_few, parents_are_kinds}
+use Rattle.i7_kinds.proofs.Rooted.{authors, authors_behind, authors_rooted}
 use Rattle.i7_kinds.specs.declared.name_faults.NameFaults.{NameFaults}
 use Rattle.i7_kinds.specs.Firsts.{first_of}
 use Rattle.i7_kinds.specs.Statements.{NameAt, Named, built_in_keys, numbered_in, numbered_room, rooms_in, has_key, key_of, named_by, names_at, number_in, stated_by, statement_in, with_name, with_names_of}
@@ -32,7 +37,7 @@ use Rattle.i7_kinds.specs.declared.statements.Numbered.{Numbered}
 use Rattle.i7_kinds.specs.declared.statements.Numbered.TheVariants as numbered
 use Rattle.i7_kinds.specs.declared.statements.NumberedSentence.{NumberedSentence}
 use Rattle.i7_kinds.specs.Tales.{direction_object, exits_of, frame_refusal, has_long_name, has_long_text, is_too_long, judged, limit_refusal, name_too_long, no_room, object_too_many, objects_of, or_refused, refusal_at, room_of, rooms_from, tale_said, text_too_long, name_faults, unless_unmeant, unmeant, way_to}
-use Rattle.i7_kinds.proofs.Bounds.{counted-source, earlier_none, few_objects, first_none_both, unmapped, unrefused}
+use Rattle.i7_kinds.proofs.Bounds.{counted-source, earlier_none, few_objects, first_none_both, frame_names, unmapped, unrefused}
 use Rattle.story_format.specs.Holding.{has_few_words, has_short_texts, is_short, is_short_or_none, IsHeld}
 use Rattle.story_format.specs.Making.{worded, worded_from}
 use Rattle.story_format.specs.Shape.{are_directions, has_shape, is_direction, is_player, is_room}
@@ -252,21 +257,48 @@ shape_held statements mentions few some h =
 
 -- ---- what is declared, and what the objects have of it
 
-built_in_held : is_well_declared built_in_declared ≡ true
-unfolding is_well_declared are_right_kinds begin_with_kinds begin_with_properties are_rising built_in_declared built_in_parents built_in_properties is_under
-built_in_held = refl
+-- the built-in kinds with others behind them
+abbrev declared_with : List (Option ℕ) → Declared
+declared_with others = record built_in_declared { kinds = built_in_parents ++ others }
 
-room_suits : (statements : List NumberedSentence) (o : ℕ) (at : NameAt) → suits_kind built_in_declared (room_of statements o at) ≡ true
+declared_is : (claims : List Claim) → declared_with (authors (kind_names claims) claims) ≡ declared_by claims
+declared_is claims = ap (λ kinds. record built_in_declared { kinds = kinds }) (sym (authors_behind claims))
+
+flags_right : (n : ℕ) → 10 ≤ n → are_right_grants n built_in_declared.flags ≡ true
+unfolding are_rising built_in_declared built_in_properties
+flags_right n le =
+    let a : ltb 0 n ≡ true = lt-ltb _ _ (omega (arith, le)) in
+    let b : ltb 1 n ≡ true = lt-ltb _ _ (omega (arith, le)) in
+    let c : ltb 3 n ≡ true = lt-ltb _ _ (omega (arith, le)) in
+    let d : ltb 4 n ≡ true = lt-ltb _ _ (omega (arith, le)) in
+    let e : ltb 7 n ≡ true = lt-ltb _ _ (omega (arith, le)) in
+    rw (a, b, c, d, e) refl
+
+others_counted : (others : List (Option ℕ)) → length (built_in_parents ++ others) ≡ 10 + length others
+unfolding built_in_parents
+others_counted others = omega arith
+
+kinds_right : (others : List (Option ℕ)) → length (built_in_parents ++ others) ≤ 100 → list_all (is_rooted (built_in_parents ++ others)) others ≡ true → are_right_kinds (built_in_parents ++ others) ≡ true
+unfolding are_right_kinds begin_with_kinds built_in_parents
+kinds_right others few roots = rw (le-leb _ _ few) roots
+
+declared_held : (others : List (Option ℕ)) → length (built_in_parents ++ others) ≤ 100 → list_all (is_rooted (built_in_parents ++ others)) others ≡ true → is_well_declared (declared_with others) ≡ true
+unfolding is_well_declared begin_with_properties built_in_declared built_in_properties
+declared_held others few roots =
+    let n = length (built_in_parents ++ others) in
+    rw (kinds_right others few roots, flags_right n (omega (arith, others_counted others))) refl
+
+room_suits : (others : List (Option ℕ)) (statements : List NumberedSentence) (o : ℕ) (at : NameAt) → suits_kind (declared_with others) (room_of statements o at) ≡ true
 unfolding suits_kind has_properties count_of_numbers room_of are_rising start_properties built_in_declared built_in_parents built_in_properties is_under
-room_suits statements o at = refl
+room_suits others statements o at = refl
 
-rooms_suit : (statements : List NumberedSentence) (o : ℕ) (mentions : List NameAt) → list_all (suits_kind built_in_declared) (rooms_from statements o mentions) ≡ true
-rooms_suit statements o [] = refl
-rooms_suit statements o (at ∷ mentions) = both (suits_kind built_in_declared (room_of statements o at)) (list_all (suits_kind built_in_declared) (rooms_from statements (o + 1) mentions)) (room_suits statements o at) (rooms_suit statements (o + 1) mentions)
+rooms_suit : (others : List (Option ℕ)) (statements : List NumberedSentence) (o : ℕ) (mentions : List NameAt) → list_all (suits_kind (declared_with others)) (rooms_from statements o mentions) ≡ true
+rooms_suit others statements o [] = refl
+rooms_suit others statements o (at ∷ mentions) = both (suits_kind (declared_with others) (room_of statements o at)) (list_all (suits_kind (declared_with others)) (rooms_from statements (o + 1) mentions)) (room_suits others statements o at) (rooms_suit others statements (o + 1) mentions)
 
-suited_held : (statements : List NumberedSentence) (mentions : List NameAt) → list_all (suits_kind built_in_declared) (objects_of statements mentions) ≡ true
+suited_held : (others : List (Option ℕ)) (statements : List NumberedSentence) (mentions : List NameAt) → list_all (suits_kind (declared_with others)) (objects_of statements mentions) ≡ true
 unfolding objects_of suits_kind has_properties count_of_numbers are_rising start_properties built_in_declared built_in_parents built_in_properties is_under
-suited_held statements mentions = rooms_suit statements 13 mentions
+suited_held others statements mentions = rooms_suit others statements 13 mentions
 
 -- ---- names and texts are short
 
@@ -360,7 +392,9 @@ frame_parts : (faults : NameFaults) (statements : List NumberedSentence) (mentio
 unfolding frame_refusal
 frame_parts faults statements mentions none =
     let a = first_none_both (refusal_at Twice faults.twice) _ none in
-    let b = first_none_both (refusal_at WrongKind (wrong_kind statements)) _ a.1 in
+    let u = first_none_both (refusal_at UnknownName faults.unknown) _ a.1 in
+    let v = first_none_both (refusal_at Cycle faults.cycle) _ u.1 in
+    let b = first_none_both (refusal_at WrongKind (wrong_kind statements)) _ v.1 in
     let c = first_none_both (refusal_at TwoPlaces (second_target statements)) _ b.1 in
     let d = first_none_both (refusal_at TooMany (earlier (object_too_many mentions) faults.too_many)) (refusal_at NoRoom (no_room mentions)) c.1 in
     (unrefused WrongKind (wrong_kind statements) b.0, (earlier_none (object_too_many mentions) faults.too_many (unrefused TooMany (earlier (object_too_many mentions) faults.too_many) d.0)).0, unrefused NoRoom (no_room mentions) d.1)
@@ -371,13 +405,20 @@ limit_parts statements mentions none =
     let t = earlier_none (name_too_long mentions) (text_too_long (descriptions_of statements)) (unrefused TooMany (earlier (name_too_long mentions) (text_too_long (descriptions_of statements))) none) in
     (none_found has_long_name mentions (unmapped line_at (find has_long_name mentions) t.0), none_found has_long_text (descriptions_of statements) (unmapped line_of_description (find has_long_text (descriptions_of statements)) t.1))
 
-objects_held : (faults : NameFaults) (statements : List NumberedSentence) (mentions : List NameAt) → list_all (are_below (13 + length mentions)) statements ≡ true → first_of (frame_refusal faults statements mentions) (limit_refusal statements mentions) ≡ None → IsHeld (record { declared = built_in_declared; objects = objects_of statements mentions })
-objects_held faults statements mentions below none =
+objects_held : (claims : List Claim) (statements : List NumberedSentence) (mentions : List NameAt) → list_all (are_below (13 + length mentions)) statements ≡ true → first_of (frame_refusal (name_faults claims statements) statements mentions) (limit_refusal statements mentions) ≡ None → IsHeld (record { declared = declared_by claims; objects = objects_of statements mentions })
+objects_held claims statements mentions below none =
+    let faults = name_faults claims statements in
     let t = first_none_both (frame_refusal faults statements mentions) (limit_refusal statements mentions) none in
     let frame = frame_parts faults statements mentions t.0 in
+    let names = frame_names faults statements mentions t.0 in
     let limits = limit_parts statements mentions t.1 in
     let rooms = all_of_rooms (13 + length mentions) None statements frame.0 below in
-    record { shape = shape_held statements mentions (few_objects mentions frame.1) (some_room mentions frame.2) rooms; declared = built_in_held; suited = suited_held statements mentions; texts = texts_held statements mentions limits.0 limits.1; words = words_held statements mentions limits.0 }
+    let others = authors (kind_names claims) claims in
+    let kinds = authors_behind claims in
+    let few : length (built_in_parents ++ others) ≤ 100 = subst (λ (s : List (Option ℕ)). length s ≤ 100) kinds (omega (arith, parents_are_kinds (kind_names claims) claims, kinds_few claims (earlier_none _ _ names.2).0)) in
+    let roots : list_all (is_rooted (built_in_parents ++ others)) others ≡ true = subst (λ (s : List (Option ℕ)). list_all (is_rooted s) others ≡ true) kinds (authors_rooted claims names.0 names.1) in
+    subst (λ (d : Declared). IsHeld (record { declared = d; objects = objects_of statements mentions })) (declared_is claims)
+    (record { shape = shape_held statements mentions (few_objects mentions frame.1) (some_room mentions frame.2) rooms; declared = declared_held others few roots; suited = suited_held others statements mentions; texts = texts_held statements mentions limits.0 limits.1; words = words_held statements mentions limits.0 })
 
 meant_whole : (line : Option ℕ) (said : Result Tale Fault) (tale : Tale) → unless_unmeant line said ≡ Ok tale → said ≡ Ok tale
 meant_whole None said tale meant = meant
@@ -389,5 +430,5 @@ tale_held sentences tale meant =
     let claims = claims_of sentences in
     let statements = stated_by sentences in
     let mentions = (named_by sentences).mentions in
-    let t = meant_none (first_of (frame_refusal (name_faults claims statements) statements mentions) (limit_refusal statements mentions)) (record { declared = built_in_declared; objects = objects_of statements mentions }) tale (meant_whole (unmeant sentences) (judged claims statements mentions) tale meant) in
-    subst IsHeld t.1 (objects_held (name_faults claims statements) statements mentions (source_below sentences) t.0)
+    let t = meant_none (first_of (frame_refusal (name_faults claims statements) statements mentions) (limit_refusal statements mentions)) (record { declared = declared_by claims; objects = objects_of statements mentions }) tale (meant_whole (unmeant sentences) (judged claims statements mentions) tale meant) in
+    subst IsHeld t.1 (objects_held claims statements mentions (source_below sentences) t.0)
