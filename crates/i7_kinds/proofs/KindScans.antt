@@ -9,7 +9,9 @@ use Rattle.world_meaning.specs.Kinds.{built_in_parents}
 use Rattle.object_words.specs.Mentions.{mention}
 use Rattle.i7_kinds.specs.KindClaims.{AreSmallKinds, IsCycle, IsKindTooMany, IsSmallKind, IsUnknown, is_cycle, is_kind_too_many, is_unknown, kind_count, kind_cycle, kind_names, kind_too_many, parents_of, same_names, shows_cycle, shows_kind_too_many, shows_unknown, unknown_kind, with_count, with_count_of, with_kind, with_kind_of, with_parent, with_parent_of}
 use Rattle.i7_kinds.specs.Scans.{IsLowest, ShownBy, lower, lowest}
-use Rattle.i7_kinds.specs.Sorts.{built_in_kinds}
+use Rattle.i7_kinds.specs.Sorts.{built_in_kinds, claimed_as, is_too_many, most_names, names_as, shows_too_many, too_many_as, with_claimed, with_name}
+use Rattle.i7_kinds.specs.declared.sorts.Sort.{Sort}
+use Rattle.i7_kinds.specs.declared.sorts.Sort.TheVariants as sort
 use Rattle.i7_kinds.specs.Standings.{has_name}
 use Rattle.i7_kinds.specs.Statements.{number_in}
 use Rattle.i7_kinds.specs.declared.claim.Claim.{Claim}
@@ -135,3 +137,22 @@ small_built_in = (tt, (tt, (tt, (omega arith, (omega arith, (omega arith, (omega
 -- so a source with no kind too many has small numbers
 pub kinds_small : (claims : List Claim) → kind_too_many claims ≡ None → AreSmallKinds (parents_of (kind_names claims) claims)
 kinds_small claims h = small_parents (kind_names claims) claims built_in_parents (omega (arith, kind_names_counted claims, kinds_few claims h)) small_built_in
+
+-- ---- with no name of a sort too many, they are few
+
+name_step : (most : ℕ) (names : List (List ℕ)) (found : Option (List ℕ)) → length names ≤ most → is_too_many most names found ≡ false → length (with_name names found) ≤ most
+name_step most names None few h = few
+name_step most names (Some name) few h =
+    elim (either (has_name names name)) [
+      | inl is ↦ rw is few
+      | inr isnt ↦ let full : nat_le most (length names) ≡ false = rw isnt at h in rw isnt (omega (arith, leb-false most (length names) full, length-append names (name ∷ [])))
+    ]
+
+names_few : (s : Sort) (claims : List Claim) (names : List (List ℕ)) → length names ≤ most_names s → lowest (shows_too_many s) (with_claimed s) names claims None ≡ None → length (fold (with_claimed s) names claims) ≤ most_names s
+names_few s [] names few h = few
+names_few s (c ∷ cs) names few h =
+    let t = none_shown (shows_too_many s) (with_claimed s) names c cs h in
+    names_few s cs (with_claimed s names c) (name_step (most_names s) names (claimed_as s c.fact) few t.0) t.1
+
+pub variables_few : (claims : List Claim) → too_many_as sort.Variable claims ≡ None → length (names_as sort.Variable claims) ≤ 100
+variables_few claims h = names_few sort.Variable claims [] (omega arith) h

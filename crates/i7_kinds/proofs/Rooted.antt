@@ -259,6 +259,6 @@ authors_rooted claims no_unknown no_cycle =
     let few : length names ≤ length S = omega (arith, kind_names_counted claims, parents_are_kinds names claims) in
     let many : 10 ≤ length S = omega (arith, counts_grow claims 10, parents_are_kinds names claims) in
     rooted_claims names S claims few
-      (rooted S (ends_claims names claims built_in_parents ends_built_in no_cycle) (roots_claims names claims built_in_parents roots_built_in)
-        (below_claims names (length S) claims built_in_parents few no_unknown (below_built_in (length S) many)))
-      no_unknown
+    (rooted S (ends_claims names claims built_in_parents ends_built_in no_cycle) (roots_claims names claims built_in_parents roots_built_in)
+    (below_claims names (length S) claims built_in_parents few no_unknown (below_built_in (length S) many)))
+    no_unknown

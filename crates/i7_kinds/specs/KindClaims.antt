@@ -1,12 +1,13 @@
 -- The kinds of a source: the built-in ones, then the author's in the order of their sentences; and which kinds there
 -- may not be.
-use Rattle.std.specs.Prelude.{◌≡◌, ℕ, ◌+◌, ◌≤◌, Bool, true, false, not, nat_le, List, [], ◌∷◌, ◌++◌, length, fold, Option, Some, None, ⊤}
+use Rattle.std.specs.Prelude.{◌≡◌, ℕ, ◌+◌, ◌≤◌, Bool, true, false, not, nat_le, List, [], ◌∷◌, ◌++◌, length, fold, map, Option, Some, None, ⊤, ℤ, pos}
 use Rattle.world_meaning.specs.Declarations.{built_in_declared}
 use Rattle.world_meaning.specs.Kinds.{Under, built_in_parents, is_under}
 use Rattle.world_meaning.specs.declared.declared.Declared.{Declared}
 use Rattle.object_words.specs.Mentions.{mention}
 use Rattle.i7_kinds.specs.Scans.{lowest}
-use Rattle.i7_kinds.specs.Sorts.{built_in_kinds}
+use Rattle.i7_kinds.specs.Sorts.{built_in_kinds, names_as}
+use Rattle.i7_kinds.specs.declared.sorts.Sort.TheVariants as sort
 use Rattle.i7_kinds.specs.Standings.{has_name}
 use Rattle.i7_kinds.specs.Statements.{number_in}
 use Rattle.i7_kinds.specs.declared.claim.Claim.{Claim}
@@ -46,9 +47,13 @@ with_count_of count c = with_count count c.fact
 abbrev pub kind_count : List Claim → ℕ
 kind_count claims = fold with_count_of 10 claims
 
+-- each variable starts at 0
+abbrev pub starts_of : List (List ℕ) → List ℤ
+starts_of names = map (λ name. pos 0) names
+
 -- what a source declares besides objects
 abbrev pub declared_by : List Claim → Declared
-declared_by claims = record built_in_declared { kinds = parents_of (kind_names claims) claims }
+declared_by claims = record built_in_declared { kinds = parents_of (kind_names claims) claims; variables = starts_of (names_as sort.Variable claims) }
 
 -- ---- refusals
 

@@ -1,7 +1,7 @@
 //! The kinds of a source, and which kinds there may not be.
 ghost use Rattle.std.specs.Prelude.{◌≡◌, ◌++◌, IfOk, OnOk, map};
 ghost use Rattle.world_meaning.specs.Kinds.{built_in_parents, is_under};
-ghost use Rattle.i7_kinds.specs.KindClaims.{AreSmallKinds, IsSmallKind, declared_by, is_cycle, is_kind_too_many, is_unknown, kind_cycle, kind_names, kind_too_many, parents_of, unknown_kind, with_count, with_kind, with_parent};
+ghost use Rattle.i7_kinds.specs.KindClaims.{AreSmallKinds, IsSmallKind, is_cycle, is_kind_too_many, is_unknown, kind_cycle, kind_names, kind_too_many, parents_of, unknown_kind, with_count, with_kind, with_parent};
 
 use crate::claim::{Claim, Fact};
 use crate::names::number_in;
@@ -9,7 +9,7 @@ use crate::scans::lower;
 use crate::sorts::built_in_kinds;
 use object_words::Strings;
 use std::alloc::{AllocError, Global};
-use world_meaning::{Declared, KINDS, KindNo, KindRow, Listed, built_in_declared};
+use world_meaning::{KINDS, KindNo, KindRow};
 
 /// The most kinds.
 const MOST_KINDS: usize = 100;
@@ -101,7 +101,7 @@ fn add_parent(
 }
 
 /// Of each kind, by number, the kind above it.
-fn parents_of(
+pub fn parents_of(
     alloc: Global,
     names: &Strings,
     claims: &[Claim],
@@ -206,7 +206,7 @@ fn kind_no(parent: Option<usize>) -> Option<KindNo>
     }
 }
 
-fn kind_nos(alloc: Global, parents: &[Option<usize>]) -> Result<Vec<Option<KindNo>>, AllocError>
+pub fn kind_nos(alloc: Global, parents: &[Option<usize>]) -> Result<Vec<Option<KindNo>>, AllocError>
     requires { AreSmallKinds parents.now }
     ensures { IfOk result (λ kinds. kinds.items ≡ parents.now) }
 {
@@ -217,16 +217,4 @@ fn kind_nos(alloc: Global, parents: &[Option<usize>]) -> Result<Vec<Option<KindN
         rest = after;
     }
     Ok(kinds)
-}
-
-/// What a source declares besides objects.
-pub fn declared_by(alloc: Global, names: &Strings, claims: &[Claim]) -> Result<Declared, AllocError>
-    requires named { names.now ≡ kind_names claims.now }
-    requires few { AreSmallKinds (parents_of names.now claims.now) }
-    ensures { IfOk result (λ declared. declared ≡ declared_by claims.now) }
-{
-    let parents = parents_of(alloc, names, claims)?;
-    let mut declared = built_in_declared(alloc)?;
-    declared.kinds = Listed::new(kind_nos(alloc, parents.as_slice())?);
-    Ok(declared)
 }

@@ -7,6 +7,7 @@ mod built_in;
 mod claim;
 mod claim_laws;
 mod claiming;
+mod declaring;
 mod descriptions;
 mod kinds;
 mod lent_text;
@@ -24,5 +25,8 @@ mod statements;
 mod tale;
 mod ways;
 
-pub use claim_laws::{books_twice_are_found, names_too_many_are_found, names_twice_are_found};
+pub use claim_laws::{
+    books_twice_are_found, cycles_are_found, kinds_too_many_are_found, names_too_many_are_found,
+    names_twice_are_found, unknown_kinds_are_found,
+};
 pub use tale::tale_of;

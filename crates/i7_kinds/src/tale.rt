@@ -8,9 +8,10 @@ ghost use Rattle.i7_kinds.specs.StatedWays.{stated};
 ghost use Rattle.i7_kinds.specs.Tales.{frame_refusal, judged, limit_refusal, no_room, refusal_at, tale_said};
 ghost use Rattle.i7_kinds.specs.Views.{mentions_of};
 
-use crate::author_kinds::{declared_by, kind_names};
+use crate::author_kinds::kind_names;
 use crate::claim::Claim;
 use crate::claiming::claims_of;
+use crate::declaring::declared_by;
 use crate::descriptions::Descriptions;
 use crate::kinds::wrong_kind;
 use crate::limits::{name_too_long, object_too_many, text_too_long};

@@ -8,7 +8,7 @@ use Rattle.std.proofs.lemmas.Bool.{ltb-false, lt-ltb, le-leb, ne_eqb}
 use Rattle.std.proofs.lemmas.List.Folds.{list_any-append}
 use Rattle.std.proofs.lemmas.Option.{slice_get_past}
 use Rattle.world_meaning.proofs.Bools.{both, both_are, either}
-use Rattle.world_meaning.specs.Declarations.{are_right_grants, are_right_kinds, are_rising, begin_with_kinds, begin_with_properties, built_in_declared, count_of_numbers, has_properties, is_rooted, is_well_declared, suits_kind}
+use Rattle.world_meaning.specs.Declarations.{are_right_grants, are_right_kinds, are_rising, begin_with_kinds, begin_with_properties, built_in_declared, count_of_numbers, has_properties, is_number, is_rooted, is_well_declared, suits_kind}
 use Rattle.world_meaning.specs.declared.declared.Declared.{Declared}
 use Rattle.world_meaning.specs.Kinds.{built_in_parents, is_under}
 use Rattle.world_meaning.specs.Properties.{built_in_properties, start_properties}
@@ -24,10 +24,12 @@ use Rattle.i7_sentences.specs.declared.sentence.Sentence.{Sentence}
 use Rattle.object_words.specs.Words.{more_words, words_for}
 use Rattle.i7_kinds.specs.Demands.{Lead, descriptions_of, description_of, first_target, implied_in, implied_leads, is_exit, is_wrong, lead_of, line_at, line_of_description, second_description, second_target, stated_in, stated_leads, subject_of, target_of, wrong_after, wrong_kind}
 use Rattle.i7_kinds.specs.Claims.{claims_of}
-use Rattle.i7_kinds.specs.KindClaims.{declared_by, kind_names}
+use Rattle.i7_kinds.specs.KindClaims.{declared_by, kind_names, kind_too_many, starts_of}
+use Rattle.i7_kinds.specs.Sorts.{name_too_many, names_as, too_many_as}
+use Rattle.i7_kinds.specs.declared.sorts.Sort.TheVariants as sort
 use Rattle.i7_kinds.specs.Scans.{earlier}
 use Rattle.i7_kinds.specs.declared.claim.Claim.{Claim}
-use Rattle.i7_kinds.proofs.KindScans.{kinds_few, parents_are_kinds}
+use Rattle.i7_kinds.proofs.KindScans.{kinds_few, parents_are_kinds, variables_few}
 use Rattle.i7_kinds.proofs.Rooted.{authors, authors_behind, authors_rooted}
 use Rattle.i7_kinds.specs.declared.name_faults.NameFaults.{NameFaults}
 use Rattle.i7_kinds.specs.Firsts.{first_of}
@@ -173,14 +175,14 @@ between n before (numbered.Way way) h k =
     let u = both_are (ltb way.subject n) (ltb way.room n) k in
     both (is_room_number n way.subject) (is_room_number n way.room) (both (leb 13 way.subject) (ltb way.subject n) (le-leb _ _ (ltb-false _ _ t.0)) u.0) (both (leb 13 way.room) (ltb way.room n) (le-leb _ _ (ltb-false _ _ t.1)) u.1)
 
-none_wrong : (wrong : Bool) (line : ℕ) (later : Option ℕ) → cond wrong (Some line) later ≡ None → (wrong ≡ false) × (later ≡ None)
-none_wrong true line later h = absurd cc
-none_wrong false line later h = (refl, h)
+nothing_wrong : (wrong : Bool) (line : ℕ) (later : Option ℕ) → cond wrong (Some line) later ≡ None → (wrong ≡ false) × (later ≡ None)
+nothing_wrong true line later h = absurd cc
+nothing_wrong false line later h = (refl, h)
 
 all_of_rooms : (n : ℕ) (before : Option ℕ) (statements : List NumberedSentence) → wrong_after before statements ≡ None → list_all (are_below n) statements ≡ true → list_all (are_of_rooms n) statements ≡ true
 all_of_rooms n before [] h k = refl
 all_of_rooms n before (statement ∷ statements) h k =
-    let t = none_wrong (is_wrong before statement.said) statement.line (wrong_after (subject_of statement.said) statements) h in
+    let t = nothing_wrong (is_wrong before statement.said) statement.line (wrong_after (subject_of statement.said) statements) h in
     let u = both_are (are_below n statement) (list_all (are_below n) statements) k in
     both (are_of_rooms n statement) (list_all (are_of_rooms n) statements) (between n before statement.said t.0 u.0) (all_of_rooms n (subject_of statement.said) statements t.1 u.1)
 
@@ -257,12 +259,20 @@ shape_held statements mentions few some h =
 
 -- ---- what is declared, and what the objects have of it
 
--- the built-in kinds with others behind them
-abbrev declared_with : List (Option ℕ) → Declared
-declared_with others = record built_in_declared { kinds = built_in_parents ++ others }
+-- the built-in kinds with others behind them, and variables
+abbrev declared_with : List (Option ℕ) → List (List ℕ) → Declared
+declared_with others names = record built_in_declared { kinds = built_in_parents ++ others; variables = starts_of names }
 
-declared_is : (claims : List Claim) → declared_with (authors (kind_names claims) claims) ≡ declared_by claims
-declared_is claims = ap (λ kinds. record built_in_declared { kinds = kinds }) (sym (authors_behind claims))
+declared_is : (claims : List Claim) → declared_with (authors (kind_names claims) claims) (names_as sort.Variable claims) ≡ declared_by claims
+declared_is claims = ap (λ kinds. record built_in_declared { kinds = kinds; variables = starts_of (names_as sort.Variable claims) }) (sym (authors_behind claims))
+
+starts_counted : (names : List (List ℕ)) → length (starts_of names) ≡ length names
+starts_counted [] = refl
+starts_counted (name ∷ names) = ap suc (starts_counted names)
+
+starts_right : (names : List (List ℕ)) → list_all is_number (starts_of names) ≡ true
+starts_right [] = refl
+starts_right (name ∷ names) = starts_right names
 
 flags_right : (n : ℕ) → 10 ≤ n → are_right_grants n built_in_declared.flags ≡ true
 unfolding are_rising built_in_declared built_in_properties
@@ -282,23 +292,23 @@ kinds_right : (others : List (Option ℕ)) → length (built_in_parents ++ other
 unfolding are_right_kinds begin_with_kinds built_in_parents
 kinds_right others few roots = rw (le-leb _ _ few) roots
 
-declared_held : (others : List (Option ℕ)) → length (built_in_parents ++ others) ≤ 100 → list_all (is_rooted (built_in_parents ++ others)) others ≡ true → is_well_declared (declared_with others) ≡ true
+declared_held : (others : List (Option ℕ)) (names : List (List ℕ)) → length names ≤ 100 → length (built_in_parents ++ others) ≤ 100 → list_all (is_rooted (built_in_parents ++ others)) others ≡ true → is_well_declared (declared_with others names) ≡ true
 unfolding is_well_declared begin_with_properties built_in_declared built_in_properties
-declared_held others few roots =
+declared_held others names short few roots =
     let n = length (built_in_parents ++ others) in
-    rw (kinds_right others few roots, flags_right n (omega (arith, others_counted others))) refl
+    rw (kinds_right others few roots, flags_right n (omega (arith, others_counted others)), le-leb (length (starts_of names)) 100 (omega (arith, short, starts_counted names))) (starts_right names)
 
-room_suits : (others : List (Option ℕ)) (statements : List NumberedSentence) (o : ℕ) (at : NameAt) → suits_kind (declared_with others) (room_of statements o at) ≡ true
+room_suits : (others : List (Option ℕ)) (names : List (List ℕ)) (statements : List NumberedSentence) (o : ℕ) (at : NameAt) → suits_kind (declared_with others names) (room_of statements o at) ≡ true
 unfolding suits_kind has_properties count_of_numbers room_of are_rising start_properties built_in_declared built_in_parents built_in_properties is_under
-room_suits others statements o at = refl
+room_suits others names statements o at = refl
 
-rooms_suit : (others : List (Option ℕ)) (statements : List NumberedSentence) (o : ℕ) (mentions : List NameAt) → list_all (suits_kind (declared_with others)) (rooms_from statements o mentions) ≡ true
-rooms_suit others statements o [] = refl
-rooms_suit others statements o (at ∷ mentions) = both (suits_kind (declared_with others) (room_of statements o at)) (list_all (suits_kind (declared_with others)) (rooms_from statements (o + 1) mentions)) (room_suits others statements o at) (rooms_suit others statements (o + 1) mentions)
+rooms_suit : (others : List (Option ℕ)) (names : List (List ℕ)) (statements : List NumberedSentence) (o : ℕ) (mentions : List NameAt) → list_all (suits_kind (declared_with others names)) (rooms_from statements o mentions) ≡ true
+rooms_suit others names statements o [] = refl
+rooms_suit others names statements o (at ∷ mentions) = both (suits_kind (declared_with others names) (room_of statements o at)) (list_all (suits_kind (declared_with others names)) (rooms_from statements (o + 1) mentions)) (room_suits others names statements o at) (rooms_suit others names statements (o + 1) mentions)
 
-suited_held : (others : List (Option ℕ)) (statements : List NumberedSentence) (mentions : List NameAt) → list_all (suits_kind (declared_with others)) (objects_of statements mentions) ≡ true
+suited_held : (others : List (Option ℕ)) (names : List (List ℕ)) (statements : List NumberedSentence) (mentions : List NameAt) → list_all (suits_kind (declared_with others names)) (objects_of statements mentions) ≡ true
 unfolding objects_of suits_kind has_properties count_of_numbers are_rising start_properties built_in_declared built_in_parents built_in_properties is_under
-suited_held others statements mentions = rooms_suit others statements 13 mentions
+suited_held others names statements mentions = rooms_suit others names statements 13 mentions
 
 -- ---- names and texts are short
 
@@ -405,20 +415,28 @@ limit_parts statements mentions none =
     let t = earlier_none (name_too_long mentions) (text_too_long (descriptions_of statements)) (unrefused TooMany (earlier (name_too_long mentions) (text_too_long (descriptions_of statements))) none) in
     (none_found has_long_name mentions (unmapped line_at (find has_long_name mentions) t.0), none_found has_long_text (descriptions_of statements) (unmapped line_of_description (find has_long_text (descriptions_of statements)) t.1))
 
+variables_fine : (claims : List Claim) → name_too_many claims ≡ None → too_many_as sort.Variable claims ≡ None
+variables_fine claims none =
+    let a = earlier_none (too_many_as sort.EitherOr claims) _ none in
+    let b = earlier_none (too_many_as sort.Number claims) _ a.1 in
+    (earlier_none (too_many_as sort.Variable claims) (earlier (too_many_as sort.Rulebook claims) (too_many_as sort.Scene claims)) b.1).0
+
 objects_held : (claims : List Claim) (statements : List NumberedSentence) (mentions : List NameAt) → list_all (are_below (13 + length mentions)) statements ≡ true → first_of (frame_refusal (name_faults claims statements) statements mentions) (limit_refusal statements mentions) ≡ None → IsHeld (record { declared = declared_by claims; objects = objects_of statements mentions })
 objects_held claims statements mentions below none =
     let faults = name_faults claims statements in
     let t = first_none_both (frame_refusal faults statements mentions) (limit_refusal statements mentions) none in
     let frame = frame_parts faults statements mentions t.0 in
-    let names = frame_names faults statements mentions t.0 in
+    let none_wrong = frame_names faults statements mentions t.0 in
+    let many = earlier_none (kind_too_many claims) (name_too_many claims) none_wrong.2 in
+    let variables = names_as sort.Variable claims in
     let limits = limit_parts statements mentions t.1 in
     let rooms = all_of_rooms (13 + length mentions) None statements frame.0 below in
     let others = authors (kind_names claims) claims in
     let kinds = authors_behind claims in
-    let few : length (built_in_parents ++ others) ≤ 100 = subst (λ (s : List (Option ℕ)). length s ≤ 100) kinds (omega (arith, parents_are_kinds (kind_names claims) claims, kinds_few claims (earlier_none _ _ names.2).0)) in
-    let roots : list_all (is_rooted (built_in_parents ++ others)) others ≡ true = subst (λ (s : List (Option ℕ)). list_all (is_rooted s) others ≡ true) kinds (authors_rooted claims names.0 names.1) in
+    let few : length (built_in_parents ++ others) ≤ 100 = subst (λ (s : List (Option ℕ)). length s ≤ 100) kinds (omega (arith, parents_are_kinds (kind_names claims) claims, kinds_few claims many.0)) in
+    let roots : list_all (is_rooted (built_in_parents ++ others)) others ≡ true = subst (λ (s : List (Option ℕ)). list_all (is_rooted s) others ≡ true) kinds (authors_rooted claims none_wrong.0 none_wrong.1) in
     subst (λ (d : Declared). IsHeld (record { declared = d; objects = objects_of statements mentions })) (declared_is claims)
-    (record { shape = shape_held statements mentions (few_objects mentions frame.1) (some_room mentions frame.2) rooms; declared = declared_held others few roots; suited = suited_held others statements mentions; texts = texts_held statements mentions limits.0 limits.1; words = words_held statements mentions limits.0 })
+    (record { shape = shape_held statements mentions (few_objects mentions frame.1) (some_room mentions frame.2) rooms; declared = declared_held others variables (variables_few claims (variables_fine claims many.1)) few roots; suited = suited_held others variables statements mentions; texts = texts_held statements mentions limits.0 limits.1; words = words_held statements mentions limits.0 })
 
 meant_whole : (line : Option ℕ) (said : Result Tale Fault) (tale : Tale) → unless_unmeant line said ≡ Ok tale → said ≡ Ok tale
 meant_whole None said tale meant = meant
