@@ -9,7 +9,7 @@ use Rattle.world_meaning.specs.Kinds.{built_in_parents}
 use Rattle.object_words.specs.Mentions.{mention}
 use Rattle.i7_kinds.specs.KindClaims.{AreSmallKinds, IsCycle, IsKindTooMany, IsSmallKind, IsUnknown, is_cycle, is_kind_too_many, is_unknown, kind_count, kind_cycle, kind_names, kind_too_many, parents_of, same_names, shows_cycle, shows_kind_too_many, shows_unknown, unknown_kind, with_count, with_count_of, with_kind, with_kind_of, with_parent, with_parent_of}
 use Rattle.i7_kinds.specs.Scans.{IsLowest, ShownBy, lower, lowest}
-use Rattle.i7_kinds.specs.Sorts.{built_in_kinds, claimed_as, is_too_many, most_names, names_as, shows_too_many, too_many_as, with_claimed, with_name}
+use Rattle.i7_kinds.specs.Sorts.{built_in_either_ors, built_in_kinds, claimed_as, is_too_many, most_names, names_as, shows_too_many, too_many_as, with_claimed, with_name}
 use Rattle.i7_kinds.specs.declared.sorts.Sort.{Sort}
 use Rattle.i7_kinds.specs.declared.sorts.Sort.TheVariants as sort
 use Rattle.i7_kinds.specs.Standings.{has_name}
@@ -116,6 +116,9 @@ pub parents_are_kinds : (names : List (List ℕ)) (claims : List Claim) → leng
 unfolding built_in_parents
 parents_are_kinds names claims = parents_counted names claims built_in_parents
 
+pub parents_few : (claims : List Claim) → kind_too_many claims ≡ None → length (parents_of (kind_names claims) claims) ≤ 100
+parents_few claims h = omega (arith, parents_are_kinds (kind_names claims) claims, kinds_few claims h)
+
 small_append : (xs ys : List (Option ℕ)) → AreSmallKinds xs → AreSmallKinds ys → AreSmallKinds (xs ++ ys)
 small_append [] ys h k = k
 small_append (x ∷ xs) ys h k = (h.0, small_append xs ys h.1 k)
@@ -156,3 +159,7 @@ names_few s (c ∷ cs) names few h =
 
 pub variables_few : (claims : List Claim) → too_many_as sort.Variable claims ≡ None → length (names_as sort.Variable claims) ≤ 100
 variables_few claims h = names_few sort.Variable claims [] (omega arith) h
+
+pub either_ors_few : (claims : List Claim) → too_many_as sort.EitherOr claims ≡ None → length (names_as sort.EitherOr claims) ≤ 100
+unfolding built_in_either_ors
+either_ors_few claims h = names_few sort.EitherOr claims built_in_either_ors (omega arith) h

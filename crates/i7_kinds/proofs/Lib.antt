@@ -1,3 +1,4 @@
+pub mod Granting
 pub mod Rooted
 pub mod KindScans
 pub mod SortScans

@@ -5,6 +5,8 @@ use Rattle.world_meaning.specs.Declarations.{built_in_declared}
 use Rattle.world_meaning.specs.Kinds.{Under, built_in_parents, is_under}
 use Rattle.world_meaning.specs.declared.declared.Declared.{Declared}
 use Rattle.object_words.specs.Mentions.{mention}
+use Rattle.i7_kinds.specs.Grants.{built_in_bases, flags_from, givens_of}
+use Rattle.i7_kinds.specs.declared.grants.Given.{Given}
 use Rattle.i7_kinds.specs.Scans.{lowest}
 use Rattle.i7_kinds.specs.Sorts.{built_in_kinds, names_as}
 use Rattle.i7_kinds.specs.declared.sorts.Sort.TheVariants as sort
@@ -51,9 +53,17 @@ kind_count claims = fold with_count_of 10 claims
 abbrev pub starts_of : List (List ℕ) → List ℤ
 starts_of names = map (λ name. pos 0) names
 
+-- what sentences give to kinds
+abbrev pub givens_by : List Claim → List Given
+givens_by claims = givens_of (names_as sort.EitherOr claims) (kind_names claims) claims
+
 -- what a source declares besides objects
 abbrev pub declared_by : List Claim → Declared
-declared_by claims = record built_in_declared { kinds = parents_of (kind_names claims) claims; variables = starts_of (names_as sort.Variable claims) }
+declared_by claims = record built_in_declared {
+  kinds = parents_of (kind_names claims) claims;
+  flags = flags_from (parents_of (kind_names claims) claims) (givens_by claims) 0 built_in_bases (names_as sort.EitherOr claims);
+  variables = starts_of (names_as sort.Variable claims);
+}
 
 -- ---- refusals
 

@@ -3,6 +3,7 @@ pub mod Claims
 pub mod Demands
 pub mod Described
 pub mod Firsts
+pub mod Grants
 pub mod KindClaims
 pub mod NameScans
 pub mod Quotes

@@ -9,6 +9,7 @@ mod claim_laws;
 mod claiming;
 mod declaring;
 mod descriptions;
+mod grants;
 mod kinds;
 mod lent_text;
 mod limits;

@@ -8,7 +8,7 @@ use Rattle.std.proofs.lemmas.Bool.{ltb-false, lt-ltb, le-leb, ne_eqb}
 use Rattle.std.proofs.lemmas.List.Folds.{list_any-append}
 use Rattle.std.proofs.lemmas.Option.{slice_get_past}
 use Rattle.world_meaning.proofs.Bools.{both, both_are, either}
-use Rattle.world_meaning.specs.Declarations.{are_right_grants, are_right_kinds, are_rising, begin_with_kinds, begin_with_properties, built_in_declared, count_of_numbers, has_properties, is_number, is_rooted, is_well_declared, suits_kind}
+use Rattle.world_meaning.specs.Declarations.{are_right_grants, are_right_kinds, are_rising, begin_with_kinds, begin_with_properties, built_in_declared, count_of_numbers, has_properties, has_property, is_number, is_rooted, is_well_declared, suits_kind}
 use Rattle.world_meaning.specs.declared.declared.Declared.{Declared}
 use Rattle.world_meaning.specs.Kinds.{built_in_parents, is_under}
 use Rattle.world_meaning.specs.Properties.{built_in_properties, start_properties}
@@ -24,12 +24,16 @@ use Rattle.i7_sentences.specs.declared.sentence.Sentence.{Sentence}
 use Rattle.object_words.specs.Words.{more_words, words_for}
 use Rattle.i7_kinds.specs.Demands.{Lead, descriptions_of, description_of, first_target, implied_in, implied_leads, is_exit, is_wrong, lead_of, line_at, line_of_description, second_description, second_target, stated_in, stated_leads, subject_of, target_of, wrong_after, wrong_kind}
 use Rattle.i7_kinds.specs.Claims.{claims_of}
-use Rattle.i7_kinds.specs.KindClaims.{declared_by, kind_names, kind_too_many, starts_of}
-use Rattle.i7_kinds.specs.Sorts.{name_too_many, names_as, too_many_as}
+use Rattle.i7_kinds.specs.KindClaims.{declared_by, givens_by, kind_names, kind_too_many, starts_of}
+use Rattle.i7_kinds.specs.Sorts.{built_in_either_ors, name_too_many, names_as, too_many_as}
 use Rattle.i7_kinds.specs.declared.sorts.Sort.TheVariants as sort
 use Rattle.i7_kinds.specs.Scans.{earlier}
 use Rattle.i7_kinds.specs.declared.claim.Claim.{Claim}
-use Rattle.i7_kinds.proofs.KindScans.{kinds_few, parents_are_kinds, variables_few}
+use Rattle.i7_kinds.proofs.KindScans.{either_ors_few, parents_few, variables_few}
+use Rattle.i7_kinds.proofs.Granting.{any_of, base_kept, begin_built_in, either_ors_behind, flags_counted, flags_right}
+use Rattle.i7_kinds.specs.Grants.{built_in_bases, flag_of, flags_from}
+use Rattle.i7_kinds.specs.declared.grants.Given.{Given}
+use Rattle.world_meaning.specs.declared.declared.Granted.{Granted}
 use Rattle.i7_kinds.proofs.Rooted.{authors, authors_behind, authors_rooted}
 use Rattle.i7_kinds.specs.declared.name_faults.NameFaults.{NameFaults}
 use Rattle.i7_kinds.specs.Firsts.{first_of}
@@ -259,12 +263,39 @@ shape_held statements mentions few some h =
 
 -- ---- what is declared, and what the objects have of it
 
--- the built-in kinds with others behind them, and variables
-abbrev declared_with : List (Option ℕ) → List (List ℕ) → Declared
-declared_with others names = record built_in_declared { kinds = built_in_parents ++ others; variables = starts_of names }
+-- what stands behind the built-in kinds and properties, and the variables
+record Behind : Type 0 where
+  kinds : List (Option ℕ)
+  givens : List Given
+  properties : List (List ℕ)
+  variables : List (List ℕ)
 
-declared_is : (claims : List Claim) → declared_with (authors (kind_names claims) claims) (names_as sort.Variable claims) ≡ declared_by claims
-declared_is claims = ap (λ kinds. record built_in_declared { kinds = kinds; variables = starts_of (names_as sort.Variable claims) }) (sym (authors_behind claims))
+abbrev kinds_with : Behind → List (Option ℕ)
+kinds_with b = built_in_parents ++ b.kinds
+
+abbrev flags_with : Behind → List Granted
+flags_with b = flags_from (kinds_with b) b.givens 0 built_in_bases (built_in_either_ors ++ b.properties)
+
+abbrev declared_with : Behind → Declared
+declared_with b = record built_in_declared { kinds = kinds_with b; flags = flags_with b; variables = starts_of b.variables }
+
+abbrev behind_of : List Claim → Behind
+behind_of claims = record {
+  kinds = authors (kind_names claims) claims;
+  givens = givens_by claims;
+  properties = (either_ors_behind claims).0;
+  variables = names_as sort.Variable claims;
+}
+
+declared_is : (claims : List Claim) → declared_with (behind_of claims) ≡ declared_by claims
+declared_is claims =
+    let kinds = sym (authors_behind claims) in
+    let names = sym (either_ors_behind claims).1 in
+    λ i. record built_in_declared {
+      kinds = kinds i;
+      flags = flags_from (kinds i) (givens_by claims) 0 built_in_bases (names i);
+      variables = starts_of (names_as sort.Variable claims);
+    }
 
 starts_counted : (names : List (List ℕ)) → length (starts_of names) ≡ length names
 starts_counted [] = refl
@@ -274,16 +305,6 @@ starts_right : (names : List (List ℕ)) → list_all is_number (starts_of names
 starts_right [] = refl
 starts_right (name ∷ names) = starts_right names
 
-flags_right : (n : ℕ) → 10 ≤ n → are_right_grants n built_in_declared.flags ≡ true
-unfolding are_rising built_in_declared built_in_properties
-flags_right n le =
-    let a : ltb 0 n ≡ true = lt-ltb _ _ (omega (arith, le)) in
-    let b : ltb 1 n ≡ true = lt-ltb _ _ (omega (arith, le)) in
-    let c : ltb 3 n ≡ true = lt-ltb _ _ (omega (arith, le)) in
-    let d : ltb 4 n ≡ true = lt-ltb _ _ (omega (arith, le)) in
-    let e : ltb 7 n ≡ true = lt-ltb _ _ (omega (arith, le)) in
-    rw (a, b, c, d, e) refl
-
 others_counted : (others : List (Option ℕ)) → length (built_in_parents ++ others) ≡ 10 + length others
 unfolding built_in_parents
 others_counted others = omega arith
@@ -292,23 +313,41 @@ kinds_right : (others : List (Option ℕ)) → length (built_in_parents ++ other
 unfolding are_right_kinds begin_with_kinds built_in_parents
 kinds_right others few roots = rw (le-leb _ _ few) roots
 
-declared_held : (others : List (Option ℕ)) (names : List (List ℕ)) → length names ≤ 100 → length (built_in_parents ++ others) ≤ 100 → list_all (is_rooted (built_in_parents ++ others)) others ≡ true → is_well_declared (declared_with others names) ≡ true
-unfolding is_well_declared begin_with_properties built_in_declared built_in_properties
-declared_held others names short few roots =
-    let n = length (built_in_parents ++ others) in
-    rw (kinds_right others few roots, flags_right n (omega (arith, others_counted others)), le-leb (length (starts_of names)) 100 (omega (arith, short, starts_counted names))) (starts_right names)
+kinds_many : (b : Behind) → 10 ≤ length (kinds_with b)
+kinds_many b = omega (arith, others_counted b.kinds)
 
-room_suits : (others : List (Option ℕ)) (names : List (List ℕ)) (statements : List NumberedSentence) (o : ℕ) (at : NameAt) → suits_kind (declared_with others names) (room_of statements o at) ≡ true
+declared_held : (b : Behind) → length (kinds_with b) ≤ 100 → length (built_in_either_ors ++ b.properties) ≤ 100 → length b.variables ≤ 100 → list_all (is_rooted (kinds_with b)) b.kinds ≡ true → is_well_declared (declared_with b) ≡ true
+unfolding is_well_declared built_in_declared
+declared_held b few few_properties few_variables roots =
+    let n = length (kinds_with b) in
+    let names = built_in_either_ors ++ b.properties in
+    let many = kinds_many b in
+    let flags : are_right_grants n (flags_with b) ≡ true = both (leb (length (flags_with b)) 100) _ (le-leb _ _ (omega (arith, few_properties, flags_counted (kinds_with b) many b.givens 0 built_in_bases names))) (flags_right (kinds_with b) many b.givens 0 built_in_bases names) in
+    rw (kinds_right b.kinds few roots, begin_built_in (kinds_with b) many b.givens b.properties, flags, le-leb (length (starts_of b.variables)) 100 (omega (arith, few_variables, starts_counted b.variables))) (starts_right b.variables)
+
+under_itself : (b : Behind) → is_under (kinds_with b) 1 1 ≡ true
+unfolding is_under built_in_parents
+under_itself b = refl
+
+-- rooms may be lighted
+may_be_lighted : (b : Behind) → has_property (kinds_with b) (flags_with b) 1 4 ≡ true
+unfolding built_in_either_ors built_in_bases
+may_be_lighted b =
+    any_of (is_under (kinds_with b) 1) 1 (flag_of (kinds_with b) b.givens 4 (1 ∷ [])).kinds (base_kept (kinds_with b) (kinds_many b) b.givens 4 (1 ∷ []) 1 refl refl) (under_itself b)
+
+room_suits : (b : Behind) (statements : List NumberedSentence) (o : ℕ) (at : NameAt) → suits_kind (declared_with b) (room_of statements o at) ≡ true
 unfolding suits_kind has_properties count_of_numbers room_of are_rising start_properties built_in_declared built_in_parents built_in_properties is_under
-room_suits others names statements o at = refl
+room_suits b statements o at =
+    let has = has_property (kinds_with b) (flags_with b) 1 4 in
+    both ((has && true) && true) true (both (has && true) true (both has true (may_be_lighted b) refl) refl) refl
 
-rooms_suit : (others : List (Option ℕ)) (names : List (List ℕ)) (statements : List NumberedSentence) (o : ℕ) (mentions : List NameAt) → list_all (suits_kind (declared_with others names)) (rooms_from statements o mentions) ≡ true
-rooms_suit others names statements o [] = refl
-rooms_suit others names statements o (at ∷ mentions) = both (suits_kind (declared_with others names) (room_of statements o at)) (list_all (suits_kind (declared_with others names)) (rooms_from statements (o + 1) mentions)) (room_suits others names statements o at) (rooms_suit others names statements (o + 1) mentions)
+rooms_suit : (b : Behind) (statements : List NumberedSentence) (o : ℕ) (mentions : List NameAt) → list_all (suits_kind (declared_with b)) (rooms_from statements o mentions) ≡ true
+rooms_suit b statements o [] = refl
+rooms_suit b statements o (at ∷ mentions) = both (suits_kind (declared_with b) (room_of statements o at)) (list_all (suits_kind (declared_with b)) (rooms_from statements (o + 1) mentions)) (room_suits b statements o at) (rooms_suit b statements (o + 1) mentions)
 
-suited_held : (others : List (Option ℕ)) (names : List (List ℕ)) (statements : List NumberedSentence) (mentions : List NameAt) → list_all (suits_kind (declared_with others names)) (objects_of statements mentions) ≡ true
+suited_held : (b : Behind) (statements : List NumberedSentence) (mentions : List NameAt) → list_all (suits_kind (declared_with b)) (objects_of statements mentions) ≡ true
 unfolding objects_of suits_kind has_properties count_of_numbers are_rising start_properties built_in_declared built_in_parents built_in_properties is_under
-suited_held others names statements mentions = rooms_suit others names statements 13 mentions
+suited_held b statements mentions = rooms_suit b statements 13 mentions
 
 -- ---- names and texts are short
 
@@ -415,11 +454,11 @@ limit_parts statements mentions none =
     let t = earlier_none (name_too_long mentions) (text_too_long (descriptions_of statements)) (unrefused TooMany (earlier (name_too_long mentions) (text_too_long (descriptions_of statements))) none) in
     (none_found has_long_name mentions (unmapped line_at (find has_long_name mentions) t.0), none_found has_long_text (descriptions_of statements) (unmapped line_of_description (find has_long_text (descriptions_of statements)) t.1))
 
-variables_fine : (claims : List Claim) → name_too_many claims ≡ None → too_many_as sort.Variable claims ≡ None
-variables_fine claims none =
+sorts_fine : (claims : List Claim) → name_too_many claims ≡ None → (too_many_as sort.EitherOr claims ≡ None) × (too_many_as sort.Variable claims ≡ None)
+sorts_fine claims none =
     let a = earlier_none (too_many_as sort.EitherOr claims) _ none in
     let b = earlier_none (too_many_as sort.Number claims) _ a.1 in
-    (earlier_none (too_many_as sort.Variable claims) (earlier (too_many_as sort.Rulebook claims) (too_many_as sort.Scene claims)) b.1).0
+    (a.0, (earlier_none (too_many_as sort.Variable claims) (earlier (too_many_as sort.Rulebook claims) (too_many_as sort.Scene claims)) b.1).0)
 
 objects_held : (claims : List Claim) (statements : List NumberedSentence) (mentions : List NameAt) → list_all (are_below (13 + length mentions)) statements ≡ true → first_of (frame_refusal (name_faults claims statements) statements mentions) (limit_refusal statements mentions) ≡ None → IsHeld (record { declared = declared_by claims; objects = objects_of statements mentions })
 objects_held claims statements mentions below none =
@@ -428,15 +467,16 @@ objects_held claims statements mentions below none =
     let frame = frame_parts faults statements mentions t.0 in
     let none_wrong = frame_names faults statements mentions t.0 in
     let many = earlier_none (kind_too_many claims) (name_too_many claims) none_wrong.2 in
-    let variables = names_as sort.Variable claims in
     let limits = limit_parts statements mentions t.1 in
     let rooms = all_of_rooms (13 + length mentions) None statements frame.0 below in
-    let others = authors (kind_names claims) claims in
+    let fine = sorts_fine claims many.1 in
+    let behind = behind_of claims in
     let kinds = authors_behind claims in
-    let few : length (built_in_parents ++ others) ≤ 100 = subst (λ (s : List (Option ℕ)). length s ≤ 100) kinds (omega (arith, parents_are_kinds (kind_names claims) claims, kinds_few claims many.0)) in
-    let roots : list_all (is_rooted (built_in_parents ++ others)) others ≡ true = subst (λ (s : List (Option ℕ)). list_all (is_rooted s) others ≡ true) kinds (authors_rooted claims none_wrong.0 none_wrong.1) in
+    let few : length (kinds_with behind) ≤ 100 = subst (λ (s : List (Option ℕ)). length s ≤ 100) kinds (parents_few claims many.0) in
+    let few_properties : length (built_in_either_ors ++ behind.properties) ≤ 100 = subst (λ (s : List (List ℕ)). length s ≤ 100) (either_ors_behind claims).1 (either_ors_few claims fine.0) in
+    let roots : list_all (is_rooted (kinds_with behind)) behind.kinds ≡ true = subst (λ (s : List (Option ℕ)). list_all (is_rooted s) behind.kinds ≡ true) kinds (authors_rooted claims none_wrong.0 none_wrong.1) in
     subst (λ (d : Declared). IsHeld (record { declared = d; objects = objects_of statements mentions })) (declared_is claims)
-    (record { shape = shape_held statements mentions (few_objects mentions frame.1) (some_room mentions frame.2) rooms; declared = declared_held others variables (variables_few claims (variables_fine claims many.1)) few roots; suited = suited_held others variables statements mentions; texts = texts_held statements mentions limits.0 limits.1; words = words_held statements mentions limits.0 })
+    (record { shape = shape_held statements mentions (few_objects mentions frame.1) (some_room mentions frame.2) rooms; declared = declared_held behind few few_properties (variables_few claims fine.1) roots; suited = suited_held behind statements mentions; texts = texts_held statements mentions limits.0 limits.1; words = words_held statements mentions limits.0 })
 
 meant_whole : (line : Option ℕ) (said : Result Tale Fault) (tale : Tale) → unless_unmeant line said ≡ Ok tale → said ≡ Ok tale
 meant_whole None said tale meant = meant
