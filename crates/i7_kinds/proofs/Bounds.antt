@@ -11,11 +11,13 @@ use Rattle.i7_sentences.specs.declared.sentence.Assertion.{Assertion}
 use Rattle.i7_sentences.specs.declared.sentence.Assertion.TheVariants.{Description, Way, Are}
 use Rattle.world_meaning.specs.Directions.{opposite_of}
 use Rattle.world_meaning.specs.declared.fault.FaultCode.{FaultCode}
-use Rattle.world_meaning.specs.declared.fault.FaultCode.TheVariants.{NoRoom, TooMany, Twice, TwoPlaces, WrongKind}
+use Rattle.world_meaning.specs.declared.fault.FaultCode.TheVariants.{Cycle, NoRoom, TooMany, Twice, TwoPlaces, UnknownName, WrongKind}
 use Rattle.i7_kinds.specs.Bounds.{AreWithin, IsSmall, IsWithin, LeadWithin}
-use Rattle.i7_kinds.specs.Demands.{Lead, descriptions_of, first_target, line_at, second_description, second_target, taken_name, wrong_kind, implied_in, implied_leads, is_exit, lead_of, stated_in, stated_leads}
+use Rattle.i7_kinds.specs.Demands.{Lead, first_target, line_at, second_target, wrong_kind, implied_in, implied_leads, is_exit, lead_of, stated_in, stated_leads}
+use Rattle.i7_kinds.specs.Scans.{earlier}
+use Rattle.i7_kinds.specs.declared.name_faults.NameFaults.{NameFaults}
 use Rattle.i7_kinds.specs.Firsts.{first_of}
-use Rattle.i7_kinds.specs.Tales.{earlier, frame_refusal, no_room, object_too_many, refusal_at}
+use Rattle.i7_kinds.specs.Tales.{frame_refusal, no_room, object_too_many, refusal_at}
 use Rattle.i7_kinds.specs.declared.statements.Numbered.{Numbered}
 use Rattle.i7_kinds.specs.declared.statements.Numbered.TheVariants as numbered
 use Rattle.i7_kinds.specs.declared.statements.NumberedSentence.{NumberedSentence}
@@ -134,20 +136,39 @@ pub unrefused : (code : FaultCode) (line : Option ℕ) → refusal_at code line 
 unrefused code None none = refl
 unrefused code (Some line) none = absurd cc
 
+pub earlier_none : (a b : Option ℕ) → earlier a b ≡ None → (a ≡ None) × (b ≡ None)
+earlier_none None b h = (refl, h)
+earlier_none (Some a) None h = absurd cc
+earlier_none (Some a) (Some b) h = absurd cc
+
 -- with no object too many there are few
 pub few_objects : (mentions : List NameAt) → object_too_many mentions ≡ None → 13 + length mentions ≤ 1000
 few_objects mentions none = omega (arith, slice_get-none mentions 987 (unmapped line_at (slice_get mentions 987) none))
 
 -- where no refusal stands, no object is too many
-pub frame_few : (statements : List NumberedSentence) (mentions : List NameAt) → frame_refusal statements mentions ≡ None → 13 + length mentions ≤ 1000
+pub frame_few : (faults : NameFaults) (statements : List NumberedSentence) (mentions : List NameAt) → frame_refusal faults statements mentions ≡ None → 13 + length mentions ≤ 1000
 unfolding frame_refusal
-frame_few statements mentions none =
-    let a = first_none_both (refusal_at Twice (earlier (taken_name mentions) (second_description (descriptions_of statements)))) _ none in
-    let b = first_none_both (refusal_at WrongKind (wrong_kind statements)) _ a.1 in
+frame_few faults statements mentions none =
+    let a = first_none_both (refusal_at Twice faults.twice) _ none in
+    let u = first_none_both (refusal_at UnknownName faults.unknown) _ a.1 in
+    let v = first_none_both (refusal_at Cycle faults.cycle) _ u.1 in
+    let b = first_none_both (refusal_at WrongKind (wrong_kind statements)) _ v.1 in
     let c = first_none_both (refusal_at TwoPlaces (second_target statements)) _ b.1 in
-    let d = first_none_both (refusal_at TooMany (object_too_many mentions)) (refusal_at NoRoom (no_room mentions)) c.1 in
-    few_objects mentions (unrefused TooMany (object_too_many mentions) d.0)
+    let d = first_none_both (refusal_at TooMany (earlier (object_too_many mentions) faults.too_many)) (refusal_at NoRoom (no_room mentions)) c.1 in
+    few_objects mentions (earlier_none (object_too_many mentions) faults.too_many (unrefused TooMany (earlier (object_too_many mentions) faults.too_many) d.0)).0
+
+-- where no refusal stands, no name is too many
+pub frame_names : (faults : NameFaults) (statements : List NumberedSentence) (mentions : List NameAt) → frame_refusal faults statements mentions ≡ None → (faults.unknown ≡ None) × (faults.cycle ≡ None) × (faults.too_many ≡ None)
+unfolding frame_refusal
+frame_names faults statements mentions none =
+    let a = first_none_both (refusal_at Twice faults.twice) _ none in
+    let u = first_none_both (refusal_at UnknownName faults.unknown) _ a.1 in
+    let v = first_none_both (refusal_at Cycle faults.cycle) _ u.1 in
+    let b = first_none_both (refusal_at WrongKind (wrong_kind statements)) _ v.1 in
+    let c = first_none_both (refusal_at TwoPlaces (second_target statements)) _ b.1 in
+    let d = first_none_both (refusal_at TooMany (earlier (object_too_many mentions) faults.too_many)) (refusal_at NoRoom (no_room mentions)) c.1 in
+    (unrefused UnknownName faults.unknown u.0, unrefused Cycle faults.cycle v.0, (earlier_none (object_too_many mentions) faults.too_many (unrefused TooMany (earlier (object_too_many mentions) faults.too_many) d.0)).1)
 
 -- so a source without refusal leads within a story
-pub frame_within : (statements : List NumberedSentence) (mentions : List NameAt) → AreWithin (13 + length mentions) statements → frame_refusal statements mentions ≡ None → LeadWithin statements
-frame_within statements mentions within none = lead-within (13 + length mentions) statements (frame_few statements mentions none) within
+pub frame_within : (faults : NameFaults) (statements : List NumberedSentence) (mentions : List NameAt) → AreWithin (13 + length mentions) statements → frame_refusal faults statements mentions ≡ None → LeadWithin statements
+frame_within faults statements mentions within none = lead-within (13 + length mentions) statements (frame_few faults statements mentions none) within

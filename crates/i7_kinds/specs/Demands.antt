@@ -1,8 +1,6 @@
 -- What the sentences may not say together: each refusal's line is that of the first statement that
 -- shows it together with those before it.
-use Rattle.std.specs.Prelude.{ℕ, Bool, false, not, ◌&&◌, ◌||◌, ◌==◌, nat_lt, List, [], ◌∷◌, ◌++◌, flat_map, find, Option, Some, None, is_none, option_map, map, bytes_eq, if◌then◌else◌}
-use Rattle.std.specs.List.{list_any}
-use Rattle.world_meaning.specs.Spelling.{is_spelled}
+use Rattle.std.specs.Prelude.{ℕ, Bool, false, not, ◌&&◌, ◌||◌, ◌==◌, nat_lt, List, [], ◌∷◌, ◌++◌, flat_map, find, Option, Some, None, is_none, option_map, bytes_eq, if◌then◌else◌}
 use Rattle.world_meaning.specs.Directions.{direction_number, opposite_of}
 use Rattle.world_meaning.specs.declared.direction.Direction.{Direction}
 use Rattle.i7_kinds.specs.Firsts.{first_of}
@@ -10,22 +8,10 @@ use Rattle.i7_kinds.specs.Statements.{NameAt}
 use Rattle.i7_kinds.specs.declared.descriptions.Description.{Description}
 use Rattle.i7_kinds.specs.declared.statements.Numbered.{Numbered}
 use Rattle.i7_kinds.specs.declared.statements.Numbered.TheVariants as numbered
-use Rattle.i7_kinds.specs.declared.reserved_names.TheConstants.{TAKEN}
 use Rattle.i7_kinds.specs.declared.statements.NumberedSentence.{NumberedSentence}
-
--- the names of kinds and properties, and the words that stand for an object or a number
-abbrev pub taken_names : List (List ℕ)
-taken_names = map (λ name. name.now) TAKEN
-
-abbrev pub is_taken : List ℕ → Bool
-is_taken name = list_any (is_spelled name) taken_names
 
 abbrev pub line_at : NameAt → ℕ
 line_at at = at.line
-
--- C9 of a name: the first object whose name means something already
-abbrev pub taken_name : List NameAt → Option ℕ
-taken_name mentions = option_map line_at (find (λ at. is_taken at.name.text) mentions)
 
 -- the numbers below this are the player's and the directions'
 abbrev pub first_of_author : ℕ

@@ -1,8 +1,15 @@
 pub mod Bounds
+pub mod Claims
 pub mod Demands
 pub mod Described
 pub mod Firsts
+pub mod Grants
+pub mod KindClaims
+pub mod NameScans
 pub mod Quotes
+pub mod Scans
+pub mod Sorts
+pub mod Standings
 pub mod StatedWays
 pub mod Statements
 pub mod Tales

@@ -6,7 +6,7 @@ use Rattle.world_meaning.specs.Spelling.{is_spelled, lowered}
 use Rattle.world_meaning.specs.Directions.{all_directions, direction_name}
 use Rattle.i7_sentences.specs.declared.name.Name.{Name}
 use Rattle.i7_sentences.specs.declared.sentence.Assertion.{Assertion}
-use Rattle.i7_sentences.specs.declared.sentence.Assertion.TheVariants.{Aside, Description, Way, Are}
+use Rattle.i7_sentences.specs.declared.sentence.Assertion.TheVariants.{Aside, Description, Way, Are, EitherOr, KindOfKind, Rulebook, Scene, Variable}
 use Rattle.i7_sentences.specs.declared.sentence.Being.{Being}
 use Rattle.i7_sentences.specs.declared.sentence.Sentence.{Sentence}
 use Rattle.i7_kinds.specs.Quotes.{printed}
@@ -37,6 +37,11 @@ is_meant Aside = true
 is_meant (Description text) = true
 is_meant (Way way) = true
 is_meant (Are being) = is_room_said being
+is_meant (Rulebook name) = true
+is_meant (Scene name is_recurring) = true
+is_meant (KindOfKind kind parent) = true
+is_meant (Variable name) = true
+is_meant (EitherOr kind first second) = true
 is_meant _ = false
 
 -- the names that a sentence mentions, in the order of its words

@@ -1,5 +1,5 @@
 -- The tale that a source's sentences mean, or the refusal that stands.
-use Rattle.std.specs.Prelude.{ℕ, ◌+◌, ◌-◌, Bool, not, ◌||◌, ◌==◌, nat_lt, min, List, [], ◌∷◌, ◌++◌, length, map, find, replicate, slice_get, Option, Some, None, option_map, codes, Result, Ok, Err, if◌then◌else◌}
+use Rattle.std.specs.Prelude.{ℕ, ◌+◌, ◌-◌, Bool, not, ◌||◌, ◌==◌, nat_lt, List, [], ◌∷◌, ◌++◌, length, map, find, replicate, slice_get, Option, Some, None, option_map, codes, Result, Ok, Err, if◌then◌else◌}
 use Rattle.std.specs.List.{list_any}
 use Rattle.world_meaning.specs.Directions.{all_directions, direction_name, direction_number}
 use Rattle.world_meaning.specs.declared.article.Article.{Article}
@@ -9,29 +9,29 @@ use Rattle.world_meaning.specs.declared.exits.Exits.{Exits}
 use Rattle.world_meaning.specs.declared.exits.Way.{Way}
 use Rattle.world_meaning.specs.declared.fault.Fault.{Fault}
 use Rattle.world_meaning.specs.declared.fault.FaultCode.{FaultCode}
-use Rattle.world_meaning.specs.declared.fault.FaultCode.TheVariants.{NotUnderstood, Twice, WrongKind, TwoPlaces, TooMany, NoRoom}
+use Rattle.world_meaning.specs.declared.fault.FaultCode.TheVariants.{NotUnderstood, Twice, UnknownName, Cycle, WrongKind, TwoPlaces, TooMany, NoRoom}
 use Rattle.world_meaning.specs.declared.place.Place.{Place}
 use Rattle.world_meaning.specs.declared.place.Rel.TheVariants.{In}
 use Rattle.world_meaning.specs.declared.tale.Object.{Object}
 use Rattle.world_meaning.specs.declared.tale.Tale.{Tale}
-use Rattle.world_meaning.specs.Declarations.{built_in_declared}
 use Rattle.world_meaning.specs.Kinds.{built_in_parents, direction_kind, person_kind, room_kind}
 use Rattle.world_meaning.specs.Properties.{start_properties}
 use Rattle.i7_sentences.specs.declared.name.NameArticle.{NameArticle}
 use Rattle.i7_sentences.specs.declared.name.NameArticle.TheVariants as written
 use Rattle.i7_sentences.specs.declared.sentence.Sentence.{Sentence}
-use Rattle.i7_kinds.specs.Demands.{taken_name, wrong_kind, descriptions_of, description_of, second_description, second_target, target_of, first_of_author, line_at, line_of_description}
+use Rattle.i7_kinds.specs.Demands.{wrong_kind, descriptions_of, description_of, second_description, second_target, target_of, first_of_author, line_at, line_of_description}
 use Rattle.object_words.specs.Words.{words_for}
+use Rattle.i7_kinds.specs.Claims.{claims_of}
 use Rattle.i7_kinds.specs.Firsts.{first_of}
+use Rattle.i7_kinds.specs.KindClaims.{declared_by, kind_cycle, kind_names, kind_too_many, unknown_kind}
+use Rattle.i7_kinds.specs.NameScans.{book_twice, name_twice}
+use Rattle.i7_kinds.specs.declared.claim.Claim.{Claim}
+use Rattle.i7_kinds.specs.declared.name_faults.NameFaults.{NameFaults}
+use Rattle.i7_kinds.specs.Scans.{earlier}
+use Rattle.i7_kinds.specs.Sorts.{name_too_many}
 use Rattle.i7_kinds.specs.declared.descriptions.Description.{Description}
 use Rattle.i7_kinds.specs.declared.statements.NumberedSentence.{NumberedSentence}
 use Rattle.i7_kinds.specs.Statements.{NameAt, is_meant, named_by, stated_by}
-
--- the lower of two lines
-abbrev pub earlier : Option ℕ → Option ℕ → Option ℕ
-earlier None other = other
-earlier (Some a) None = Some a
-earlier (Some a) (Some b) = Some (min a b)
 
 -- C12: the object that is one too many; the player and the directions are among the 1,000
 abbrev pub object_too_many : List NameAt → Option ℕ
@@ -128,14 +128,27 @@ abbrev pub refusal_at : FaultCode → Option ℕ → Option Fault
 refusal_at code None = None
 refusal_at code (Some line) = Some (record { code = code; line = line })
 
+-- what names may not be, by the lowest lines: C9 of a name that stands for two things, of a rulebook's that is
+-- another's and of a second description; C7 of a kind that isn't there; C11 of a cycle of kinds; C12 of a name
+-- that is one too many
+abbrev pub name_faults : List Claim → List NumberedSentence → NameFaults
+name_faults claims statements = record {
+  twice = earlier (name_twice claims) (earlier (book_twice claims) (second_description (descriptions_of statements)));
+  unknown = unknown_kind (kind_names claims) claims;
+  cycle = kind_cycle (kind_names claims) claims;
+  too_many = earlier (kind_too_many claims) (name_too_many claims);
+}
+
 -- what the statements may not say together: each code is looked for in all of them before the next
-unfoldable pub frame_refusal : List NumberedSentence → List NameAt → Option Fault
-frame_refusal statements mentions =
-    first_of (refusal_at Twice (earlier (taken_name mentions) (second_description (descriptions_of statements))))
+unfoldable pub frame_refusal : NameFaults → List NumberedSentence → List NameAt → Option Fault
+frame_refusal faults statements mentions =
+    first_of (refusal_at Twice faults.twice)
+    (first_of (refusal_at UnknownName faults.unknown)
+    (first_of (refusal_at Cycle faults.cycle)
     (first_of (refusal_at WrongKind (wrong_kind statements))
     (first_of (refusal_at TwoPlaces (second_target statements))
-    (first_of (refusal_at TooMany (object_too_many mentions))
-    (refusal_at NoRoom (no_room mentions)))))
+    (first_of (refusal_at TooMany (earlier (object_too_many mentions) faults.too_many))
+    (refusal_at NoRoom (no_room mentions)))))))
 
 -- what is too long
 unfoldable pub limit_refusal : List NumberedSentence → List NameAt → Option Fault
@@ -146,8 +159,8 @@ or_refused None tale = Ok tale
 or_refused (Some fault) tale = Err fault
 
 -- the tale, unless a refusal stands
-abbrev pub judged : List NumberedSentence → List NameAt → Result Tale Fault
-judged statements mentions = or_refused (first_of (frame_refusal statements mentions) (limit_refusal statements mentions)) (record { declared = built_in_declared; objects = objects_of statements mentions })
+abbrev pub judged : List Claim → List NumberedSentence → List NameAt → Result Tale Fault
+judged claims statements mentions = or_refused (first_of (frame_refusal (name_faults claims statements) statements mentions) (limit_refusal statements mentions)) (record { declared = declared_by claims; objects = objects_of statements mentions })
 
 abbrev pub is_unmeant : Sentence → Bool
 is_unmeant sentence = not (is_meant sentence.said)
@@ -165,4 +178,4 @@ unless_unmeant (Some line) said = Err (record { code = NotUnderstood; line = lin
 
 -- the tale of a source's sentences, or the refusal that stands
 abbrev pub tale_said : List Sentence → Result Tale Fault
-tale_said sentences = unless_unmeant (unmeant sentences) (judged (stated_by sentences) ((named_by sentences).mentions))
+tale_said sentences = unless_unmeant (unmeant sentences) (judged (claims_of sentences) (stated_by sentences) ((named_by sentences).mentions))

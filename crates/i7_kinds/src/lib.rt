@@ -2,17 +2,32 @@
 //! say together, and the tale that they mean.
 #![tactic(auto)]
 
+mod author_kinds;
+mod built_in;
+mod claim;
+mod claim_laws;
+mod claiming;
+mod declaring;
 mod descriptions;
+mod grants;
 mod kinds;
 mod lent_text;
 mod limits;
 mod meant;
+mod name_faults;
 mod names;
 mod objects;
 mod quotes;
 mod reserved_names;
+mod scans;
+mod sorts;
+mod standings;
 mod statements;
 mod tale;
 mod ways;
 
+pub use claim_laws::{
+    books_twice_are_found, cycles_are_found, kinds_too_many_are_found, names_too_many_are_found,
+    names_twice_are_found, unknown_kinds_are_found,
+};
 pub use tale::tale_of;

@@ -32,6 +32,8 @@ fn is_meant(said: &Assertion) -> bool
 {
     match said {
         Assertion::Aside | Assertion::Description(_) | Assertion::Way(_) => true,
+        Assertion::Rulebook(_) | Assertion::Scene { .. } | Assertion::Variable(_) => true,
+        Assertion::KindOfKind { .. } | Assertion::EitherOr { .. } => true,
         Assertion::Are(being) => is_room_said(being),
         _ => false,
     }

@@ -28,7 +28,7 @@ pub struct Names<'a> {
 }
 
 /// The key of a name: its bytes in small letters; the player's names have one key.
-fn key_of(alloc: Global, name: &[u8]) -> Result<Vec<u8>, AllocError>
+pub fn key_of(alloc: Global, name: &[u8]) -> Result<Vec<u8>, AllocError>
     ensures { IfOk result (λ key. key.items ≡ key_of name.now) }
 {
     if is_spelled(name, b"player") {
@@ -38,7 +38,7 @@ fn key_of(alloc: Global, name: &[u8]) -> Result<Vec<u8>, AllocError>
 }
 
 /// The keys of the built-in objects.
-fn built_in_keys(alloc: Global) -> Result<Strings, AllocError>
+pub fn built_in_keys(alloc: Global) -> Result<Strings, AllocError>
     ensures { IfOk result (λ keys. keys ≡ built_in_keys) }
 {
     let mut keys = Strings::new(alloc);
@@ -59,7 +59,7 @@ fn built_in_keys(alloc: Global) -> Result<Strings, AllocError>
 }
 
 /// The place of a key.
-fn number_in(keys: &Strings, key: &[u8]) -> usize
+pub fn number_in(keys: &Strings, key: &[u8]) -> usize
     ensures { result ≡ number_in keys.now key.now }
 {
     match keys.place_of(key) {

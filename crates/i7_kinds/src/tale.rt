@@ -5,21 +5,26 @@ ghost use Rattle.i7_kinds.specs.Bounds.{AreWithin};
 ghost use Rattle.i7_kinds.specs.Demands.{descriptions_of};
 ghost use Rattle.i7_kinds.specs.Described.{descriptions_in};
 ghost use Rattle.i7_kinds.specs.StatedWays.{stated};
-ghost use Rattle.i7_kinds.specs.Tales.{earlier, frame_refusal, judged, limit_refusal, no_room, refusal_at, tale_said};
+ghost use Rattle.i7_kinds.specs.Tales.{frame_refusal, judged, limit_refusal, no_room, refusal_at, tale_said};
 ghost use Rattle.i7_kinds.specs.Views.{mentions_of};
 
+use crate::author_kinds::kind_names;
+use crate::claim::Claim;
+use crate::claiming::claims_of;
+use crate::declaring::declared_by;
 use crate::descriptions::Descriptions;
 use crate::kinds::wrong_kind;
 use crate::limits::{name_too_long, object_too_many, text_too_long};
 use crate::meant::unmeant;
+use crate::name_faults::{NameFaults, name_faults};
 use crate::names::{Mention, names_of};
 use crate::objects::objects_of;
-use crate::reserved_names::taken_name;
+use crate::scans::earlier;
 use crate::statements::{NumberedSentence, statements_in};
 use crate::ways::Ways;
 use i7_sentences::Sentence;
 use std::alloc::{AllocError, Global};
-use world_meaning::{Fault, FaultCode, Tale, built_in_declared};
+use world_meaning::{Fault, FaultCode, Tale};
 
 /// The refusal at a line, if there is one.
 fn refusal_at(code: FaultCode, line: Option<u32>) -> Option<Fault>
@@ -28,19 +33,6 @@ fn refusal_at(code: FaultCode, line: Option<u32>) -> Option<Fault>
     match line {
         Some(line) => Some(Fault { code, line }),
         None => None,
-    }
-}
-
-/// The lower of two lines.
-fn earlier(first: Option<u32>, second: Option<u32>) -> Option<u32>
-    ensures { result ≡ earlier first second }
-{
-    match first {
-        None => second,
-        Some(a) => match second {
-            None => Some(a),
-            Some(b) => Some(a.min(b)),
-        },
     }
 }
 
@@ -54,21 +46,26 @@ fn no_room(mentions: &[Mention<'_>]) -> Option<u32>
     }
 }
 
-/// What the statements may not say together: a name or a description twice, a wrong kind, an exit of
+/// What the statements may not say together: a name or a description twice, a kind that isn't
+/// there, a cycle of kinds, a wrong kind, an exit of
 /// two targets, an object too many, no room; each is looked for in all of them before the next.
 #[tactic(auto, unfolding(crate::specs::Tales::frame_refusal))]
 fn frame_refusal(
+    faults: NameFaults,
     mentions: &[Mention<'_>],
     statements: &[NumberedSentence],
-    descriptions: &Descriptions<'_>,
     ways: &Ways<'_>,
 ) -> Option<Fault>
-    requires described { descriptions_in descriptions.now ≡ descriptions_of statements.now }
     requires led { stated ways.now ≡ statements.now }
-    ensures { result ≡ frame_refusal statements.now (mentions_of mentions.now) }
+    ensures { result ≡ frame_refusal faults statements.now (mentions_of mentions.now) }
 {
-    let twice = earlier(taken_name(mentions), descriptions.second());
-    if let Some(fault) = refusal_at(FaultCode::Twice, twice) {
+    if let Some(fault) = refusal_at(FaultCode::Twice, faults.twice) {
+        return Some(fault);
+    }
+    if let Some(fault) = refusal_at(FaultCode::UnknownName, faults.unknown) {
+        return Some(fault);
+    }
+    if let Some(fault) = refusal_at(FaultCode::Cycle, faults.cycle) {
         return Some(fault);
     }
     if let Some(fault) = refusal_at(FaultCode::WrongKind, wrong_kind(statements)) {
@@ -77,7 +74,8 @@ fn frame_refusal(
     if let Some(fault) = refusal_at(FaultCode::TwoPlaces, ways.second_target()) {
         return Some(fault);
     }
-    if let Some(fault) = refusal_at(FaultCode::TooMany, object_too_many(mentions)) {
+    let too_many = earlier(object_too_many(mentions), faults.too_many);
+    if let Some(fault) = refusal_at(FaultCode::TooMany, too_many) {
         return Some(fault);
     }
     refusal_at(FaultCode::NoRoom, no_room(mentions))
@@ -103,21 +101,24 @@ fn limit_refusal(
 fn judged(
     alloc: Global,
     mentions: &[Mention<'_>],
+    claims: &[Claim],
     statements: &[NumberedSentence],
 ) -> Result<Result<Tale, Fault>, AllocError>
     requires { AreWithin (13 + length (mentions_of mentions.now)) statements.now }
-    ensures { IfOk result (λ said. said ≡ judged statements.now (mentions_of mentions.now)) }
+    ensures { IfOk result (λ said. said ≡ judged claims.now statements.now (mentions_of mentions.now)) }
 {
     let descriptions = Descriptions::new(alloc, statements)?;
     let ways = Ways::new(alloc, statements)?;
-    if let Some(fault) = frame_refusal(mentions, statements, &descriptions, &ways) {
+    let kinds = kind_names(alloc, claims)?;
+    let faults = name_faults(alloc, &kinds, claims, statements, &descriptions)?;
+    if let Some(fault) = frame_refusal(faults, mentions, statements, &ways) {
         return Ok(Err(fault));
     }
     if let Some(fault) = limit_refusal(alloc, mentions, statements, &descriptions)? {
         return Ok(Err(fault));
     }
     let objects = objects_of(alloc, mentions, &descriptions, &ways)?;
-    let declared = built_in_declared(alloc)?;
+    let declared = declared_by(alloc, &kinds, claims)?;
     Ok(Ok(Tale { declared, objects }))
 }
 
@@ -133,12 +134,18 @@ fn tale_said(alloc: Global, sentences: &[Sentence]) -> Result<Result<Tale, Fault
     }
     let names = names_of(alloc, sentences)?;
     let statements = statements_in(alloc, &names, sentences)?;
-    let said = judged(alloc, names.mentions(), statements.as_slice())?;
+    let claims = claims_of(alloc, sentences)?;
+    let said = judged(
+        alloc,
+        names.mentions(),
+        claims.as_slice(),
+        statements.as_slice(),
+    )?;
     Ok(said)
 }
 
 /// The tale that the sentences mean, or the refusal that stands, each code being looked for in the
-/// whole source before the next, at the first sentence that shows it: C5 of what has no meaning yet, C9, C8,
+/// whole source before the next, at the first sentence that shows it: C5 of what has no meaning yet, C9, C7, C11, C8,
 /// C10, C12 of objects, C13, then C12 of names and texts. Memory is C14, at line 1.
 pub fn tale_of(alloc: Global, sentences: &[Sentence]) -> Result<Tale, Fault>
     ensures told { IfOk result (λ tale. tale_said sentences.now ≡ Ok tale) }

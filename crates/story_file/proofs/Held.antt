@@ -8,29 +8,41 @@ use Rattle.std.proofs.lemmas.Bool.{ltb-false, lt-ltb, le-leb, ne_eqb}
 use Rattle.std.proofs.lemmas.List.Folds.{list_any-append}
 use Rattle.std.proofs.lemmas.Option.{slice_get_past}
 use Rattle.world_meaning.proofs.Bools.{both, both_are, either}
-use Rattle.world_meaning.specs.Declarations.{built_in_declared}
+use Rattle.world_meaning.specs.Declarations.{is_rooted, is_well_declared}
 use Rattle.world_meaning.specs.Sorts.{is_at, kinds_told}
 use Rattle.world_meaning.specs.Standing.{leads}
 use Rattle.world_meaning.specs.WellMade.{IsWellMade}
+use Rattle.world_meaning.specs.declared.declared.Declared.{Declared}
 use Rattle.world_meaning.specs.Directions.{all_directions, opposite_of}
 use Rattle.world_meaning.specs.declared.fault.Fault.{Fault}
-use Rattle.world_meaning.specs.declared.fault.FaultCode.TheVariants.{NoRoom, TooMany, Twice, TwoPlaces, WrongKind}
+use Rattle.world_meaning.specs.declared.fault.FaultCode.TheVariants.{Cycle, NoRoom, TooMany, Twice, TwoPlaces, UnknownName, WrongKind}
 use Rattle.world_meaning.specs.declared.tale.Tale.{Tale}
 use Rattle.i7_sentences.specs.declared.name.Name.{Name}
 use Rattle.i7_sentences.specs.declared.sentence.Assertion.{Assertion}
 use Rattle.i7_sentences.specs.declared.sentence.Assertion.TheVariants.{Description, Way, Are}
 use Rattle.i7_sentences.specs.declared.sentence.Sentence.{Sentence}
 use Rattle.object_words.specs.Words.{more_words, words_for}
-use Rattle.i7_kinds.specs.Demands.{Lead, descriptions_of, description_of, first_target, implied_in, implied_leads, is_exit, is_wrong, lead_of, line_at, line_of_description, second_description, second_target, stated_in, stated_leads, subject_of, taken_name, target_of, wrong_after, wrong_kind}
+use Rattle.i7_kinds.specs.Demands.{Lead, descriptions_of, description_of, first_target, implied_in, implied_leads, is_exit, is_wrong, lead_of, line_at, line_of_description, second_description, second_target, stated_in, stated_leads, subject_of, target_of, wrong_after, wrong_kind}
+use Rattle.i7_kinds.specs.Claims.{claims_of}
+use Rattle.i7_kinds.specs.KindClaims.{declared_by, kind_too_many}
+use Rattle.i7_kinds.specs.Sorts.{built_in_either_ors, name_too_many, too_many_as}
+use Rattle.i7_kinds.specs.declared.sorts.Sort.TheVariants as sort
+use Rattle.i7_kinds.specs.Scans.{earlier}
+use Rattle.i7_kinds.specs.declared.claim.Claim.{Claim}
+use Rattle.i7_kinds.proofs.KindScans.{either_ors_few, parents_few, variables_few}
+use Rattle.i7_kinds.proofs.Granting.{either_ors_behind}
+use Rattle.i7_kinds.proofs.Rooted.{authors_behind, authors_rooted}
+use Rattle.i7_kinds.specs.declared.name_faults.NameFaults.{NameFaults}
 use Rattle.i7_kinds.specs.Firsts.{first_of}
 use Rattle.i7_kinds.specs.Statements.{NameAt, Named, built_in_keys, numbered_in, numbered_room, rooms_in, has_key, key_of, named_by, names_at, number_in, stated_by, statement_in, with_name, with_names_of}
 use Rattle.i7_kinds.specs.declared.descriptions.Description.{Description as Described}
 use Rattle.i7_kinds.specs.declared.statements.Numbered.{Numbered}
 use Rattle.i7_kinds.specs.declared.statements.Numbered.TheVariants as numbered
 use Rattle.i7_kinds.specs.declared.statements.NumberedSentence.{NumberedSentence}
-use Rattle.i7_kinds.specs.Tales.{earlier, frame_refusal, has_long_name, has_long_text, is_too_long, judged, limit_refusal, name_too_long, no_room, object_too_many, objects_of, or_refused, refusal_at, room_of, rooms_from, tale_said, text_too_long, unless_unmeant, unmeant}
-use Rattle.i7_kinds.proofs.Bounds.{counted-source, few_objects, first_none_both, unmapped, unrefused}
-use Rattle.story_file.proofs.MadeObjects.{all_lead, all_placed, begins_held, built_in_held, is_room_number, is_room_or_none, kinds_held, player_held, room_at, room_or_none_at, sorts_of_objects, suited_held, tree_held}
+use Rattle.i7_kinds.specs.Tales.{frame_refusal, has_long_name, has_long_text, is_too_long, judged, limit_refusal, name_too_long, no_room, object_too_many, objects_of, or_refused, refusal_at, room_of, rooms_from, tale_said, text_too_long, name_faults, unless_unmeant, unmeant}
+use Rattle.i7_kinds.proofs.Bounds.{counted-source, earlier_none, few_objects, first_none_both, frame_names, unmapped, unrefused}
+use Rattle.story_file.proofs.MadeDeclarations.{Behind, behind_of, declared_held, declared_is, declared_with, kinds_many, kinds_with, suited_held}
+use Rattle.story_file.proofs.MadeObjects.{all_lead, all_placed, begins_held, is_room_number, is_room_or_none, kinds_held, player_held, room_at, room_or_none_at, sorts_of_objects, tree_held}
 use Rattle.story_format.specs.Holding.{has_few_words, has_short_texts, is_short, is_short_or_none, IsHeld}
 use Rattle.story_format.specs.Making.{worded, worded_from}
 use Rattle.story_format.proofs.Known.{text_is_itself, passes_at}
@@ -164,14 +176,14 @@ between n before (numbered.Way way) h k =
     let u = both_are (ltb way.subject n) (ltb way.room n) k in
     both (is_room_number n way.subject) (is_room_number n way.room) (both (leb 13 way.subject) (ltb way.subject n) (le-leb _ _ (ltb-false _ _ t.0)) u.0) (both (leb 13 way.room) (ltb way.room n) (le-leb _ _ (ltb-false _ _ t.1)) u.1)
 
-none_wrong : (wrong : Bool) (line : ℕ) (later : Option ℕ) → cond wrong (Some line) later ≡ None → (wrong ≡ false) × (later ≡ None)
-none_wrong true line later h = absurd cc
-none_wrong false line later h = (refl, h)
+nothing_wrong : (wrong : Bool) (line : ℕ) (later : Option ℕ) → cond wrong (Some line) later ≡ None → (wrong ≡ false) × (later ≡ None)
+nothing_wrong true line later h = absurd cc
+nothing_wrong false line later h = (refl, h)
 
 all_of_rooms : (n : ℕ) (before : Option ℕ) (statements : List NumberedSentence) → wrong_after before statements ≡ None → list_all (are_below n) statements ≡ true → list_all (are_of_rooms n) statements ≡ true
 all_of_rooms n before [] h k = refl
 all_of_rooms n before (statement ∷ statements) h k =
-    let t = none_wrong (is_wrong before statement.said) statement.line (wrong_after (subject_of statement.said) statements) h in
+    let t = nothing_wrong (is_wrong before statement.said) statement.line (wrong_after (subject_of statement.said) statements) h in
     let u = both_are (are_below n statement) (list_all (are_below n) statements) k in
     both (are_of_rooms n statement) (list_all (are_of_rooms n) statements) (between n before statement.said t.0 u.0) (all_of_rooms n (subject_of statement.said) statements t.1 u.1)
 
@@ -301,23 +313,20 @@ words_held statements mentions h = rooms_few statements 13 13 mentions (omega ar
 
 -- ---- all of it
 
-earlier_none : (a b : Option ℕ) → earlier a b ≡ None → (a ≡ None) × (b ≡ None)
-earlier_none None b h = (refl, h)
-earlier_none (Some a) None h = absurd cc
-earlier_none (Some a) (Some b) h = absurd cc
-
 meant_none : (refusal : Option Fault) (t tale : Tale) → or_refused refusal t ≡ Ok tale → (refusal ≡ None) × (t ≡ tale)
 meant_none None t tale h = (refl, cc)
 meant_none (Some fault) t tale h = absurd cc
 
-frame_parts : (statements : List NumberedSentence) (mentions : List NameAt) → frame_refusal statements mentions ≡ None → (wrong_kind statements ≡ None) × (object_too_many mentions ≡ None) × (no_room mentions ≡ None)
+frame_parts : (faults : NameFaults) (statements : List NumberedSentence) (mentions : List NameAt) → frame_refusal faults statements mentions ≡ None → (wrong_kind statements ≡ None) × (object_too_many mentions ≡ None) × (no_room mentions ≡ None)
 unfolding frame_refusal
-frame_parts statements mentions none =
-    let a = first_none_both (refusal_at Twice (earlier (taken_name mentions) (second_description (descriptions_of statements)))) _ none in
-    let b = first_none_both (refusal_at WrongKind (wrong_kind statements)) _ a.1 in
+frame_parts faults statements mentions none =
+    let a = first_none_both (refusal_at Twice faults.twice) _ none in
+    let u = first_none_both (refusal_at UnknownName faults.unknown) _ a.1 in
+    let v = first_none_both (refusal_at Cycle faults.cycle) _ u.1 in
+    let b = first_none_both (refusal_at WrongKind (wrong_kind statements)) _ v.1 in
     let c = first_none_both (refusal_at TwoPlaces (second_target statements)) _ b.1 in
-    let d = first_none_both (refusal_at TooMany (object_too_many mentions)) (refusal_at NoRoom (no_room mentions)) c.1 in
-    (unrefused WrongKind (wrong_kind statements) b.0, unrefused TooMany (object_too_many mentions) d.0, unrefused NoRoom (no_room mentions) d.1)
+    let d = first_none_both (refusal_at TooMany (earlier (object_too_many mentions) faults.too_many)) (refusal_at NoRoom (no_room mentions)) c.1 in
+    (unrefused WrongKind (wrong_kind statements) b.0, (earlier_none (object_too_many mentions) faults.too_many (unrefused TooMany (earlier (object_too_many mentions) faults.too_many) d.0)).0, unrefused NoRoom (no_room mentions) d.1)
 
 limit_parts : (statements : List NumberedSentence) (mentions : List NameAt) → limit_refusal statements mentions ≡ None → (list_all has_short_name mentions ≡ true) × (list_all (λ d. not (has_long_text d)) (descriptions_of statements) ≡ true)
 unfolding limit_refusal
@@ -325,31 +334,48 @@ limit_parts statements mentions none =
     let t = earlier_none (name_too_long mentions) (text_too_long (descriptions_of statements)) (unrefused TooMany (earlier (name_too_long mentions) (text_too_long (descriptions_of statements))) none) in
     (none_found has_long_name mentions (unmapped line_at (find has_long_name mentions) t.0), none_found has_long_text (descriptions_of statements) (unmapped line_of_description (find has_long_text (descriptions_of statements)) t.1))
 
-objects_made : (statements : List NumberedSentence) (mentions : List NameAt) → list_all (are_below (13 + length mentions)) statements ≡ true → frame_refusal statements mentions ≡ None → IsWellMade (record { declared = built_in_declared; objects = objects_of statements mentions })
-unfolding built_in_declared
-objects_made statements mentions below none =
-    let frame = frame_parts statements mentions none in
+sorts_fine : (claims : List Claim) → name_too_many claims ≡ None → (too_many_as sort.EitherOr claims ≡ None) × (too_many_as sort.Variable claims ≡ None)
+sorts_fine claims none =
+    let a = earlier_none (too_many_as sort.EitherOr claims) _ none in
+    let b = earlier_none (too_many_as sort.Number claims) _ a.1 in
+    (a.0, (earlier_none (too_many_as sort.Variable claims) (earlier (too_many_as sort.Rulebook claims) (too_many_as sort.Scene claims)) b.1).0)
+
+-- with what is declared behind the built-in kinds and properties
+objects_made : (b : Behind) (statements : List NumberedSentence) (mentions : List NameAt) → is_well_declared (declared_with b) ≡ true → list_all (are_below (13 + length mentions)) statements ≡ true → (wrong_kind statements ≡ None) × (object_too_many mentions ≡ None) × (no_room mentions ≡ None) → IsWellMade (record { declared = declared_with b; objects = objects_of statements mentions })
+objects_made b statements mentions declared below frame =
     let few = few_objects mentions frame.1 in
     let some = some_room mentions frame.2 in
-    let sorts = sorts_of_objects statements mentions in
-    let start : is_at sorts.rooms 13 ≡ true = room_at statements mentions 13 (lt-ltb _ _ (omega (arith, some))) in
+    let sorts = sorts_of_objects b.kinds statements mentions in
+    let start : is_at sorts.rooms 13 ≡ true = room_at b.kinds statements mentions 13 (lt-ltb _ _ (omega (arith, some))) in
     let between = all_of_rooms (13 + length mentions) None statements frame.0 below in
-    let lead = λ (room direction : ℕ). room_or_none_at statements mentions (target_of statements room direction) (targets_rooms (13 + length mentions) statements between room direction) in
+    let lead = λ (room direction : ℕ). room_or_none_at b.kinds statements mentions (target_of statements room direction) (targets_rooms (13 + length mentions) statements between room direction) in
     record {
-      declared = built_in_held;
-      begins = begins_held sorts.rooms statements mentions few start;
-      kinds = kinds_held statements mentions;
-      suited = suited_held statements mentions;
-      placed = all_placed (kinds_told sorts) statements mentions (player_held statements mentions) start;
+      declared = declared;
+      begins = begins_held b.kinds sorts.rooms statements mentions few start;
+      kinds = kinds_held (length (kinds_with b)) statements mentions (kinds_many b);
+      suited = suited_held b statements mentions;
+      placed = all_placed (kinds_told sorts) statements mentions (player_held b.kinds statements mentions) start;
       tree = tree_held statements mentions;
-      exits = all_lead sorts statements mentions lead;
+      exits = all_lead b.kinds sorts statements mentions lead;
     }
 
-objects_held : (statements : List NumberedSentence) (mentions : List NameAt) → list_all (are_below (13 + length mentions)) statements ≡ true → first_of (frame_refusal statements mentions) (limit_refusal statements mentions) ≡ None → IsHeld (record { declared = built_in_declared; objects = objects_of statements mentions })
-objects_held statements mentions below none =
-    let t = first_none_both (frame_refusal statements mentions) (limit_refusal statements mentions) none in
+objects_held : (claims : List Claim) (statements : List NumberedSentence) (mentions : List NameAt) → list_all (are_below (13 + length mentions)) statements ≡ true → first_of (frame_refusal (name_faults claims statements) statements mentions) (limit_refusal statements mentions) ≡ None → IsHeld (record { declared = declared_by claims; objects = objects_of statements mentions })
+objects_held claims statements mentions below none =
+    let faults = name_faults claims statements in
+    let t = first_none_both (frame_refusal faults statements mentions) (limit_refusal statements mentions) none in
+    let frame = frame_parts faults statements mentions t.0 in
+    let none_wrong = frame_names faults statements mentions t.0 in
+    let many = earlier_none (kind_too_many claims) (name_too_many claims) none_wrong.2 in
     let limits = limit_parts statements mentions t.1 in
-    record { made = objects_made statements mentions below t.0; texts = texts_held statements mentions limits.0 limits.1; words = words_held statements mentions limits.0 }
+    let fine = sorts_fine claims many.1 in
+    let behind = behind_of claims in
+    let kinds = authors_behind claims in
+    let few : length (kinds_with behind) ≤ 100 = subst (λ (s : List (Option ℕ)). length s ≤ 100) kinds (parents_few claims many.0) in
+    let few_properties : length (built_in_either_ors ++ behind.properties) ≤ 100 = subst (λ (s : List (List ℕ)). length s ≤ 100) (either_ors_behind claims).1 (either_ors_few claims fine.0) in
+    let roots : list_all (is_rooted (kinds_with behind)) behind.kinds ≡ true = subst (λ (s : List (Option ℕ)). list_all (is_rooted s) behind.kinds ≡ true) kinds (authors_rooted claims none_wrong.0 none_wrong.1) in
+    let declared = declared_held behind few few_properties (variables_few claims fine.1) roots in
+    subst (λ (d : Declared). IsHeld (record { declared = d; objects = objects_of statements mentions })) (declared_is claims)
+    (record { made = objects_made behind statements mentions declared below frame; texts = texts_held statements mentions limits.0 limits.1; words = words_held statements mentions limits.0 })
 
 meant_whole : (line : Option ℕ) (said : Result Tale Fault) (tale : Tale) → unless_unmeant line said ≡ Ok tale → said ≡ Ok tale
 meant_whole None said tale meant = meant
@@ -358,7 +384,8 @@ meant_whole (Some line) said tale meant = absurd cc
 -- a story file holds the tale that sentences mean
 pub tale_held : (sentences : List Sentence) (tale : Tale) → tale_said sentences ≡ Ok tale → IsHeld tale
 tale_held sentences tale meant =
+    let claims = claims_of sentences in
     let statements = stated_by sentences in
     let mentions = (named_by sentences).mentions in
-    let t = meant_none (first_of (frame_refusal statements mentions) (limit_refusal statements mentions)) (record { declared = built_in_declared; objects = objects_of statements mentions }) tale (meant_whole (unmeant sentences) (judged statements mentions) tale meant) in
-    subst IsHeld t.1 (objects_held statements mentions (source_below sentences) t.0)
+    let t = meant_none (first_of (frame_refusal (name_faults claims statements) statements mentions) (limit_refusal statements mentions)) (record { declared = declared_by claims; objects = objects_of statements mentions }) tale (meant_whole (unmeant sentences) (judged claims statements mentions) tale meant) in
+    subst IsHeld t.1 (objects_held claims statements mentions (source_below sentences) t.0)

@@ -1,3 +1,4 @@
-mod MadeObjects
 pub mod Held
+pub mod MadeDeclarations
+pub mod MadeObjects
 pub mod Outcomes

@@ -82,6 +82,36 @@ const REFUSED: &[(&str, FaultCode, u32)] = &[
         4,
     ),
     (
+        "The Hall is a room.\nA gem is a kind of stone.",
+        FaultCode::UnknownName,
+        2,
+    ),
+    (
+        "The Hall is a room.\nA k1 is a kind of k2.\nA k3 is a kind of k1.\nA k2 is a kind of k3.",
+        FaultCode::Cycle,
+        4,
+    ),
+    (
+        "The Hall is a room.\nThe score is a number that varies.\nThe score is a scene.",
+        FaultCode::Twice,
+        3,
+    ),
+    (
+        "The Hall is a room.\nA thing can be open or shut.",
+        FaultCode::Twice,
+        2,
+    ),
+    (
+        "The Hall is a room.\nA stone can be shiny.",
+        FaultCode::UnknownName,
+        2,
+    ),
+    (
+        "The Hall is a room.\nThe instead rules is a rulebook.",
+        FaultCode::Twice,
+        2,
+    ),
+    (
         "A1 is north of B1.\nC1 is north of B1.",
         FaultCode::TwoPlaces,
         2,
@@ -121,6 +151,8 @@ const TAKEN: &[&str] = &[
     "The Hall is a room.\n\"9999999999.\"\n",
     "The Hall is a room.. .\n.\nThe Yard is a room.",
     "The Hall is a room. \"One.\"\n\nThe Hall is a room.\n\"One.\"",
+    "A ruby is a kind of gem. The Hall is a room.\nA gem is a kind of thing. The score is a number that varies.",
+    "The Hall is a room.\nA thing can be open. A person can be shy or bold. A room can be shy.",
     "A1 is north of B1.\nA1 is north of B1.",
     "A1 is north of B1.\nB1 is south of A1.",
     "The Hall is a room. [Hello.]",

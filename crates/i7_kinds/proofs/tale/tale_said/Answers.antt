@@ -8,6 +8,6 @@ pub judged-requires : goal.judged-requires
 judged-requires c =
     let sentences = c.args.sentences.now in
     let mentions = c.mentions.ensures ∙ ap (λ named. named.mentions) c.in_ok-names.ensures in
-    let statements = c.as_slice.ensures.value ∙ c.in_ok-statements.ensures ∙ ap (λ named. map (statement_in named) sentences) c.in_ok-names.ensures in
-    subst (λ ms. AreWithin (13 + length ms) c.as_slice.result.now) (sym mentions)
+    let statements = c.as_slice-2.ensures.value ∙ c.in_ok-statements.ensures ∙ ap (λ named. map (statement_in named) sentences) c.in_ok-names.ensures in
+    subst (λ ms. AreWithin (13 + length ms) c.as_slice-2.result.now) (sym mentions)
     (subst (λ ss. AreWithin (13 + length (named_by sentences).mentions) ss) (sym statements) (source-within sentences))

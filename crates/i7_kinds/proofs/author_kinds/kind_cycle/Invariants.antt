@@ -1,0 +1,11 @@
+use Rattle.std.proofs.Common.{◌≡◌, ◌++◌, ◌+◌, ◌≤◌, length}
+use Rattle.std.specs.Prelude.{fold}
+use Rattle.i7_kinds.specs.Scans.{lowest}
+use Rattle.i7_kinds.specs.KindClaims.{AreSmallKinds, kind_cycle, kind_names, kind_too_many, parents_of, same_names, shows_cycle, shows_kind_too_many, shows_unknown, unknown_kind, with_count_of, with_kind_of, with_parent_of}
+use Rattle.i7_kinds.proofs.author_kinds.kind_cycle.Given as goal
+
+abbrev pub invariant-loop-rest : goal.invariant-loop-rest
+invariant-loop-rest l = lowest (shows_cycle l.names) (with_parent_of l.names) l.parents.items l.rest l.found ≡ kind_cycle l.names l.claims
+
+abbrev pub decreases-loop-rest : goal.decreases-loop-rest
+decreases-loop-rest l = length l.rest

@@ -1,0 +1,132 @@
+-- The kinds of a source: the built-in ones, then the author's in the order of their sentences; and which kinds there
+-- may not be.
+use Rattle.std.specs.Prelude.{◌≡◌, ℕ, ◌+◌, ◌≤◌, Bool, true, false, not, nat_le, List, [], ◌∷◌, ◌++◌, length, fold, map, Option, Some, None, ⊤, ℤ, pos}
+use Rattle.world_meaning.specs.Declarations.{built_in_declared}
+use Rattle.world_meaning.specs.Kinds.{Under, built_in_parents, is_under}
+use Rattle.world_meaning.specs.declared.declared.Declared.{Declared}
+use Rattle.object_words.specs.Mentions.{mention}
+use Rattle.i7_kinds.specs.Grants.{built_in_bases, flags_from, givens_of}
+use Rattle.i7_kinds.specs.declared.grants.Given.{Given}
+use Rattle.i7_kinds.specs.Scans.{lowest}
+use Rattle.i7_kinds.specs.Sorts.{built_in_kinds, names_as}
+use Rattle.i7_kinds.specs.declared.sorts.Sort.TheVariants as sort
+use Rattle.i7_kinds.specs.Standings.{has_name}
+use Rattle.i7_kinds.specs.Statements.{number_in}
+use Rattle.i7_kinds.specs.declared.claim.Claim.{Claim}
+use Rattle.i7_kinds.specs.declared.claim.Fact.{Fact}
+use Rattle.i7_kinds.specs.declared.claim.Fact.TheVariants.{Lies, CanBe, HasNumber}
+
+abbrev pub with_kind : List (List ℕ) → Fact → List (List ℕ)
+with_kind names (Lies l) = mention names l.kind
+with_kind names _ = names
+
+abbrev pub with_kind_of : List (List ℕ) → Claim → List (List ℕ)
+with_kind_of names c = with_kind names c.fact
+
+-- the names of the kinds, in the order of their numbers
+abbrev pub kind_names : List Claim → List (List ℕ)
+kind_names claims = fold with_kind_of built_in_kinds claims
+
+abbrev pub with_parent : List (List ℕ) → List (Option ℕ) → Fact → List (Option ℕ)
+with_parent names parents (Lies l) = parents ++ Some (number_in names l.parent) ∷ []
+with_parent names parents _ = parents
+
+abbrev pub with_parent_of : List (List ℕ) → List (Option ℕ) → Claim → List (Option ℕ)
+with_parent_of names parents c = with_parent names parents c.fact
+
+-- of each kind, by number, the kind above it, where the kinds have these names
+abbrev pub parents_of : List (List ℕ) → List Claim → List (Option ℕ)
+parents_of names claims = fold (with_parent_of names) built_in_parents claims
+
+abbrev pub with_count : ℕ → Fact → ℕ
+with_count count (Lies l) = count + 1
+with_count count _ = count
+
+abbrev pub with_count_of : ℕ → Claim → ℕ
+with_count_of count c = with_count count c.fact
+
+-- how many kinds are declared, the ten built-in ones with them
+abbrev pub kind_count : List Claim → ℕ
+kind_count claims = fold with_count_of 10 claims
+
+-- each variable starts at 0
+abbrev pub starts_of : List (List ℕ) → List ℤ
+starts_of names = map (λ name. pos 0) names
+
+-- what sentences give to kinds
+abbrev pub givens_by : List Claim → List Given
+givens_by claims = givens_of (names_as sort.EitherOr claims) (kind_names claims) claims
+
+-- what a source declares besides objects
+abbrev pub declared_by : List Claim → Declared
+declared_by claims = record built_in_declared {
+  kinds = parents_of (kind_names claims) claims;
+  flags = flags_from (parents_of (kind_names claims) claims) (givens_by claims) 0 built_in_bases (names_as sort.EitherOr claims);
+  variables = starts_of (names_as sort.Variable claims);
+}
+
+-- ---- refusals
+
+-- a kind is named that none of these is
+abbrev pub IsUnknown : List (List ℕ) → Fact → Type 0
+IsUnknown names (Lies l) = has_name names l.parent ≡ false
+IsUnknown names (CanBe g) = has_name names g.kind ≡ false
+IsUnknown names (HasNumber g) = has_name names g.kind ≡ false
+IsUnknown names _ = ⊥
+
+-- a kind, which takes the next number, closes a cycle with those before it
+abbrev pub IsCycle : List (List ℕ) → List Claim → Fact → Type 0
+IsCycle names before (Lies l) = Under (parents_of names before) (number_in names l.parent) (length (parents_of names before))
+IsCycle names before _ = ⊥
+
+-- a kind is declared where there are as many as there may be
+abbrev pub IsKindTooMany : List Claim → Fact → Type 0
+IsKindTooMany before (Lies l) = 100 ≤ kind_count before
+IsKindTooMany before _ = ⊥
+
+-- ---- found from left to right
+
+abbrev pub is_unknown : List (List ℕ) → Fact → Bool
+is_unknown names (Lies l) = not (has_name names l.parent)
+is_unknown names (CanBe g) = not (has_name names g.kind)
+is_unknown names (HasNumber g) = not (has_name names g.kind)
+is_unknown names _ = false
+
+abbrev pub shows_unknown : List (List ℕ) → Claim → Bool
+shows_unknown names c = is_unknown names c.fact
+
+abbrev pub same_names : List (List ℕ) → Claim → List (List ℕ)
+same_names names c = names
+
+abbrev pub unknown_kind : List (List ℕ) → List Claim → Option ℕ
+unknown_kind names claims = lowest shows_unknown same_names names claims None
+
+abbrev pub is_cycle : List (List ℕ) → List (Option ℕ) → Fact → Bool
+is_cycle names parents (Lies l) = is_under parents (number_in names l.parent) (length parents)
+is_cycle names parents _ = false
+
+abbrev pub shows_cycle : List (List ℕ) → List (Option ℕ) → Claim → Bool
+shows_cycle names parents c = is_cycle names parents c.fact
+
+abbrev pub kind_cycle : List (List ℕ) → List Claim → Option ℕ
+kind_cycle names claims = lowest (shows_cycle names) (with_parent_of names) built_in_parents claims None
+
+abbrev pub is_kind_too_many : ℕ → Fact → Bool
+is_kind_too_many count (Lies l) = nat_le 100 count
+is_kind_too_many count _ = false
+
+abbrev pub shows_kind_too_many : ℕ → Claim → Bool
+shows_kind_too_many count c = is_kind_too_many count c.fact
+
+abbrev pub kind_too_many : List Claim → Option ℕ
+kind_too_many claims = lowest shows_kind_too_many with_count_of 10 claims None
+
+-- ---- numbers that a byte holds
+
+abbrev pub IsSmallKind : Option ℕ → Type 0
+IsSmallKind None = ⊤
+IsSmallKind (Some kind) = kind ≤ 100
+
+abbrev pub AreSmallKinds : List (Option ℕ) → Type 0
+AreSmallKinds [] = ⊤
+AreSmallKinds (parent ∷ parents) = IsSmallKind parent × AreSmallKinds parents

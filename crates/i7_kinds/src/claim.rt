@@ -1,0 +1,56 @@
+//! Claims: what sentences state of names, each with its line.
+use world_meaning::TextBytes;
+
+/// What a name stands for.
+#[derive(Debug, Drop)]
+pub enum Standing {
+    /// An object or a number, as a word of the language.
+    Reserved,
+    Kind,
+    /// An either-or property, as its first name; and its second name, if it has one.
+    First(Option<TextBytes>),
+    /// The either-or property of this first name, as its second.
+    Second(TextBytes),
+    Number,
+    Variable,
+    Scene,
+    Object,
+}
+
+/// A name stands for this.
+#[derive(Debug, Drop)]
+pub struct Naming {
+    pub name: TextBytes,
+    pub standing: Standing,
+}
+
+/// A kind lies under another.
+#[derive(Debug, Drop)]
+pub struct Lying {
+    pub kind: TextBytes,
+    pub parent: TextBytes,
+}
+
+/// A kind has a property.
+#[derive(Debug, Drop)]
+pub struct Grant {
+    pub kind: TextBytes,
+    pub property: TextBytes,
+}
+
+/// What is claimed, names in small letters.
+#[derive(Debug, Drop)]
+pub enum Fact {
+    Stands(Naming),
+    Rulebook(TextBytes),
+    Lies(Lying),
+    CanBe(Grant),
+    HasNumber(Grant),
+}
+
+/// A claim and the line of its sentence.
+#[derive(Debug, Drop)]
+pub struct Claim {
+    pub fact: Fact,
+    pub line: u32,
+}

@@ -1,0 +1,39 @@
+//! Laws: the lines that scans over claims find are the lowest that show what is looked for.
+ghost use Rattle.std.specs.Prelude.{ℕ, List};
+ghost use Rattle.i7_kinds.specs.KindClaims.{IsCycle, IsKindTooMany, IsUnknown, kind_cycle, kind_too_many, unknown_kind};
+ghost use Rattle.i7_kinds.specs.NameScans.{book_twice, name_twice};
+ghost use Rattle.i7_kinds.specs.Scans.{IsLowest, ShownBy};
+ghost use Rattle.i7_kinds.specs.Sorts.{IsTooMany, too_many_as};
+ghost use Rattle.i7_kinds.specs.Standings.{IsBookTwice, IsTwice};
+ghost use Rattle.i7_kinds.specs.declared.claim.Claim.{Claim};
+ghost use Rattle.i7_kinds.specs.declared.sorts.Sort.{Sort};
+
+/// A name that stands for two things is found at its lowest line.
+pub fn names_twice_are_found()
+    ensures { (claims : List Claim) → IsLowest (ShownBy (λ before c. IsTwice before c.fact) claims) (name_twice claims) }
+{}
+
+/// A rulebook whose name is another's is found at its lowest line.
+pub fn books_twice_are_found()
+    ensures { (claims : List Claim) → IsLowest (ShownBy (λ before c. IsBookTwice before c.fact) claims) (book_twice claims) }
+{}
+
+/// A name that is one too many of its sort is found at its lowest line.
+pub fn names_too_many_are_found()
+    ensures { (sort : Sort) (claims : List Claim) → IsLowest (ShownBy (λ before c. IsTooMany sort before c.fact) claims) (too_many_as sort claims) }
+{}
+
+/// A kind that isn't there is found at the lowest line that names it.
+pub fn unknown_kinds_are_found()
+    ensures { (names : List (List ℕ)) (claims : List Claim) → IsLowest (ShownBy (λ before c. IsUnknown names c.fact) claims) (unknown_kind names claims) }
+{}
+
+/// A kind that closes a cycle with those before it is found at its lowest line.
+pub fn cycles_are_found()
+    ensures { (names : List (List ℕ)) (claims : List Claim) → IsLowest (ShownBy (λ before c. IsCycle names before c.fact) claims) (kind_cycle names claims) }
+{}
+
+/// A kind that is one too many is found at its lowest line.
+pub fn kinds_too_many_are_found()
+    ensures { (claims : List Claim) → IsLowest (ShownBy (λ before c. IsKindTooMany before c.fact) claims) (kind_too_many claims) }
+{}

@@ -1,0 +1,223 @@
+//! What the sentences of a source claim.
+ghost use Rattle.std.specs.Prelude.{◌≡◌, ◌++◌, ◌∷◌, [], map, IfOk, OnOk};
+ghost use Rattle.world_meaning.specs.Spelling.{lowered as small};
+ghost use Rattle.i7_kinds.specs.Claims.{claimed, claims_in, claims_of, claims_said, either_or, grant_of, lies, named};
+ghost use Rattle.i7_kinds.specs.Statements.{key_of, rooms_in};
+ghost use Rattle.i7_kinds.specs.declared.claim.Fact.TheVariants.{CanBe, HasNumber, Rulebook};
+ghost use Rattle.i7_kinds.specs.declared.claim.Standing.TheVariants as stands;
+
+use crate::claim::{Claim, Fact, Grant, Lying, Naming, Standing};
+use crate::meant::rooms_in;
+use crate::names::key_of;
+use i7_sentences::{Assertion, Name, Sentence};
+use std::alloc::{AllocError, Global};
+use world_meaning::{TextBytes, lowered};
+
+/// The key of a name, as a text.
+fn key_text(alloc: Global, name: &Name) -> Result<TextBytes, AllocError>
+    ensures { IfOk result (λ key. key ≡ key_of name.now.text) }
+{
+    Ok(TextBytes::new(key_of(alloc, name.text.as_slice())?))
+}
+
+/// Adds that a name stands for something.
+fn add_naming(
+    alloc: Global,
+    claims: &mut Vec<Claim>,
+    name: &Name,
+    standing: Standing,
+    line: u32,
+) -> Result<(), AllocError>
+    ensures { OnOk result (claims.new.items ≡ claims.old.items ++ named standing line name.now ∷ []) }
+{
+    let name = key_text(alloc, name)?;
+    claims.push(Claim {
+        fact: Fact::Stands(Naming { name, standing }),
+        line,
+    })?;
+    Ok(())
+}
+
+/// A kind and a property that it has.
+fn grant_of(alloc: Global, kind: &Name, property: &Name) -> Result<Grant, AllocError>
+    ensures { IfOk result (λ grant. grant ≡ grant_of kind.now property.now) }
+{
+    Ok(Grant {
+        kind: key_text(alloc, kind)?,
+        property: key_text(alloc, property)?,
+    })
+}
+
+/// Adds that a kind can be something.
+fn add_can_be(
+    alloc: Global,
+    claims: &mut Vec<Claim>,
+    kind: &Name,
+    property: &Name,
+    line: u32,
+) -> Result<(), AllocError>
+    ensures { OnOk result (claims.new.items ≡ claims.old.items ++ claimed (CanBe (grant_of kind.now property.now)) line ∷ []) }
+{
+    let grant = grant_of(alloc, kind, property)?;
+    claims.push(Claim {
+        fact: Fact::CanBe(grant),
+        line,
+    })?;
+    Ok(())
+}
+
+/// Adds a rulebook.
+fn add_rulebook(
+    alloc: Global,
+    claims: &mut Vec<Claim>,
+    name: &Name,
+    line: u32,
+) -> Result<(), AllocError>
+    ensures { OnOk result (claims.new.items ≡ claims.old.items ++ claimed (Rulebook (small name.now.text)) line ∷ []) }
+{
+    let name = TextBytes::new(lowered(alloc, name.text.as_slice())?);
+    claims.push(Claim {
+        fact: Fact::Rulebook(name),
+        line,
+    })?;
+    Ok(())
+}
+
+/// Adds a kind of another.
+fn add_kind(
+    alloc: Global,
+    claims: &mut Vec<Claim>,
+    kind: &Name,
+    parent: &Name,
+    line: u32,
+) -> Result<(), AllocError>
+    ensures { OnOk result (claims.new.items ≡ claims.old.items ++ named stands.Kind line kind.now ∷ lies kind.now parent.now line ∷ []) }
+{
+    add_naming(alloc, claims, kind, Standing::Kind, line)?;
+    let lying = Lying {
+        kind: key_text(alloc, kind)?,
+        parent: key_text(alloc, parent)?,
+    };
+    claims.push(Claim {
+        fact: Fact::Lies(lying),
+        line,
+    })?;
+    Ok(())
+}
+
+/// Adds an either-or property.
+fn add_either_or(
+    alloc: Global,
+    claims: &mut Vec<Claim>,
+    kind: &Name,
+    first: &Name,
+    second: &Option<Name>,
+    line: u32,
+) -> Result<(), AllocError>
+    ensures { OnOk result (claims.new.items ≡ claims.old.items ++ either_or kind.now first.now second.now line) }
+{
+    match second {
+        None => {
+            add_naming(alloc, claims, first, Standing::First(None), line)?;
+            add_can_be(alloc, claims, kind, first, line)
+        }
+        Some(second) => {
+            let known = Standing::First(Some(key_text(alloc, second)?));
+            add_naming(alloc, claims, first, known, line)?;
+            let known = Standing::Second(key_text(alloc, first)?);
+            add_naming(alloc, claims, second, known, line)?;
+            add_can_be(alloc, claims, kind, first, line)
+        }
+    }
+}
+
+/// Adds a number property.
+fn add_number(
+    alloc: Global,
+    claims: &mut Vec<Claim>,
+    kind: &Name,
+    property: &Name,
+    line: u32,
+) -> Result<(), AllocError>
+    ensures { OnOk result (claims.new.items ≡ claims.old.items ++ named stands.Number line property.now ∷ claimed (HasNumber (grant_of kind.now property.now)) line ∷ []) }
+{
+    add_naming(alloc, claims, property, Standing::Number, line)?;
+    let grant = grant_of(alloc, kind, property)?;
+    claims.push(Claim {
+        fact: Fact::HasNumber(grant),
+        line,
+    })?;
+    Ok(())
+}
+
+/// Adds the names of objects.
+fn add_objects(
+    alloc: Global,
+    claims: &mut Vec<Claim>,
+    names: &[Name],
+    line: u32,
+) -> Result<(), AllocError>
+    ensures { OnOk result (claims.new.items ≡ claims.old.items ++ map (named stands.Object line) names.now) }
+{
+    let mut rest = names;
+    while let [name, after @ ..] = rest {
+        add_naming(alloc, claims, name, Standing::Object, line)?;
+        rest = after;
+    }
+    Ok(())
+}
+
+/// Adds the names of two objects.
+fn add_two(
+    alloc: Global,
+    claims: &mut Vec<Claim>,
+    first: &Name,
+    second: &Name,
+    line: u32,
+) -> Result<(), AllocError>
+    ensures { OnOk result (claims.new.items ≡ claims.old.items ++ named stands.Object line first.now ∷ named stands.Object line second.now ∷ []) }
+{
+    add_naming(alloc, claims, first, Standing::Object, line)?;
+    add_naming(alloc, claims, second, Standing::Object, line)
+}
+
+/// Adds what a sentence claims.
+fn add_claims(
+    alloc: Global,
+    claims: &mut Vec<Claim>,
+    said: &Assertion,
+    line: u32,
+) -> Result<(), AllocError>
+    ensures { OnOk result (claims.new.items ≡ claims.old.items ++ claims_said said.now line) }
+{
+    match said {
+        Assertion::Rulebook(name) => add_rulebook(alloc, claims, name, line),
+        Assertion::Scene { name, .. } => add_naming(alloc, claims, name, Standing::Scene, line),
+        Assertion::KindOfKind { kind, parent } => add_kind(alloc, claims, kind, parent, line),
+        Assertion::EitherOr {
+            kind,
+            first,
+            second,
+        } => add_either_or(alloc, claims, kind, first, second, line),
+        Assertion::NumberProperty { kind, property } => {
+            add_number(alloc, claims, kind, property, line)
+        }
+        Assertion::Variable(name) => add_naming(alloc, claims, name, Standing::Variable, line),
+        Assertion::Way(way) => add_two(alloc, claims, &way.subject, &way.room, line),
+        Assertion::Are(being) => add_objects(alloc, claims, rooms_in(being), line),
+        _ => Ok(()),
+    }
+}
+
+/// What the sentences claim.
+pub fn claims_of(alloc: Global, sentences: &[Sentence]) -> Result<Vec<Claim>, AllocError>
+    ensures { IfOk result (λ claims. claims.items ≡ claims_of sentences.now) }
+{
+    let mut claims = Vec::new(alloc);
+    let mut rest = sentences;
+    while let [sentence, after @ ..] = rest {
+        add_claims(alloc, &mut claims, &sentence.said, sentence.line)?;
+        rest = after;
+    }
+    Ok(claims)
+}
