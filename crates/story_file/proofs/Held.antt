@@ -8,7 +8,7 @@ use Rattle.std.proofs.lemmas.Bool.{ltb-false, lt-ltb, le-leb, ne_eqb}
 use Rattle.std.proofs.lemmas.List.Folds.{list_any-append}
 use Rattle.std.proofs.lemmas.Option.{slice_get_past}
 use Rattle.world_meaning.proofs.Bools.{both, both_are, either}
-use Rattle.world_meaning.specs.Declarations.{are_right_grants, are_right_kinds, are_rising, begin_with_kinds, begin_with_properties, built_in_declared, count_of_numbers, has_properties, has_property, is_number, is_rooted, is_well_declared, suits_kind}
+use Rattle.world_meaning.specs.Declarations.{are_right_grants, are_right_kinds, are_rising, begin_with_kinds, built_in_declared, count_of_numbers, has_properties, has_property, is_number, is_rooted, is_well_declared, suits_kind}
 use Rattle.world_meaning.specs.declared.declared.Declared.{Declared}
 use Rattle.world_meaning.specs.Kinds.{built_in_parents, is_under}
 use Rattle.world_meaning.specs.Properties.{built_in_properties, start_properties}
@@ -22,7 +22,7 @@ use Rattle.i7_sentences.specs.declared.sentence.Assertion.{Assertion}
 use Rattle.i7_sentences.specs.declared.sentence.Assertion.TheVariants.{Description, Way, Are}
 use Rattle.i7_sentences.specs.declared.sentence.Sentence.{Sentence}
 use Rattle.object_words.specs.Words.{more_words, words_for}
-use Rattle.i7_kinds.specs.Demands.{Lead, descriptions_of, description_of, first_target, implied_in, implied_leads, is_exit, is_wrong, lead_of, line_at, line_of_description, second_description, second_target, stated_in, stated_leads, subject_of, target_of, wrong_after, wrong_kind}
+use Rattle.i7_kinds.specs.Demands.{Lead, descriptions_of, description_of, first_target, implied_in, implied_leads, is_exit, is_wrong, lead_of, line_at, line_of_description, second_target, stated_in, stated_leads, subject_of, target_of, wrong_after, wrong_kind}
 use Rattle.i7_kinds.specs.Claims.{claims_of}
 use Rattle.i7_kinds.specs.KindClaims.{declared_by, givens_by, kind_names, kind_too_many, starts_of}
 use Rattle.i7_kinds.specs.Sorts.{built_in_either_ors, name_too_many, names_as, too_many_as}
