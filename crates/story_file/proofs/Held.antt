@@ -8,10 +8,8 @@ use Rattle.std.proofs.lemmas.Bool.{ltb-false, lt-ltb, le-leb, ne_eqb}
 use Rattle.std.proofs.lemmas.List.Folds.{list_any-append}
 use Rattle.std.proofs.lemmas.Option.{slice_get_past}
 use Rattle.world_meaning.proofs.Bools.{both, both_are, either}
-use Rattle.world_meaning.specs.Declarations.{are_right_grants, are_right_kinds, are_rising, begin_with_kinds, built_in_declared, count_of_numbers, has_properties, has_property, is_number, is_rooted, is_well_declared, suits_kind}
+use Rattle.world_meaning.specs.Declarations.{is_rooted}
 use Rattle.world_meaning.specs.declared.declared.Declared.{Declared}
-use Rattle.world_meaning.specs.Kinds.{built_in_parents, is_under}
-use Rattle.world_meaning.specs.Properties.{built_in_properties, start_properties}
 use Rattle.world_meaning.specs.Directions.{all_directions, direction_number, opposite_of}
 use Rattle.world_meaning.specs.declared.direction.Direction.{Direction}
 use Rattle.world_meaning.specs.declared.fault.Fault.{Fault}
@@ -24,17 +22,14 @@ use Rattle.i7_sentences.specs.declared.sentence.Sentence.{Sentence}
 use Rattle.object_words.specs.Words.{more_words, words_for}
 use Rattle.i7_kinds.specs.Demands.{Lead, descriptions_of, description_of, first_target, implied_in, implied_leads, is_exit, is_wrong, lead_of, line_at, line_of_description, second_target, stated_in, stated_leads, subject_of, target_of, wrong_after, wrong_kind}
 use Rattle.i7_kinds.specs.Claims.{claims_of}
-use Rattle.i7_kinds.specs.KindClaims.{declared_by, givens_by, kind_names, kind_too_many, starts_of}
-use Rattle.i7_kinds.specs.Sorts.{built_in_either_ors, name_too_many, names_as, too_many_as}
+use Rattle.i7_kinds.specs.KindClaims.{declared_by, kind_too_many}
+use Rattle.i7_kinds.specs.Sorts.{built_in_either_ors, name_too_many, too_many_as}
 use Rattle.i7_kinds.specs.declared.sorts.Sort.TheVariants as sort
 use Rattle.i7_kinds.specs.Scans.{earlier}
 use Rattle.i7_kinds.specs.declared.claim.Claim.{Claim}
 use Rattle.i7_kinds.proofs.KindScans.{either_ors_few, parents_few, variables_few}
-use Rattle.i7_kinds.proofs.Granting.{any_of, base_kept, begin_built_in, either_ors_behind, flags_counted, flags_right}
-use Rattle.i7_kinds.specs.Grants.{built_in_bases, flag_of, flags_from}
-use Rattle.i7_kinds.specs.declared.grants.Given.{Given}
-use Rattle.world_meaning.specs.declared.declared.Granted.{Granted}
-use Rattle.i7_kinds.proofs.Rooted.{authors, authors_behind, authors_rooted}
+use Rattle.i7_kinds.proofs.Granting.{either_ors_behind}
+use Rattle.i7_kinds.proofs.Rooted.{authors_behind, authors_rooted}
 use Rattle.i7_kinds.specs.declared.name_faults.NameFaults.{NameFaults}
 use Rattle.i7_kinds.specs.Firsts.{first_of}
 use Rattle.i7_kinds.specs.Statements.{NameAt, Named, built_in_keys, numbered_in, numbered_room, rooms_in, has_key, key_of, named_by, names_at, number_in, stated_by, statement_in, with_name, with_names_of}
@@ -49,6 +44,7 @@ use Rattle.story_format.specs.Making.{worded, worded_from}
 use Rattle.story_format.specs.Shape.{are_directions, has_shape, is_direction, is_player, is_room}
 use Rattle.story_format.specs.Sizes.{is_room_number, is_room_or_none, leads_to_room}
 use Rattle.story_format.proofs.Known.{text_is_itself, passes_at}
+use Rattle.story_file.proofs.DeclaredHeld.{behind_of, declared_held, declared_is, kinds_with, suited_held}
 
 none_or : (a b : Bool) → (a || b) ≡ false → (a ≡ false) × (b ≡ false)
 none_or true b h = absurd cc
@@ -107,8 +103,6 @@ all_added [] named = refl
 all_added (sentence ∷ sentences) named =
     both (has_names (fold with_names_of named (sentence ∷ sentences)).keys sentence) (list_all (has_names (fold with_names_of named (sentence ∷ sentences)).keys) sentences)
     (names_stay (names_at sentence) sentences (with_names_of named sentence) (names_added (names_at sentence) named)) (all_added sentences (with_names_of named sentence))
-
--- ---- so its number is an object's
 
 number_there : (keys : List (List ℕ)) (key : List ℕ) → has_key keys key ≡ true → number_in keys key < length keys
 number_there keys key h =
@@ -263,92 +257,6 @@ shape_held statements mentions few some h =
 
 -- ---- what is declared, and what the objects have of it
 
--- what stands behind the built-in kinds and properties, and the variables
-record Behind : Type 0 where
-  kinds : List (Option ℕ)
-  givens : List Given
-  properties : List (List ℕ)
-  variables : List (List ℕ)
-
-abbrev kinds_with : Behind → List (Option ℕ)
-kinds_with b = built_in_parents ++ b.kinds
-
-abbrev flags_with : Behind → List Granted
-flags_with b = flags_from (kinds_with b) b.givens 0 built_in_bases (built_in_either_ors ++ b.properties)
-
-abbrev declared_with : Behind → Declared
-declared_with b = record built_in_declared { kinds = kinds_with b; flags = flags_with b; variables = starts_of b.variables }
-
-abbrev behind_of : List Claim → Behind
-behind_of claims = record {
-  kinds = authors (kind_names claims) claims;
-  givens = givens_by claims;
-  properties = (either_ors_behind claims).0;
-  variables = names_as sort.Variable claims;
-}
-
-declared_is : (claims : List Claim) → declared_with (behind_of claims) ≡ declared_by claims
-declared_is claims =
-    let kinds = sym (authors_behind claims) in
-    let names = sym (either_ors_behind claims).1 in
-    λ i. record built_in_declared {
-      kinds = kinds i;
-      flags = flags_from (kinds i) (givens_by claims) 0 built_in_bases (names i);
-      variables = starts_of (names_as sort.Variable claims);
-    }
-
-starts_counted : (names : List (List ℕ)) → length (starts_of names) ≡ length names
-starts_counted [] = refl
-starts_counted (name ∷ names) = ap suc (starts_counted names)
-
-starts_right : (names : List (List ℕ)) → list_all is_number (starts_of names) ≡ true
-starts_right [] = refl
-starts_right (name ∷ names) = starts_right names
-
-others_counted : (others : List (Option ℕ)) → length (built_in_parents ++ others) ≡ 10 + length others
-unfolding built_in_parents
-others_counted others = omega arith
-
-kinds_right : (others : List (Option ℕ)) → length (built_in_parents ++ others) ≤ 100 → list_all (is_rooted (built_in_parents ++ others)) others ≡ true → are_right_kinds (built_in_parents ++ others) ≡ true
-unfolding are_right_kinds begin_with_kinds built_in_parents
-kinds_right others few roots = rw (le-leb _ _ few) roots
-
-kinds_many : (b : Behind) → 10 ≤ length (kinds_with b)
-kinds_many b = omega (arith, others_counted b.kinds)
-
-declared_held : (b : Behind) → length (kinds_with b) ≤ 100 → length (built_in_either_ors ++ b.properties) ≤ 100 → length b.variables ≤ 100 → list_all (is_rooted (kinds_with b)) b.kinds ≡ true → is_well_declared (declared_with b) ≡ true
-unfolding is_well_declared built_in_declared
-declared_held b few few_properties few_variables roots =
-    let n = length (kinds_with b) in
-    let names = built_in_either_ors ++ b.properties in
-    let many = kinds_many b in
-    let flags : are_right_grants n (flags_with b) ≡ true = both (leb (length (flags_with b)) 100) _ (le-leb _ _ (omega (arith, few_properties, flags_counted (kinds_with b) many b.givens 0 built_in_bases names))) (flags_right (kinds_with b) many b.givens 0 built_in_bases names) in
-    rw (kinds_right b.kinds few roots, begin_built_in (kinds_with b) many b.givens b.properties, flags, le-leb (length (starts_of b.variables)) 100 (omega (arith, few_variables, starts_counted b.variables))) (starts_right b.variables)
-
-under_itself : (b : Behind) → is_under (kinds_with b) 1 1 ≡ true
-unfolding is_under built_in_parents
-under_itself b = refl
-
--- rooms may be lighted
-may_be_lighted : (b : Behind) → has_property (kinds_with b) (flags_with b) 1 4 ≡ true
-unfolding built_in_either_ors built_in_bases
-may_be_lighted b =
-    any_of (is_under (kinds_with b) 1) 1 (flag_of (kinds_with b) b.givens 4 (1 ∷ [])).kinds (base_kept (kinds_with b) (kinds_many b) b.givens 4 (1 ∷ []) 1 refl refl) (under_itself b)
-
-room_suits : (b : Behind) (statements : List NumberedSentence) (o : ℕ) (at : NameAt) → suits_kind (declared_with b) (room_of statements o at) ≡ true
-unfolding suits_kind has_properties count_of_numbers room_of are_rising start_properties built_in_declared built_in_parents built_in_properties is_under
-room_suits b statements o at =
-    let has = has_property (kinds_with b) (flags_with b) 1 4 in
-    both ((has && true) && true) true (both (has && true) true (both has true (may_be_lighted b) refl) refl) refl
-
-rooms_suit : (b : Behind) (statements : List NumberedSentence) (o : ℕ) (mentions : List NameAt) → list_all (suits_kind (declared_with b)) (rooms_from statements o mentions) ≡ true
-rooms_suit b statements o [] = refl
-rooms_suit b statements o (at ∷ mentions) = both (suits_kind (declared_with b) (room_of statements o at)) (list_all (suits_kind (declared_with b)) (rooms_from statements (o + 1) mentions)) (room_suits b statements o at) (rooms_suit b statements (o + 1) mentions)
-
-suited_held : (b : Behind) (statements : List NumberedSentence) (mentions : List NameAt) → list_all (suits_kind (declared_with b)) (objects_of statements mentions) ≡ true
-unfolding objects_of suits_kind has_properties count_of_numbers are_rising start_properties built_in_declared built_in_parents built_in_properties is_under
-suited_held b statements mentions = rooms_suit b statements 13 mentions
-
 -- ---- names and texts are short
 
 none_found : {A : Type 0} (p : A → Bool) (xs : List A) → find p xs ≡ None → list_all (λ x. not (p x)) xs ≡ true
@@ -430,8 +338,6 @@ rooms_few statements o p (at ∷ mentions) le h =
 words_held : (statements : List NumberedSentence) (mentions : List NameAt) → list_all has_short_name mentions ≡ true → list_all has_few_words (worded (objects_of statements mentions)) ≡ true
 unfolding objects_of words_for more_words
 words_held statements mentions h = rooms_few statements 13 13 mentions (omega arith) h
-
--- ---- all of it
 
 meant_none : (refusal : Option Fault) (t tale : Tale) → or_refused refusal t ≡ Ok tale → (refusal ≡ None) × (t ≡ tale)
 meant_none None t tale h = (refl, cc)

@@ -1,2 +1,3 @@
+pub mod DeclaredHeld
 pub mod Held
 pub mod Outcomes
