@@ -1,5 +1,5 @@
 -- The scans for kinds find the lowest lines, and kinds that are few have small numbers.
-use Rattle.std.proofs.Common.{◌≡◌, ℕ, suc, ◌+◌, ◌≤◌, ◌<◌, Bool, true, false, not, leb, List, [], ◌∷◌, ◌++◌, length, Option, refl, sym, ap, ◌∙◌, subst, arith, inl, inr}
+use Rattle.std.proofs.Common.{◌≡◌, ℕ, ◌+◌, ◌≤◌, Bool, false, not, List, [], ◌∷◌, ◌++◌, length, Option, refl, sym, ap, ◌∙◌, subst, arith, inl, inr}
 use Rattle.std.specs.Prelude.{Some, None, Decides, fold, nat_le, min}
 use Rattle.std.proofs.lemmas.Bool.{le-leb, leb-true, leb-false}
 use Rattle.std.proofs.lemmas.List.{length-append}
@@ -7,8 +7,8 @@ use Rattle.world_meaning.proofs.Bools.{either}
 use Rattle.world_meaning.proofs.Climbs.{climbs_decide}
 use Rattle.world_meaning.specs.Kinds.{built_in_parents}
 use Rattle.object_words.specs.Mentions.{mention}
-use Rattle.i7_kinds.specs.KindClaims.{AreSmallKinds, IsCycle, IsKindTooMany, IsSmallKind, IsUnknown, is_cycle, is_kind_too_many, is_unknown, kind_count, kind_cycle, kind_names, kind_too_many, parents_of, same_names, shows_cycle, shows_kind_too_many, shows_unknown, unknown_kind, with_count, with_count_of, with_kind, with_kind_of, with_parent, with_parent_of}
-use Rattle.i7_kinds.specs.Scans.{IsLowest, ShownBy, lower, lowest}
+use Rattle.i7_kinds.specs.KindClaims.{AreSmallKinds, IsCycle, IsKindTooMany, IsUnknown, is_cycle, is_kind_too_many, is_unknown, kind_count, kind_cycle, kind_names, kind_too_many, parents_of, same_names, shows_cycle, shows_kind_too_many, shows_unknown, unknown_kind, with_count, with_count_of, with_kind, with_kind_of, with_parent, with_parent_of}
+use Rattle.i7_kinds.specs.Scans.{IsLowest, ShownBy, lowest}
 use Rattle.i7_kinds.specs.Sorts.{built_in_either_ors, built_in_kinds, claimed_as, is_too_many, most_names, names_as, shows_too_many, too_many_as, with_claimed, with_name}
 use Rattle.i7_kinds.specs.declared.sorts.Sort.{Sort}
 use Rattle.i7_kinds.specs.declared.sorts.Sort.TheVariants as sort

@@ -1,5 +1,5 @@
 -- Where no kind is unknown and none closes a cycle, each kind lies under a root.
-use Rattle.std.proofs.Common.{◌≡◌, ℕ, zero, suc, ◌+◌, ◌≤◌, ◌<◌, Bool, true, false, cond, eqb, ◌&&◌, ◌||◌, List, [], ◌∷◌, ◌++◌, length, drop, Option, refl, sym, ap, ◌∙◌, subst, arith, inl, inr, ◌⊎◌, ⊎_elim, true≢false, append-nil, append_assoc}
+use Rattle.std.proofs.Common.{◌≡◌, ℕ, zero, suc, ◌≤◌, ◌<◌, Bool, true, false, eqb, ◌||◌, List, [], ◌∷◌, ◌++◌, length, Option, refl, sym, ap, ◌∙◌, subst, arith, inl, inr, ◌⊎◌, ⊎_elim, true≢false, append-nil, append_assoc}
 use Rattle.std.specs.Prelude.{Some, None, bytes_eq, flat_map, fold, not, slice_get}
 use Rattle.std.specs.List.{list_all, position_or_len}
 use Rattle.std.proofs.lemmas.Bool.{eqb-true, eq-eqb, lt-ltb}
@@ -8,7 +8,7 @@ use Rattle.world_meaning.proofs.Climbs.{climbs_decide}
 use Rattle.world_meaning.specs.Declarations.{is_rooted}
 use Rattle.world_meaning.specs.Kinds.{Under, itself, above, built_in_parents, is_under, is_under_one}
 use Rattle.world_meaning.specs.declared.kinds.TheConstants.{ROOTS}
-use Rattle.i7_kinds.specs.KindClaims.{is_cycle, is_unknown, kind_count, kind_cycle, kind_names, kind_too_many, parents_of, same_names, shows_cycle, shows_unknown, unknown_kind, with_count, with_count_of, with_parent, with_parent_of}
+use Rattle.i7_kinds.specs.KindClaims.{is_cycle, is_unknown, kind_cycle, kind_names, parents_of, same_names, shows_cycle, shows_unknown, unknown_kind, with_count, with_count_of, with_parent, with_parent_of}
 use Rattle.i7_kinds.specs.Scans.{lowest}
 use Rattle.i7_kinds.specs.Standings.{has_name}
 use Rattle.i7_kinds.specs.Statements.{number_in}

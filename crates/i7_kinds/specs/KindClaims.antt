@@ -1,6 +1,6 @@
 -- The kinds of a source: the built-in ones, then the author's in the order of their sentences; and which kinds there
 -- may not be.
-use Rattle.std.specs.Prelude.{◌≡◌, ℕ, ◌+◌, ◌≤◌, Bool, true, false, not, nat_le, List, [], ◌∷◌, ◌++◌, length, fold, map, Option, Some, None, ⊤, ℤ, pos}
+use Rattle.std.specs.Prelude.{◌≡◌, ℕ, ◌+◌, ◌≤◌, Bool, false, not, nat_le, List, [], ◌∷◌, ◌++◌, length, fold, map, Option, Some, None, ⊤, ℤ, pos}
 use Rattle.world_meaning.specs.Declarations.{built_in_declared}
 use Rattle.world_meaning.specs.Kinds.{Under, built_in_parents, is_under}
 use Rattle.world_meaning.specs.declared.declared.Declared.{Declared}

@@ -1,7 +1,6 @@
-use Rattle.std.proofs.Common.{◌≡◌, ◌++◌, ◌+◌, ◌≤◌, length}
-use Rattle.std.specs.Prelude.{fold}
+use Rattle.std.proofs.Common.{◌≡◌, length}
 use Rattle.i7_kinds.specs.Scans.{lowest}
-use Rattle.i7_kinds.specs.KindClaims.{AreSmallKinds, kind_cycle, kind_names, kind_too_many, parents_of, same_names, shows_cycle, shows_kind_too_many, shows_unknown, unknown_kind, with_count_of, with_kind_of, with_parent_of}
+use Rattle.i7_kinds.specs.KindClaims.{kind_cycle, shows_cycle, with_parent_of}
 use Rattle.i7_kinds.proofs.author_kinds.kind_cycle.Given as goal
 
 abbrev pub invariant-loop-rest : goal.invariant-loop-rest

@@ -1,5 +1,5 @@
-use Rattle.std.proofs.Common.{◌≡◌, ◌++◌, ◌+◌, length, map}
-use Rattle.i7_kinds.specs.Grants.{flags_from, givens_of, kinds_given, rising_of}
+use Rattle.std.proofs.Common.{◌≡◌, ◌++◌, length}
+use Rattle.i7_kinds.specs.Grants.{kinds_given}
 use Rattle.i7_kinds.proofs.grants.add_kinds.Given as goal
 
 abbrev pub invariant-loop-rest : goal.invariant-loop-rest
