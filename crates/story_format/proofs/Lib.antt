@@ -8,6 +8,7 @@ pub mod OrderLemmas
 pub mod SoundLemmas
 pub mod WordFacts
 pub mod EntryLemmas
+pub mod KindLemmas
 pub mod TableLemmas
 pub mod Fits
 pub mod Stories

@@ -2,6 +2,7 @@ pub mod Formats
 pub mod FormatLaws
 pub mod Layouts
 pub mod Choices
+pub mod KindTables
 pub mod Layout
 pub mod Sizes
 pub mod WorldChecks

@@ -1,16 +1,17 @@
 //! What tables 1 to 12 say together, whatever the codes are: each test is named after what it asks.
-ghost use Rattle.std.specs.Prelude.{◌≡◌, IfOk, map};
+ghost use Rattle.std.specs.Prelude.{◌≡◌, ◌≤◌, IfOk, length, map};
 ghost use Rattle.std.specs.List.{list_all, flat_map};
 ghost use Rattle.story_format.specs.Placed.{sorts_in};
 ghost use Rattle.story_format.specs.Sizes.{sizes_of};
 ghost use Rattle.story_format.specs.Checks.{has_no_rules, are_distinct, is_named, begin_with, has_words, have_words, is_small_byte, is_small, is_small_at, has_small_words, is_player_entry, is_direction_entry, are_direction_entries, are_in_place, are_named_in_order, strings_named, codes_named, are_right_objects, is_right_frame, are_right};
 
+use crate::kind_tables::suit_kinds;
 use crate::place::NONE;
 use crate::row::{Sizes, are_right_entries};
 use crate::rule_tables::RuleTables;
 use crate::standing::{are_right_ways, sorts_in, stand_rightly};
 use crate::tables::{Entry, Tables};
-use crate::world_checks::{is_right_world, suit_kinds};
+use crate::world_checks::is_right_world;
 use object_words::{Strings, words_for};
 use std::alloc::{AllocError, Global};
 use world_meaning::{Direction, KindNo, Sorts, TextBytes, is_at, is_under};
@@ -276,7 +277,8 @@ pub fn codes_named(alloc: Global, entries: &[Entry]) -> Result<Vec<u16>, AllocEr
 /// Whether the objects are those of a story, and name strings and codes in order.
 #[tactic(auto, unfolding(crate::specs::Checks::are_right_objects))]
 fn are_right_objects(alloc: Global, tables: &Tables, sorts: &Sorts) -> Result<bool, AllocError>
-    requires { sorts.now ≡ sorts_in tables.now }
+    requires few { length tables.now.world.kinds ≤ 100 }
+    requires sorts { sorts.now ≡ sorts_in tables.now }
     ensures { IfOk result (λ right. right ≡ are_right_objects tables.now) }
 {
     let strings = tables.strings.as_slice();
@@ -289,7 +291,7 @@ fn are_right_objects(alloc: Global, tables: &Tables, sorts: &Sorts) -> Result<bo
             && have_small_words(smallness(alloc, strings)?.as_slice(), entries)
             && are_named_in_order(strings_named(alloc, entries)?.as_slice())
             && are_named_in_order(codes_named(alloc, entries)?.as_slice())
-            && suit_kinds(&tables.world, entries),
+            && suit_kinds(alloc, sizes_of(tables), &tables.world, entries)?,
     )
 }
 
@@ -307,7 +309,7 @@ fn is_right_frame(alloc: Global, tables: &Tables) -> Result<bool, AllocError>
 }
 
 /// Whether tables 1 to 12 are those of a story.
-#[tactic(auto, unfolding(crate::specs::Checks::are_right))]
+#[tactic(auto, unfolding(crate::specs::Checks::are_right), using(crate::proofs::KindLemmas::frame_few))]
 pub fn are_right(alloc: Global, tables: &Tables) -> Result<bool, AllocError>
     ensures { IfOk result (λ right. right ≡ are_right tables.now) }
 {

@@ -5,6 +5,7 @@
 mod checks;
 mod fault;
 mod field;
+mod kind_tables;
 mod laws;
 mod loading;
 mod making;

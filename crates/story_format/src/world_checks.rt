@@ -1,12 +1,11 @@
-//! What tables 2 to 5 say, and whether an object has what its kind has: each test is named after what it asks.
-ghost use Rattle.std.specs.Prelude.{◌≡◌, IfOk, count_by, map};
+//! What tables 2 to 5 say: each test is named after what it asks.
+ghost use Rattle.std.specs.Prelude.{◌≡◌, IfOk, map};
 ghost use Rattle.world_meaning.specs.Properties.{built_in_properties};
 ghost use Rattle.std.specs.List.{list_all};
 ghost use Rattle.world_meaning.specs.Declarations.{are_right_grants, are_right_kinds, are_rising, begin_with_kinds, begin_with_properties};
-ghost use Rattle.world_meaning.specs.Declarations.{count_of_numbers, has_properties, has_property, is_below, is_granted, is_had, is_right_grant, is_rooted, is_same_kind};
-ghost use Rattle.story_format.specs.WorldChecks.{is_right_world, suits_kind};
+ghost use Rattle.world_meaning.specs.Declarations.{is_below, is_granted, is_had, is_right_grant, is_rooted, is_same_kind};
+ghost use Rattle.story_format.specs.WorldChecks.{is_right_world};
 
-use crate::tables::Entry;
 use crate::world_tables::WorldTables;
 use std::alloc::{AllocError, Global};
 use world_meaning::{
@@ -15,7 +14,7 @@ use world_meaning::{
 
 /// Whether each number is above the one before it.
 #[tactic(auto, unfolding(world_meaning::specs::Declarations::are_rising))]
-fn are_rising(numbers: &[u8]) -> bool
+pub fn are_rising(numbers: &[u8]) -> bool
     ensures { result ≡ are_rising 0 numbers.now }
 {
     let mut next = 0usize;
@@ -166,76 +165,9 @@ pub fn is_right_world(alloc: Global, world: &WorldTables) -> Result<bool, AllocE
     )
 }
 
-fn is_had(parents: &[Option<KindNo>], kind: KindNo, granted: &Granted) -> bool
+/// Whether objects of a kind have the property that is given to these kinds.
+pub fn is_had(parents: &[Option<KindNo>], kind: KindNo, granted: &Granted) -> bool
     ensures { result ≡ is_had parents.now kind granted.now }
 {
     is_under_one(parents, granted.kinds.as_slice(), kind)
-}
-
-fn has_property(parents: &[Option<KindNo>], flags: &[Granted], kind: KindNo, number: u8) -> bool
-    ensures { result ≡ has_property parents.now flags.now kind number }
-{
-    match flags.get(number as usize) {
-        None => false,
-        Some(granted) => is_had(parents, kind, granted),
-    }
-}
-
-fn has_each_property(
-    parents: &[Option<KindNo>],
-    flags: &[Granted],
-    kind: KindNo,
-    numbers: &[u8],
-) -> bool
-    ensures { result ≡ list_all (has_property parents.now flags.now kind) numbers.now }
-{
-    numbers
-        .iter()
-        .all(|number| has_property(parents, flags, kind, *number))
-}
-
-/// Whether these properties rise and are those that a kind has.
-#[tactic(auto, unfolding(world_meaning::specs::Declarations::has_properties))]
-fn has_properties(
-    parents: &[Option<KindNo>],
-    flags: &[Granted],
-    kind: KindNo,
-    numbers: &[u8],
-) -> bool
-    ensures { result ≡ has_properties parents.now flags.now kind numbers.now }
-{
-    are_rising(numbers) && has_each_property(parents, flags, kind, numbers)
-}
-
-/// How many of the number properties a kind has.
-#[tactic(auto, unfolding(world_meaning::specs::Declarations::count_of_numbers))]
-fn count_of_numbers(parents: &[Option<KindNo>], numbers: &[Granted], kind: KindNo) -> usize
-    ensures { result ≡ count_of_numbers parents.now numbers.now kind }
-{
-    numbers
-        .iter()
-        .filter(|granted| is_had(parents, kind, granted))
-        .count()
-}
-
-/// Whether the object has what its kind has.
-#[tactic(auto, unfolding(crate::specs::WorldChecks::suits_kind))]
-fn suits_kind(world: &WorldTables, entry: &Entry) -> bool
-    ensures { result ≡ suits_kind world.now entry.now }
-{
-    let kind = KindNo::new(entry.kind);
-    let parents = world.kinds.as_slice();
-    has_properties(
-        parents,
-        world.flags.as_slice(),
-        kind,
-        entry.properties.as_slice(),
-    ) && entry.numbers.as_slice().len() == count_of_numbers(parents, world.numbers.as_slice(), kind)
-}
-
-/// Whether each object has what its kind has.
-pub fn suit_kinds(world: &WorldTables, entries: &[Entry]) -> bool
-    ensures { result ≡ list_all (suits_kind world.now) entries.now }
-{
-    entries.iter().all(|entry| suits_kind(world, entry))
 }
