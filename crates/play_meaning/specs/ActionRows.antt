@@ -7,10 +7,10 @@ use Rattle.play_meaning.specs.Grammar.{Something, Word}
 use Rattle.play_meaning.specs.Rows.{at, bright, here, in_hall, item, rule_of, says, with_rules}
 use Rattle.play_meaning.specs.Rules.{Anything, Exactly}
 use Rattle.play_meaning.specs.Settings.{container_kind, described_flag, lit_flag, open_flag, openable_flag, room_kind, supporter_kind, thing_kind, transparent_flag}
-use Rattle.play_meaning.specs.Sketches.{Sketch}
+use Rattle.play_meaning.specs.Sketches.{Item, Sketch}
 use Rattle.play_meaning.specs.StandardActions.{asking, jumping, taking, waiting}
-use Rattle.play_meaning.specs.StandardRules.{line, only, standard_rules}
-use Rattle.play_meaning.specs.Trees.{Body, Bytes, Figure, Follow, IsAtMost, IsLess, Literal, Nothing, NowVariable, Plus, Say, The, Then, Try, Variable}
+use Rattle.play_meaning.specs.StandardRules.{line, only, plain, standard_rules}
+use Rattle.play_meaning.specs.Trees.{Body, Bytes, Definite, Figure, Follow, IsAtMost, IsLess, Literal, Name, Nothing, Noun, NowVariable, Plus, Say, The, Then, Try, Variable}
 use Rattle.play_meaning.specs.declared.action.Slot.TheVariants.{Carried as Held, Touched}
 
 -- a ball, scales, and a coin in a closed box of glass; weighing wants its first noun carried and its second touched
@@ -91,3 +91,21 @@ ball_out_of_range = record (in_hall (here thing_kind (codes "ball") [] ∷ here 
 unfoldable pub coin_out_of_sight : Sketch
 coin_out_of_sight = in_hall (item thing_kind (codes "coin") article.A (at In 15) (described_flag ∷ []) ∷ here container_kind (codes "box") [] ∷ [])
     (rule_of instead_book (Some jumping) Anything Anything None (only (Try false taking (The 14) Nothing)) ∷ [])
+
+-- a ball, and two open boxes to put it into
+unfoldable pub two_open_boxes : Sketch
+two_open_boxes = in_hall (here thing_kind (codes "ball") [] ∷ here container_kind (codes "red box") (open_flag ∷ []) ∷ here container_kind (codes "blue box") (open_flag ∷ []) ∷ []) []
+
+abbrev pub known_as : List (List ℕ) → Item → Item
+known_as words thing = record thing { words = words }
+
+-- things whose words leave several ways to part `put apple on bread on cheese`
+unfoldable pub parted_words : Sketch
+parted_words = in_hall
+    (record (here thing_kind (codes "apple") []) { article = article.An } ∷ known_as (codes "apple" ∷ codes "on" ∷ codes "bread" ∷ []) (here thing_kind (codes "pie") [])
+    ∷ known_as (codes "on" ∷ codes "cheese" ∷ []) (here thing_kind (codes "bread") []) ∷ here thing_kind (codes "cheese") [] ∷ [])
+    []
+
+-- a ball whose description names what is looked at
+unfoldable pub ball_looked_at : Sketch
+ball_looked_at = in_hall (record (here thing_kind (codes "ball") []) { description = Some (Bytes (codes "You look at ") (Name Definite Noun (plain (codes ".")))) } ∷ []) []

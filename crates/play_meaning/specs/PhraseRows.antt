@@ -12,7 +12,7 @@ use Rattle.play_meaning.specs.Scripts.{scope_of, telling_of}
 use Rattle.play_meaning.specs.Settings.{container_kind, described_flag, fixed_in_place_flag, lit_flag, man_kind, open_flag, openable_flag, person_kind, room_kind, supporter_kind, thing_kind, wearable_flag}
 use Rattle.play_meaning.specs.Sketches.{Item, Sketch, game_of_sketch, script_of, start_of}
 use Rattle.play_meaning.specs.StandardRules.{line, only, plain, standard_rules}
-use Rattle.play_meaning.specs.Trees.{Body, Bytes, CapitalDefinite, CapitalIndefinite, Condition, Definite, DescriptionOf, Encloses, Equals, Figure, First, Has, If, IfSaid, Indefinite, Instead, IsAtMost, IsHeld, IsHeldByOne, IsLess, IsOne, IsSame, IsSo, Leave, Listing, Literal, Location, Minus, Move, Name, Not, Nothing, Noun, NowHeld, NowNowhere, NowNumber, Object, Plain, Plus, PropertyOf, Quality, Repeat, RoomFrom, Say, Second, SecondNoun, Silence, Text, The, Then, Those, ThoseHeld, Times, Turning, Variable, Visible}
+use Rattle.play_meaning.specs.Trees.{And, Body, Bytes, CapitalDefinite, CapitalIndefinite, Condition, Definite, DescriptionOf, Encloses, Equals, Figure, First, Has, If, IfSaid, Indefinite, Instead, IsAtMost, IsHeld, IsHeldByOne, IsLess, IsOne, IsSame, IsSo, Leave, Listing, Literal, Location, Minus, Move, Name, Not, Nothing, Noun, NowHeld, NowNowhere, NowNumber, Object, Or, Plain, Plus, PropertyOf, Quality, Repeat, RoomFrom, Say, Second, SecondNoun, Silence, Text, The, Then, Those, ThoseHeld, Times, Turning, Variable, Visible}
 use Rattle.play_meaning.specs.Turns.{no_action}
 use Rattle.play_meaning.specs.declared.outcome.Flow.{Flow}
 use Rattle.play_meaning.specs.declared.outcome.Flow.TheVariants.{NoDecision, Decides}
@@ -168,3 +168,9 @@ lists = only (Say (Listing Plain (ThoseHeld [] (Some thing_kind) In (The 13)) (B
 
 unfoldable pub descriptions_said : Body
 descriptions_said = only (Say (Bytes (codes "<") (DescriptionOf (The 14) (Bytes (codes "><") (DescriptionOf (The 15) (Bytes (codes "><") (DescriptionOf (The 16) (plain (codes ">")))))))))
+
+unfoldable pub at_the_bounds : Body
+at_the_bounds = only (Say (Figure (Minus (Literal (neg_ℤ (pos 2147483647))) (Literal (pos 1))) (Bytes (codes " ") (Figure (Plus (Literal (pos 2147483646)) (Literal (pos 1))) (Silence)))))
+
+unfoldable pub either_and_both : Body
+either_and_both = only (Say (answers (Or (IsHeld (The 15) In (The 14)) (IsHeld (The 15) In (The 13)) ∷ And (IsHeld (The 15) In (The 14)) (IsHeld (The 15) In (The 13)) ∷ Or (IsHeld (The 15) On (The 14)) (IsHeld (The 15) In (The 13)) ∷ [])))

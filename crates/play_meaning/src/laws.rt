@@ -1,5 +1,5 @@
 //! The definitions, computed on small stories written by hand: each clause is the transcript of one session.
-ghost use Rattle.play_meaning.specs.ActionRows.{ball_in_box, ball_on_table, ball_out_of_range, coin_out_of_sight, endless_following, endless_jumping, lamp_in_bag, score_at_its_top, seventeen_deep, sixteen_deep, two_boxes, weighing};
+ghost use Rattle.play_meaning.specs.ActionRows.{ball_in_box, ball_looked_at, ball_on_table, ball_out_of_range, coin_out_of_sight, endless_following, endless_jumping, lamp_in_bag, parted_words, score_at_its_top, seventeen_deep, sixteen_deep, two_boxes, two_open_boxes, weighing};
 ghost use Rattle.play_meaning.specs.Rows.{typed};
 ghost use Rattle.play_meaning.specs.RuleRows.{closed_box, got_it, got_it_and_goes_on, graded, left_behind, listed_first, met_on_the_way, open_box, scenery_goes, scenery_stays, statue_spoken_for, three_rules, two_nouns, unlisted};
 ghost use Rattle.play_meaning.specs.SessionRows.{empty_hall, one_storm, over_at_once, past_the_top, scoring, storms, sums_and_choices, wet_jumping, winning, without_stop};
@@ -45,6 +45,10 @@ pub fn actions_pass_their_stages()
 pub fn commands_are_read()
     ensures verbs { typed (codes "x table" ∷ codes "take ball" ∷ codes "i" ∷ [] ∷ codes "xyzzy" ∷ codes "take" ∷ codes "take lamp" ∷ []) (codes "Hall\nYou can see a table here.\n\n>x table\nYou see nothing special about the table.\nOn the table is a ball.\n\n>take ball\nTaken.\n\n>i\nYou are carrying a ball.\n\n>\nI beg your pardon?\n\n>xyzzy\nI don't know that verb.\n\n>take\nI didn't understand that sentence.\n\n>take lamp\nYou can't see any such thing.\n\n>") ball_on_table }
     ensures within { typed (codes "x box" ∷ codes "put box in ball" ∷ []) (codes "Hall\nYou can see a box here.\n\n>x box\nYou see nothing special about the box.\nIn the box is a ball.\n\n>put box in ball\n(first taking the box)\nYou can't put things into the ball.\n\n>") ball_in_box }
+    ensures not_things { typed (codes "x hall" ∷ codes "x north" ∷ []) (codes "Hall\nYou can see a box here.\n\n>x hall\nYou can't see any such thing.\n\n>x north\nYou can't see any such thing.\n\n>") ball_in_box }
+    ensures described { typed (codes "x ball" ∷ []) (codes "Hall\nYou can see a ball here.\n\n>x ball\nYou look at the ball.\n\n>") ball_looked_at }
+    ensures shortest { typed (codes "put apple on bread on cheese" ∷ []) (codes "Hall\nYou can see an apple, a pie, a bread and a cheese here.\n\n>put apple on bread on cheese\nWhich do you mean, the apple or the pie?\n\n>") parted_words }
+    ensures second_asked { typed (codes "put ball in box" ∷ codes "the red" ∷ []) (codes "Hall\nYou can see a ball, a red box and a blue box here.\n\n>put ball in box\nWhich do you mean, the red box or the blue box?\n\n>the red\n(first taking the ball)\nYou put the ball into the red box.\n\n>") two_open_boxes }
     ensures asked { typed (codes "open box" ∷ codes "red" ∷ codes "open box" ∷ codes "look" ∷ []) (codes "Hall\nYou can see a red box and a blue box here.\n\n>open box\nWhich do you mean, the red box or the blue box?\n\n>red\nYou open the red box.\n\n>open box\nWhich do you mean, the red box or the blue box?\n\n>look\nHall\nYou can see a red box and a blue box here.\n\n>") two_boxes }
 {}
 

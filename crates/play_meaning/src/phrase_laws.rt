@@ -1,5 +1,5 @@
 //! The definitions of phrases, computed: each clause says what a body says and how it leaves off.
-ghost use Rattle.play_meaning.specs.PhraseRows.{does, furnished_hall, pantry, cannot_hold, carries_and_wears, compared, descriptions, descriptions_said, encloses, fails, has, held_by_one, in_itself, instead, instead_behind_end, lists, moved, moved_to_player, names, names_with_an, no_decision, not_held, nothing_held, nowhere, of_nothing, player_in_rooms, repeat_and_move, repeat_in_repeat, repeated, same, succeeds, sums, weights};
+ghost use Rattle.play_meaning.specs.PhraseRows.{does, furnished_hall, pantry, at_the_bounds, either_and_both, cannot_hold, carries_and_wears, compared, descriptions, descriptions_said, encloses, fails, has, held_by_one, in_itself, instead, instead_behind_end, lists, moved, moved_to_player, names, names_with_an, no_decision, not_held, nothing_held, nowhere, of_nothing, player_in_rooms, repeat_and_move, repeat_in_repeat, repeated, same, succeeds, sums, weights};
 ghost use Rattle.play_meaning.specs.declared.outcome.Flow.TheVariants.{GoesOn, NoDecision, Decides};
 ghost use Rattle.play_meaning.specs.declared.outcome.Outcome.TheVariants.{Failure, Success};
 ghost use Rattle.std.specs.Prelude.{[], codes};
@@ -13,6 +13,7 @@ pub fn conditions_hold()
     ensures same { does same (codes "y n y y y y y n y n n y") GoesOn furnished_hall }
     ensures has { does has (codes "y y n y y n y n n n n n") GoesOn furnished_hall }
     ensures encloses { does encloses (codes "y y y y y n n n y y n n n") GoesOn furnished_hall }
+    ensures either_and_both { does either_and_both (codes "y n n") GoesOn furnished_hall }
     ensures compared { does compared (codes "y n n y y n y n y y n") GoesOn furnished_hall }
 {}
 
@@ -43,6 +44,7 @@ pub fn bodies_are_done()
 
 /// Names with their articles, lists, descriptions, and numbers.
 pub fn names_and_numbers_are_said()
+    ensures at_the_bounds { does at_the_bounds (codes "-2147483648 2147483647") GoesOn furnished_hall }
     ensures sums { does sums (codes "7 -2 25 5 12 -5") GoesOn furnished_hall }
     ensures names { does names (codes "ball the ball The ball a ball A ball") GoesOn pantry }
     ensures names_with_an { does names_with_an (codes "apple the apple The apple an apple An apple") GoesOn pantry }
