@@ -1,76 +1,17 @@
 //! What a form says with its letters.
 ghost use Rattle.std.specs.Prelude.{◌≡◌, map, IfOk};
-ghost use Rattle.std.specs.List.{list_all};
-ghost use Rattle.i7_sentences.specs.Assertions.{are, assertion_of, being, can_be, can_be_either, described, described_object, description, description_of, direction_at, door_between, door_to, either_of, held, holder_by, holds, is_plain, kind_of_kind, number_in, number_of, number_property, plain_text, rulebook, scene, side_direction, side_of, usually, usually_number, variable, variable_is, way_assertion, way_from, way_to, what_held};
+ghost use Rattle.i7_sentences.specs.Assertions.{are, assertion_of, being, described, described_object, description, description_of, door_between, door_to, held, holder_by, holds, number_of, side_of, variable_is, way_assertion, way_from, way_to, what_held};
 
-use crate::literal::literal_of;
+use crate::declaration::{
+    can_be, can_be_either, kind_of_kind, number_property, rulebook, scene, usually, usually_number, variable,
+};
+use crate::letter::{number_in, plain_text, side_direction};
 use crate::name::{joined, name_of};
 use crate::names::names_of;
 use crate::tagged::Tagged;
-use crate::word::word_of;
-use crate::{Assertion, Being, Form, Holder, Keyword, Name, Side, Way};
-use i7_lexer::TokenKind;
+use crate::{Assertion, Being, Form, Holder, Side, Way};
 use std::alloc::{AllocError, Global};
 use world_meaning::{Direction, Rel, TextBytes};
-
-/// Whether a text may describe: it holds no bracket that opens, which has no meaning yet.
-fn is_plain(text: &[u8]) -> bool
-    ensures { result ≡ is_plain text.now }
-{
-    text.iter().all(|byte| *byte != b'[')
-}
-
-/// The text that a letter is, if it may describe.
-fn plain_text(alloc: Global, letter: &[Tagged<'_>]) -> Result<Option<TextBytes>, AllocError>
-    ensures { IfOk result (λ text. text ≡ plain_text letter.now) }
-{
-    match letter {
-        [token] => match &token.token().kind {
-            TokenKind::Text(text) => {
-                if is_plain(text.as_slice()) {
-                    Ok(Some(TextBytes::copied(alloc, text.as_slice())?))
-                } else {
-                    Ok(None)
-                }
-            }
-            TokenKind::Word(_) | TokenKind::Mark(_) => Ok(None),
-        },
-        _ => Ok(None),
-    }
-}
-
-/// The number that a letter is.
-fn number_in(letter: &[Tagged<'_>]) -> i32
-    ensures { result ≡ number_in letter.now }
-{
-    match letter {
-        [token, ..] => literal_of(word_of(token.token())),
-        [] => literal_of(&[]),
-    }
-}
-
-/// The direction of `above`, `below`, or a direction's name.
-fn direction_at(token: &Tagged<'_>) -> Option<Direction>
-    ensures { result ≡ direction_at token.now }
-{
-    if token.is_sign(Keyword::Above) {
-        Some(Direction::Up)
-    } else if token.is_sign(Keyword::Below) {
-        Some(Direction::Down)
-    } else {
-        token.direction()
-    }
-}
-
-/// The direction of the words that lead from a room to one beside it.
-fn side_direction(side: &[Tagged<'_>]) -> Option<Direction>
-    ensures { result ≡ side_direction side.now }
-{
-    match side {
-        [] => None,
-        [first, ..] => direction_at(first),
-    }
-}
 
 /// A side of a room, if there is such a direction.
 fn side_of(
@@ -171,142 +112,6 @@ fn description(alloc: Global, letters: &[&[Tagged<'_>]]) -> Result<Option<Assert
             None => Ok(None),
             Some(text) => Ok(Some(Assertion::Description(text))),
         },
-        _ => Ok(None),
-    }
-}
-
-/// A rulebook of the author's.
-fn rulebook(alloc: Global, letters: &[&[Tagged<'_>]]) -> Result<Option<Assertion>, AllocError>
-    ensures { IfOk result (λ said. said ≡ rulebook (map (λ letter. letter.now) letters.now)) }
-{
-    match letters {
-        [name] => Ok(Some(Assertion::Rulebook(name_of(alloc, name)?))),
-        _ => Ok(None),
-    }
-}
-
-/// A scene.
-fn scene(
-    alloc: Global,
-    is_recurring: bool,
-    letters: &[&[Tagged<'_>]],
-) -> Result<Option<Assertion>, AllocError>
-    ensures { IfOk result (λ said. said ≡ scene is_recurring (map (λ letter. letter.now) letters.now)) }
-{
-    match letters {
-        [name] => Ok(Some(Assertion::Scene {
-            name: name_of(alloc, name)?,
-            is_recurring,
-        })),
-        _ => Ok(None),
-    }
-}
-
-/// A kind of the author's.
-fn kind_of_kind(alloc: Global, letters: &[&[Tagged<'_>]]) -> Result<Option<Assertion>, AllocError>
-    ensures { IfOk result (λ said. said ≡ kind_of_kind (map (λ letter. letter.now) letters.now)) }
-{
-    match letters {
-        [kind, parent] => Ok(Some(Assertion::KindOfKind {
-            kind: name_of(alloc, kind)?,
-            parent: name_of(alloc, parent)?,
-        })),
-        _ => Ok(None),
-    }
-}
-
-/// An either-or property of a kind, by both its names.
-fn either_of(
-    alloc: Global,
-    kind: &[Tagged<'_>],
-    first: &[Tagged<'_>],
-    second: &[Tagged<'_>],
-) -> Result<Option<Assertion>, AllocError>
-    ensures { IfOk result (λ said. said ≡ either_of kind.now first.now second.now) }
-{
-    let kind = name_of(alloc, kind)?;
-    let first = name_of(alloc, first)?;
-    let second = Some(name_of(alloc, second)?);
-    Ok(Some(Assertion::EitherOr {
-        kind,
-        first,
-        second,
-    }))
-}
-
-/// An either-or property with one name.
-fn can_be(alloc: Global, letters: &[&[Tagged<'_>]]) -> Result<Option<Assertion>, AllocError>
-    ensures { IfOk result (λ said. said ≡ can_be (map (λ letter. letter.now) letters.now)) }
-{
-    match letters {
-        [kind, first] => Ok(Some(Assertion::EitherOr {
-            kind: name_of(alloc, kind)?,
-            first: name_of(alloc, first)?,
-            second: None,
-        })),
-        _ => Ok(None),
-    }
-}
-
-/// An either-or property with two names.
-fn can_be_either(alloc: Global, letters: &[&[Tagged<'_>]]) -> Result<Option<Assertion>, AllocError>
-    ensures { IfOk result (λ said. said ≡ can_be_either (map (λ letter. letter.now) letters.now)) }
-{
-    match letters {
-        [kind, first, second] => Ok(either_of(alloc, kind, first, second)?),
-        _ => Ok(None),
-    }
-}
-
-/// A number property.
-fn number_property(
-    alloc: Global,
-    letters: &[&[Tagged<'_>]],
-) -> Result<Option<Assertion>, AllocError>
-    ensures { IfOk result (λ said. said ≡ number_property (map (λ letter. letter.now) letters.now)) }
-{
-    match letters {
-        [kind, property] => Ok(Some(Assertion::NumberProperty {
-            kind: name_of(alloc, kind)?,
-            property: name_of(alloc, property)?,
-        })),
-        _ => Ok(None),
-    }
-}
-
-/// What objects of a kind usually are.
-fn usually(alloc: Global, letters: &[&[Tagged<'_>]]) -> Result<Option<Assertion>, AllocError>
-    ensures { IfOk result (λ said. said ≡ usually (map (λ letter. letter.now) letters.now)) }
-{
-    match letters {
-        [kind, adjectives] => Ok(Some(Assertion::Usually {
-            kind: name_of(alloc, kind)?,
-            adjectives: joined(alloc, adjectives)?,
-        })),
-        _ => Ok(None),
-    }
-}
-
-/// What a number property of a kind usually is.
-fn usually_number(alloc: Global, letters: &[&[Tagged<'_>]]) -> Result<Option<Assertion>, AllocError>
-    ensures { IfOk result (λ said. said ≡ usually_number (map (λ letter. letter.now) letters.now)) }
-{
-    match letters {
-        [property, kind, number] => Ok(Some(Assertion::UsuallyNumber {
-            property: name_of(alloc, property)?,
-            kind: name_of(alloc, kind)?,
-            number: number_in(number),
-        })),
-        _ => Ok(None),
-    }
-}
-
-/// A variable.
-fn variable(alloc: Global, letters: &[&[Tagged<'_>]]) -> Result<Option<Assertion>, AllocError>
-    ensures { IfOk result (λ said. said ≡ variable (map (λ letter. letter.now) letters.now)) }
-{
-    match letters {
-        [name] => Ok(Some(Assertion::Variable(name_of(alloc, name)?))),
         _ => Ok(None),
     }
 }
