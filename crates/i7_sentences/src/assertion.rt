@@ -3,7 +3,8 @@ ghost use Rattle.std.specs.Prelude.{◌≡◌, map, IfOk};
 ghost use Rattle.i7_sentences.specs.Assertions.{are, assertion_of, being, described, described_object, description, description_of, door_between, door_to, held, holder_by, holds, number_of, side_of, variable_is, way_assertion, way_from, way_to, what_held};
 
 use crate::declaration::{
-    can_be, can_be_either, kind_of_kind, number_property, rulebook, scene, usually, usually_number, variable,
+    can_be, can_be_either, kind_of_kind, number_property, rulebook, scene, usually, usually_number,
+    variable,
 };
 use crate::letter::{number_in, plain_text, side_direction};
 use crate::name::{joined, name_of};

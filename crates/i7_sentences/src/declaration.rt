@@ -9,7 +9,10 @@ use crate::tagged::Tagged;
 use std::alloc::{AllocError, Global};
 
 /// A rulebook of the author's.
-pub(crate) fn rulebook(alloc: Global, letters: &[&[Tagged<'_>]]) -> Result<Option<Assertion>, AllocError>
+pub(crate) fn rulebook(
+    alloc: Global,
+    letters: &[&[Tagged<'_>]],
+) -> Result<Option<Assertion>, AllocError>
     ensures { IfOk result (λ said. said ≡ rulebook (map (λ letter. letter.now) letters.now)) }
 {
     match letters {
@@ -36,7 +39,10 @@ pub(crate) fn scene(
 }
 
 /// A kind of the author's.
-pub(crate) fn kind_of_kind(alloc: Global, letters: &[&[Tagged<'_>]]) -> Result<Option<Assertion>, AllocError>
+pub(crate) fn kind_of_kind(
+    alloc: Global,
+    letters: &[&[Tagged<'_>]],
+) -> Result<Option<Assertion>, AllocError>
     ensures { IfOk result (λ said. said ≡ kind_of_kind (map (λ letter. letter.now) letters.now)) }
 {
     match letters {
@@ -68,7 +74,10 @@ fn either_of(
 }
 
 /// An either-or property with one name.
-pub(crate) fn can_be(alloc: Global, letters: &[&[Tagged<'_>]]) -> Result<Option<Assertion>, AllocError>
+pub(crate) fn can_be(
+    alloc: Global,
+    letters: &[&[Tagged<'_>]],
+) -> Result<Option<Assertion>, AllocError>
     ensures { IfOk result (λ said. said ≡ can_be (map (λ letter. letter.now) letters.now)) }
 {
     match letters {
@@ -82,7 +91,10 @@ pub(crate) fn can_be(alloc: Global, letters: &[&[Tagged<'_>]]) -> Result<Option<
 }
 
 /// An either-or property with two names.
-pub(crate) fn can_be_either(alloc: Global, letters: &[&[Tagged<'_>]]) -> Result<Option<Assertion>, AllocError>
+pub(crate) fn can_be_either(
+    alloc: Global,
+    letters: &[&[Tagged<'_>]],
+) -> Result<Option<Assertion>, AllocError>
     ensures { IfOk result (λ said. said ≡ can_be_either (map (λ letter. letter.now) letters.now)) }
 {
     match letters {
@@ -108,7 +120,10 @@ pub(crate) fn number_property(
 }
 
 /// What objects of a kind usually are.
-pub(crate) fn usually(alloc: Global, letters: &[&[Tagged<'_>]]) -> Result<Option<Assertion>, AllocError>
+pub(crate) fn usually(
+    alloc: Global,
+    letters: &[&[Tagged<'_>]],
+) -> Result<Option<Assertion>, AllocError>
     ensures { IfOk result (λ said. said ≡ usually (map (λ letter. letter.now) letters.now)) }
 {
     match letters {
@@ -121,7 +136,10 @@ pub(crate) fn usually(alloc: Global, letters: &[&[Tagged<'_>]]) -> Result<Option
 }
 
 /// What a number property of a kind usually is.
-pub(crate) fn usually_number(alloc: Global, letters: &[&[Tagged<'_>]]) -> Result<Option<Assertion>, AllocError>
+pub(crate) fn usually_number(
+    alloc: Global,
+    letters: &[&[Tagged<'_>]],
+) -> Result<Option<Assertion>, AllocError>
     ensures { IfOk result (λ said. said ≡ usually_number (map (λ letter. letter.now) letters.now)) }
 {
     match letters {
@@ -135,7 +153,10 @@ pub(crate) fn usually_number(alloc: Global, letters: &[&[Tagged<'_>]]) -> Result
 }
 
 /// A variable.
-pub(crate) fn variable(alloc: Global, letters: &[&[Tagged<'_>]]) -> Result<Option<Assertion>, AllocError>
+pub(crate) fn variable(
+    alloc: Global,
+    letters: &[&[Tagged<'_>]],
+) -> Result<Option<Assertion>, AllocError>
     ensures { IfOk result (λ said. said ≡ variable (map (λ letter. letter.now) letters.now)) }
 {
     match letters {

@@ -19,7 +19,10 @@ fn is_plain(text: &[u8]) -> bool
 }
 
 /// The text that a letter is, if it may describe.
-pub(crate) fn plain_text(alloc: Global, letter: &[Tagged<'_>]) -> Result<Option<TextBytes>, AllocError>
+pub(crate) fn plain_text(
+    alloc: Global,
+    letter: &[Tagged<'_>],
+) -> Result<Option<TextBytes>, AllocError>
     ensures { IfOk result (λ text. text ≡ plain_text letter.now) }
 {
     match letter {

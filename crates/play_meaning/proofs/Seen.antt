@@ -111,8 +111,8 @@ unfolding is_in_view
 in_view_of s w o steps i view =
     let same : steps ≡ chain w o = one_chain (place_of w) o steps (chain w o) view.chain (i.chains o) in
     and_of _ _
-      (ap (is_same (top_of (chain w o))) (here_is s w i) ∙ same_of (top_of (chain w o)) i.room.holder (ap top_of (sym same) ∙ view.ends ∙ ap Some (there_is s w i)))
-      (not_of _ (ap (list_any (blocks_sight (sights_of s w))) (sym same) ∙ view.clear))
+    (ap (is_same (top_of (chain w o))) (here_is s w i) ∙ same_of (top_of (chain w o)) i.room.holder (ap top_of (sym same) ∙ view.ends ∙ ap Some (there_is s w i)))
+    (not_of _ (ap (list_any (blocks_sight (sights_of s w))) (sym same) ∙ view.clear))
 
 -- ---- enclosing
 
@@ -130,9 +130,10 @@ stands_any holder (step ∷ steps) (inr later) = or_right (holder == step.holder
 
 pub encloses_is : (s : Setting) (w : World) (holder o : ℕ) → IsWorldOf s w → (encloses w holder o ≡ true) ↔ Encloses (place_of w) holder o
 unfolding encloses
-encloses_is s w holder o i =
-    ( (λ is. (chain w o, (i.chains o, any_stands holder (chain w o) is)))
-    , (λ e. ap (list_any (is_held_by holder)) (one_chain (place_of w) o (chain w o) e.0 (i.chains o) e.1.0) ∙ stands_any holder e.0 e.1.1) )
+encloses_is s w holder o i = (
+  (λ is. (chain w o, (i.chains o, any_stands holder (chain w o) is))),
+  (λ e. ap (list_any (is_held_by holder)) (one_chain (place_of w) o (chain w o) e.0 (i.chains o) e.1.0) ∙ stands_any holder e.0 e.1.1),
+)
 
 -- ---- light
 
@@ -141,9 +142,9 @@ unfolding has_light
 light_to s w i is = elim (or_is (is_true_at w lighted_flag (location_of w)) (list_any (gives_light s w) (objects_of s)) is) as (λ x. HasLight (sights_of s w)) [
   | inl here ↦ inl (ap (is_true_of w lighted_flag) (there_is s w i) ∙ ap (is_true_at w lighted_flag) (sym (here_is s w i)) ∙ here)
   | inr lamp ↦
-    let found : (o : ℕ) × (gives_light s w o ≡ true) = any_is (gives_light s w) (objects_of s) lamp in
-    let parts : (is_true_of w lit_flag found.0 ≡ true) × (is_in_view s w found.0 ≡ true) = and_is _ _ found.1 in
-    inr (found.0, (parts.0, (chain w found.0, in_view_is s w found.0 i parts.1)))
+      let found : (o : ℕ) × (gives_light s w o ≡ true) = any_is (gives_light s w) (objects_of s) lamp in
+      let parts : (is_true_of w lit_flag found.0 ≡ true) × (is_in_view s w found.0 ≡ true) = and_is _ _ found.1 in
+      inr (found.0, (parts.0, (chain w found.0, in_view_is s w found.0 i parts.1)))
 ]
 
 light_from : (s : Setting) (w : World) → IsWorldOf s w → HasLight (sights_of s w) → has_light s w ≡ true
@@ -244,7 +245,7 @@ touch_from : (s : Setting) (w : World) (o : ℕ) → IsWorldOf s w → IsTouchab
 unfolding is_touchable
 touch_from s w o i t =
     and_of _ _ (and_of _ _ (root_is _ _ _ t.0) ((visible_is s w o i).1 t.1.0))
-      (not_of _ (ap (list_any (blocks_touch (sights_of s w))) (sym (one_chain (place_of w) o t.1.1.0 (chain w o) t.1.1.1.0 (i.chains o))) ∙ t.1.1.1.1))
+    (not_of _ (ap (list_any (blocks_touch (sights_of s w))) (sym (one_chain (place_of w) o t.1.1.0 (chain w o) t.1.1.1.0 (i.chains o))) ∙ t.1.1.1.1))
 
 pub touchable_is : (s : Setting) (w : World) (o : ℕ) → IsWorldOf s w → (is_touchable s w o ≡ true) ↔ IsTouchable (sights_of s w) o
 touchable_is s w o i = (touch_to s w o i, touch_from s w o i)

@@ -92,6 +92,7 @@ chosen_within false a b first second = second
 
 mutual
   unfolding do_phrase do_body
+
   pub phrase_within : (t : Telling) (inner : Inner) → InnerWithin inner → (phrase : Phrase) (scope : Scope) (p : Progress) → Within p → Gives DoneWithin (do_phrase t inner phrase scope p)
   phrase_within t inner i (Say text) scope p within = gives_behind DoneWithin (said_in t scope p.world text) (λ y. Ok (goes_on (say y p))) (λ bytes. within)
   phrase_within t inner i (NowIs o property value) scope p within = within
@@ -181,10 +182,25 @@ report_within false g b inner i now p within = consult_within g b inner i 5 now 
 stages_within : (out : Bool) (g : Game) → BodiesWithin g → (inner : Inner) → InnerWithin inner → (now : ActionNow) → StepsWithin (stages out g inner now)
 unfolding stages
 stages_within true g b inner i now = (consult_within g b inner i 2 now, (consult_within g b inner i 3 now, (report_within now.silent g b inner i now, tt)))
-stages_within false g b inner i now =
-    (consult_within g b inner i 0 now, (light_within g now, (access_within g.telling.setting (g.needs now.action).noun now.noun, (access_within g.telling.setting (g.needs now.action).second now.second,
-    (carrying_within g.telling.setting inner i (g.needs now.action).noun now.noun, (carrying_within g.telling.setting inner i (g.needs now.action).second now.second,
-    (consult_within g b inner i 1 now, (consult_within g b inner i 2 now, (consult_within g b inner i 3 now, (consult_within g b inner i 4 now, (report_within now.silent g b inner i now, tt)))))))))))
+stages_within false g b inner i now = (
+  consult_within g b inner i 0 now,
+  (
+    light_within g now,
+    (
+      access_within g.telling.setting (g.needs now.action).noun now.noun,
+      (
+        access_within g.telling.setting (g.needs now.action).second now.second,
+        (
+          carrying_within g.telling.setting inner i (g.needs now.action).noun now.noun,
+          (
+            carrying_within g.telling.setting inner i (g.needs now.action).second now.second,
+            (consult_within g b inner i 1 now, (consult_within g b inner i 2 now, (consult_within g b inner i 3 now, (consult_within g b inner i 4 now, (report_within now.silent g b inner i now, tt))))),
+          ),
+        ),
+      ),
+    ),
+  ),
+)
 
 act_within : (g : Game) → BodiesWithin g → (inner : Inner) → InnerWithin inner → (now : ActionNow) (p : Progress) → Within p → Gives AskedWithin (act g inner now p)
 unfolding act
@@ -228,7 +244,7 @@ ending_within g b scene p within = gives_behind Within _ _ (λ test. set_within 
 
 beginning_within : (g : Game) → BodiesWithin g → (recurs : Bool) (scene : ℕ) (p : Progress) → Within p → Gives Within (beginning_of g recurs scene p)
 unfolding beginning_of
-beginning_within g b recurs scene p within = gives_behind Within (if◌then◌else◌ {A = Attempt Bool} (scene_of p.world scene).happens (Ok false) (g.begins scene p.world)) (λ y. set_and_follow (begins_now y (recurs || not (scene_of p.world scene).has_begun)) g scene record {happens = true; has_begun = true} (begins_book scene) p) (λ test. set_within (begins_now test (recurs || not (scene_of p.world scene).has_begun)) g b scene (record {happens = true; has_begun = true}) (begins_book scene) p within)
+beginning_within g b recurs scene p within = gives_behind Within (if◌then◌else◌ {A = Attempt Bool} (scene_of p.world scene).happens (Ok false) (g.begins scene p.world)) (λ y. set_and_follow (begins_now y (recurs || not (scene_of p.world scene).has_begun)) g scene record { happens = true; has_begun = true } (begins_book scene) p) (λ test. set_within (begins_now test (recurs || not (scene_of p.world scene).has_begun)) g b scene (record { happens = true; has_begun = true }) (begins_book scene) p within)
 
 scenes_within : (g : Game) → BodiesWithin g → (scene : ℕ) (scenes : List Bool) → PartsWithin (scene_steps g scene scenes)
 scenes_within g b scene [] = tt

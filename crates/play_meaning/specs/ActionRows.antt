@@ -19,9 +19,9 @@ weighing = record (in_hall
     (here thing_kind (codes "ball") [] ∷ here thing_kind (codes "scales") []
     ∷ item thing_kind (codes "coin") article.A (at In 17) (described_flag ∷ []) ∷ here container_kind (codes "box") (transparent_flag ∷ []) ∷ [])
     (rule_of report_book (Some 16) Anything Anything None (says (codes "Weighed.")) ∷ [])) {
-  actions = asking Held Touched false ∷ [];
-  lines = record { action = 16; tokens = Word (codes "weigh") ∷ Something ∷ Word (codes "with") ∷ Something ∷ [] } ∷ [];
-}
+      actions = asking Held Touched false ∷ [];
+      lines = record { action = 16; tokens = Word (codes "weigh") ∷ Something ∷ Word (codes "with") ∷ Something ∷ [] } ∷ [];
+    }
 
 -- a dark cave, and a lit lamp in a closed bag that the player carries
 unfoldable pub lamp_in_bag : Sketch
@@ -56,8 +56,8 @@ abbrev pub jumping_up_to : ℕ → Sketch
 jumping_up_to most = record (in_hall []
     (rule_of instead_book (Some jumping) Anything Anything (Some (IsLess (Variable 0) (Literal (pos most)))) (one_more 0 try_jumping)
     ∷ rule_of instead_book (Some waiting) Anything Anything None (only (Say (Figure (Variable 0) (line (codes "."))))) ∷ [])) {
-  variables = pos 0 ∷ [];
-}
+      variables = pos 0 ∷ [];
+    }
 
 unfoldable pub sixteen_deep : Sketch
 sixteen_deep = jumping_up_to 16
@@ -77,15 +77,15 @@ unfoldable pub score_at_its_top : Sketch
 score_at_its_top = record (in_hall []
     (rule_of instead_book (Some jumping) Anything Anything None (one_more 0 (one_more 1 say_both))
     ∷ rule_of instead_book (Some waiting) Anything Anything None say_both ∷ [])) {
-  variables = pos 0 ∷ pos 2147483646 ∷ [];
-}
+      variables = pos 0 ∷ pos 2147483646 ∷ [];
+    }
 
 -- a condition out of range, of a rule about the ball
 unfoldable pub ball_out_of_range : Sketch
 ball_out_of_range = record (in_hall (here thing_kind (codes "ball") [] ∷ here thing_kind (codes "lamp") [] ∷ [])
     (rule_of instead_book (Some taking) (Exactly 14) Anything (Some (IsAtMost (Literal (pos 1)) (Plus (Variable 0) (Literal (pos 1))))) (says (codes "No.")) ∷ [])) {
-  variables = pos 2147483647 ∷ [];
-}
+      variables = pos 2147483647 ∷ [];
+    }
 
 -- jumping tries to take a coin in a closed box, which isn't seen
 unfoldable pub coin_out_of_sight : Sketch

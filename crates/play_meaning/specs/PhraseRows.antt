@@ -37,10 +37,10 @@ furnished_hall = record (with_rules
     ∷ here supporter_kind (codes "desk") (fixed_in_place_flag ∷ []) ∷ thing_at (codes "cup") On 16 ∷ bob ∷ thing_at (codes "coin") Carried 18 ∷ coat_at (codes "hat") 18
     ∷ thing_at (codes "lamp") Carried 0 ∷ coat_at (codes "coat") 0 ∷ thing_at (codes "knob") Part 16 ∷ bright (codes "Yard") ∷ thing_at (codes "rock") In 24 ∷ [])
     standard_rules) {
-  exits = record { from = 13; direction = 1; to = 24; door = None } ∷ record { from = 24; direction = 4; to = 13; door = None } ∷ [];
-  variables = pos 0 ∷ pos 5 ∷ [];
-  numbers = (thing_kind ∷ []) ∷ [];
-}
+      exits = record { from = 13; direction = 1; to = 24; door = None } ∷ record { from = 24; direction = 4; to = 13; door = None } ∷ [];
+      variables = pos 0 ∷ pos 5 ∷ [];
+      numbers = (thing_kind ∷ []) ∷ [];
+    }
 
 abbrev pub saying : List ℕ → Item → Item
 saying text described = record described { description = Some (plain text) }

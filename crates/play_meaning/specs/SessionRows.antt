@@ -29,8 +29,8 @@ is_at_least n = IsAtMost (Literal (pos n)) score
 abbrev pub storm_and : Bool → List Rule → Sketch
 storm_and recurs rules = record (with_score 0
     (rule_in every_turn_book (one_more 0 End) ∷ rule_in 8 (says (codes "Thunder.")) ∷ rule_in 9 (says (codes "Calm.")) ∷ rules)) {
-  scenes = record { recurs = recurs; begins = Some (is_at_least 1); ends = Some (is_at_least 2) } ∷ [];
-}
+      scenes = record { recurs = recurs; begins = Some (is_at_least 1); ends = Some (is_at_least 2) } ∷ [];
+    }
 
 unfoldable pub one_storm : Sketch
 one_storm = storm_and false []
@@ -59,9 +59,9 @@ unfoldable pub scoring : Sketch
 scoring = record (with_score 0
     (rule_of carry_out_book (Some 16) Anything Anything None (one_more 0 End)
     ∷ rule_of instead_book (Some jumping) Anything Anything None (only (Say (Figure score (line (codes "."))))) ∷ [])) {
-  actions = out_of_world ∷ [];
-  lines = record { action = 16; tokens = Word (codes "score") ∷ [] } ∷ [];
-}
+      actions = out_of_world ∷ [];
+      lines = record { action = 16; tokens = Word (codes "score") ∷ [] } ∷ [];
+    }
 
 -- what is said every turn
 abbrev pub every_turn : ℕ → Body → Sketch

@@ -22,8 +22,8 @@ abbrev pub behind_gate : List ℕ → Sketch
 behind_gate flags = record (with_rules
     (bright (codes "Hall") ∷ bright (codes "Yard") ∷ item door_kind (codes "gate") article.A None (openable_flag ∷ fixed_in_place_flag ∷ described_flag ∷ flags)
     ∷ here thing_kind (codes "ball") [] ∷ item thing_kind (codes "knob") article.A (at Part 15) (described_flag ∷ []) ∷ []) standard_rules) {
-  exits = leads 13 1 14 (Some 15) ∷ leads 14 4 13 (Some 15) ∷ [];
-}
+      exits = leads 13 1 14 (Some 15) ∷ leads 14 4 13 (Some 15) ∷ [];
+    }
 
 unfoldable pub closed_gate : Sketch
 closed_gate = behind_gate []

@@ -14,11 +14,13 @@ mod work_laws;
 
 pub use action::{ActNo, ActionNow, Needs, Slot};
 pub use game_laws::{
-    abandoned_lines_change_nothing, agreeing_games_are_one, decisions_end_consultations, undo_brings_back_the_world,
+    abandoned_lines_change_nothing, agreeing_games_are_one, decisions_end_consultations,
+    undo_brings_back_the_world,
 };
 pub use laws::{
-    actions_pass_their_stages, commands_are_read, light_shows_things, rules_decide, rules_stand_in_order,
-    scenes_and_stories_end, texts_are_said, things_are_handled, turns_are_undone, ways_and_doors_are_gone_through,
+    actions_pass_their_stages, commands_are_read, light_shows_things, rules_decide,
+    rules_stand_in_order, scenes_and_stories_end, texts_are_said, things_are_handled,
+    turns_are_undone, ways_and_doors_are_gone_through,
 };
 pub use order_laws::rulebooks_are_in_order;
 pub use outcome::{Flow, Outcome};
