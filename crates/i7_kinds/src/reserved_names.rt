@@ -10,5 +10,17 @@ pub const RESERVED: [&[u8]; 6] = [
     b"turn count",
 ];
 
-/// The rulebooks that no sentence declares.
-pub const BOOKS: [&[u8]; 4] = [b"before", b"instead", b"after", b"every turn"];
+/// The names that no sentence gives a rulebook: those of built-in ones, and the words that can't be declared at all.
+pub const BOOKS: [&[u8]; 11] = [
+    b"before",
+    b"instead",
+    b"after",
+    b"every turn",
+    b"player",
+    b"noun",
+    b"second noun",
+    b"location",
+    b"nothing",
+    b"something",
+    b"turn count",
+];

@@ -7,11 +7,11 @@ use Rattle.world_meaning.specs.declared.session.Abandon.{Abandon}
 use Rattle.world_meaning.specs.declared.session.Abandon.TheVariants.{Memory}
 use Rattle.world_meaning.specs.declared.session.Ending.{Ending}
 use Rattle.world_meaning.specs.declared.session.ReplyKind.{ReplyKind}
-use Rattle.world_meaning.specs.declared.session.ReplyKind.TheVariants.{Abandoned, Ended, Free, Kept, Over}
-use Rattle.play_meaning.specs.Games.{Acts, Asks, Game, Quit, Reading, Says, Undo}
+use Rattle.world_meaning.specs.declared.session.ReplyKind.TheVariants.{Abandoned, Free, Kept}
+use Rattle.play_meaning.specs.Games.{Acts, Asks, Game, Question, Quit, Reading, Says, Undo}
 use Rattle.play_meaning.specs.Progress.{Progress, fresh}
 use Rattle.play_meaning.specs.Seeing.{is_visible}
-use Rattle.play_meaning.specs.Sessions.{Answer, MeansUndo, State, abandoned, acted, answer_of, closed, keep, played, read_answer, undone, unless_ended}
+use Rattle.play_meaning.specs.Sessions.{Answer, MeansUndo, State, abandoned, acted, answer_of, closed, free, keep, played, read_answer, undone, unless_ended}
 use Rattle.play_meaning.specs.Turns.{perform, turn}
 use Rattle.play_meaning.specs.Worlds.{World}
 use Rattle.play_meaning.specs.declared.action.ActionNow.{ActionNow}
@@ -43,13 +43,17 @@ refused_leaves : (refused out : Bool) (g : Game) (now : ActionNow) (s : State) �
 refused_leaves true out g now s reason is = refl
 refused_leaves false out g now s reason is = acted_leaves out g now s reason is
 
+question_leaves : (refused : Bool) (question : Question) (text : List ℕ) (s : State) → LeavesAll s (if refused then abandoned Memory s else free text (Some question) s)
+question_leaves true question text s reason is = refl
+question_leaves false question text s reason is = absurd cc
+
 undone_leaves : (kept : List World) (s : State) → LeavesAll s (undone kept s)
 undone_leaves [] s reason is = absurd cc
 undone_leaves (w ∷ kept) s reason is = absurd cc
 
 read_leaves : (g : Game) (refused : Option ℕ) (s : State) (reading : Reading) → LeavesAll s (read_answer g refused s reading)
 read_leaves g refused s (Says text) reason is = absurd cc
-read_leaves g refused s (Asks question text) reason is = absurd cc
+read_leaves g refused s (Asks question text) reason is = question_leaves (refuses refused 0) question text s reason is
 read_leaves g refused s (Acts now) reason is = refused_leaves (refuses refused 0) (g.needs now.action).out_of_world g now s reason is
 read_leaves g refused s Undo reason is = undone_leaves s.kept s reason is
 read_leaves g refused s Quit reason is = absurd cc
@@ -80,13 +84,17 @@ refused_keeps : (refused out : Bool) (g : Game) (now : ActionNow) (s : State) �
 refused_keeps true out g now s = record { kept = λ is. absurd cc; going = λ is. absurd cc }
 refused_keeps false out g now s = acted_keeps out g now s
 
+question_keeps : (refused : Bool) (question : Question) (text : List ℕ) (s : State) → KeepsBefore s (if refused then abandoned Memory s else free text (Some question) s)
+question_keeps true question text s = record { kept = λ is. absurd cc; going = λ is. absurd cc }
+question_keeps false question text s = record { kept = λ is. absurd cc; going = λ is. absurd cc }
+
 undone_keeps : (kept : List World) (s : State) → KeepsBefore s (undone kept s)
 undone_keeps [] s = record { kept = λ is. absurd cc; going = λ is. absurd cc }
 undone_keeps (w ∷ kept) s = record { kept = λ is. absurd cc; going = λ is. absurd cc }
 
 read_keeps : (g : Game) (refused : Option ℕ) (s : State) (reading : Reading) → KeepsBefore s (read_answer g refused s reading)
 read_keeps g refused s (Says text) = record { kept = λ is. absurd cc; going = λ is. absurd cc }
-read_keeps g refused s (Asks question text) = record { kept = λ is. absurd cc; going = λ is. absurd cc }
+read_keeps g refused s (Asks question text) = question_keeps (refuses refused 0) question text s
 read_keeps g refused s (Acts now) = refused_keeps (refuses refused 0) (g.needs now.action).out_of_world g now s
 read_keeps g refused s Undo = undone_keeps s.kept s
 read_keeps g refused s Quit = record { kept = λ is. absurd cc; going = λ is. absurd cc }

@@ -1,11 +1,11 @@
 -- What is computed of sight is what is said of chains.
-use Rattle.std.proofs.Common.{◌≡◌, ◌∙◌, ap, sym, refl, subst, ◌⊎◌, inl, inr, ◌↔◌, ℕ, zero, suc, ◌+◌, ◌<◌, ◌≤◌, Bool, true, false, IsTrue, List, [], ◌∷◌, arith, eq-eqb, eqb-true}
+use Rattle.std.proofs.Common.{◌≡◌, ◌∙◌, ap, sym, refl, subst, ◌⊎◌, inl, inr, ◌↔◌, ℕ, zero, suc, ◌+◌, ◌<◌, ◌≤◌, Bool, true, false, List, [], ◌∷◌, arith, eq-eqb, eqb-true}
 use Rattle.std.proofs.lemmas.Bool.{eqb-false}
 use Rattle.std.specs.Prelude.{not, ◌&&◌, ◌||◌, ◌==◌, Option, None, Some, if◌then◌else◌}
 use Rattle.std.specs.List.{list_any, range_with_len}
 use Rattle.world_meaning.specs.Chains.{Encloses, IsChain, StandsIn, top_of}
 use Rattle.world_meaning.specs.Tale.{holder_in as holder_told}
-use Rattle.world_meaning.specs.Sight.{location_of as location_in, HasLight, IsInView, IsTouchable, IsVisible, IsVisibleAs, IsVisibleThing, Root, Sights, thing, room, direction, blocks_sight, blocks_touch}
+use Rattle.world_meaning.specs.Sight.{location_of as location_in, HasLight, IsInView, IsTouchable, IsVisible, IsVisibleAs, IsVisibleThing, Root, thing, room, direction, blocks_sight, blocks_touch}
 use Rattle.world_meaning.specs.declared.place.Place.{Place}
 use Rattle.play_meaning.specs.Seeing.{encloses, gives_light, has_light, is_held_by, is_in_view, is_number, is_same, is_touchable, is_true_at, is_visible, is_visible_as, is_visible_thing, root_of, sights_of, stands_here, stands_in}
 use Rattle.play_meaning.specs.Settings.{Setting, lighted_flag, lit_flag, objects_of, thing_kind}

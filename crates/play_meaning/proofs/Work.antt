@@ -3,25 +3,24 @@ use Rattle.std.proofs.Common.{◌≡◌, ℕ, zero, suc, ◌+◌, ◌≤◌, nat
 use Rattle.std.specs.Prelude.{not, ◌||◌, ⊤, Option, None, Some, slice_get, if◌then◌else◌}
 use Rattle.world_meaning.specs.Progress.{Attempt, next}
 use Rattle.world_meaning.specs.Turns.{most_turns}
-use Rattle.world_meaning.specs.declared.session.Abandon.{Abandon}
 use Rattle.world_meaning.specs.declared.session.Abandon.TheVariants.{NumberOutOfRange, TooMuchWork}
 use Rattle.world_meaning.specs.Texts.{not_seen_text}
 use Rattle.play_meaning.specs.Changes.{make_number}
 use Rattle.play_meaning.specs.Seeing.{has_light, is_touchable, is_visible}
-use Rattle.play_meaning.specs.Acting.{access, act, asks_holding, asks_sight, asks_touch, carrying, dark_text, fails, first_taking_text, has_noun, inner_of, out_of_reach_text, progress_of, reach, report, silent_taking, stages, unless, unless_held, visibility}
-use Rattle.play_meaning.specs.Consulting.{applies, ask, asked_of, consult, done_if}
-use Rattle.play_meaning.specs.Doing.{Inner, changed, do_body, do_phrase, going_on, repeat, said_then, tried, turn_if, turning_to}
+use Rattle.play_meaning.specs.Acting.{access, act, asks_sight, asks_touch, carrying, dark_text, fails, has_noun, inner_of, out_of_reach_text, progress_of, stages, unless, unless_held, visibility}
+use Rattle.play_meaning.specs.Consulting.{applies, ask, consult, done_if, with_nouns}
+use Rattle.play_meaning.specs.Doing.{Inner, changed, do_body, do_phrase, repeat, turn_if, turning_to}
 use Rattle.play_meaning.specs.Games.{Game}
 use Rattle.play_meaning.specs.Progress.{Asked, Done, Progress, change, first_decision, goes_on, most_work, say, spend, then_do, undecided, unless_decided, unless_left}
 use Rattle.play_meaning.specs.Rules.{Rule}
 use Rattle.play_meaning.specs.Saying.{Telling, chosen, said_in}
 use Rattle.play_meaning.specs.Settings.{Setting, objects_of}
 use Rattle.play_meaning.specs.Scripts.{Script, game_of, rule_body, scope_of, telling_of}
-use Rattle.play_meaning.specs.Trees.{Body, Description, End, EndStory, Follow, If, Instead, Leave, Move, NowHeld, NowIs, NowNowhere, NowNumber, NowVariable, Phrase, Repeat, Say, Then, Try}
+use Rattle.play_meaning.specs.Trees.{Body, End, EndStory, Follow, If, Instead, Leave, Move, NowHeld, NowIs, NowNowhere, NowNumber, NowVariable, Phrase, Repeat, Say, Then, Try}
 use Rattle.play_meaning.specs.Truth.{of_some, truth_in}
 use Rattle.play_meaning.specs.Turns.{beginning_of, begins_book, begins_now, count_turn, ending_of, follow, in_order, looking, opening, parts, pass, perform, scene_steps, set_and_follow, turn, unless_over}
 use Rattle.play_meaning.specs.Values.{Scope, is_one, number_in, object_in}
-use Rattle.play_meaning.specs.Worlds.{World, next_turn, scene_of, set_scene, set_variable}
+use Rattle.play_meaning.specs.Worlds.{World, next_turn, scene_of, set_variable}
 use Rattle.play_meaning.specs.declared.action.ActionNow.{ActionNow}
 use Rattle.play_meaning.specs.declared.action.Slot.{Slot}
 use Rattle.play_meaning.specs.declared.scene.SceneNow.{SceneNow}
@@ -150,7 +149,7 @@ asks_within g b inner i book now (rule ∷ rules) = (ask_within g b inner i book
 
 consult_within : (g : Game) → BodiesWithin g → (inner : Inner) → InnerWithin inner → (book : ℕ) (now : ActionNow) (p : Progress) → Within p → Gives AskedWithin (consult g inner book now p)
 unfolding consult
-consult_within g b inner i book now p within = first_within (map (ask g inner book now) (g.books book)) (asks_within g b inner i book now (g.books book)) p within
+consult_within g b inner i book now p within = first_within (map (ask g inner book (with_nouns now)) (g.books book)) (asks_within g b inner i book (with_nouns now) (g.books book)) p within
 
 -- ---- actions
 
@@ -296,3 +295,6 @@ turns_bounded script now p q within is = given_ok (turn (game_of script) now p) 
 
 pub openings_bounded : (script : Script) (p q : Progress) → p.work ≤ most_work → opening (game_of script) p ≡ Ok q → q.work ≤ most_work
 openings_bounded script p q within is = given_ok (opening (game_of script) p) q (opening_within (game_of script) (script_within script) p within) is
+
+pub actions_bounded : (script : Script) (now : ActionNow) (p q : Progress) → p.work ≤ most_work → perform (game_of script) now p ≡ Ok q → q.work ≤ most_work
+actions_bounded script now p q within is = given_ok (perform (game_of script) now p) q (perform_within (game_of script) (script_within script) now p within) is

@@ -1,5 +1,5 @@
 -- An action in its nine stages, and actions that are tried within it (*Writing with Inform*, chapter 12).
-use Rattle.std.specs.Prelude.{ℕ, zero, suc, Bool, true, false, not, ◌&&◌, ◌||◌, ◌==◌, List, [], ◌∷◌, ◌++◌, Option, None, Some, Ok, Err, map, codes, if◌then◌else◌}
+use Rattle.std.specs.Prelude.{ℕ, zero, suc, Bool, true, false, not, ◌||◌, List, [], ◌∷◌, ◌++◌, Option, None, Some, Ok, Err, codes, if◌then◌else◌}
 use Rattle.world_meaning.specs.Progress.{Attempt, next}
 use Rattle.world_meaning.specs.Texts.{not_seen_text, said}
 use Rattle.world_meaning.specs.declared.session.Abandon.TheVariants.{NestedTooDeep}

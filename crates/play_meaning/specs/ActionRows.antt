@@ -1,10 +1,10 @@
 -- Small stories about what an action passes, and about commands.
-use Rattle.std.specs.Prelude.{ℕ, pos, true, false, List, [], ◌∷◌, ◌++◌, Option, None, Some, codes}
+use Rattle.std.specs.Prelude.{ℕ, pos, false, List, [], ◌∷◌, None, Some, codes}
 use Rattle.world_meaning.specs.declared.article.Article.TheVariants as article
 use Rattle.world_meaning.specs.declared.place.Rel.TheVariants.{In, On, Carried}
 use Rattle.play_meaning.specs.Consulting.{instead_book, report_book}
 use Rattle.play_meaning.specs.Grammar.{Something, Word}
-use Rattle.play_meaning.specs.Rows.{at, bright, here, in_hall, item, rule_of, says, with_rules}
+use Rattle.play_meaning.specs.Rows.{at, here, in_hall, item, rule_of, says, with_rules}
 use Rattle.play_meaning.specs.Rules.{Anything, Exactly}
 use Rattle.play_meaning.specs.Settings.{container_kind, described_flag, lit_flag, open_flag, openable_flag, room_kind, supporter_kind, thing_kind, transparent_flag}
 use Rattle.play_meaning.specs.Sketches.{Item, Sketch}

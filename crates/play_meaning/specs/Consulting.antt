@@ -1,6 +1,6 @@
 -- The consultation of a rulebook: its rules in order, each asked in the world of that moment, up to the first
 -- decision (*Writing with Inform*, chapter 19).
-use Rattle.std.specs.Prelude.{ℕ, Bool, true, false, List, Option, None, Some, Ok, map, ◌==◌, if◌then◌else◌}
+use Rattle.std.specs.Prelude.{ℕ, Bool, true, false, Option, None, Some, Ok, map, ◌==◌, if◌then◌else◌}
 use Rattle.world_meaning.specs.Progress.{Attempt, next}
 use Rattle.play_meaning.specs.Doing.{Inner}
 use Rattle.play_meaning.specs.Games.{Game}
@@ -62,5 +62,9 @@ done_if true g inner book now rule p = next (spend p) (λ q. next (g.body rule i
 unfoldable pub ask : Game → Inner → ℕ → ActionNow → ℕ → Progress → Attempt Asked
 ask g inner book now rule p = next (applies g rule now p.world) (λ applies. done_if applies g inner book now rule p)
 
+-- with no action the nouns are nothing
+abbrev pub with_nouns : ActionNow → ActionNow
+with_nouns now = if now.action == 255 then record now { noun = None; second = None } else now
+
 unfoldable pub consult : Game → Inner → ℕ → ActionNow → Progress → Attempt Asked
-consult g inner book now = first_decision (map (ask g inner book now) (g.books book))
+consult g inner book now = first_decision (map (ask g inner book (with_nouns now)) (g.books book))

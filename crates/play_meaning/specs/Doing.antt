@@ -1,12 +1,12 @@
 -- What phrases do: each of them takes play from where it has come to, and ends the body or lets the next one follow
 -- (*Writing with Inform*, chapters 8 and 11).
-use Rattle.std.specs.Prelude.{ℕ, Bool, true, false, List, [], ◌∷◌, ◌++◌, Option, Ok}
+use Rattle.std.specs.Prelude.{ℕ, Bool, true, false, List, [], ◌∷◌, ◌++◌, Ok}
 use Rattle.world_meaning.specs.Progress.{Attempt, next}
 use Rattle.play_meaning.specs.Changes.{make_number, make_so, move, put, take_away}
 use Rattle.play_meaning.specs.Progress.{Done, Progress, change, goes_on, leaves, say, spend, then_do}
 use Rattle.play_meaning.specs.Saying.{Telling, chosen, said_in}
 use Rattle.play_meaning.specs.Settings.{objects_of}
-use Rattle.play_meaning.specs.Trees.{Body, Condition, Description, End, EndStory, Follow, If, Instead, Leave, Move, NowHeld, NowIs, NowNowhere, NowNumber, NowVariable, Number, Object, Phrase, Repeat, Say, Text, Then, Try}
+use Rattle.play_meaning.specs.Trees.{Body, End, EndStory, Follow, If, Instead, Leave, Move, NowHeld, NowIs, NowNowhere, NowNumber, NowVariable, Object, Phrase, Repeat, Say, Text, Then, Try}
 use Rattle.play_meaning.specs.Truth.{truth_in}
 use Rattle.play_meaning.specs.Values.{Scope, is_one, number_in, object_in}
 use Rattle.play_meaning.specs.Worlds.{World, end_with, set_variable}

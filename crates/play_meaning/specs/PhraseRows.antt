@@ -1,6 +1,6 @@
 -- What phrases do in a furnished hall and in a pantry.
-use Rattle.std.specs.Prelude.{◌≡◌, ℕ, ℤ, pos, neg_ℤ, List, [], ◌∷◌, ◌++◌, Option, None, Some, Ok, codes}
-use Rattle.world_meaning.specs.Progress.{Attempt, next}
+use Rattle.std.specs.Prelude.{◌≡◌, ℕ, pos, neg_ℤ, List, [], ◌∷◌, None, Some, Ok, codes}
+use Rattle.world_meaning.specs.Progress.{next}
 use Rattle.world_meaning.specs.declared.article.Article.TheVariants as article
 use Rattle.world_meaning.specs.declared.place.Rel.{Rel}
 use Rattle.world_meaning.specs.declared.place.Rel.TheVariants.{In, On, Carried, Worn, Part}

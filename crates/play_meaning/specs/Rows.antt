@@ -1,16 +1,18 @@
 -- What small stories written by hand are made of, and what is written of them.
-use Rattle.std.specs.Prelude.{◌≡◌, ℕ, ℤ, pos, Bool, true, false, List, [], ◌∷◌, ◌++◌, Option, None, Some, codes, map}
+use Rattle.std.specs.Prelude.{◌≡◌, ℕ, true, List, [], ◌∷◌, ◌++◌, Option, None, Some, codes, map}
 use Rattle.world_meaning.specs.Directions.{all_directions, direction_name, short_word}
 use Rattle.world_meaning.specs.declared.article.Article.{Article}
 use Rattle.world_meaning.specs.declared.article.Article.TheVariants as article
 use Rattle.world_meaning.specs.declared.place.Place.{Place}
 use Rattle.world_meaning.specs.declared.place.Rel.{Rel}
-use Rattle.world_meaning.specs.declared.place.Rel.TheVariants.{In, On, Carried}
-use Rattle.play_meaning.specs.Rules.{Anything, Aspect, InOrder, Listed, Rule, Unlisted}
+use Rattle.world_meaning.specs.declared.session.Ending.{Ending}
+use Rattle.world_meaning.specs.declared.place.Rel.TheVariants.{In}
+use Rattle.play_meaning.specs.Rules.{Anything, Aspect, InOrder, Listed, Rule}
 use Rattle.play_meaning.specs.Sketches.{Item, Sketch, game_of_sketch}
 use Rattle.play_meaning.specs.StandardRules.{line, only, standard_rules}
-use Rattle.play_meaning.specs.Trees.{Body, Condition, End, Leave, Phrase, Say, Then}
-use Rattle.play_meaning.specs.Transcripts.{transcript}
+use Rattle.play_meaning.specs.Trees.{Body, Condition, Leave, Say, Then}
+use Rattle.play_meaning.specs.Sessions.{opened}
+use Rattle.play_meaning.specs.Transcripts.{last_state, transcript}
 use Rattle.play_meaning.specs.declared.outcome.Flow.TheVariants.{NoDecision}
 
 -- ---- objects
@@ -62,3 +64,11 @@ listing listed rule = record rule { listed = listed }
 
 abbrev pub typed : List (List ℕ) → List ℕ → Sketch → Type 0
 typed lines text sketch = transcript (game_of_sketch sketch) true [] lines ≡ text
+
+-- the same where memory is refused in lines
+abbrev pub refused_in : List (Option ℕ) → List (List ℕ) → List ℕ → Sketch → Type 0
+refused_in refusals lines text sketch = transcript (game_of_sketch sketch) true refusals lines ≡ text
+
+-- how a session ends behind these lines
+abbrev pub ends_by : List (List ℕ) → Ending → Sketch → Type 0
+ends_by lines ending sketch = (last_state (game_of_sketch sketch) [] (opened (game_of_sketch sketch)).state lines).ending ≡ Some ending

@@ -1,5 +1,5 @@
 -- Small stories about the order of rules and what they decide.
-use Rattle.std.specs.Prelude.{ℕ, pos, List, [], ◌∷◌, ◌++◌, length, Option, None, Some, codes, slice_set, slice_get}
+use Rattle.std.specs.Prelude.{ℕ, pos, List, [], ◌∷◌, ◌++◌, Option, None, Some, codes, slice_set, slice_get}
 use Rattle.world_meaning.specs.declared.place.Rel.TheVariants.{In}
 use Rattle.play_meaning.specs.Consulting.{after_book, before_book, instead_book}
 use Rattle.play_meaning.specs.Rows.{bright, here, in_hall, listing, rule_of, say_and_go_on, says, with_rules}
@@ -8,7 +8,7 @@ use Rattle.play_meaning.specs.Settings.{container_kind, open_flag, openable_flag
 use Rattle.play_meaning.specs.Sketches.{Item, Sketch}
 use Rattle.play_meaning.specs.StandardActions.{jumping, putting_on, taking}
 use Rattle.play_meaning.specs.StandardRules.{only, standard_rules}
-use Rattle.play_meaning.specs.Trees.{Body, Condition, Equals, First, Literal, NowHeld, Quality, The, TurnCount}
+use Rattle.play_meaning.specs.Trees.{Body, Equals, First, Literal, NowHeld, Quality, The, TurnCount}
 
 abbrev pub instead_of_taking : Aspect → Body → Rule
 instead_of_taking noun body = rule_of instead_book (Some taking) noun Anything None body

@@ -1,6 +1,6 @@
 -- What the player sees and touches in a world, and whether there is light, told by computing: the chain of each
 -- thing is walked.
-use Rattle.std.specs.Prelude.{ℕ, Bool, true, false, not, ◌&&◌, ◌||◌, ◌==◌, List, [], ◌∷◌, Option, None, Some, if◌then◌else◌}
+use Rattle.std.specs.Prelude.{ℕ, Bool, true, false, not, ◌&&◌, ◌||◌, ◌==◌, Option, None, Some, if◌then◌else◌}
 use Rattle.std.specs.List.{list_any}
 use Rattle.world_meaning.specs.Chains.{top_of}
 use Rattle.world_meaning.specs.Directions.{all_directions, direction_number}

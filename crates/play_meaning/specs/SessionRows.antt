@@ -1,6 +1,6 @@
 -- Small stories about scenes, endings, undo and texts.
-use Rattle.std.specs.Prelude.{ℕ, ℤ, pos, Bool, true, false, List, [], ◌∷◌, ◌++◌, Option, None, Some, codes}
-use Rattle.play_meaning.specs.ActionRows.{one_more, say_both}
+use Rattle.std.specs.Prelude.{ℕ, pos, Bool, true, false, List, [], ◌∷◌, None, Some, codes}
+use Rattle.play_meaning.specs.ActionRows.{one_more}
 use Rattle.play_meaning.specs.Consulting.{carry_out_book, every_turn_book, instead_book, play_begins_book}
 use Rattle.play_meaning.specs.Grammar.{Word}
 use Rattle.play_meaning.specs.Rows.{in_hall, rule_of, says}

@@ -2,11 +2,11 @@
 use Rattle.std.specs.Prelude.{◌≡◌, ℕ, ◌==◌, Bool, true, false, List, [], ◌∷◌, ◌++◌, take, Option, None, Some, Ok, Err, codes, if◌then◌else◌}
 use Rattle.world_meaning.specs.Progress.{Attempt}
 use Rattle.world_meaning.specs.Session.{abandon_text, refuses}
-use Rattle.world_meaning.specs.Texts.{closing_text, prompt, said}
+use Rattle.world_meaning.specs.Texts.{closing_text, said}
 use Rattle.world_meaning.specs.declared.session.Abandon.{Abandon}
 use Rattle.world_meaning.specs.declared.session.Abandon.TheVariants.{Memory}
 use Rattle.world_meaning.specs.declared.session.Ending.{Ending}
-use Rattle.world_meaning.specs.declared.session.Ending.TheVariants.{EndOfInput, Quit as Quitting, Story}
+use Rattle.world_meaning.specs.declared.session.Ending.TheVariants.{Quit as Quitting, Story}
 use Rattle.world_meaning.specs.declared.session.ReplyKind.{ReplyKind}
 use Rattle.world_meaning.specs.declared.session.ReplyKind.TheVariants.{Kept, Free, Abandoned, Ended, Over}
 use Rattle.play_meaning.specs.Games.{Acts, Asks, Game, Question, Quit, Reading, Says, Undo}
@@ -74,7 +74,7 @@ undone (w ∷ kept) s = free (said (codes "Previous turn undone.")) None (record
 -- memory may have been refused in a line: by the place of the command that was refused, the first being 0
 abbrev pub read_answer : Game → Option ℕ → State → Reading → Answer
 read_answer g refused s (Says text) = free text None s
-read_answer g refused s (Asks question text) = free text (Some question) s
+read_answer g refused s (Asks question text) = if refuses refused 0 then abandoned Memory s else free text (Some question) s
 read_answer g refused s (Acts now) = if refuses refused 0 then abandoned Memory s else acted (g.needs now.action).out_of_world g now s
 read_answer g refused s Undo = undone s.kept s
 read_answer g refused s Quit = record { text = []; kind = Ended; state = record s { question = None; ending = Some Quitting } }

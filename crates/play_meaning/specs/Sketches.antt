@@ -1,6 +1,6 @@
 -- A story written by hand, to compute examples on: the built-in kinds and properties and those of its own, objects,
 -- rules, and what its lines mean.
-use Rattle.std.specs.Prelude.{ℕ, ◌+◌, zero, suc, ℤ, pos, Bool, true, false, ◌&&◌, ◌==◌, List, [], ◌∷◌, ◌++◌, length, map, find, is_some, Option, None, Some, option_map, slice_get, slice_index_or, if◌then◌else◌}
+use Rattle.std.specs.Prelude.{ℕ, ◌+◌, zero, suc, ℤ, pos, Bool, false, ◌&&◌, ◌==◌, List, [], ◌++◌, length, map, find, is_some, Option, None, Some, option_map, slice_get, slice_index_or}
 use Rattle.std.specs.List.{list_any, range_with_len}
 use Rattle.world_meaning.specs.Kinds.{built_in_parents, is_under, is_under_one}
 use Rattle.world_meaning.specs.Properties.{built_in_properties}

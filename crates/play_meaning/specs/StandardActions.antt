@@ -1,5 +1,5 @@
 -- The actions that every story has: their numbers, and what each asks for.
-use Rattle.std.specs.Prelude.{ℕ, Bool, true, false, List, [], ◌∷◌, None, slice_index_or}
+use Rattle.std.specs.Prelude.{ℕ, Bool, true, false, List, [], ◌∷◌}
 use Rattle.play_meaning.specs.declared.action.Needs.{Needs}
 use Rattle.play_meaning.specs.declared.action.Slot.{Slot}
 use Rattle.play_meaning.specs.declared.action.Slot.TheVariants.{Absent, Visible, Touched, Carried}

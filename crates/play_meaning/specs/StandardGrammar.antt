@@ -1,6 +1,6 @@
 -- The commands that every story understands, behind those of the author's.
 use Rattle.std.specs.Prelude.{ℕ, List, [], ◌∷◌, codes}
-use Rattle.play_meaning.specs.Grammar.{Direction, Line, Something, Token, Word}
+use Rattle.play_meaning.specs.Grammar.{Direction, Line, Something, Word}
 use Rattle.play_meaning.specs.StandardActions.{closing, dropping, examining, going, inserting, jumping, looking, opening, putting_on, switching_off, switching_on, taking, taking_inventory, taking_off, waiting, wearing}
 
 abbrev pub alone : ℕ → List ℕ → Line

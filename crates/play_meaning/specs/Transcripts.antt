@@ -1,5 +1,5 @@
 -- The transcript of a session: the opening, and a prompt, an echo and a text for each line.
-use Rattle.std.specs.Prelude.{ℕ, Bool, true, false, List, [], ◌∷◌, ◌++◌, Option, None, Some}
+use Rattle.std.specs.Prelude.{ℕ, Bool, List, [], ◌∷◌, ◌++◌, Option}
 use Rattle.world_meaning.specs.Texts.{prompt}
 use Rattle.world_meaning.specs.Transcript.{echoed, ending_at_end, first_refusal, later_refusals, while_going}
 use Rattle.play_meaning.specs.Games.{Game}
@@ -31,6 +31,14 @@ told echo (exchange ∷ more) = (prompt ++ echoed echo exchange.line ++ exchange
 abbrev pub told_out : Bool → State → List Exchange → List ℕ
 told_out echo s all = told echo all ++ while_going (behind s all).ending prompt
 
--- what is written for lines, when none follows them
+-- what is written from a state on for lines, when none follows them
+unfoldable pub played : Game → Bool → List (Option ℕ) → State → List (List ℕ) → List ℕ
+played g echo refusals s lines = told_out echo s (exchanges g refusals s lines)
+
+-- the last state; where the lines run out the input ended
+unfoldable pub last_state : Game → List (Option ℕ) → State → List (List ℕ) → State
+last_state g refusals s lines = record (behind s (exchanges g refusals s lines)) { ending = ending_at_end (behind s (exchanges g refusals s lines)).ending }
+
+-- what a session writes for lines: its opening, and what is played from there
 unfoldable pub transcript : Game → Bool → List (Option ℕ) → List (List ℕ) → List ℕ
-transcript g echo refusals lines = (opened g).text ++ told_out echo (opened g).state (exchanges g refusals (opened g).state lines)
+transcript g echo refusals lines = (opened g).text ++ played g echo refusals (opened g).state lines

@@ -1,15 +1,13 @@
 -- Whether a condition holds, in a world, an action and the open repeats. All its parts are looked at, from left to
 -- right. Of nothing every condition is false in front of a `not`, but that nothing is nothing.
-use Rattle.std.specs.Prelude.{ℕ, ℤ, int_le, int_lt, Bool, false, not, ◌&&◌, ◌||◌, List, Option, None, Some, Ok}
+use Rattle.std.specs.Prelude.{ℕ, ℤ, int_le, int_lt, Bool, false, not, ◌&&◌, ◌||◌, Option, None, Some, Ok}
 use Rattle.std.specs.List.{list_any}
 use Rattle.std.specs.Ordering.{int_eq}
-use Rattle.world_meaning.specs.declared.place.Place.{Place}
-use Rattle.world_meaning.specs.declared.place.Rel.{Rel}
 use Rattle.world_meaning.specs.declared.place.Rel.TheVariants.{Carried, Worn}
 use Rattle.world_meaning.specs.Progress.{Attempt, next}
 use Rattle.play_meaning.specs.Seeing.{encloses, has_light, is_same}
 use Rattle.play_meaning.specs.Settings.{Setting}
-use Rattle.play_meaning.specs.Trees.{And, Condition, Encloses, Equals, Happens, Has, HasDescription, InDarkness, IsAtMost, IsHeld, IsHeldByOne, IsLess, IsOne, IsSame, IsSo, Not, Number, Or}
+use Rattle.play_meaning.specs.Trees.{And, Condition, Encloses, Equals, Happens, Has, HasDescription, InDarkness, IsAtMost, IsHeld, IsHeldByOne, IsLess, IsOne, IsSame, IsSo, Not, Or}
 use Rattle.play_meaning.specs.Values.{Scope, is_held, is_one, is_so, number_in, object_in, those}
 use Rattle.play_meaning.specs.Worlds.{World, scene_of}
 

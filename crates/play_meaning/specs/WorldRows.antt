@@ -1,10 +1,10 @@
 -- Small stories about rooms, doors, light and what the player does with things.
-use Rattle.std.specs.Prelude.{ℕ, List, [], ◌∷◌, ◌++◌, Option, None, Some, codes}
+use Rattle.std.specs.Prelude.{ℕ, List, [], ◌∷◌, Option, None, Some, codes}
 use Rattle.world_meaning.specs.declared.article.Article.TheVariants as article
 use Rattle.world_meaning.specs.declared.place.Place.{Place}
-use Rattle.world_meaning.specs.declared.place.Rel.TheVariants.{In, On, Carried, Part}
+use Rattle.world_meaning.specs.declared.place.Rel.TheVariants.{In, Carried, Part}
 use Rattle.play_meaning.specs.Rows.{at, bright, here, in_hall, item, with_rules}
-use Rattle.play_meaning.specs.Settings.{container_kind, described_flag, device_kind, door_kind, fixed_in_place_flag, lit_flag, open_flag, openable_flag, person_kind, room_kind, scenery_flag, supporter_kind, thing_kind, transparent_flag, wearable_flag}
+use Rattle.play_meaning.specs.Settings.{container_kind, described_flag, device_kind, door_kind, fixed_in_place_flag, lit_flag, open_flag, openable_flag, person_kind, room_kind, supporter_kind, thing_kind, transparent_flag, wearable_flag}
 use Rattle.play_meaning.specs.Sketches.{Exit, Item, Sketch}
 use Rattle.play_meaning.specs.StandardRules.{plain, standard_rules}
 

@@ -1,7 +1,7 @@
 //! What holds of all games.
 ghost use Rattle.std.specs.Prelude.{◌≡◌, ◌++◌, ℕ, List, None, Ok, Option, Some, map};
 ghost use Rattle.play_meaning.specs.Agreement.{Agree};
-ghost use Rattle.play_meaning.specs.Consulting.{ask, consult};
+ghost use Rattle.play_meaning.specs.Consulting.{ask, consult, with_nouns};
 ghost use Rattle.play_meaning.specs.Doing.{Inner};
 ghost use Rattle.play_meaning.specs.Games.{Game};
 ghost use Rattle.play_meaning.specs.Progress.{Asked, Progress, first_decision};
@@ -19,7 +19,7 @@ pub fn agreeing_games_are_one()
 /// Behind a rule that decides no rule of the book is asked.
 pub fn decisions_end_consultations()
     ensures { (g : Game) (inner : Inner) (book : ℕ) (now : ActionNow) (rules others : List ℕ) (p : Progress) (asked : Asked) (outcome : Outcome)
-        → g.books book ≡ rules ++ others → first_decision (map (ask g inner book now) rules) p ≡ Ok asked → asked.decision ≡ Some outcome
+        → g.books book ≡ rules ++ others → first_decision (map (ask g inner book (with_nouns now)) rules) p ≡ Ok asked → asked.decision ≡ Some outcome
         → consult g inner book now p ≡ Ok asked }
 {}
 

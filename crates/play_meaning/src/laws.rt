@@ -1,10 +1,11 @@
 //! The definitions, computed on small stories written by hand: each clause is the transcript of one session.
 ghost use Rattle.play_meaning.specs.ActionRows.{ball_in_box, ball_looked_at, ball_on_table, ball_out_of_range, coin_out_of_sight, endless_following, endless_jumping, lamp_in_bag, parted_words, score_at_its_top, seventeen_deep, sixteen_deep, two_boxes, two_open_boxes, weighing};
-ghost use Rattle.play_meaning.specs.Rows.{typed};
+ghost use Rattle.play_meaning.specs.Rows.{ends_by, refused_in, typed};
 ghost use Rattle.play_meaning.specs.RuleRows.{closed_box, got_it, got_it_and_goes_on, graded, left_behind, listed_first, met_on_the_way, open_box, scenery_goes, scenery_stays, statue_spoken_for, three_rules, two_nouns, unlisted};
 ghost use Rattle.play_meaning.specs.SessionRows.{empty_hall, one_storm, over_at_once, past_the_top, scoring, storms, sums_and_choices, wet_jumping, winning, without_stop};
 ghost use Rattle.play_meaning.specs.WorldRows.{bulb_of_closed_box, closed_gate, dark_cave, hall_and_garden, jar_in_tank, lamp_here, lamp_in_closed_box, lamp_in_jar, lamp_of_bob, many_things, open_box_in_closed_sack};
-ghost use Rattle.std.specs.Prelude.{[], ◌∷◌, codes};
+ghost use Rattle.std.specs.Prelude.{[], ◌∷◌, Some, codes};
+ghost use Rattle.world_meaning.specs.declared.session.Ending.TheVariants.{EndOfInput, Quit, Story};
 
 /// The more specific rule is asked first, but for rules that are listed first; an unlisted one is not asked.
 pub fn rules_stand_in_order()
@@ -49,6 +50,7 @@ pub fn commands_are_read()
     ensures described { typed (codes "x ball" ∷ []) (codes "Hall\nYou can see a ball here.\n\n>x ball\nYou look at the ball.\n\n>") ball_looked_at }
     ensures shortest { typed (codes "put apple on bread on cheese" ∷ []) (codes "Hall\nYou can see an apple, a pie, a bread and a cheese here.\n\n>put apple on bread on cheese\nWhich do you mean, the apple or the pie?\n\n>") parted_words }
     ensures second_asked { typed (codes "put ball in box" ∷ codes "the red" ∷ []) (codes "Hall\nYou can see a ball, a red box and a blue box here.\n\n>put ball in box\nWhich do you mean, the red box or the blue box?\n\n>the red\n(first taking the ball)\nYou put the ball into the red box.\n\n>") two_open_boxes }
+    ensures question_refused { refused_in (Some 0 ∷ []) (codes "open box" ∷ codes "red" ∷ []) (codes "Hall\nYou can see a red box and a blue box here.\n\n>open box\n[The turn was abandoned: out of memory.]\n\n>red\nI don't know that verb.\n\n>") two_boxes }
     ensures asked { typed (codes "open box" ∷ codes "red" ∷ codes "open box" ∷ codes "look" ∷ []) (codes "Hall\nYou can see a red box and a blue box here.\n\n>open box\nWhich do you mean, the red box or the blue box?\n\n>red\nYou open the red box.\n\n>open box\nWhich do you mean, the red box or the blue box?\n\n>look\nHall\nYou can see a red box and a blue box here.\n\n>") two_boxes }
 {}
 
@@ -57,6 +59,9 @@ pub fn scenes_and_stories_end()
     ensures once { typed (codes "z" ∷ codes "z" ∷ codes "z" ∷ []) (codes "Hall\n\n>z\nTime passes.\nThunder.\n\n>z\nTime passes.\nCalm.\n\n>z\nTime passes.\n\n>") one_storm }
     ensures again { typed (codes "z" ∷ codes "z" ∷ codes "z" ∷ []) (codes "Hall\n\n>z\nTime passes.\nThunder.\n\n>z\nTime passes.\nCalm.\nThunder.\n\n>z\nTime passes.\nCalm.\nThunder.\nCalm.\nThunder.\n\n>") storms }
     ensures during { typed (codes "jump" ∷ codes "jump" ∷ codes "jump" ∷ []) (codes "Hall\n\n>jump\nYou jump on the spot.\nThunder.\n\n>jump\nWet.\nCalm.\n\n>jump\nYou jump on the spot.\n\n>") wet_jumping }
+    ensures by_story { ends_by (codes "jump" ∷ codes "look" ∷ []) Story winning }
+    ensures by_quit { ends_by (codes "look" ∷ codes "q" ∷ []) Quit empty_hall }
+    ensures by_input { ends_by (codes "look" ∷ []) EndOfInput empty_hall }
     ensures won { typed (codes "jump" ∷ codes "look" ∷ []) (codes "Hall\n\n>jump\n\n*** You have won ***\n") winning }
     ensures at_once { typed (codes "look" ∷ []) (codes "\n*** The End ***\n") over_at_once }
 {}

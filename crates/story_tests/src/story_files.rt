@@ -159,7 +159,7 @@ fn refuses_bad_tables(rt: HostRuntime) -> Result<(), Fail> {
     // places of bytes, and what is wrong with another byte there
     let tables = [
         (10usize, b'Y'), // the player's name
-        (262, 8), // the player's kind
+        (262, 7), // the player a device
         (277, 1), // the player on a room
         (279, 12), // the player in a direction
         (279, 15), // the player in no object
