@@ -11,8 +11,8 @@ use Rattle.play_meaning.specs.Rows.{at, bright, here, item, with_rules}
 use Rattle.play_meaning.specs.Scripts.{scope_of, telling_of}
 use Rattle.play_meaning.specs.Settings.{container_kind, described_flag, fixed_in_place_flag, lit_flag, man_kind, open_flag, openable_flag, person_kind, room_kind, supporter_kind, thing_kind, wearable_flag}
 use Rattle.play_meaning.specs.Sketches.{Item, Sketch, game_of_sketch, script_of, start_of}
-use Rattle.play_meaning.specs.StandardRules.{line, only, plain, standard_rules}
-use Rattle.play_meaning.specs.Trees.{And, Body, Bytes, CapitalDefinite, CapitalIndefinite, Condition, Definite, DescriptionOf, Encloses, Equals, Figure, First, Has, If, IfSaid, Indefinite, Instead, IsAtMost, IsHeld, IsHeldByOne, IsLess, IsOne, IsSame, IsSo, Leave, Listing, Literal, Location, Minus, Move, Name, Not, Nothing, Noun, NowHeld, NowNowhere, NowNumber, Object, Or, Plain, Plus, PropertyOf, Quality, Repeat, RoomFrom, Say, Second, SecondNoun, Silence, Text, The, Then, Those, ThoseHeld, Times, Turning, Variable, Visible}
+use Rattle.play_meaning.specs.StandardRules.{line, only, plain, standard_rules, the_player}
+use Rattle.play_meaning.specs.Trees.{And, Body, Bytes, CapitalDefinite, CapitalIndefinite, Condition, Definite, Description, DescriptionOf, Encloses, End, Equals, Figure, First, Has, If, IfSaid, Indefinite, Instead, IsAtMost, IsHeld, IsHeldByOne, IsLess, IsOne, IsSame, IsSo, Leave, Listing, Literal, Location, Minus, Move, Name, Naming, Not, Nothing, Noun, NowHeld, NowNowhere, NowNumber, Number, Object, Or, Phrase, Plain, Plus, PropertyOf, Quality, Repeat, RoomFrom, Say, Second, SecondNoun, Silence, Text, The, Then, Those, ThoseHeld, Times, Turning, Variable, Visible}
 use Rattle.play_meaning.specs.Turns.{no_action}
 use Rattle.play_meaning.specs.declared.outcome.Flow.{Flow}
 use Rattle.play_meaning.specs.declared.outcome.Flow.TheVariants.{NoDecision, Decides}
@@ -77,100 +77,239 @@ abbrev pub does : Body → List ℕ → Flow → Sketch → Type 0
 does body text flow k =
     next {B = List ℕ × Flow} (do_body (telling_of (script_of k)) (top (game_of_sketch k)) body (scope_of no_action) (fresh (start_of k))) (λ done. Ok (done.progress.text, done.flow)) ≡ Ok (text, flow)
 
+-- ---- words of the bodies
+
+abbrev pub to_the_north : Object
+to_the_north = The 1
+
+abbrev pub upwards : Object
+upwards = The 9
+
+abbrev pub the_hall : Object
+the_hall = The 13
+
+abbrev pub the_box : Object
+the_box = The 14
+
+abbrev pub the_ball : Object
+the_ball = The 15
+
+abbrev pub the_desk : Object
+the_desk = The 16
+
+abbrev pub the_cup : Object
+the_cup = The 17
+
+abbrev pub bob_himself : Object
+bob_himself = The 18
+
+abbrev pub the_coin : Object
+the_coin = The 19
+
+abbrev pub the_hat : Object
+the_hat = The 20
+
+abbrev pub the_lamp : Object
+the_lamp = The 21
+
+abbrev pub the_coat : Object
+the_coat = The 22
+
+abbrev pub the_knob : Object
+the_knob = The 23
+
+abbrev pub the_yard : Object
+the_yard = The 24
+
+abbrev pub the_rock : Object
+the_rock = The 25
+
+abbrev pub things_here : Description
+things_here = ThoseHeld [] (Some thing_kind) In the_hall
+
+abbrev pub body : List Phrase → Body
+body [] = End
+body (phrase ∷ phrases) = Then phrase (body phrases)
+
+-- numbers, parted by blanks
+abbrev pub figures : List Number → Text
+figures [] = Silence
+figures (number ∷ []) = Figure number Silence
+figures (number ∷ next ∷ more) = Figure number (Bytes (codes " ") (figures (next ∷ more)))
+
+-- an object named in each of these ways
+abbrev pub namings : Object → List Naming → Text
+namings o [] = Silence
+namings o (naming ∷ []) = Name naming o Silence
+namings o (naming ∷ next ∷ more) = Name naming o (Bytes (codes " ") (namings o (next ∷ more)))
+
+abbrev pub literal : ℕ → Number
+literal n = Literal (pos n)
+
+abbrev pub below_zero : ℕ → Number
+below_zero n = Literal (neg_ℤ (pos n))
+
+abbrev pub score : Number
+score = Variable 0
+
+abbrev pub level : Number
+level = Variable 1
+
+abbrev pub five_ways : List Naming
+five_ways = Plain ∷ Definite ∷ CapitalDefinite ∷ Indefinite ∷ CapitalIndefinite ∷ []
+
+-- `y` or `n` for each condition is said
+abbrev pub asked : List Condition → Body
+asked conditions = only (Say (answers conditions))
+
 -- ---- bodies
 
 unfoldable pub of_nothing : Body
-of_nothing = only (Say (answers (IsSo Noun (Quality open_flag First) ∷ IsSo Noun (Quality open_flag Second) ∷ Not (IsSo Nothing (Quality open_flag First)) ∷ IsSo Nothing (Quality lit_flag First) ∷ Not (IsSo SecondNoun (Quality lit_flag First)) ∷ IsSo Nothing (Visible) ∷ Not (IsSo Nothing (Visible)) ∷ [])))
+of_nothing = asked
+    (IsSo Noun (Quality open_flag First) ∷ IsSo Noun (Quality open_flag Second) ∷ Not (IsSo Nothing (Quality open_flag First))
+    ∷ IsSo Nothing (Quality lit_flag First) ∷ Not (IsSo SecondNoun (Quality lit_flag First)) ∷ IsSo Nothing Visible ∷ Not (IsSo Nothing Visible) ∷ [])
 
 unfoldable pub descriptions : Body
-descriptions = only (Say (answers (IsOne (The 14) (Those (Quality open_flag Second ∷ []) (Some container_kind)) ∷ IsOne (The 14) (Those (Quality open_flag First ∷ []) (Some container_kind)) ∷ IsOne (The 14) (Those (Quality open_flag Second ∷ Quality lit_flag Second ∷ []) (Some thing_kind)) ∷ IsOne (The 15) (Those (Quality open_flag Second ∷ []) (Some container_kind)) ∷ IsOne (The 14) (Those (Quality open_flag Second ∷ []) (Some supporter_kind)) ∷ IsOne (The 20) (Those (Quality wearable_flag First ∷ Quality fixed_in_place_flag Second ∷ []) (Some thing_kind)) ∷ [])))
+descriptions = asked
+    (IsOne the_box (Those (Quality open_flag Second ∷ []) (Some container_kind))
+    ∷ IsOne the_box (Those (Quality open_flag First ∷ []) (Some container_kind))
+    ∷ IsOne the_box (Those (Quality open_flag Second ∷ Quality lit_flag Second ∷ []) (Some thing_kind))
+    ∷ IsOne the_ball (Those (Quality open_flag Second ∷ []) (Some container_kind))
+    ∷ IsOne the_box (Those (Quality open_flag Second ∷ []) (Some supporter_kind))
+    ∷ IsOne the_hat (Those (Quality wearable_flag First ∷ Quality fixed_in_place_flag Second ∷ []) (Some thing_kind)) ∷ [])
 
 unfoldable pub not_held : Body
-not_held = only (Say (answers (Not (IsHeld (The 15) In (The 14)) ∷ Not (IsHeld (The 15) In (The 13)) ∷ Not (IsHeld (The 22) Worn (The 0)) ∷ Not (IsHeld (The 23) Part (The 14)) ∷ Not (IsHeld Nothing In (The 13)) ∷ [])))
+not_held = asked
+    (Not (IsHeld the_ball In the_box) ∷ Not (IsHeld the_ball In the_hall) ∷ Not (IsHeld the_coat Worn the_player) ∷ Not (IsHeld the_knob Part the_box)
+    ∷ Not (IsHeld Nothing In the_hall) ∷ [])
 
 unfoldable pub held_by_one : Body
-held_by_one = only (Say (answers (IsHeldByOne (The 15) In (Those (Quality open_flag Second ∷ []) (Some container_kind)) ∷ IsHeldByOne (The 15) In (Those (Quality open_flag First ∷ []) (Some container_kind)) ∷ IsHeldByOne (The 15) In (Those [] (Some thing_kind)) ∷ IsHeldByOne (The 25) In (Those [] (Some thing_kind)) ∷ IsHeldByOne (The 25) In (Those [] (Some room_kind)) ∷ IsHeldByOne (The 17) On (Those [] (Some supporter_kind)) ∷ IsHeldByOne (The 19) Carried (Those [] (Some man_kind)) ∷ IsHeldByOne (The 19) Worn (Those [] (Some man_kind)) ∷ IsHeldByOne (The 23) Part (ThoseHeld [] (Some supporter_kind) In (The 13)) ∷ Not (IsHeldByOne (The 17) On (Those (Quality lit_flag First ∷ []) (Some supporter_kind))) ∷ Not (IsHeldByOne (The 21) Carried (Those [] (Some person_kind))) ∷ IsHeldByOne Nothing In (Those [] (Some room_kind)) ∷ [])))
+held_by_one = asked
+    (IsHeldByOne the_ball In (Those (Quality open_flag Second ∷ []) (Some container_kind))
+    ∷ IsHeldByOne the_ball In (Those (Quality open_flag First ∷ []) (Some container_kind)) ∷ IsHeldByOne the_ball In (Those [] (Some thing_kind))
+    ∷ IsHeldByOne the_rock In (Those [] (Some thing_kind)) ∷ IsHeldByOne the_rock In (Those [] (Some room_kind))
+    ∷ IsHeldByOne the_cup On (Those [] (Some supporter_kind)) ∷ IsHeldByOne the_coin Carried (Those [] (Some man_kind))
+    ∷ IsHeldByOne the_coin Worn (Those [] (Some man_kind)) ∷ IsHeldByOne the_knob Part (ThoseHeld [] (Some supporter_kind) In the_hall)
+    ∷ Not (IsHeldByOne the_cup On (Those (Quality lit_flag First ∷ []) (Some supporter_kind)))
+    ∷ Not (IsHeldByOne the_lamp Carried (Those [] (Some person_kind))) ∷ IsHeldByOne Nothing In (Those [] (Some room_kind)) ∷ [])
 
 unfoldable pub same : Body
-same = only (Say (answers (IsSame (The 15) (The 15) ∷ IsSame (The 15) (The 14) ∷ Not (IsSame (The 15) (The 14)) ∷ IsSame Noun Nothing ∷ IsSame Nothing Nothing ∷ IsSame Noun SecondNoun ∷ IsSame Location (The 13) ∷ Not (IsSame Location (The 13)) ∷ IsSame (The 0) (The 0) ∷ IsSame (The 0) Noun ∷ IsSame (The 18) Nothing ∷ Not (IsSame (The 18) Nothing) ∷ [])))
+same = asked
+    (IsSame the_ball the_ball ∷ IsSame the_ball the_box ∷ Not (IsSame the_ball the_box) ∷ IsSame Noun Nothing ∷ IsSame Nothing Nothing
+    ∷ IsSame Noun SecondNoun ∷ IsSame Location the_hall ∷ Not (IsSame Location the_hall) ∷ IsSame the_player the_player ∷ IsSame the_player Noun
+    ∷ IsSame bob_himself Nothing ∷ Not (IsSame bob_himself Nothing) ∷ [])
 
 unfoldable pub has : Body
-has = only (Say (answers (IsHeld (The 19) Carried (The 18) ∷ IsHeld (The 20) Worn (The 18) ∷ IsHeld (The 20) Carried (The 18) ∷ Has (The 18) (The 20) ∷ Has (The 18) (The 19) ∷ Has (The 18) (The 21) ∷ Has (The 0) (The 22) ∷ IsHeld (The 21) Worn (The 0) ∷ Has (The 14) (The 15) ∷ Has (The 18) Nothing ∷ Has Noun (The 19) ∷ IsHeld Nothing Worn Nothing ∷ [])))
+has = asked
+    (IsHeld the_coin Carried bob_himself ∷ IsHeld the_hat Worn bob_himself ∷ IsHeld the_hat Carried bob_himself ∷ Has bob_himself the_hat
+    ∷ Has bob_himself the_coin ∷ Has bob_himself the_lamp ∷ Has the_player the_coat ∷ IsHeld the_lamp Worn the_player ∷ Has the_box the_ball
+    ∷ Has bob_himself Nothing ∷ Has Noun the_coin ∷ IsHeld Nothing Worn Nothing ∷ [])
 
 unfoldable pub encloses : Body
-encloses = only (Say (answers (Encloses (The 13) (The 15) ∷ Encloses (The 14) (The 15) ∷ Encloses (The 16) (The 23) ∷ Encloses (The 18) (The 20) ∷ Encloses (The 13) (The 19) ∷ Encloses (The 24) (The 15) ∷ Encloses (The 15) (The 14) ∷ Encloses (The 15) (The 15) ∷ Encloses (The 13) (The 0) ∷ Encloses (The 0) (The 21) ∷ Encloses Noun (The 15) ∷ Encloses (The 13) Nothing ∷ Encloses (The 13) (The 13) ∷ [])))
+encloses = asked
+    (Encloses the_hall the_ball ∷ Encloses the_box the_ball ∷ Encloses the_desk the_knob ∷ Encloses bob_himself the_hat ∷ Encloses the_hall the_coin
+    ∷ Encloses the_yard the_ball ∷ Encloses the_ball the_box ∷ Encloses the_ball the_ball ∷ Encloses the_hall the_player ∷ Encloses the_player the_lamp
+    ∷ Encloses Noun the_ball ∷ Encloses the_hall Nothing ∷ Encloses the_hall the_hall ∷ [])
 
 unfoldable pub carries_and_wears : Body
-carries_and_wears = Then (NowHeld (The 15) Carried (The 0)) (Then (NowHeld (The 19) Worn (The 18)) (Then (NowHeld (The 20) Carried (The 18)) (only (Say everywhere))))
+carries_and_wears = body
+    (NowHeld the_ball Carried the_player ∷ NowHeld the_coin Worn bob_himself ∷ NowHeld the_hat Carried bob_himself ∷ Say everywhere ∷ [])
 
 unfoldable pub nowhere : Body
-nowhere = Then (NowNowhere (The 17)) (Then (NowNowhere (The 14)) (only (Say everywhere)))
+nowhere = body (NowNowhere the_cup ∷ NowNowhere the_box ∷ Say everywhere ∷ [])
 
 unfoldable pub cannot_hold : Body
-cannot_hold = Then (NowHeld (The 15) On (The 13)) (Then (NowHeld (The 15) In (The 18)) (Then (NowHeld (The 15) Carried (The 14)) (Then (NowHeld (The 15) Worn (The 16)) (Then (NowHeld (The 15) Part (The 13)) (Then (NowHeld (The 15) On (The 14)) (Then (NowHeld (The 15) In (The 16)) (Then (NowHeld (The 15) In (The 1)) (Then (NowHeld (The 15) Carried (The 16)) (only (Say everywhere))))))))))
+cannot_hold = body
+    (NowHeld the_ball On the_hall ∷ NowHeld the_ball In bob_himself ∷ NowHeld the_ball Carried the_box ∷ NowHeld the_ball Worn the_desk
+    ∷ NowHeld the_ball Part the_hall ∷ NowHeld the_ball On the_box ∷ NowHeld the_ball In the_desk ∷ NowHeld the_ball In to_the_north
+    ∷ NowHeld the_ball Carried the_desk ∷ Say everywhere ∷ [])
 
 unfoldable pub nothing_held : Body
-nothing_held = Then (NowHeld Nothing In (The 13)) (Then (NowHeld (The 15) In Nothing) (Then (NowHeld Noun Carried (The 18)) (Then (NowHeld (The 17) Carried SecondNoun) (Then (NowHeld Nothing Worn (The 18)) (Then (NowHeld (The 15) In (RoomFrom (The 9) (The 13))) (only (Say everywhere)))))))
+nothing_held = body
+    (NowHeld Nothing In the_hall ∷ NowHeld the_ball In Nothing ∷ NowHeld Noun Carried bob_himself ∷ NowHeld the_cup Carried SecondNoun
+    ∷ NowHeld Nothing Worn bob_himself ∷ NowHeld the_ball In (RoomFrom upwards the_hall) ∷ Say everywhere ∷ [])
 
 unfoldable pub player_in_rooms : Body
-player_in_rooms = Then (NowHeld (The 0) In (The 14)) (Then (NowHeld (The 0) On (The 16)) (Then (NowHeld (The 0) Carried (The 18)) (Then (NowHeld (The 0) Part (The 16)) (Then (NowHeld (The 0) Worn (The 18)) (Then (NowNowhere (The 0)) (Then (NowHeld (The 0) Carried (The 0)) (only (Say everywhere))))))))
+player_in_rooms = body
+    (NowHeld the_player In the_box ∷ NowHeld the_player On the_desk ∷ NowHeld the_player Carried bob_himself ∷ NowHeld the_player Part the_desk
+    ∷ NowHeld the_player Worn bob_himself ∷ NowNowhere the_player ∷ NowHeld the_player Carried the_player ∷ Say everywhere ∷ [])
 
 unfoldable pub in_itself : Body
-in_itself = Then (NowHeld (The 14) In (The 14)) (Then (NowHeld (The 16) On (The 16)) (Then (NowHeld (The 16) Part (The 16)) (Then (NowHeld (The 18) Carried (The 18)) (only (Say everywhere)))))
+in_itself = body
+    (NowHeld the_box In the_box ∷ NowHeld the_desk On the_desk ∷ NowHeld the_desk Part the_desk ∷ NowHeld bob_himself Carried bob_himself ∷ Say everywhere
+    ∷ [])
 
 unfoldable pub moved : Body
-moved = Then (Move (The 19) (The 13)) (Then (Move (The 21) (The 14)) (Then (Move (The 20) (The 16)) (Then (Move (The 17) (The 18)) (only (Say everywhere)))))
+moved = body (Move the_coin the_hall ∷ Move the_lamp the_box ∷ Move the_hat the_desk ∷ Move the_cup bob_himself ∷ Say everywhere ∷ [])
 
 unfoldable pub moved_to_player : Body
-moved_to_player = Then (Move (The 15) (The 0)) (Then (Move (The 17) Location) (only (Say everywhere)))
+moved_to_player = body (Move the_ball the_player ∷ Move the_cup Location ∷ Say everywhere ∷ [])
 
 unfoldable pub repeated : Body
-repeated = only (Repeat (ThoseHeld [] (Some thing_kind) In (The 13)) (only (Say (Name Plain (Turning 0) (plain (codes " "))))))
+repeated = only (Repeat (ThoseHeld [] (Some thing_kind) In the_hall) (only (Say (Name Plain (Turning 0) (plain (codes " "))))))
 
 unfoldable pub repeat_and_move : Body
-repeat_and_move = Then (Repeat (ThoseHeld [] (Some thing_kind) In (The 13)) (only (NowHeld (Turning 0) In (The 24)))) (only (Say (Listing Plain (ThoseHeld [] (Some thing_kind) In (The 13)) (Bytes (codes "; ") (Listing Plain (ThoseHeld [] (Some thing_kind) In (The 24)) Silence)))))
+repeat_and_move = body
+    (Repeat (ThoseHeld [] (Some thing_kind) In the_hall) (only (NowHeld (Turning 0) In the_yard))
+    ∷ Say (Listing Plain (ThoseHeld [] (Some thing_kind) In the_hall) (Bytes (codes "; ") (Listing Plain (ThoseHeld [] (Some thing_kind) In the_yard) Silence)))
+    ∷ [])
 
 unfoldable pub repeat_in_repeat : Body
-repeat_in_repeat = only (Repeat (Those [] (Some room_kind)) (Then (Repeat (Those [] (Some person_kind)) (only (Say (Name Plain (Turning 1) (plain (codes " ")))))) (only (Say (Name Plain (Turning 0) (plain (codes "; ")))))))
+repeat_in_repeat = only (Repeat (Those [] (Some room_kind)) (body
+    (Repeat (Those [] (Some person_kind)) (only (Say (Name Plain (Turning 1) (plain (codes " ")))))
+    ∷ Say (Name Plain (Turning 0) (plain (codes "; "))) ∷ [])))
 
 unfoldable pub succeeds : Body
-succeeds = Then (Say (plain (codes "a"))) (Then (Leave (Decides Success)) (only (Say (plain (codes "b")))))
+succeeds = body (Say (plain (codes "a")) ∷ Leave (Decides Success) ∷ Say (plain (codes "b")) ∷ [])
 
 unfoldable pub fails : Body
-fails = Then (Say (plain (codes "a"))) (Then (Leave (Decides Failure)) (only (Say (plain (codes "b")))))
+fails = body (Say (plain (codes "a")) ∷ Leave (Decides Failure) ∷ Say (plain (codes "b")) ∷ [])
 
 unfoldable pub no_decision : Body
-no_decision = Then (Say (plain (codes "a"))) (Then (Leave NoDecision) (only (Say (plain (codes "b")))))
+no_decision = body (Say (plain (codes "a")) ∷ Leave NoDecision ∷ Say (plain (codes "b")) ∷ [])
 
 unfoldable pub instead : Body
-instead = Then (If (Equals (Variable 0) (Literal (pos 1))) (only (Say (plain (codes "a")))) (only (Instead (Say (plain (codes "b")))))) (only (Say (plain (codes "c"))))
+instead = body
+    (If (Equals (Variable 0) (Literal (pos 1))) (only (Say (plain (codes "a")))) (only (Instead (Say (plain (codes "b"))))) ∷ Say (plain (codes "c")) ∷ [])
 
 unfoldable pub instead_behind_end : Body
 instead_behind_end = only (Instead (Leave (Decides Success)))
 
 unfoldable pub sums : Body
-sums = only (Say (Figure (Plus (Variable 1) (Literal (pos 2))) (Bytes (codes " ") (Figure (Minus (Variable 1) (Literal (pos 7))) (Bytes (codes " ") (Figure (Times (Variable 1) (Variable 1)) (Bytes (codes " ") (Figure (Plus (Variable 1) (Variable 0)) (Bytes (codes " ") (Figure (Times (Literal (neg_ℤ (pos 3))) (Literal (neg_ℤ (pos 4)))) (Bytes (codes " ") (Figure (Minus (Literal (pos 0)) (Variable 1)) (Silence)))))))))))))
+sums = only (Say (figures
+    (Plus level (literal 2) ∷ Minus level (literal 7) ∷ Times level level ∷ Plus level score ∷ Times (below_zero 3) (below_zero 4)
+    ∷ Minus (literal 0) level ∷ [])))
 
 unfoldable pub compared : Body
-compared = only (Say (answers (IsLess (Literal (pos 4)) (Variable 1) ∷ IsLess (Literal (pos 5)) (Variable 1) ∷ IsLess (Variable 1) (Literal (pos 5)) ∷ IsLess (Variable 1) (Literal (pos 6)) ∷ IsAtMost (Literal (pos 5)) (Variable 1) ∷ IsAtMost (Literal (pos 6)) (Variable 1) ∷ IsAtMost (Variable 1) (Literal (pos 5)) ∷ IsAtMost (Variable 1) (Literal (pos 4)) ∷ IsLess (Variable 1) (Plus (Variable 1) (Literal (pos 1))) ∷ IsLess (Literal (neg_ℤ (pos 2147483648))) (Literal (pos 2147483647)) ∷ IsAtMost (Literal (pos 2147483647)) (Literal (neg_ℤ (pos 2147483648))) ∷ [])))
+compared = asked
+    (IsLess (literal 4) level ∷ IsLess (literal 5) level ∷ IsLess level (literal 5) ∷ IsLess level (literal 6)
+    ∷ IsAtMost (literal 5) level ∷ IsAtMost (literal 6) level ∷ IsAtMost level (literal 5) ∷ IsAtMost level (literal 4)
+    ∷ IsLess level (Plus level (literal 1)) ∷ IsLess (below_zero 2147483648) (literal 2147483647) ∷ IsAtMost (literal 2147483647) (below_zero 2147483648) ∷ [])
 
 unfoldable pub weights : Body
-weights = Then (NowNumber 0 (The 15) (Literal (pos 7))) (Then (NowNumber 0 (The 15) (Plus (PropertyOf 0 (The 15)) (Literal (pos 3)))) (Then (NowNumber 0 (The 0) (Minus (PropertyOf 0 (The 0)) (Literal (pos 5)))) (Then (NowNumber 0 (The 15) (Plus (PropertyOf 0 (The 15)) (PropertyOf 0 (The 0)))) (only (Say (Figure (PropertyOf 0 (The 15)) (Bytes (codes " ") (Figure (PropertyOf 0 (The 0)) (Silence)))))))))
+weights = body
+    (NowNumber 0 the_ball (Literal (pos 7)) ∷ NowNumber 0 the_ball (Plus (PropertyOf 0 the_ball) (Literal (pos 3)))
+    ∷ NowNumber 0 the_player (Minus (PropertyOf 0 the_player) (Literal (pos 5)))
+    ∷ NowNumber 0 the_ball (Plus (PropertyOf 0 the_ball) (PropertyOf 0 the_player))
+    ∷ Say (Figure (PropertyOf 0 the_ball) (Bytes (codes " ") (Figure (PropertyOf 0 the_player) Silence))) ∷ [])
 
 unfoldable pub names : Body
-names = only (Say (Name Plain (The 14) (Bytes (codes " ") (Name Definite (The 14) (Bytes (codes " ") (Name CapitalDefinite (The 14) (Bytes (codes " ") (Name Indefinite (The 14) (Bytes (codes " ") (Name CapitalIndefinite (The 14) (Silence)))))))))))
+names = only (Say (namings (The 14) five_ways))
 
 unfoldable pub names_with_an : Body
-names_with_an = only (Say (Name Plain (The 15) (Bytes (codes " ") (Name Definite (The 15) (Bytes (codes " ") (Name CapitalDefinite (The 15) (Bytes (codes " ") (Name Indefinite (The 15) (Bytes (codes " ") (Name CapitalIndefinite (The 15) (Silence)))))))))))
+names_with_an = only (Say (namings (The 15) five_ways))
 
 unfoldable pub lists : Body
-lists = only (Say (Listing Plain (ThoseHeld [] (Some thing_kind) In (The 13)) (Bytes (codes "; ") (Listing Indefinite (ThoseHeld [] (Some thing_kind) In (The 13)) (Bytes (codes "; ") (Listing Definite (ThoseHeld [] (Some thing_kind) In (The 13)) (line (codes "."))))))))
+lists = only (Say (Listing Plain things_here (Bytes (codes "; ") (Listing Indefinite things_here (Bytes (codes "; ") (Listing Definite things_here (line (codes "."))))))))
 
 unfoldable pub descriptions_said : Body
-descriptions_said = only (Say (Bytes (codes "<") (DescriptionOf (The 14) (Bytes (codes "><") (DescriptionOf (The 15) (Bytes (codes "><") (DescriptionOf (The 16) (plain (codes ">")))))))))
+descriptions_said = only (Say (Bytes (codes "<") (DescriptionOf (The 14) (Bytes (codes "><") (DescriptionOf (The 15)
+    (Bytes (codes "><") (DescriptionOf (The 16) (plain (codes ">")))))))))
 
 unfoldable pub at_the_bounds : Body
-at_the_bounds = only (Say (Figure (Minus (Literal (neg_ℤ (pos 2147483647))) (Literal (pos 1))) (Bytes (codes " ") (Figure (Plus (Literal (pos 2147483646)) (Literal (pos 1))) (Silence)))))
+at_the_bounds = only (Say (figures (Minus (below_zero 2147483647) (literal 1) ∷ Plus (literal 2147483646) (literal 1) ∷ [])))
 
 unfoldable pub either_and_both : Body
-either_and_both = only (Say (answers (Or (IsHeld (The 15) In (The 14)) (IsHeld (The 15) In (The 13)) ∷ And (IsHeld (The 15) In (The 14)) (IsHeld (The 15) In (The 13)) ∷ Or (IsHeld (The 15) On (The 14)) (IsHeld (The 15) In (The 13)) ∷ [])))
+either_and_both = asked
+    (Or (IsHeld the_ball In the_box) (IsHeld the_ball In the_hall) ∷ And (IsHeld the_ball In the_box) (IsHeld the_ball In the_hall)
+    ∷ Or (IsHeld the_ball On the_box) (IsHeld the_ball In the_hall) ∷ [])
