@@ -24,6 +24,7 @@ pub mod Soundness
 pub mod StandardActions
 pub mod StandardGrammar
 pub mod StandardRules
+pub mod Tales
 pub mod Transcripts
 pub mod Trees
 pub mod Truth

@@ -10,7 +10,7 @@ use Rattle.play_meaning.specs.Progress.{fresh}
 use Rattle.play_meaning.specs.Rows.{at, bright, here, item, with_rules}
 use Rattle.play_meaning.specs.Scripts.{scope_of, telling_of}
 use Rattle.play_meaning.specs.Settings.{container_kind, described_flag, fixed_in_place_flag, lit_flag, man_kind, open_flag, openable_flag, person_kind, room_kind, supporter_kind, thing_kind, wearable_flag}
-use Rattle.play_meaning.specs.Sketches.{Item, Sketch, game_of_sketch, script_of, start_of}
+use Rattle.play_meaning.specs.Sketches.{Item, Sketch, game_of_sketch, script_of, start_in}
 use Rattle.play_meaning.specs.StandardRules.{line, only, plain, standard_rules, the_player}
 use Rattle.play_meaning.specs.Trees.{And, Body, Bytes, CapitalDefinite, CapitalIndefinite, Condition, Definite, Description, DescriptionOf, Encloses, End, Equals, Figure, First, Has, If, IfSaid, Indefinite, Instead, IsAtMost, IsHeld, IsHeldByOne, IsLess, IsOne, IsSame, IsSo, Leave, Listing, Literal, Location, Minus, Move, Name, Naming, Not, Nothing, Noun, NowHeld, NowNowhere, NowNumber, Number, Object, Or, Phrase, Plain, Plus, PropertyOf, Quality, Repeat, RoomFrom, Say, Second, SecondNoun, Silence, Text, The, Then, Those, ThoseHeld, Times, Turning, Variable, Visible}
 use Rattle.play_meaning.specs.Turns.{no_action}
@@ -75,7 +75,7 @@ everywhere =
 -- in a story a body says this and leaves off so
 abbrev pub does : Body → List ℕ → Flow → Sketch → Type 0
 does body text flow k =
-    next {B = List ℕ × Flow} (do_body (telling_of (script_of k)) (top (game_of_sketch k)) body (scope_of no_action) (fresh (start_of k))) (λ done. Ok (done.progress.text, done.flow)) ≡ Ok (text, flow)
+    next {B = List ℕ × Flow} (do_body (telling_of (script_of k)) (top (game_of_sketch k)) body (scope_of no_action) (fresh (start_in k))) (λ done. Ok (done.progress.text, done.flow)) ≡ Ok (text, flow)
 
 -- ---- words of the bodies
 

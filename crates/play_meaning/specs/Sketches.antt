@@ -1,14 +1,19 @@
--- A story written by hand, to compute examples on: the built-in kinds and properties and those of its own, objects,
--- rules, and what its lines mean.
-use Rattle.std.specs.Prelude.{ℕ, ◌+◌, zero, suc, ℤ, pos, Bool, false, ◌&&◌, ◌==◌, List, [], ◌++◌, length, map, find, is_some, Option, None, Some, option_map, slice_get, slice_index_or}
-use Rattle.std.specs.List.{list_any, range_with_len}
-use Rattle.world_meaning.specs.Kinds.{built_in_parents, is_under, is_under_one}
+-- A story written by hand, to compute examples on: a tale of the built-in kinds and properties and its own, with
+-- actions, commands, rules and scenes.
+use Rattle.std.specs.Prelude.{ℕ, ◌+◌, ℤ, pos, Bool, false, ◌&&◌, ◌==◌, List, [], ◌∷◌, ◌++◌, map, find, is_some, replicate, Option, None, Some, slice_get, slice_index_or}
+use Rattle.world_meaning.specs.Declarations.{count_of_numbers}
+use Rattle.world_meaning.specs.Directions.{all_directions, direction_number}
+use Rattle.world_meaning.specs.Kinds.{built_in_parents}
 use Rattle.world_meaning.specs.Properties.{built_in_properties}
 use Rattle.world_meaning.specs.Reading.{words_of}
 use Rattle.world_meaning.specs.Spelling.{lowered}
 use Rattle.world_meaning.specs.declared.article.Article.{Article}
-use Rattle.world_meaning.specs.declared.article.Article.TheVariants as article
+use Rattle.world_meaning.specs.declared.declared.Declared.{Declared}
+use Rattle.world_meaning.specs.declared.declared.Granted.{Granted}
+use Rattle.world_meaning.specs.declared.exits.Way.{Way}
 use Rattle.world_meaning.specs.declared.place.Place.{Place}
+use Rattle.world_meaning.specs.declared.tale.Object.{Object}
+use Rattle.world_meaning.specs.declared.tale.Tale.{Tale}
 use Rattle.play_meaning.specs.Commands.{read}
 use Rattle.play_meaning.specs.Games.{Game}
 use Rattle.play_meaning.specs.Grammar.{Grammar, Line}
@@ -17,6 +22,7 @@ use Rattle.play_meaning.specs.Scripts.{Scene, Script, game_of}
 use Rattle.play_meaning.specs.Settings.{Setting}
 use Rattle.play_meaning.specs.StandardActions.{standard_needs}
 use Rattle.play_meaning.specs.StandardGrammar.{standard_lines}
+use Rattle.play_meaning.specs.Tales.{setting_of, start_of}
 use Rattle.play_meaning.specs.Trees.{Text}
 use Rattle.play_meaning.specs.Worlds.{World}
 use Rattle.play_meaning.specs.declared.action.Needs.{Needs}
@@ -55,66 +61,60 @@ pub record Sketch : Type 0 where
   pub rules : List Rule
   pub scenes : List Scene
 
-abbrev pub parents_of : Sketch → List (Option ℕ)
-parents_of k = built_in_parents ++ k.kinds
+-- ---- its tale
 
-abbrev pub in_item : {A : Type 0} → A → (Item → A) → Option Item → A
-in_item otherwise f None = otherwise
-in_item otherwise f (Some item) = f item
+abbrev pub granted : List ℕ → Granted
+granted kinds = record { kinds = kinds }
 
-abbrev pub parent_in : Option (Option ℕ) → Option ℕ
-parent_in None = None
-parent_in (Some parent) = parent
-
-abbrev pub depth_on : (ℕ → ℕ) → Option ℕ → ℕ
-depth_on depth None = 1
-depth_on depth (Some parent) = 1 + depth parent
-
--- so many steps up at most
-abbrev pub depth_of : List (Option ℕ) → ℕ → ℕ → ℕ
-depth_of parents zero kind = 1
-depth_of parents (suc most) kind = depth_on (depth_of parents most) (parent_in (slice_get parents kind))
-
-abbrev pub property_kinds : ℕ → List ℕ
-property_kinds property = slice_index_or (map (λ p. p.kinds) built_in_properties) property []
+abbrev pub declared_in : Sketch → Declared
+declared_in k = record {
+  kinds = built_in_parents ++ k.kinds;
+  flags = map (λ property. granted property.kinds) built_in_properties;
+  numbers = map granted k.numbers;
+  variables = k.variables;
+}
 
 abbrev pub leads_from : ℕ → ℕ → Exit → Bool
 leads_from room direction exit = (exit.from == room) && (exit.direction == direction)
 
-abbrev pub exit_at : Sketch → ℕ → ℕ → Option Exit
-exit_at k room direction = find (leads_from room direction) k.exits
+abbrev pub way_by : Option Exit → Way
+way_by None = record { room = None; door = None }
+way_by (Some exit) = record { room = Some exit.to; door = exit.door }
 
-abbrev pub door_in : Option Exit → Option ℕ
-door_in None = None
-door_in (Some exit) = exit.door
-
-unfoldable pub setting_of : Sketch → Setting
-setting_of k = record {
-  count = length k.items;
-  name = λ o. in_item [] (λ item. item.name) (slice_get k.items o);
-  article = λ o. in_item article.None (λ item. item.article) (slice_get k.items o);
-  is_of = λ o kind. in_item false (λ item. is_under (parents_of k) item.kind kind) (slice_get k.items o);
-  depth = depth_of (parents_of k) 100;
-  has_flag = λ o property. in_item false (λ item. is_under_one (parents_of k) (property_kinds property) item.kind) (slice_get k.items o);
-  has_number = λ o property. in_item false (λ item. is_under_one (parents_of k) (slice_index_or k.numbers property []) item.kind) (slice_get k.items o);
-  room_beyond = λ room direction. option_map (λ exit. exit.to) (exit_at k room direction);
-  door_beyond = λ room direction. door_in (exit_at k room direction);
-  has_description = λ o. in_item false (λ item. is_some item.description) (slice_get k.items o);
+abbrev pub object_of : Sketch → ℕ → Item → Object
+object_of k o item = record {
+  kind = item.kind;
+  name = item.name;
+  article = item.article;
+  description = None;
+  place = item.place;
+  exits = record { ways = map (λ d. way_by (find (leads_from o (direction_number d)) k.exits)) all_directions };
+  properties = item.flags;
+  numbers = replicate (count_of_numbers (declared_in k).kinds (declared_in k).numbers item.kind) (pos 0);
 }
 
-abbrev pub has_flag : ℕ → Item → Bool
-has_flag property item = list_any (λ flag. flag == property) item.flags
+abbrev pub objects_from : Sketch → ℕ → List Item → List Object
+objects_from k o [] = []
+objects_from k o (item ∷ items) = object_of k o item ∷ objects_from k (o + 1) items
 
-unfoldable pub start_of : Sketch → World
-start_of k = record {
-  places = map (λ item. item.place) k.items;
-  flags = map (λ property. map (has_flag property) k.items) (range_with_len 0 (length built_in_properties));
-  numbers = map (λ kinds. map (λ item. pos 0) k.items) k.numbers;
-  variables = k.variables;
-  scenes = map (λ scene. record { happens = false; has_begun = false }) k.scenes;
-  turns = 1;
-  ended = None;
-}
+unfoldable pub tale_of : Sketch → Tale
+tale_of k = record { declared = declared_in k; objects = objects_from k 0 k.items }
+
+-- ---- its game
+
+abbrev pub description_in : Option Item → Option Text
+description_in None = None
+description_in (Some item) = item.description
+
+abbrev pub description_at : Sketch → ℕ → Option Text
+description_at k o = description_in (slice_get k.items o)
+
+-- that of its tale, with what its objects say of themselves
+abbrev pub setting_in : Sketch → Setting
+setting_in k = record (setting_of (tale_of k)) { has_description = λ o. is_some (description_at k o) }
+
+unfoldable pub start_in : Sketch → World
+start_in k = record (start_of (tale_of k)) { scenes = map (λ scene. record { happens = false; has_begun = false }) k.scenes }
 
 abbrev pub no_needs : Needs
 no_needs = record { noun = Absent; second = Absent; light = false; out_of_world = false }
@@ -126,17 +126,17 @@ words_in (Some item) = words_of (lowered item.name) ++ item.words
 
 unfoldable pub grammar_of : Sketch → Grammar
 grammar_of k = record {
-  setting = setting_of k;
+  setting = setting_in k;
   words = λ o. words_in (slice_get k.items o);
   lines = k.lines ++ standard_lines;
 }
 
 unfoldable pub script_of : Sketch → Script
 script_of k = record {
-  setting = setting_of k;
-  start = start_of k;
+  setting = setting_in k;
+  start = start_in k;
   needs = λ action. slice_index_or (standard_needs ++ k.actions) action no_needs;
-  descriptions = λ o. in_item None (λ item. item.description) (slice_get k.items o);
+  descriptions = description_at k;
   rules = k.rules;
   scenes = k.scenes;
   reads = read (grammar_of k);
