@@ -9,7 +9,7 @@ use Rattle.world_meaning.specs.Sight.{location_of as location_in, HasLight, IsIn
 use Rattle.world_meaning.specs.declared.place.Place.{Place}
 use Rattle.play_meaning.specs.Seeing.{encloses, gives_light, has_light, is_held_by, is_in_view, is_number, is_same, is_touchable, is_true_at, is_visible, is_visible_as, is_visible_thing, root_of, sights_of, stands_here, stands_in}
 use Rattle.play_meaning.specs.Settings.{Setting, lighted_flag, lit_flag, objects_of, thing_kind}
-use Rattle.play_meaning.specs.Soundness.{IsWorldOf}
+use Rattle.play_meaning.specs.StoryWorlds.{IsWorldOf}
 use Rattle.play_meaning.specs.Worlds.{World, chain, holder_in, is_true_of, location_of, place_of}
 
 -- ---- chains

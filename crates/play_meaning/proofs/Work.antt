@@ -18,7 +18,7 @@ use Rattle.play_meaning.specs.Settings.{Setting, objects_of}
 use Rattle.play_meaning.specs.Scripts.{Script, game_of, rule_body, scope_of, telling_of}
 use Rattle.play_meaning.specs.Trees.{Body, End, EndStory, Follow, If, Instead, Leave, Move, NowHeld, NowIs, NowNowhere, NowNumber, NowVariable, Phrase, Repeat, Say, Then, Try}
 use Rattle.play_meaning.specs.Truth.{of_some, truth_in}
-use Rattle.play_meaning.specs.Turns.{beginning_of, begins_book, begins_now, count_turn, ending_of, follow, in_order, looking, opening, parts, pass, perform, scene_steps, set_and_follow, turn, unless_over}
+use Rattle.play_meaning.specs.Turns.{beginning_of, begins_book, begins_now, count_turn, ending_of, follow, in_order, look_round, opening, parts, pass, perform, scene_steps, set_and_follow, turn, unless_over}
 use Rattle.play_meaning.specs.Values.{Scope, is_one, number_in, object_in}
 use Rattle.play_meaning.specs.Worlds.{World, next_turn, scene_of, set_variable}
 use Rattle.play_meaning.specs.declared.action.ActionNow.{ActionNow}
@@ -275,7 +275,7 @@ turn_of_within g b now p within = parts_within (perform g now ∷ pass g ∷ fol
 
 opening_within : (g : Game) → BodiesWithin g → (p : Progress) → Within p → Gives Within (opening g p)
 unfolding opening
-opening_within g b p within = parts_within (pass g ∷ follow g 7 ∷ perform g looking ∷ []) (pass_within g b, (follow_within g b 7, (perform_within g b looking, tt))) p within
+opening_within g b p within = parts_within (pass g ∷ follow g 7 ∷ perform g look_round ∷ []) (pass_within g b, (follow_within g b 7, (perform_within g b look_round, tt))) p within
 
 -- ---- a tale's game
 

@@ -10,6 +10,7 @@ use Rattle.play_meaning.specs.Progress.{Asked, Progress, first_decision, say, un
 use Rattle.play_meaning.specs.Saying.{name_in}
 use Rattle.play_meaning.specs.Seeing.{has_light, is_touchable, is_visible}
 use Rattle.play_meaning.specs.Settings.{Setting}
+use Rattle.play_meaning.specs.StandardActions.{taking}
 use Rattle.play_meaning.specs.Trees.{Definite}
 use Rattle.play_meaning.specs.Truth.{has_thing, of_some}
 use Rattle.play_meaning.specs.Worlds.{World}
@@ -68,9 +69,8 @@ access s slot noun p = if not (asks_sight slot) || of_some noun (is_visible s p.
 abbrev pub has_noun : World → Option ℕ → Bool
 has_noun w noun = of_some noun (has_thing w 0)
 
--- number 2 among the actions
 abbrev pub silent_taking : Option ℕ → ActionNow
-silent_taking noun = record { action = 2; noun = noun; second = None; silent = true }
+silent_taking noun = record { action = taking; noun = noun; second = None; silent = true }
 
 -- what still isn't held behind the taking is a failure
 abbrev pub unless_held : Option ℕ → Progress → Attempt Asked

@@ -20,10 +20,10 @@ pub mod SessionRows
 pub mod Sessions
 pub mod Settings
 pub mod Sketches
-pub mod Soundness
 pub mod StandardActions
 pub mod StandardGrammar
 pub mod StandardRules
+pub mod StoryWorlds
 pub mod Tales
 pub mod Transcripts
 pub mod Trees

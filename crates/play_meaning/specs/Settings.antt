@@ -1,6 +1,7 @@
 -- What of a story's objects never changes while it is played, by number; nothing of a number that no object has.
 use Rattle.std.specs.Prelude.{ℕ, Bool, List, Option}
 use Rattle.std.specs.List.{range_with_len}
+pub use Rattle.world_meaning.specs.Kinds.{direction_kind, person_kind, room_kind}
 use Rattle.world_meaning.specs.Placing.{Kinds}
 use Rattle.world_meaning.specs.declared.article.Article.{Article}
 
@@ -23,16 +24,10 @@ pub record Setting : Type 0 where
   pub door_beyond : ℕ → ℕ → Option ℕ
   pub has_description : ℕ → Bool
 
--- ---- the numbers of the built-in kinds
+-- ---- the numbers of the built-in kinds, beside those of `Kinds`
 
 abbrev pub thing_kind : ℕ
 thing_kind = 0
-
-abbrev pub room_kind : ℕ
-room_kind = 1
-
-abbrev pub direction_kind : ℕ
-direction_kind = 2
 
 abbrev pub door_kind : ℕ
 door_kind = 3
@@ -42,9 +37,6 @@ container_kind = 4
 
 abbrev pub supporter_kind : ℕ
 supporter_kind = 5
-
-abbrev pub person_kind : ℕ
-person_kind = 6
 
 abbrev pub device_kind : ℕ
 device_kind = 7

@@ -7,6 +7,7 @@ use Rattle.play_meaning.specs.Acting.{act, progress_of, top}
 use Rattle.play_meaning.specs.Consulting.{consult, every_turn_book, play_begins_book}
 use Rattle.play_meaning.specs.Games.{Game}
 use Rattle.play_meaning.specs.Progress.{Progress, change}
+use Rattle.play_meaning.specs.StandardActions.{looking}
 use Rattle.play_meaning.specs.Worlds.{next_turn, scene_of, set_scene}
 use Rattle.play_meaning.specs.declared.action.ActionNow.{ActionNow}
 use Rattle.play_meaning.specs.declared.scene.SceneNow.{SceneNow}
@@ -15,8 +16,8 @@ use Rattle.play_meaning.specs.declared.scene.SceneNow.{SceneNow}
 abbrev pub no_action : ActionNow
 no_action = record { action = 255; noun = None; second = None; silent = false }
 
-abbrev pub looking : ActionNow
-looking = record { action = 0; noun = None; second = None; silent = false }
+abbrev pub look_round : ActionNow
+look_round = record { action = looking; noun = None; second = None; silent = false }
 
 -- a rulebook outside an action: its decision is dropped
 abbrev pub follow : Game → ℕ → Progress → Attempt Progress
@@ -84,4 +85,4 @@ unfoldable pub turn : Game → ActionNow → Progress → Attempt Progress
 turn g now = parts (perform g now ∷ pass g ∷ follow g every_turn_book ∷ count_turn ∷ pass g ∷ [])
 
 unfoldable pub opening : Game → Progress → Attempt Progress
-opening g = parts (pass g ∷ follow g play_begins_book ∷ perform g looking ∷ [])
+opening g = parts (pass g ∷ follow g play_begins_book ∷ perform g look_round ∷ [])

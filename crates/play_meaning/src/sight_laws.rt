@@ -2,7 +2,7 @@
 ghost use Rattle.std.specs.Prelude.{◌≡◌, ◌↔◌, ℕ, true};
 ghost use Rattle.play_meaning.specs.Seeing.{encloses, has_light, is_touchable, is_visible, sights_of};
 ghost use Rattle.play_meaning.specs.Settings.{Setting};
-ghost use Rattle.play_meaning.specs.Soundness.{IsWorldOf};
+ghost use Rattle.play_meaning.specs.StoryWorlds.{IsWorldOf};
 ghost use Rattle.play_meaning.specs.Worlds.{World, place_of};
 ghost use Rattle.world_meaning.specs.Chains.{Encloses};
 ghost use Rattle.world_meaning.specs.Sight.{HasLight, IsTouchable, IsVisible};
