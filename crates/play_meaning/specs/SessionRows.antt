@@ -1,14 +1,16 @@
 -- Small stories about scenes, endings, undo and texts.
-use Rattle.std.specs.Prelude.{ℕ, pos, Bool, true, false, List, [], ◌∷◌, None, Some, codes}
+use Rattle.std.specs.Prelude.{Bool, List, None, Some, [], codes, false, pos, replicate, true, ℕ, ◌∷◌}
+use Rattle.play_meaning.specs.Settings.{described_flag, thing_kind}
+use Rattle.world_meaning.specs.declared.article.Article.TheVariants as article
 use Rattle.play_meaning.specs.ActionRows.{one_more}
 use Rattle.play_meaning.specs.Consulting.{carry_out_book, every_turn_book, instead_book, play_begins_book}
 use Rattle.play_meaning.specs.Grammar.{Word}
-use Rattle.play_meaning.specs.Rows.{in_hall, rule_of, says}
+use Rattle.play_meaning.specs.Rows.{in_hall, item, rule_of, says}
 use Rattle.play_meaning.specs.Rules.{Anything, Rule}
 use Rattle.play_meaning.specs.Sketches.{Sketch}
 use Rattle.play_meaning.specs.StandardActions.{jumping}
 use Rattle.play_meaning.specs.StandardRules.{line, only, plain}
-use Rattle.play_meaning.specs.Trees.{Body, Bytes, Condition, End, EndStory, Equals, Figure, IfSaid, IsAtMost, Literal, NowVariable, Number, Plus, Say, Text, Then, Variable}
+use Rattle.play_meaning.specs.Trees.{Body, Bytes, Condition, End, EndStory, Equals, Figure, IfSaid, IsAtMost, Literal, NowVariable, Number, Phrase, Plus, Repeat, Say, Silence, Text, Then, Those, Variable}
 use Rattle.play_meaning.specs.declared.action.Needs.{Needs}
 use Rattle.play_meaning.specs.declared.action.Slot.TheVariants.{Absent}
 
@@ -79,3 +81,23 @@ past_the_top = every_turn 0 (Then (NowVariable 0 (Literal (pos 2147483647))) (on
 -- a text without a full stop: the reply ends with a line break all the same
 unfoldable pub without_stop : Sketch
 without_stop = every_turn 0 (only (Say (plain (codes "\"Isn't it?\" 'x'"))))
+
+-- two repeats over ninety-nine tokens, one in the other, and one more: with the rule itself 10,000 units of work
+abbrev pub say_nothing : Phrase
+say_nothing = Say Silence
+
+abbrev pub each_token : Body → Phrase
+each_token body = Repeat (Those [] (Some 10)) body
+
+abbrev pub all_the_work : Rule
+all_the_work = rule_of instead_book (Some jumping) Anything Anything None
+    (Then (each_token (Then say_nothing (only (each_token (only say_nothing))))) (Then (each_token (only say_nothing)) (says (codes "Done."))))
+
+abbrev pub with_tokens : List Rule → Sketch
+with_tokens rules = record (in_hall (replicate 99 (item 10 (codes "token") article.A None (described_flag ∷ []))) rules) { kinds = Some thing_kind ∷ [] }
+
+unfoldable pub enough_work : Sketch
+enough_work = with_tokens (all_the_work ∷ [])
+
+unfoldable pub too_much_work : Sketch
+too_much_work = with_tokens (all_the_work ∷ rule_in every_turn_book (only say_nothing) ∷ [])

@@ -2,7 +2,7 @@
 ghost use Rattle.play_meaning.specs.ActionRows.{ball_in_box, ball_looked_at, ball_on_table, ball_out_of_range, coin_out_of_sight, endless_following, endless_jumping, lamp_in_bag, parted_words, score_at_its_top, seventeen_deep, sixteen_deep, two_boxes, two_open_boxes, weighing};
 ghost use Rattle.play_meaning.specs.Rows.{ends_by, refused_in, typed};
 ghost use Rattle.play_meaning.specs.RuleRows.{closed_box, got_it, got_it_and_goes_on, graded, left_behind, listed_first, met_on_the_way, open_box, scenery_goes, scenery_stays, statue_spoken_for, three_rules, two_nouns, unlisted};
-ghost use Rattle.play_meaning.specs.SessionRows.{empty_hall, one_storm, over_at_once, past_the_top, scoring, storms, sums_and_choices, wet_jumping, winning, without_stop};
+ghost use Rattle.play_meaning.specs.SessionRows.{empty_hall, enough_work, one_storm, over_at_once, past_the_top, scoring, storms, sums_and_choices, too_much_work, wet_jumping, winning, without_stop};
 ghost use Rattle.play_meaning.specs.WorldRows.{bulb_of_closed_box, closed_gate, dark_cave, hall_and_garden, jar_in_tank, lamp_here, lamp_in_closed_box, lamp_in_jar, lamp_of_bob, many_things, open_box_in_closed_sack};
 ghost use Rattle.std.specs.Prelude.{[], ◌∷◌, Some, codes};
 ghost use Rattle.world_meaning.specs.declared.session.Ending.TheVariants.{EndOfInput, Quit, Story};
@@ -106,4 +106,10 @@ pub fn things_are_handled()
     ensures worn { typed (codes "wear hat" ∷ codes "i" ∷ codes "take off hat" ∷ codes "put hat on table" ∷ codes "x table" ∷ []) (codes "Hall\nYou can see a hat, a table, a box, a ball, a lamp and some sand here.\n\n>wear hat\n(first taking the hat)\nYou put on the hat.\n\n>i\nYou are carrying nothing.\nYou are wearing a hat.\n\n>take off hat\nYou take off the hat.\n\n>put hat on table\nYou put the hat on the table.\n\n>x table\nYou see nothing special about the table.\nOn the table is a hat.\n\n>") many_things }
     ensures put { typed (codes "insert ball into box" ∷ codes "drop ball" ∷ codes "open box" ∷ codes "take table" ∷ codes "take me" ∷ []) (codes "Hall\nYou can see a hat, a table, a box, a ball, a lamp and some sand here.\n\n>insert ball into box\n(first taking the ball)\nYou put the ball into the box.\n\n>drop ball\nYou don't have that.\n\n>open box\nYou can't open that.\n\n>take table\nThat is fixed in place.\n\n>take me\nYou can't take yourself.\n\n>") many_things }
     ensures switched { typed (codes "switch on lamp" ∷ codes "x lamp" ∷ codes "turn off lamp" ∷ codes "turn off lamp" ∷ codes "drop sand" ∷ []) (codes "Hall\nYou can see a hat, a table, a box, a ball, a lamp and some sand here.\n\n>switch on lamp\nYou switch the lamp on.\n\n>x lamp\nYou see nothing special about the lamp.\nThe lamp is switched on.\n\n>turn off lamp\nYou switch the lamp off.\n\n>turn off lamp\nThat is already off.\n\n>drop sand\nYou don't have that.\n\n>") many_things }
+{}
+
+/// A line may do 10,000 units of work, and not one more.
+pub fn work_has_an_end()
+    ensures enough { typed (codes "jump" ∷ []) (codes "Hall\n\n>jump\nDone.\n\n>") enough_work }
+    ensures one_more { typed (codes "jump" ∷ []) (codes "Hall\n\n>jump\n[The turn was abandoned: too much work.]\n\n>") too_much_work }
 {}

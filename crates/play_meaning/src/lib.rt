@@ -20,7 +20,7 @@ pub use game_laws::{
 pub use laws::{
     actions_pass_their_stages, commands_are_read, light_shows_things, rules_decide,
     rules_stand_in_order, scenes_and_stories_end, texts_are_said, things_are_handled,
-    turns_are_undone, ways_and_doors_are_gone_through,
+    turns_are_undone, ways_and_doors_are_gone_through, work_has_an_end,
 };
 pub use order_laws::rulebooks_are_in_order;
 pub use outcome::{Flow, Outcome};
