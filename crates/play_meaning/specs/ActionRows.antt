@@ -4,7 +4,7 @@ use Rattle.world_meaning.specs.declared.article.Article.TheVariants as article
 use Rattle.world_meaning.specs.declared.place.Rel.TheVariants.{In, On, Carried}
 use Rattle.play_meaning.specs.Consulting.{instead_book, report_book}
 use Rattle.play_meaning.specs.Grammar.{Something, Word}
-use Rattle.play_meaning.specs.Rows.{at, here, in_hall, item, rule_of, says, with_rules}
+use Rattle.play_meaning.specs.Rows.{at, blank, here, in_hall, item, rule_of, says, with_rules}
 use Rattle.play_meaning.specs.Rules.{Anything, Exactly}
 use Rattle.play_meaning.specs.Settings.{container_kind, described_flag, lit_flag, open_flag, openable_flag, room_kind, supporter_kind, thing_kind, transparent_flag}
 use Rattle.play_meaning.specs.Sketches.{Item, Sketch}
@@ -109,3 +109,116 @@ parted_words = in_hall
 -- a ball whose description names what is looked at
 unfoldable pub ball_looked_at : Sketch
 ball_looked_at = in_hall (record (here thing_kind (codes "ball") []) { description = Some (Bytes (codes "You look at ") (Name Definite Noun (plain (codes ".")))) } ∷ []) []
+
+-- ---- what is shown
+
+unfoldable pub weighing_shown : List (List ℕ)
+weighing_shown =
+    codes "Hall" ∷ codes "You can see a ball, a scales and a box here." ∷ blank
+    ∷ codes ">weigh ball with scales" ∷ codes "(first taking the ball)" ∷ codes "Weighed." ∷ blank
+    ∷ codes ">weigh coin with scales" ∷ codes "You can't reach the coin." ∷ blank
+    ∷ codes ">take coin" ∷ codes "You can't reach the coin." ∷ blank ∷ codes ">" ∷ []
+
+unfoldable pub lamp_in_bag_shown : List (List ℕ)
+lamp_in_bag_shown =
+    codes "Darkness" ∷ codes "It is pitch dark, and you can't see a thing." ∷ blank
+    ∷ codes ">x lamp" ∷ codes "You can't see any such thing." ∷ blank
+    ∷ codes ">open bag" ∷ codes "You open the bag." ∷ blank
+    ∷ codes ">look" ∷ codes "Cave" ∷ blank ∷ codes ">" ∷ []
+
+unfoldable pub coin_out_of_sight_shown : List (List ℕ)
+coin_out_of_sight_shown =
+    codes "Hall" ∷ codes "You can see a box here." ∷ blank
+    ∷ codes ">jump" ∷ codes "You can't see any such thing." ∷ blank ∷ codes ">" ∷ []
+
+unfoldable pub endless_jumping_shown : List (List ℕ)
+endless_jumping_shown =
+    codes "Hall" ∷ blank
+    ∷ codes ">jump" ∷ codes "[The turn was abandoned: nested too deep.]" ∷ blank ∷ codes ">" ∷ []
+
+unfoldable pub sixteen_deep_shown : List (List ℕ)
+sixteen_deep_shown =
+    codes "Hall" ∷ blank
+    ∷ codes ">jump" ∷ codes "You jump on the spot." ∷ blank
+    ∷ codes ">z" ∷ codes "16." ∷ blank ∷ codes ">" ∷ []
+
+unfoldable pub seventeen_deep_shown : List (List ℕ)
+seventeen_deep_shown =
+    codes "Hall" ∷ blank
+    ∷ codes ">jump" ∷ codes "[The turn was abandoned: nested too deep.]" ∷ blank
+    ∷ codes ">z" ∷ codes "0." ∷ blank ∷ codes ">" ∷ []
+
+unfoldable pub endless_following_shown : List (List ℕ)
+endless_following_shown =
+    codes "Hall" ∷ blank
+    ∷ codes ">jump" ∷ codes "[The turn was abandoned: nested too deep.]" ∷ blank ∷ codes ">" ∷ []
+
+unfoldable pub score_at_its_top_shown : List (List ℕ)
+score_at_its_top_shown =
+    codes "Hall" ∷ blank
+    ∷ codes ">jump" ∷ codes "1, 2147483647." ∷ blank
+    ∷ codes ">jump" ∷ codes "[The turn was abandoned: number out of range.]" ∷ blank
+    ∷ codes ">z" ∷ codes "1, 2147483647." ∷ blank ∷ codes ">" ∷ []
+
+unfoldable pub ball_out_of_range_shown : List (List ℕ)
+ball_out_of_range_shown =
+    codes "Hall" ∷ codes "You can see a ball and a lamp here." ∷ blank
+    ∷ codes ">take lamp" ∷ codes "Taken." ∷ blank
+    ∷ codes ">take ball" ∷ codes "[The turn was abandoned: number out of range.]" ∷ blank ∷ codes ">" ∷ []
+
+unfoldable pub ball_on_table_shown : List (List ℕ)
+ball_on_table_shown =
+    codes "Hall" ∷ codes "You can see a table here." ∷ blank
+    ∷ codes ">x table" ∷ codes "You see nothing special about the table." ∷ codes "On the table is a ball." ∷ blank
+    ∷ codes ">take ball" ∷ codes "Taken." ∷ blank
+    ∷ codes ">i" ∷ codes "You are carrying a ball." ∷ blank
+    ∷ codes ">" ∷ codes "I beg your pardon?" ∷ blank
+    ∷ codes ">xyzzy" ∷ codes "I don't know that verb." ∷ blank
+    ∷ codes ">take" ∷ codes "I didn't understand that sentence." ∷ blank
+    ∷ codes ">take lamp" ∷ codes "You can't see any such thing." ∷ blank ∷ codes ">" ∷ []
+
+unfoldable pub ball_in_box_shown : List (List ℕ)
+ball_in_box_shown =
+    codes "Hall" ∷ codes "You can see a box here." ∷ blank
+    ∷ codes ">x box" ∷ codes "You see nothing special about the box." ∷ codes "In the box is a ball." ∷ blank
+    ∷ codes ">put box in ball" ∷ codes "(first taking the box)" ∷ codes "You can't put things into the ball." ∷ blank ∷ codes ">" ∷ []
+
+unfoldable pub ball_in_box_not_things_shown : List (List ℕ)
+ball_in_box_not_things_shown =
+    codes "Hall" ∷ codes "You can see a box here." ∷ blank
+    ∷ codes ">x hall" ∷ codes "You can't see any such thing." ∷ blank
+    ∷ codes ">x north" ∷ codes "You can't see any such thing." ∷ blank ∷ codes ">" ∷ []
+
+unfoldable pub ball_looked_at_shown : List (List ℕ)
+ball_looked_at_shown =
+    codes "Hall" ∷ codes "You can see a ball here." ∷ blank
+    ∷ codes ">x ball" ∷ codes "You look at the ball." ∷ blank ∷ codes ">" ∷ []
+
+unfoldable pub parted_words_shown : List (List ℕ)
+parted_words_shown =
+    codes "Hall" ∷ codes "You can see an apple, a pie, a bread and a cheese here." ∷ blank
+    ∷ codes ">put apple on bread on cheese" ∷ codes "Which do you mean, the apple or the pie?" ∷ blank ∷ codes ">" ∷ []
+
+unfoldable pub two_open_boxes_shown : List (List ℕ)
+two_open_boxes_shown =
+    codes "Hall" ∷ codes "You can see a ball, a red box and a blue box here." ∷ blank
+    ∷ codes ">put ball in box" ∷ codes "Which do you mean, the red box or the blue box?" ∷ blank
+    ∷ codes ">the red" ∷ codes "(first taking the ball)" ∷ codes "You put the ball into the red box." ∷ blank ∷ codes ">" ∷ []
+
+unfoldable pub two_boxes_shown : List (List ℕ)
+two_boxes_shown =
+    codes "Hall" ∷ codes "You can see a red box and a blue box here." ∷ blank
+    ∷ codes ">open box" ∷ codes "Which do you mean, the red box or the blue box?" ∷ blank
+    ∷ codes ">red" ∷ codes "You open the red box." ∷ blank
+    ∷ codes ">open box" ∷ codes "Which do you mean, the red box or the blue box?" ∷ blank
+    ∷ codes ">look" ∷ codes "Hall" ∷ codes "You can see a red box and a blue box here." ∷ blank ∷ codes ">" ∷ []
+
+unfoldable pub endless_jumping_abandoned_shown : List (List ℕ)
+endless_jumping_abandoned_shown =
+    codes "Hall" ∷ blank
+    ∷ codes ">z" ∷ codes "Time passes." ∷ blank
+    ∷ codes ">z" ∷ codes "Time passes." ∷ blank
+    ∷ codes ">jump" ∷ codes "[The turn was abandoned: nested too deep.]" ∷ blank
+    ∷ codes ">undo" ∷ codes "Previous turn undone." ∷ blank
+    ∷ codes ">undo" ∷ codes "Previous turn undone." ∷ blank
+    ∷ codes ">undo" ∷ codes "You can't undo any further." ∷ blank ∷ codes ">" ∷ []

@@ -1,5 +1,5 @@
 -- What small stories written by hand are made of, and what is written of them.
-use Rattle.std.specs.Prelude.{◌≡◌, ℕ, true, List, [], ◌∷◌, ◌++◌, Option, None, Some, codes, map}
+use Rattle.std.specs.Prelude.{◌≡◌, ◌==◌, if◌then◌else◌, ℕ, true, List, [], ◌∷◌, ◌++◌, Option, None, Some, codes, map}
 use Rattle.world_meaning.specs.Directions.{all_directions, direction_name, short_word}
 use Rattle.world_meaning.specs.declared.article.Article.{Article}
 use Rattle.world_meaning.specs.declared.article.Article.TheVariants as article
@@ -60,12 +60,36 @@ says text = only (Say (line text))
 abbrev pub listing : Listed → Rule → Rule
 listing listed rule = record rule { listed = listed }
 
--- ---- what is written
+-- ---- what is shown
 
-abbrev pub typed : List (List ℕ) → List ℕ → Sketch → Type 0
-typed lines text sketch = transcript (game_of_sketch sketch) true [] lines ≡ text
+abbrev pub blank : List ℕ
+blank = []
 
--- the same where memory is refused in lines
+-- lines one behind the other, with a line break between two
+abbrev pub on_lines : List (List ℕ) → List ℕ
+on_lines [] = []
+on_lines (line ∷ []) = line
+on_lines (line ∷ next ∷ more) = line ++ 10 ∷ on_lines (next ∷ more)
+
+abbrev pub typed_in : List ℕ → List (List ℕ) → List (List ℕ)
+typed_in [] more = more
+typed_in (byte ∷ bytes) more = if byte == 62 then bytes ∷ more else more
+
+-- what is typed: what stands behind the prompts, but for the last line's
+abbrev pub typed : List (List ℕ) → List (List ℕ)
+typed [] = []
+typed (line ∷ []) = []
+typed (line ∷ next ∷ more) = typed_in line (typed (next ∷ more))
+
+-- a session of the story shows these lines, the prompts and what is typed among them
+abbrev pub shows : List (List ℕ) → Sketch → Type 0
+shows lines sketch = transcript (game_of_sketch sketch) true [] (typed lines) ≡ on_lines lines
+
+-- and nothing of what is typed behind its end
+abbrev pub shows_to_end : List (List ℕ) → List (List ℕ) → Sketch → Type 0
+shows_to_end lines unheard sketch = transcript (game_of_sketch sketch) true [] (typed lines ++ unheard) ≡ on_lines lines
+
+-- memory is refused in lines
 abbrev pub refused_in : List (Option ℕ) → List (List ℕ) → List ℕ → Sketch → Type 0
 refused_in refusals lines text sketch = transcript (game_of_sketch sketch) true refusals lines ≡ text
 

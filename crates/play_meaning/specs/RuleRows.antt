@@ -2,7 +2,7 @@
 use Rattle.std.specs.Prelude.{ℕ, pos, List, [], ◌∷◌, ◌++◌, Option, None, Some, codes, slice_set, slice_get}
 use Rattle.world_meaning.specs.declared.place.Rel.TheVariants.{In}
 use Rattle.play_meaning.specs.Consulting.{after_book, before_book, instead_book}
-use Rattle.play_meaning.specs.Rows.{bright, here, in_hall, listing, rule_of, say_and_go_on, says, with_rules}
+use Rattle.play_meaning.specs.Rows.{blank, bright, here, in_hall, listing, rule_of, say_and_go_on, says, with_rules}
 use Rattle.play_meaning.specs.Rules.{Anything, Aspect, Exactly, InOrder, Listed, ListedFirst, ListedLast, OfKind, Rule, Unlisted}
 use Rattle.play_meaning.specs.Settings.{container_kind, open_flag, openable_flag, room_kind, scenery_flag, supporter_kind, thing_kind}
 use Rattle.play_meaning.specs.Sketches.{Item, Sketch}
@@ -116,3 +116,80 @@ two_nouns = in_hall (here thing_kind (codes "ball") [] ∷ here supporter_kind (
     ∷ instead_of_putting (OfKind thing_kind []) (OfKind supporter_kind []) (codes "on a supporter.")
     ∷ instead_of_putting (Exactly 14) (OfKind thing_kind []) (codes "the ball.")
     ∷ [])
+
+-- ---- what is shown
+
+unfoldable pub three_rules_shown : List (List ℕ)
+three_rules_shown =
+    codes "Hall" ∷ codes "You can see a box here." ∷ blank
+    ∷ codes ">take box" ∷ codes "Three." ∷ codes "Two." ∷ codes "One." ∷ codes "Taken." ∷ blank ∷ codes ">" ∷ []
+
+unfoldable pub closed_box_shown : List (List ℕ)
+closed_box_shown =
+    codes "ash." ∷ codes "Hall" ∷ codes "You can see a box here." ∷ blank
+    ∷ codes ">take box" ∷ codes "oak." ∷ codes "fir." ∷ codes "cedar." ∷ codes "birch." ∷ codes "ash." ∷ codes "Taken." ∷ blank ∷ codes ">" ∷ []
+
+unfoldable pub open_box_shown : List (List ℕ)
+open_box_shown =
+    codes "ash." ∷ codes "Hall" ∷ codes "You can see a box here." ∷ blank
+    ∷ codes ">take box" ∷ codes "oak." ∷ codes "elm." ∷ codes "fir." ∷ codes "cedar." ∷ codes "birch." ∷ codes "ash." ∷ codes "Taken." ∷ blank
+    ∷ codes ">" ∷ []
+
+unfoldable pub listed_first_shown : List (List ℕ)
+listed_first_shown =
+    codes "ash." ∷ codes "Hall" ∷ codes "You can see a box here." ∷ blank
+    ∷ codes ">take box" ∷ codes "ash." ∷ codes "cedar." ∷ codes "oak." ∷ codes "elm." ∷ codes "fir." ∷ codes "birch." ∷ codes "Taken." ∷ blank
+    ∷ codes ">" ∷ []
+
+unfoldable pub unlisted_shown : List (List ℕ)
+unlisted_shown =
+    codes "Hall" ∷ codes "You can see a box here." ∷ blank
+    ∷ codes ">take box" ∷ codes "cedar." ∷ codes "oak." ∷ codes "elm." ∷ codes "fir." ∷ codes "birch." ∷ codes "Taken." ∷ blank ∷ codes ">" ∷ []
+
+unfoldable pub graded_shown : List (List ℕ)
+graded_shown =
+    codes "Hall" ∷ codes "You can see a box here." ∷ blank
+    ∷ codes ">take box" ∷ codes "first." ∷ codes "box." ∷ codes "here." ∷ codes "open container." ∷ codes "container." ∷ codes "thing."
+    ∷ codes "last but one." ∷ codes "last." ∷ codes "Taken." ∷ blank ∷ codes ">" ∷ []
+
+unfoldable pub two_nouns_shown : List (List ℕ)
+two_nouns_shown =
+    codes "Hall" ∷ codes "You can see a ball and a table here." ∷ blank
+    ∷ codes ">put ball on table" ∷ codes "(first taking the ball)" ∷ codes "the ball." ∷ codes "on the table." ∷ codes "on a supporter."
+    ∷ codes "You put the ball on the table." ∷ blank ∷ codes ">" ∷ []
+
+unfoldable pub statue_spoken_for_shown : List (List ℕ)
+statue_spoken_for_shown =
+    codes "Hall" ∷ blank
+    ∷ codes ">take statue" ∷ codes "It is at home here." ∷ blank ∷ codes ">" ∷ []
+
+unfoldable pub scenery_stays_shown : List (List ℕ)
+scenery_stays_shown =
+    codes "Hall" ∷ blank
+    ∷ codes ">take statue" ∷ codes "That is hardly portable." ∷ blank ∷ codes ">" ∷ []
+
+unfoldable pub scenery_goes_shown : List (List ℕ)
+scenery_goes_shown =
+    codes "Hall" ∷ blank
+    ∷ codes ">take statue" ∷ codes "Taken." ∷ blank ∷ codes ">" ∷ []
+
+unfoldable pub got_it_shown : List (List ℕ)
+got_it_shown =
+    codes "Hall" ∷ codes "You can see a ball here." ∷ blank
+    ∷ codes ">take ball" ∷ codes "Got it." ∷ blank ∷ codes ">" ∷ []
+
+unfoldable pub got_it_and_goes_on_shown : List (List ℕ)
+got_it_and_goes_on_shown =
+    codes "Hall" ∷ codes "You can see a ball here." ∷ blank
+    ∷ codes ">take ball" ∷ codes "Got it." ∷ codes "Taken." ∷ blank ∷ codes ">" ∷ []
+
+unfoldable pub left_behind_shown : List (List ℕ)
+left_behind_shown =
+    codes "Kitchen" ∷ blank
+    ∷ codes ">jump" ∷ codes "You jump on the spot." ∷ blank
+    ∷ codes ">look" ∷ codes "Yard" ∷ blank ∷ codes ">" ∷ []
+
+unfoldable pub met_on_the_way_shown : List (List ℕ)
+met_on_the_way_shown =
+    codes "Kitchen" ∷ blank
+    ∷ codes ">jump" ∷ codes "Cold." ∷ codes "You jump on the spot." ∷ blank ∷ codes ">" ∷ []

@@ -5,7 +5,7 @@ use Rattle.world_meaning.specs.declared.article.Article.TheVariants as article
 use Rattle.play_meaning.specs.ActionRows.{one_more}
 use Rattle.play_meaning.specs.Consulting.{carry_out_book, every_turn_book, instead_book, play_begins_book}
 use Rattle.play_meaning.specs.Grammar.{Word}
-use Rattle.play_meaning.specs.Rows.{in_hall, item, rule_of, says}
+use Rattle.play_meaning.specs.Rows.{blank, in_hall, item, rule_of, says}
 use Rattle.play_meaning.specs.Rules.{Anything, Rule}
 use Rattle.play_meaning.specs.Sketches.{Sketch}
 use Rattle.play_meaning.specs.StandardActions.{jumping}
@@ -101,3 +101,94 @@ enough_work = with_tokens (all_the_work ∷ [])
 
 unfoldable pub too_much_work : Sketch
 too_much_work = with_tokens (all_the_work ∷ rule_in every_turn_book (only say_nothing) ∷ [])
+
+-- ---- what is shown
+
+unfoldable pub one_storm_shown : List (List ℕ)
+one_storm_shown =
+    codes "Hall" ∷ blank
+    ∷ codes ">z" ∷ codes "Time passes." ∷ codes "Thunder." ∷ blank
+    ∷ codes ">z" ∷ codes "Time passes." ∷ codes "Calm." ∷ blank
+    ∷ codes ">z" ∷ codes "Time passes." ∷ blank ∷ codes ">" ∷ []
+
+unfoldable pub storms_shown : List (List ℕ)
+storms_shown =
+    codes "Hall" ∷ blank
+    ∷ codes ">z" ∷ codes "Time passes." ∷ codes "Thunder." ∷ blank
+    ∷ codes ">z" ∷ codes "Time passes." ∷ codes "Calm." ∷ codes "Thunder." ∷ blank
+    ∷ codes ">z" ∷ codes "Time passes." ∷ codes "Calm." ∷ codes "Thunder." ∷ codes "Calm." ∷ codes "Thunder." ∷ blank ∷ codes ">" ∷ []
+
+unfoldable pub wet_jumping_shown : List (List ℕ)
+wet_jumping_shown =
+    codes "Hall" ∷ blank
+    ∷ codes ">jump" ∷ codes "You jump on the spot." ∷ codes "Thunder." ∷ blank
+    ∷ codes ">jump" ∷ codes "Wet." ∷ codes "Calm." ∷ blank
+    ∷ codes ">jump" ∷ codes "You jump on the spot." ∷ blank ∷ codes ">" ∷ []
+
+unfoldable pub winning_shown : List (List ℕ)
+winning_shown =
+    codes "Hall" ∷ blank
+    ∷ codes ">jump" ∷ blank ∷ codes "*** You have won ***" ∷ blank ∷ []
+
+unfoldable pub over_at_once_shown : List (List ℕ)
+over_at_once_shown =
+    blank ∷ codes "*** The End ***" ∷ blank ∷ []
+
+unfoldable pub empty_hall_shown : List (List ℕ)
+empty_hall_shown =
+    codes "Hall" ∷ blank
+    ∷ codes ">z" ∷ codes "Time passes." ∷ blank
+    ∷ codes ">z" ∷ codes "Time passes." ∷ blank
+    ∷ codes ">z" ∷ codes "Time passes." ∷ blank
+    ∷ codes ">z" ∷ codes "Time passes." ∷ blank
+    ∷ codes ">z" ∷ codes "Time passes." ∷ blank
+    ∷ codes ">z" ∷ codes "Time passes." ∷ blank
+    ∷ codes ">z" ∷ codes "Time passes." ∷ blank
+    ∷ codes ">z" ∷ codes "Time passes." ∷ blank
+    ∷ codes ">z" ∷ codes "Time passes." ∷ blank
+    ∷ codes ">undo" ∷ codes "Previous turn undone." ∷ blank
+    ∷ codes ">undo" ∷ codes "Previous turn undone." ∷ blank
+    ∷ codes ">undo" ∷ codes "Previous turn undone." ∷ blank
+    ∷ codes ">undo" ∷ codes "Previous turn undone." ∷ blank
+    ∷ codes ">undo" ∷ codes "Previous turn undone." ∷ blank
+    ∷ codes ">undo" ∷ codes "Previous turn undone." ∷ blank
+    ∷ codes ">undo" ∷ codes "Previous turn undone." ∷ blank
+    ∷ codes ">undo" ∷ codes "Previous turn undone." ∷ blank
+    ∷ codes ">undo" ∷ codes "You can't undo any further." ∷ blank ∷ codes ">" ∷ []
+
+unfoldable pub scoring_shown : List (List ℕ)
+scoring_shown =
+    codes "Hall" ∷ blank
+    ∷ codes ">jump" ∷ codes "0." ∷ blank
+    ∷ codes ">score" ∷ blank
+    ∷ codes ">jump" ∷ codes "1." ∷ blank
+    ∷ codes ">undo" ∷ codes "Previous turn undone." ∷ blank
+    ∷ codes ">jump" ∷ codes "1." ∷ blank
+    ∷ codes ">undo" ∷ codes "Previous turn undone." ∷ blank
+    ∷ codes ">undo" ∷ codes "Previous turn undone." ∷ blank
+    ∷ codes ">jump" ∷ codes "0." ∷ blank ∷ codes ">" ∷ []
+
+unfoldable pub sums_and_choices_shown : List (List ℕ)
+sums_and_choices_shown =
+    codes "Hall" ∷ blank
+    ∷ codes ">z" ∷ codes "Time passes." ∷ codes "2, zero." ∷ blank ∷ codes ">" ∷ []
+
+unfoldable pub past_the_top_shown : List (List ℕ)
+past_the_top_shown =
+    codes "Hall" ∷ blank
+    ∷ codes ">z" ∷ codes "[The turn was abandoned: number out of range.]" ∷ blank ∷ codes ">" ∷ []
+
+unfoldable pub without_stop_shown : List (List ℕ)
+without_stop_shown =
+    codes "Hall" ∷ blank
+    ∷ codes ">z" ∷ codes "Time passes." ∷ codes "\"Isn't it?\" 'x'" ∷ blank ∷ codes ">" ∷ []
+
+unfoldable pub enough_work_shown : List (List ℕ)
+enough_work_shown =
+    codes "Hall" ∷ blank
+    ∷ codes ">jump" ∷ codes "Done." ∷ blank ∷ codes ">" ∷ []
+
+unfoldable pub too_much_work_shown : List (List ℕ)
+too_much_work_shown =
+    codes "Hall" ∷ blank
+    ∷ codes ">jump" ∷ codes "[The turn was abandoned: too much work.]" ∷ blank ∷ codes ">" ∷ []

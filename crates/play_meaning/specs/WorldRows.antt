@@ -3,7 +3,7 @@ use Rattle.std.specs.Prelude.{ℕ, List, [], ◌∷◌, Option, None, Some, code
 use Rattle.world_meaning.specs.declared.article.Article.TheVariants as article
 use Rattle.world_meaning.specs.declared.place.Place.{Place}
 use Rattle.world_meaning.specs.declared.place.Rel.TheVariants.{In, Carried, Part}
-use Rattle.play_meaning.specs.Rows.{at, bright, here, in_hall, item, with_rules}
+use Rattle.play_meaning.specs.Rows.{at, blank, bright, here, in_hall, item, with_rules}
 use Rattle.play_meaning.specs.Settings.{container_kind, described_flag, device_kind, door_kind, fixed_in_place_flag, lit_flag, open_flag, openable_flag, person_kind, room_kind, supporter_kind, thing_kind, transparent_flag, wearable_flag}
 use Rattle.play_meaning.specs.Sketches.{Exit, Item, Sketch}
 use Rattle.play_meaning.specs.StandardRules.{plain, standard_rules}
@@ -75,3 +75,95 @@ many_things = in_hall
     (here thing_kind (codes "hat") (wearable_flag ∷ []) ∷ here supporter_kind (codes "table") (fixed_in_place_flag ∷ []) ∷ here container_kind (codes "box") (open_flag ∷ [])
     ∷ here thing_kind (codes "ball") [] ∷ here device_kind (codes "lamp") [] ∷ record (here thing_kind (codes "sand") []) { article = article.Some } ∷ [])
     []
+
+-- ---- what is shown
+
+unfoldable pub hall_and_garden_shown : List (List ℕ)
+hall_and_garden_shown =
+    codes "Hall" ∷ codes "A bare hall." ∷ blank
+    ∷ codes ">n" ∷ codes "Garden" ∷ blank
+    ∷ codes ">look" ∷ codes "Garden" ∷ blank
+    ∷ codes ">s" ∷ codes "Hall" ∷ codes "A bare hall." ∷ blank ∷ codes ">" ∷ []
+
+unfoldable pub hall_and_garden_nowhere_shown : List (List ℕ)
+hall_and_garden_nowhere_shown =
+    codes "Hall" ∷ codes "A bare hall." ∷ blank
+    ∷ codes ">e" ∷ codes "You can't go that way." ∷ blank
+    ∷ codes ">go lamp" ∷ codes "You can't see any such thing." ∷ blank
+    ∷ codes ">go" ∷ codes "I didn't understand that sentence." ∷ blank
+    ∷ codes ">xyzzy" ∷ codes "I don't know that verb." ∷ blank
+    ∷ codes ">" ∷ codes "I beg your pardon?" ∷ blank
+    ∷ codes ">quit" ∷ blank ∷ []
+
+unfoldable pub closed_gate_shown : List (List ℕ)
+closed_gate_shown =
+    codes "Hall" ∷ codes "You can see a ball here." ∷ blank
+    ∷ codes ">n" ∷ codes "The gate is closed." ∷ blank ∷ codes ">" ∷ []
+
+unfoldable pub closed_gate_opened_shown : List (List ℕ)
+closed_gate_opened_shown =
+    codes "Hall" ∷ codes "You can see a ball here." ∷ blank
+    ∷ codes ">open gate" ∷ codes "You open the gate." ∷ blank
+    ∷ codes ">n" ∷ codes "Yard" ∷ blank
+    ∷ codes ">s" ∷ codes "Hall" ∷ codes "You can see a ball here." ∷ blank
+    ∷ codes ">take knob" ∷ codes "You can't see any such thing." ∷ blank ∷ codes ">" ∷ []
+
+unfoldable pub dark_cave_shown : List (List ℕ)
+dark_cave_shown =
+    codes "Darkness" ∷ codes "It is pitch dark, and you can't see a thing." ∷ blank
+    ∷ codes ">look" ∷ codes "Darkness" ∷ codes "It is pitch dark, and you can't see a thing." ∷ blank ∷ codes ">" ∷ []
+
+unfoldable pub lamp_here_shown : List (List ℕ)
+lamp_here_shown =
+    codes "Cave" ∷ codes "You can see a lamp here." ∷ blank ∷ codes ">" ∷ []
+
+unfoldable pub lamp_in_closed_box_shown : List (List ℕ)
+lamp_in_closed_box_shown =
+    codes "Darkness" ∷ codes "It is pitch dark, and you can't see a thing." ∷ blank ∷ codes ">" ∷ []
+
+unfoldable pub lamp_in_jar_shown : List (List ℕ)
+lamp_in_jar_shown =
+    codes "Cave" ∷ codes "You can see a jar here." ∷ blank ∷ codes ">" ∷ []
+
+unfoldable pub open_box_in_closed_sack_shown : List (List ℕ)
+open_box_in_closed_sack_shown =
+    codes "Darkness" ∷ codes "It is pitch dark, and you can't see a thing." ∷ blank ∷ codes ">" ∷ []
+
+unfoldable pub jar_in_tank_shown : List (List ℕ)
+jar_in_tank_shown =
+    codes "Cave" ∷ codes "You can see a tank here." ∷ blank ∷ codes ">" ∷ []
+
+unfoldable pub bulb_of_closed_box_shown : List (List ℕ)
+bulb_of_closed_box_shown =
+    codes "Cave" ∷ codes "You can see a box here." ∷ blank ∷ codes ">" ∷ []
+
+unfoldable pub lamp_of_bob_shown : List (List ℕ)
+lamp_of_bob_shown =
+    codes "Cave" ∷ codes "You can see Bob here." ∷ blank ∷ codes ">" ∷ []
+
+unfoldable pub many_things_shown : List (List ℕ)
+many_things_shown =
+    codes "Hall" ∷ codes "You can see a hat, a table, a box, a ball, a lamp and some sand here." ∷ blank
+    ∷ codes ">wear hat" ∷ codes "(first taking the hat)" ∷ codes "You put on the hat." ∷ blank
+    ∷ codes ">i" ∷ codes "You are carrying nothing." ∷ codes "You are wearing a hat." ∷ blank
+    ∷ codes ">take off hat" ∷ codes "You take off the hat." ∷ blank
+    ∷ codes ">put hat on table" ∷ codes "You put the hat on the table." ∷ blank
+    ∷ codes ">x table" ∷ codes "You see nothing special about the table." ∷ codes "On the table is a hat." ∷ blank ∷ codes ">" ∷ []
+
+unfoldable pub many_things_put_shown : List (List ℕ)
+many_things_put_shown =
+    codes "Hall" ∷ codes "You can see a hat, a table, a box, a ball, a lamp and some sand here." ∷ blank
+    ∷ codes ">insert ball into box" ∷ codes "(first taking the ball)" ∷ codes "You put the ball into the box." ∷ blank
+    ∷ codes ">drop ball" ∷ codes "You don't have that." ∷ blank
+    ∷ codes ">open box" ∷ codes "You can't open that." ∷ blank
+    ∷ codes ">take table" ∷ codes "That is fixed in place." ∷ blank
+    ∷ codes ">take me" ∷ codes "You can't take yourself." ∷ blank ∷ codes ">" ∷ []
+
+unfoldable pub many_things_switched_shown : List (List ℕ)
+many_things_switched_shown =
+    codes "Hall" ∷ codes "You can see a hat, a table, a box, a ball, a lamp and some sand here." ∷ blank
+    ∷ codes ">switch on lamp" ∷ codes "You switch the lamp on." ∷ blank
+    ∷ codes ">x lamp" ∷ codes "You see nothing special about the lamp." ∷ codes "The lamp is switched on." ∷ blank
+    ∷ codes ">turn off lamp" ∷ codes "You switch the lamp off." ∷ blank
+    ∷ codes ">turn off lamp" ∷ codes "That is already off." ∷ blank
+    ∷ codes ">drop sand" ∷ codes "You don't have that." ∷ blank ∷ codes ">" ∷ []

@@ -25,10 +25,10 @@ use Rattle.play_meaning.specs.Transcripts.{exchanges, last_state, played, transc
 use Rattle.play_meaning.specs.Truth.{truth_in}
 use Rattle.play_meaning.specs.Turns.{beginning_of, ending_of, opening, pass, turn}
 use Rattle.play_meaning.specs.Values.{is_one, number_in, object_in, those}
-use Rattle.play_meaning.specs.WorldRows.{bulb_of_closed_box, dark_cave, jar_in_tank, lamp_here, lamp_in_closed_box, lamp_in_jar, lamp_of_bob, open_box_in_closed_sack}
+use Rattle.play_meaning.specs.WorldRows.{bulb_of_closed_box, bulb_of_closed_box_shown, dark_cave, dark_cave_shown, jar_in_tank, jar_in_tank_shown, lamp_here, lamp_here_shown, lamp_in_closed_box, lamp_in_closed_box_shown, lamp_in_jar, lamp_in_jar_shown, lamp_of_bob, lamp_of_bob_shown, open_box_in_closed_sack, open_box_in_closed_sack_shown}
 use Rattle.play_meaning.specs.Worlds.{chain, is_true_of, number_of, set_flag, set_number}
 use Rattle.play_meaning.proofs.laws.light_shows_things.Goals as goal
 
 pub returns : goal.returns
-unfolding count_of_numbers built_in_parents is_under built_in_properties digits visibility access carrying stages act inner_of may_be_put settle first_reading command answer read applies ask consult do_phrase do_body splits candidates book_of spend is_about said_in game_of encloses is_in_view has_light is_visible_thing is_visible is_touchable answer_of opened tale_of start_in grammar_of script_of standard_needs standard_lines rules_of_looking rules_of_examining rules_of_taking rules_of_dropping rules_of_putting rules_of_inserting rules_of_opening rules_of_closing rules_of_going rules_of_wearing rules_of_inventory rules_of_switching standard_rules depth_of setting_of start_of exchanges played last_state transcript truth_in ending_of beginning_of pass turn opening object_in is_one those number_in dark_cave lamp_here lamp_in_closed_box lamp_in_jar open_box_in_closed_sack jar_in_tank bulb_of_closed_box lamp_of_bob chain is_true_of number_of set_flag set_number
+unfolding count_of_numbers built_in_parents is_under built_in_properties digits visibility access carrying stages act inner_of may_be_put settle first_reading command answer read applies ask consult do_phrase do_body splits candidates book_of spend is_about said_in game_of encloses is_in_view has_light is_visible_thing is_visible is_touchable answer_of opened tale_of start_in grammar_of script_of standard_needs standard_lines rules_of_looking rules_of_examining rules_of_taking rules_of_dropping rules_of_putting rules_of_inserting rules_of_opening rules_of_closing rules_of_going rules_of_wearing rules_of_inventory rules_of_switching standard_rules depth_of setting_of start_of exchanges played last_state transcript truth_in ending_of beginning_of pass turn opening object_in is_one those number_in dark_cave lamp_here lamp_in_closed_box lamp_in_jar open_box_in_closed_sack jar_in_tank bulb_of_closed_box lamp_of_bob dark_cave_shown lamp_here_shown lamp_in_closed_box_shown lamp_in_jar_shown open_box_in_closed_sack_shown jar_in_tank_shown bulb_of_closed_box_shown lamp_of_bob_shown chain is_true_of number_of set_flag set_number
 returns c = record { dark = refl; lamp = refl; closed = refl; glass = refl; within_closed = refl; within_glass = refl; part = refl; carried = refl }

@@ -25,10 +25,10 @@ use Rattle.play_meaning.specs.Transcripts.{exchanges, last_state, played, transc
 use Rattle.play_meaning.specs.Truth.{truth_in}
 use Rattle.play_meaning.specs.Turns.{beginning_of, ending_of, opening, pass, turn}
 use Rattle.play_meaning.specs.Values.{is_one, number_in, object_in, those}
-use Rattle.play_meaning.specs.WorldRows.{many_things}
+use Rattle.play_meaning.specs.WorldRows.{many_things, many_things_put_shown, many_things_shown, many_things_switched_shown}
 use Rattle.play_meaning.specs.Worlds.{chain, is_true_of, number_of, set_flag, set_number}
 use Rattle.play_meaning.proofs.laws.things_are_handled.Goals as goal
 
 pub returns : goal.returns
-unfolding count_of_numbers built_in_parents is_under built_in_properties digits visibility access carrying stages act inner_of may_be_put settle first_reading command answer read applies ask consult do_phrase do_body splits candidates book_of spend is_about said_in game_of encloses is_in_view has_light is_visible_thing is_visible is_touchable answer_of opened tale_of start_in grammar_of script_of standard_needs standard_lines rules_of_looking rules_of_examining rules_of_taking rules_of_dropping rules_of_putting rules_of_inserting rules_of_opening rules_of_closing rules_of_going rules_of_wearing rules_of_inventory rules_of_switching standard_rules depth_of setting_of start_of exchanges played last_state transcript truth_in ending_of beginning_of pass turn opening object_in is_one those number_in many_things chain is_true_of number_of set_flag set_number
+unfolding count_of_numbers built_in_parents is_under built_in_properties digits visibility access carrying stages act inner_of may_be_put settle first_reading command answer read applies ask consult do_phrase do_body splits candidates book_of spend is_about said_in game_of encloses is_in_view has_light is_visible_thing is_visible is_touchable answer_of opened tale_of start_in grammar_of script_of standard_needs standard_lines rules_of_looking rules_of_examining rules_of_taking rules_of_dropping rules_of_putting rules_of_inserting rules_of_opening rules_of_closing rules_of_going rules_of_wearing rules_of_inventory rules_of_switching standard_rules depth_of setting_of start_of exchanges played last_state transcript truth_in ending_of beginning_of pass turn opening object_in is_one those number_in many_things many_things_shown many_things_put_shown many_things_switched_shown chain is_true_of number_of set_flag set_number
 returns c = record { worn = refl; put = refl; switched = refl }

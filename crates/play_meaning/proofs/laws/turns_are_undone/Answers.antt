@@ -4,7 +4,7 @@ use Rattle.world_meaning.specs.Declarations.{count_of_numbers}
 use Rattle.world_meaning.specs.Kinds.{built_in_parents, is_under}
 use Rattle.world_meaning.specs.Properties.{built_in_properties}
 use Rattle.play_meaning.specs.Acting.{access, act, carrying, inner_of, stages, visibility}
-use Rattle.play_meaning.specs.ActionRows.{endless_jumping}
+use Rattle.play_meaning.specs.ActionRows.{endless_jumping, endless_jumping_abandoned_shown}
 use Rattle.play_meaning.specs.Changes.{may_be_put}
 use Rattle.play_meaning.specs.Commands.{answer, command, first_reading, read, settle}
 use Rattle.play_meaning.specs.Consulting.{applies, ask, consult}
@@ -16,7 +16,7 @@ use Rattle.play_meaning.specs.Rules.{is_about}
 use Rattle.play_meaning.specs.Saying.{said_in}
 use Rattle.play_meaning.specs.Scripts.{game_of}
 use Rattle.play_meaning.specs.Seeing.{encloses, has_light, is_in_view, is_touchable, is_visible, is_visible_thing}
-use Rattle.play_meaning.specs.SessionRows.{empty_hall, scoring}
+use Rattle.play_meaning.specs.SessionRows.{empty_hall, empty_hall_shown, scoring, scoring_shown}
 use Rattle.play_meaning.specs.Sessions.{answer_of, opened}
 use Rattle.play_meaning.specs.Sketches.{grammar_of, script_of, start_in, tale_of}
 use Rattle.play_meaning.specs.StandardActions.{standard_needs}
@@ -31,5 +31,5 @@ use Rattle.play_meaning.specs.Worlds.{chain, is_true_of, number_of, set_flag, se
 use Rattle.play_meaning.proofs.laws.turns_are_undone.Goals as goal
 
 pub returns : goal.returns
-unfolding count_of_numbers built_in_parents is_under built_in_properties digits visibility access carrying stages act inner_of endless_jumping may_be_put settle first_reading command answer read applies ask consult do_phrase do_body splits candidates book_of spend is_about said_in game_of encloses is_in_view has_light is_visible_thing is_visible is_touchable empty_hall scoring answer_of opened tale_of start_in grammar_of script_of standard_needs standard_lines rules_of_looking rules_of_examining rules_of_taking rules_of_dropping rules_of_putting rules_of_inserting rules_of_opening rules_of_closing rules_of_going rules_of_wearing rules_of_inventory rules_of_switching standard_rules depth_of setting_of start_of exchanges played last_state transcript truth_in ending_of beginning_of pass turn opening object_in is_one those number_in chain is_true_of number_of set_flag set_number
+unfolding count_of_numbers built_in_parents is_under built_in_properties digits visibility access carrying stages act inner_of endless_jumping endless_jumping_abandoned_shown may_be_put settle first_reading command answer read applies ask consult do_phrase do_body splits candidates book_of spend is_about said_in game_of encloses is_in_view has_light is_visible_thing is_visible is_touchable empty_hall scoring empty_hall_shown scoring_shown answer_of opened tale_of start_in grammar_of script_of standard_needs standard_lines rules_of_looking rules_of_examining rules_of_taking rules_of_dropping rules_of_putting rules_of_inserting rules_of_opening rules_of_closing rules_of_going rules_of_wearing rules_of_inventory rules_of_switching standard_rules depth_of setting_of start_of exchanges played last_state transcript truth_in ending_of beginning_of pass turn opening object_in is_one those number_in chain is_true_of number_of set_flag set_number
 returns c = record { eight = refl; abandoned = refl; out_of_world = refl }

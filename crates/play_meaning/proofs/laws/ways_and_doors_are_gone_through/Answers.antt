@@ -26,10 +26,10 @@ use Rattle.play_meaning.specs.Transcripts.{exchanges, last_state, played, transc
 use Rattle.play_meaning.specs.Truth.{truth_in}
 use Rattle.play_meaning.specs.Turns.{beginning_of, ending_of, opening, pass, turn}
 use Rattle.play_meaning.specs.Values.{is_one, number_in, object_in, those}
-use Rattle.play_meaning.specs.WorldRows.{closed_gate, hall_and_garden}
+use Rattle.play_meaning.specs.WorldRows.{closed_gate, closed_gate_opened_shown, closed_gate_shown, hall_and_garden, hall_and_garden_nowhere_shown, hall_and_garden_shown}
 use Rattle.play_meaning.specs.Worlds.{chain, is_true_of, number_of, set_flag, set_number}
 use Rattle.play_meaning.proofs.laws.ways_and_doors_are_gone_through.Goals as goal
 
 pub returns : goal.returns
-unfolding count_of_numbers built_in_parents is_under built_in_properties digits visibility access carrying stages act inner_of may_be_put settle first_reading command answer read applies ask consult do_phrase do_body splits candidates book_of nowhere spend is_about said_in game_of encloses is_in_view has_light is_visible_thing is_visible is_touchable answer_of opened tale_of start_in grammar_of script_of standard_needs standard_lines rules_of_looking rules_of_examining rules_of_taking rules_of_dropping rules_of_putting rules_of_inserting rules_of_opening rules_of_closing rules_of_going rules_of_wearing rules_of_inventory rules_of_switching standard_rules depth_of setting_of start_of exchanges played last_state transcript truth_in ending_of beginning_of pass turn opening object_in is_one those number_in hall_and_garden closed_gate chain is_true_of number_of set_flag set_number
+unfolding count_of_numbers built_in_parents is_under built_in_properties digits visibility access carrying stages act inner_of may_be_put settle first_reading command answer read applies ask consult do_phrase do_body splits candidates book_of nowhere spend is_about said_in game_of encloses is_in_view has_light is_visible_thing is_visible is_touchable answer_of opened tale_of start_in grammar_of script_of standard_needs standard_lines rules_of_looking rules_of_examining rules_of_taking rules_of_dropping rules_of_putting rules_of_inserting rules_of_opening rules_of_closing rules_of_going rules_of_wearing rules_of_inventory rules_of_switching standard_rules depth_of setting_of start_of exchanges played last_state transcript truth_in ending_of beginning_of pass turn opening object_in is_one those number_in hall_and_garden closed_gate hall_and_garden_shown hall_and_garden_nowhere_shown closed_gate_shown closed_gate_opened_shown chain is_true_of number_of set_flag set_number
 returns c = record { rooms = refl; nowhere = refl; closed = refl; opened = refl }
