@@ -27,11 +27,13 @@ pub record KeepsBefore (s : State) (a : Answer) : Type 0 where
 
 -- ---- abandoned lines
 
-closed_leaves : (s : State) (kind : ReplyKind) (kept : List World) (p : Progress) (ending : Option (List ℕ)) → ((reason : Abandon) → kind ≡ Abandoned reason → ⊥) → LeavesAll s (closed kind kept p ending)
+closed_leaves : (s : State) (kind : ReplyKind) (kept : List World) (p : Progress) (ending : Option (List ℕ))
+    → ((reason : Abandon) → kind ≡ Abandoned reason → ⊥) → LeavesAll s (closed kind kept p ending)
 closed_leaves s kind kept p None other reason is = absurd (other reason is)
 closed_leaves s kind kept p (Some ending) other reason is = absurd cc
 
-played_leaves : (s : State) (kind : ReplyKind) (kept : List World) (attempt : Attempt Progress) → ((reason : Abandon) → kind ≡ Abandoned reason → ⊥) → LeavesAll s (played kind kept s attempt)
+played_leaves : (s : State) (kind : ReplyKind) (kept : List World) (attempt : Attempt Progress) → ((reason : Abandon) → kind ≡ Abandoned reason → ⊥)
+    → LeavesAll s (played kind kept s attempt)
 played_leaves s kind kept (Ok p) other reason is = closed_leaves s kind kept p p.world.ended other reason is
 played_leaves s kind kept (Err why) other reason is = refl
 
@@ -68,11 +70,13 @@ answer_leaves g refused s line reason is = ended_leaves s.ending s (read_answer 
 
 -- ---- kept turns
 
-closed_keeps : (s : State) (kind : ReplyKind) (kept : List World) (p : Progress) (ending : Option (List ℕ)) → (kind ≡ Kept → kept ≡ keep s.world s.kept) → KeepsBefore s (closed kind kept p ending)
+closed_keeps : (s : State) (kind : ReplyKind) (kept : List World) (p : Progress) (ending : Option (List ℕ))
+    → (kind ≡ Kept → kept ≡ keep s.world s.kept) → KeepsBefore s (closed kind kept p ending)
 closed_keeps s kind kept p None same = record { kept = same; going = λ is. refl }
 closed_keeps s kind kept p (Some ending) same = record { kept = λ is. absurd cc; going = λ is. absurd cc }
 
-played_keeps : (s : State) (kind : ReplyKind) (kept : List World) (attempt : Attempt Progress) → (kind ≡ Kept → kept ≡ keep s.world s.kept) → KeepsBefore s (played kind kept s attempt)
+played_keeps : (s : State) (kind : ReplyKind) (kept : List World) (attempt : Attempt Progress) → (kind ≡ Kept → kept ≡ keep s.world s.kept)
+    → KeepsBefore s (played kind kept s attempt)
 played_keeps s kind kept (Ok p) same = closed_keeps s kind kept p p.world.ended same
 played_keeps s kind kept (Err why) same = record { kept = λ is. absurd cc; going = λ is. absurd cc }
 
@@ -110,13 +114,15 @@ answer_keeps g refused s line = ended_keeps s.ending s (read_answer g refused s 
 -- ---- undo
 
 -- where a world is kept, undo puts the latest back
-undo_restores : (g : Game) (refused : Option ℕ) (s : State) (line : List ℕ) (w : World) (kept : List World) → s.ending ≡ None → s.kept ≡ w ∷ kept → MeansUndo g s line → (answer_of g refused s line).state ≡ record s { world = w; kept = kept; question = None }
+undo_restores : (g : Game) (refused : Option ℕ) (s : State) (line : List ℕ) (w : World) (kept : List World) → s.ending ≡ None → s.kept ≡ w ∷ kept
+    → MeansUndo g s line → (answer_of g refused s line).state ≡ record s { world = w; kept = kept; question = None }
 unfolding answer_of
 undo_restores g refused s line w kept going same undo =
     ap (λ ending. (unless_ended ending s (read_answer g refused s (g.reads s.question (is_visible g.telling.setting s.world) line))).state) going
     ∙ ap (λ reading. (read_answer g refused s reading).state) undo
     ∙ ap (λ worlds. (undone worlds s).state) same
 
-pub undo_brings_back : (g : Game) (refused again : Option ℕ) (s : State) (line undo : List ℕ) → (answer_of g refused s line).kind ≡ Kept → MeansUndo g (answer_of g refused s line).state undo → (answer_of g again (answer_of g refused s line).state undo).state.world ≡ s.world
+pub undo_brings_back : (g : Game) (refused again : Option ℕ) (s : State) (line undo : List ℕ) → (answer_of g refused s line).kind ≡ Kept
+    → MeansUndo g (answer_of g refused s line).state undo → (answer_of g again (answer_of g refused s line).state undo).state.world ≡ s.world
 undo_brings_back g refused again s line undo is means =
     ap (λ t. t.world) (undo_restores g again (answer_of g refused s line).state undo s.world (take 7 s.kept) ((answer_keeps g refused s line).going is) ((answer_keeps g refused s line).kept is) means)

@@ -86,7 +86,8 @@ not_before b o n m x is other =
       | false ↦ λ no_is. no_is
     ] refl
 
-all_not_before : (b : ℕ → ℕ → Bool) → IsStrict b → (n m : ℕ) → b n m ≡ true → (ms : List ℕ) → AllByRecursion (λ x. b x m ≡ false) ms → AllByRecursion (λ x. b x n ≡ false) ms
+all_not_before : (b : ℕ → ℕ → Bool) → IsStrict b → (n m : ℕ) → b n m ≡ true → (ms : List ℕ) → AllByRecursion (λ x. b x m ≡ false) ms
+    → AllByRecursion (λ x. b x n ≡ false) ms
 all_not_before b o n m is [] all = all
 all_not_before b o n m is (x ∷ ms) all = (not_before b o n m x is all.0, all_not_before b o n m is ms all.1)
 

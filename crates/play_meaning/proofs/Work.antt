@@ -68,19 +68,23 @@ pub record InnerWithin (inner : Inner) : Type 0 where
   pub tries : (now : ActionNow) (p : Progress) → Within p → Gives Within (inner.tries now p)
   pub follows : (book : ℕ) (now : ActionNow) (p : Progress) → Within p → Gives Within (inner.follows book now p)
 
-left_within : (flow : Flow) (p : Progress) (more : Progress → Attempt Done) → Within p → ((q : Progress) → Within q → Gives DoneWithin (more q)) → Gives DoneWithin (unless_left flow p more)
+left_within : (flow : Flow) (p : Progress) (more : Progress → Attempt Done) → Within p → ((q : Progress) → Within q → Gives DoneWithin (more q))
+    → Gives DoneWithin (unless_left flow p more)
 left_within GoesOn p more within on = on p within
 left_within NoDecision p more within on = within
 left_within (Decides outcome) p more within on = within
 
-then_within : (first : Attempt Done) (more : Progress → Attempt Done) → Gives DoneWithin first → ((q : Progress) → Within q → Gives DoneWithin (more q)) → Gives DoneWithin (then_do first more)
+then_within : (first : Attempt Done) (more : Progress → Attempt Done) → Gives DoneWithin first
+    → ((q : Progress) → Within q → Gives DoneWithin (more q)) → Gives DoneWithin (then_do first more)
 then_within first more given on = gives_next DoneWithin DoneWithin first (λ done. unless_left done.flow done.progress more) given (λ done within. left_within done.flow done.progress more within on)
 
-turn_within : (test : Bool) (does : Progress → Attempt Done) (p : Progress) → Within p → ((q : Progress) → Within q → Gives DoneWithin (does q)) → Gives DoneWithin (turn_if test does p)
+turn_within : (test : Bool) (does : Progress → Attempt Done) (p : Progress) → Within p → ((q : Progress) → Within q → Gives DoneWithin (does q))
+    → Gives DoneWithin (turn_if test does p)
 turn_within false does p within on = within
 turn_within true does p within on = gives_next Within DoneWithin (spend p) does (spend_within p) on
 
-repeat_within : (passes : ℕ → World → Bool) (does : ℕ → Progress → Attempt Done) (objects : List ℕ) (p : Progress) → Within p → ((o : ℕ) (q : Progress) → Within q → Gives DoneWithin (does o q)) → Gives DoneWithin (repeat passes does objects p)
+repeat_within : (passes : ℕ → World → Bool) (does : ℕ → Progress → Attempt Done) (objects : List ℕ) (p : Progress) → Within p
+    → ((o : ℕ) (q : Progress) → Within q → Gives DoneWithin (does o q)) → Gives DoneWithin (repeat passes does objects p)
 repeat_within passes does [] p within on = within
 repeat_within passes does (o ∷ objects) p within on =
     then_within (turn_if (passes o p.world) (does o) p) (repeat passes does objects) (turn_within (passes o p.world) (does o) p within (on o)) (λ q held. repeat_within passes does objects q held on)
@@ -92,7 +96,8 @@ chosen_within false a b first second = second
 mutual
   unfolding do_phrase do_body
 
-  pub phrase_within : (t : Telling) (inner : Inner) → InnerWithin inner → (phrase : Phrase) (scope : Scope) (p : Progress) → Within p → Gives DoneWithin (do_phrase t inner phrase scope p)
+  pub phrase_within : (t : Telling) (inner : Inner) → InnerWithin inner → (phrase : Phrase) (scope : Scope) (p : Progress) → Within p
+      → Gives DoneWithin (do_phrase t inner phrase scope p)
   phrase_within t inner i (Say text) scope p within = gives_behind DoneWithin (said_in t scope p.world text) (λ y. Ok (goes_on (say y p))) (λ bytes. within)
   phrase_within t inner i (NowIs o property value) scope p within = within
   phrase_within t inner i (NowHeld o relation holder) scope p within = within
@@ -105,11 +110,13 @@ mutual
   phrase_within t inner i (Leave flow) scope p within = within
   phrase_within t inner i (EndStory text) scope p within = within
   phrase_within t inner i (If condition body otherwise) scope p within =
-      gives_behind DoneWithin (truth_in t.setting scope p.world condition) _ (λ holds. chosen_within holds (do_body t inner body scope p) (do_body t inner otherwise scope p) (body_within t inner i body scope p within) (body_within t inner i otherwise scope p within))
+      gives_behind DoneWithin (truth_in t.setting scope p.world condition) _
+      (λ holds. chosen_within holds (do_body t inner body scope p) (do_body t inner otherwise scope p) (body_within t inner i body scope p within) (body_within t inner i otherwise scope p within))
   phrase_within t inner i (Repeat description body) scope p within = repeat_within (λ y w. is_one t.setting scope w description y) _ (objects_of t.setting) p within (λ o q held. body_within t inner i body (turning_to scope o) q held)
   phrase_within t inner i (Instead phrase) scope p within = then_within (do_phrase t inner phrase scope p) _ (phrase_within t inner i phrase scope p within) (λ q held. held)
 
-  body_within : (t : Telling) (inner : Inner) → InnerWithin inner → (body : Body) (scope : Scope) (p : Progress) → Within p → Gives DoneWithin (do_body t inner body scope p)
+  body_within : (t : Telling) (inner : Inner) → InnerWithin inner → (body : Body) (scope : Scope) (p : Progress) → Within p
+      → Gives DoneWithin (do_body t inner body scope p)
   body_within t inner i End scope p within = within
   body_within t inner i (Then phrase body) scope p within = then_within (do_phrase t inner phrase scope p) (do_body t inner body scope) (phrase_within t inner i phrase scope p within) (λ q held. body_within t inner i body scope q held)
 
@@ -119,7 +126,8 @@ mutual
 pub record BodiesWithin (g : Game) : Type 0 where
   pub body : (rule : ℕ) (inner : Inner) → InnerWithin inner → (now : ActionNow) (p : Progress) → Within p → Gives DoneWithin (g.body rule inner now p)
 
-decided_within : (decision : Option Outcome) (p : Progress) (more : Attempt Asked) → Within p → Gives AskedWithin more → Gives AskedWithin (unless_decided decision p more)
+decided_within : (decision : Option Outcome) (p : Progress) (more : Attempt Asked) → Within p → Gives AskedWithin more
+    → Gives AskedWithin (unless_decided decision p more)
 decided_within None p more within given = given
 decided_within (Some outcome) p more within given = within
 
@@ -134,20 +142,24 @@ first_within (step ∷ steps) all p within =
     gives_next AskedWithin AskedWithin (step p) (λ asked. unless_decided asked.decision asked.progress (first_decision steps asked.progress)) (all.0 p within)
     (λ asked held. decided_within asked.decision asked.progress (first_decision steps asked.progress) held (first_within steps all.1 asked.progress held))
 
-done_within : (test : Bool) (g : Game) → BodiesWithin g → (inner : Inner) → InnerWithin inner → (book : ℕ) (now : ActionNow) (rule : ℕ) (p : Progress) → Within p → Gives AskedWithin (done_if test g inner book now rule p)
+done_within : (test : Bool) (g : Game) → BodiesWithin g → (inner : Inner) → InnerWithin inner → (book : ℕ) (now : ActionNow) (rule : ℕ) (p : Progress)
+    → Within p → Gives AskedWithin (done_if test g inner book now rule p)
 done_within false g b inner i book now rule p within = within
 done_within true g b inner i book now rule p within =
     gives_next Within AskedWithin (spend p) _ (spend_within p) (λ q held. gives_next DoneWithin AskedWithin (g.body rule inner now q) _ (b.body rule inner i now q held) (λ done over. over))
 
-ask_within : (g : Game) → BodiesWithin g → (inner : Inner) → InnerWithin inner → (book : ℕ) (now : ActionNow) (rule : ℕ) (p : Progress) → Within p → Gives AskedWithin (ask g inner book now rule p)
+ask_within : (g : Game) → BodiesWithin g → (inner : Inner) → InnerWithin inner → (book : ℕ) (now : ActionNow) (rule : ℕ) (p : Progress) → Within p
+    → Gives AskedWithin (ask g inner book now rule p)
 unfolding ask
 ask_within g b inner i book now rule p within = gives_behind AskedWithin (applies g rule now p.world) _ (λ test. done_within test g b inner i book now rule p within)
 
-asks_within : (g : Game) → BodiesWithin g → (inner : Inner) → InnerWithin inner → (book : ℕ) (now : ActionNow) (rules : List ℕ) → StepsWithin (map (ask g inner book now) rules)
+asks_within : (g : Game) → BodiesWithin g → (inner : Inner) → InnerWithin inner → (book : ℕ) (now : ActionNow) (rules : List ℕ)
+    → StepsWithin (map (ask g inner book now) rules)
 asks_within g b inner i book now [] = tt
 asks_within g b inner i book now (rule ∷ rules) = (ask_within g b inner i book now rule, asks_within g b inner i book now rules)
 
-consult_within : (g : Game) → BodiesWithin g → (inner : Inner) → InnerWithin inner → (book : ℕ) (now : ActionNow) (p : Progress) → Within p → Gives AskedWithin (consult g inner book now p)
+consult_within : (g : Game) → BodiesWithin g → (inner : Inner) → InnerWithin inner → (book : ℕ) (now : ActionNow) (p : Progress) → Within p
+    → Gives AskedWithin (consult g inner book now p)
 unfolding consult
 consult_within g b inner i book now p within = first_within (map (ask g inner book (with_nouns now)) (g.books book)) (asks_within g b inner i book (with_nouns now) (g.books book)) p within
 
@@ -159,7 +171,9 @@ unless_within false p otherwise within given = given
 
 light_within : (g : Game) (now : ActionNow) (p : Progress) → Within p → Gives AskedWithin (visibility g now p)
 unfolding visibility
-light_within g now p within = unless_within (◌||◌ (not (g.needs now.action).light) (has_light g.telling.setting p.world)) p (fails dark_text p) within within
+light_within g now p within =
+    let is_met : Bool = not (g.needs now.action).light || has_light g.telling.setting p.world in
+    unless_within is_met p (fails dark_text p) within within
 
 either_within : (test : Bool) (a b : Attempt Asked) → Gives AskedWithin a → Gives AskedWithin b → Gives AskedWithin (if test then a else b)
 either_within true a b first second = first
@@ -167,14 +181,20 @@ either_within false a b first second = second
 
 access_within : (s : Setting) (slot : Slot) (noun : Option ℕ) (p : Progress) → Within p → Gives AskedWithin (access s slot noun p)
 unfolding access
-access_within s slot noun p within = either_within (◌||◌ (not (asks_sight slot)) (of_some noun (is_visible s p.world))) (unless (◌||◌ (not (asks_touch slot)) (of_some noun (is_touchable s p.world))) p (fails (out_of_reach_text s noun) p)) (fails not_seen_text p) (unless_within (◌||◌ (not (asks_touch slot)) (of_some noun (is_touchable s p.world))) p (fails (out_of_reach_text s noun) p) within within) within
+access_within s slot noun p within =
+    let is_seen : Bool = not (asks_sight slot) || of_some noun (is_visible s p.world) in
+    let is_touched : Bool = not (asks_touch slot) || of_some noun (is_touchable s p.world) in
+    let out_of_reach : Attempt Asked = fails (out_of_reach_text s noun) p in
+    either_within is_seen (unless is_touched p out_of_reach) (fails not_seen_text p) (unless_within is_touched p out_of_reach within within) within
 
-carrying_within : (s : Setting) (inner : Inner) → InnerWithin inner → (slot : Slot) (noun : Option ℕ) (p : Progress) → Within p → Gives AskedWithin (carrying s inner slot noun p)
+carrying_within : (s : Setting) (inner : Inner) → InnerWithin inner → (slot : Slot) (noun : Option ℕ) (p : Progress) → Within p
+    → Gives AskedWithin (carrying s inner slot noun p)
 unfolding carrying
 carrying_within s inner i slot noun p within =
     unless_within _ p _ within (gives_next Within AskedWithin _ (unless_held noun) (i.tries _ _ within) (λ q held. unless_within (has_noun q.world noun) q (fails [] q) held held))
 
-report_within : (silent : Bool) (g : Game) → BodiesWithin g → (inner : Inner) → InnerWithin inner → (now : ActionNow) (p : Progress) → Within p → Gives AskedWithin (if silent then Ok (undecided p) else consult g inner 5 now p)
+report_within : (silent : Bool) (g : Game) → BodiesWithin g → (inner : Inner) → InnerWithin inner → (now : ActionNow) (p : Progress) → Within p
+    → Gives AskedWithin (if silent then Ok (undecided p) else consult g inner 5 now p)
 report_within true g b inner i now p within = within
 report_within false g b inner i now p within = consult_within g b inner i 5 now p within
 
@@ -233,7 +253,8 @@ order_within : (steps : List (Progress → Attempt Progress)) → PartsWithin st
 order_within [] all p within = within
 order_within (step ∷ steps) all p within = gives_next Within Within (step p) (in_order steps) (all.0 p within) (order_within steps all.1)
 
-set_within : (test : Bool) (g : Game) → BodiesWithin g → (scene : ℕ) (now : SceneNow) (book : ℕ) (p : Progress) → Within p → Gives Within (set_and_follow test g scene now book p)
+set_within : (test : Bool) (g : Game) → BodiesWithin g → (scene : ℕ) (now : SceneNow) (book : ℕ) (p : Progress) → Within p
+    → Gives Within (set_and_follow test g scene now book p)
 set_within false g b scene now book p within = within
 set_within true g b scene now book p within = follow_within g b book _ within
 
@@ -243,7 +264,12 @@ ending_within g b scene p within = gives_behind Within _ _ (λ test. set_within 
 
 beginning_within : (g : Game) → BodiesWithin g → (recurs : Bool) (scene : ℕ) (p : Progress) → Within p → Gives Within (beginning_of g recurs scene p)
 unfolding beginning_of
-beginning_within g b recurs scene p within = gives_behind Within (if◌then◌else◌ {A = Attempt Bool} (scene_of p.world scene).happens (Ok false) (g.begins scene p.world)) (λ y. set_and_follow (begins_now y (recurs || not (scene_of p.world scene).has_begun)) g scene record { happens = true; has_begun = true } (begins_book scene) p) (λ test. set_within (begins_now test (recurs || not (scene_of p.world scene).has_begun)) g b scene (record { happens = true; has_begun = true }) (begins_book scene) p within)
+beginning_within g b recurs scene p within =
+    let holds : Attempt Bool = if (scene_of p.world scene).happens then Ok false else g.begins scene p.world in
+    let may : Bool = recurs || not (scene_of p.world scene).has_begun in
+    let begun : SceneNow = record { happens = true; has_begun = true } in
+    gives_behind Within holds (λ begins. set_and_follow (begins_now begins may) g scene begun (begins_book scene) p)
+    (λ begins. set_within (begins_now begins may) g b scene begun (begins_book scene) p within)
 
 scenes_within : (g : Game) → BodiesWithin g → (scene : ℕ) (scenes : List Bool) → PartsWithin (scene_steps g scene scenes)
 scenes_within g b scene [] = tt
@@ -271,7 +297,9 @@ count_within p within =
 
 turn_of_within : (g : Game) → BodiesWithin g → (now : ActionNow) (p : Progress) → Within p → Gives Within (turn g now p)
 unfolding turn
-turn_of_within g b now p within = parts_within (perform g now ∷ pass g ∷ follow g 6 ∷ count_turn ∷ pass g ∷ []) (perform_within g b now, (pass_within g b, (follow_within g b 6, (count_within, (pass_within g b, tt))))) p within
+turn_of_within g b now p within =
+    parts_within (perform g now ∷ pass g ∷ follow g 6 ∷ count_turn ∷ pass g ∷ [])
+    (perform_within g b now, (pass_within g b, (follow_within g b 6, (count_within, (pass_within g b, tt))))) p within
 
 opening_within : (g : Game) → BodiesWithin g → (p : Progress) → Within p → Gives Within (opening g p)
 unfolding opening
@@ -279,7 +307,8 @@ opening_within g b p within = parts_within (pass g ∷ follow g 7 ∷ perform g 
 
 -- ---- a tale's game
 
-rule_within : (t : Telling) (inner : Inner) → InnerWithin inner → (now : ActionNow) (p : Progress) (rule : Option Rule) → Within p → Gives DoneWithin (rule_body t inner now p rule)
+rule_within : (t : Telling) (inner : Inner) → InnerWithin inner → (now : ActionNow) (p : Progress) (rule : Option Rule) → Within p
+    → Gives DoneWithin (rule_body t inner now p rule)
 rule_within t inner i now p None within = within
 rule_within t inner i now p (Some rule) within = body_within t inner i rule.body (scope_of now) p within
 

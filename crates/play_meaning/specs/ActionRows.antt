@@ -222,3 +222,9 @@ endless_jumping_abandoned_shown =
     ∷ codes ">undo" ∷ codes "Previous turn undone." ∷ blank
     ∷ codes ">undo" ∷ codes "Previous turn undone." ∷ blank
     ∷ codes ">undo" ∷ codes "You can't undo any further." ∷ blank ∷ codes ">" ∷ []
+
+unfoldable pub question_refused_shown : List (List ℕ)
+question_refused_shown =
+    codes "Hall" ∷ codes "You can see a red box and a blue box here." ∷ blank
+    ∷ codes ">open box" ∷ codes "[The turn was abandoned: out of memory.]" ∷ blank
+    ∷ codes ">red" ∷ codes "I don't know that verb." ∷ blank ∷ codes ">" ∷ []

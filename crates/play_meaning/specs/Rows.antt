@@ -89,9 +89,9 @@ shows lines sketch = transcript (game_of_sketch sketch) true [] (typed lines) �
 abbrev pub shows_to_end : List (List ℕ) → List (List ℕ) → Sketch → Type 0
 shows_to_end lines unheard sketch = transcript (game_of_sketch sketch) true [] (typed lines ++ unheard) ≡ on_lines lines
 
--- memory is refused in lines
-abbrev pub refused_in : List (Option ℕ) → List (List ℕ) → List ℕ → Sketch → Type 0
-refused_in refusals lines text sketch = transcript (game_of_sketch sketch) true refusals lines ≡ text
+-- where memory is refused in lines
+abbrev pub refused_in : List (Option ℕ) → List (List ℕ) → Sketch → Type 0
+refused_in refusals lines sketch = transcript (game_of_sketch sketch) true refusals (typed lines) ≡ on_lines lines
 
 -- how a session ends behind these lines
 abbrev pub ends_by : List (List ℕ) → Ending → Sketch → Type 0
