@@ -46,9 +46,9 @@ fn no_room(mentions: &[Mention<'_>]) -> Option<u32>
     }
 }
 
-/// What the statements may not say together: a name or a description twice, a kind that isn't
-/// there, a cycle of kinds, a wrong kind, an exit of
-/// two targets, an object too many, no room; each is looked for in all of them before the next.
+/// What the statements may not say together: a name or a description twice, a kind that isn't there, a
+/// cycle of kinds, a wrong kind, an exit of two targets, a name too many, no room; each is looked for in all
+/// of them before the next.
 #[tactic(auto, unfolding(crate::specs::Tales::frame_refusal))]
 fn frame_refusal(
     faults: NameFaults,
@@ -145,8 +145,8 @@ fn tale_said(alloc: Global, sentences: &[Sentence]) -> Result<Result<Tale, Fault
 }
 
 /// The tale that the sentences mean, or the refusal that stands, each code being looked for in the
-/// whole source before the next, at the first sentence that shows it: C5 of what has no meaning yet, C9, C7, C11, C8,
-/// C10, C12 of objects, C13, then C12 of names and texts. Memory is C14, at line 1.
+/// whole source before the next, at the first sentence that shows it: C5 of what has no meaning yet, C9, C7,
+/// C11, C8, C10, C12 of what is one too many, C13, then C12 of objects' names and of texts. Memory is C14, at line 1.
 pub fn tale_of(alloc: Global, sentences: &[Sentence]) -> Result<Tale, Fault>
     ensures told { IfOk result (λ tale. tale_said sentences.now ≡ Ok tale) }
     ensures refused { IfErr result (λ fault. (tale_said sentences.now ≡ Err fault) ⊎ (fault ≡ out_of_memory)) }

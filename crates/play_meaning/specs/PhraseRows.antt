@@ -1,5 +1,5 @@
 -- What phrases do in a furnished hall and in a pantry.
-use Rattle.std.specs.Prelude.{◌≡◌, ℕ, pos, neg_ℤ, List, [], ◌∷◌, None, Some, Ok, codes}
+use Rattle.std.specs.Prelude.{List, None, Ok, Some, [], codes, false, neg_ℤ, pos, true, ℕ, ◌∷◌, ◌≡◌}
 use Rattle.world_meaning.specs.Progress.{next}
 use Rattle.world_meaning.specs.declared.article.Article.TheVariants as article
 use Rattle.world_meaning.specs.declared.place.Rel.{Rel}
@@ -11,8 +11,9 @@ use Rattle.play_meaning.specs.Rows.{at, bright, here, item, with_rules}
 use Rattle.play_meaning.specs.Scripts.{scope_of, telling_of}
 use Rattle.play_meaning.specs.Settings.{container_kind, described_flag, fixed_in_place_flag, lit_flag, man_kind, open_flag, openable_flag, person_kind, room_kind, supporter_kind, thing_kind, wearable_flag}
 use Rattle.play_meaning.specs.Sketches.{Item, Sketch, game_of_sketch, script_of, start_in}
+use Rattle.play_meaning.specs.StandardActions.{dropping, taking}
 use Rattle.play_meaning.specs.StandardRules.{line, only, plain, standard_rules, the_player}
-use Rattle.play_meaning.specs.Trees.{And, Body, Bytes, CapitalDefinite, CapitalIndefinite, Condition, Definite, Description, DescriptionOf, Encloses, End, Equals, Figure, First, Has, If, IfSaid, Indefinite, Instead, IsAtMost, IsHeld, IsHeldByOne, IsLess, IsOne, IsSame, IsSo, Leave, Listing, Literal, Location, Minus, Move, Name, Naming, Not, Nothing, Noun, NowHeld, NowNowhere, NowNumber, Number, Object, Or, Phrase, Plain, Plus, PropertyOf, Quality, Repeat, RoomFrom, Say, Second, SecondNoun, Silence, Text, The, Then, Those, ThoseHeld, Times, Turning, Variable, Visible}
+use Rattle.play_meaning.specs.Trees.{And, Body, Bytes, CapitalDefinite, CapitalIndefinite, Condition, CountOf, Definite, Description, DescriptionOf, Encloses, End, Equals, Figure, First, Has, If, IfSaid, Indefinite, Instead, IsAtMost, IsHeld, IsHeldByOne, IsLess, IsOne, IsSame, IsSo, Leave, Listing, Literal, Location, Minus, Move, Name, Naming, Not, Nothing, Noun, NowHeld, NowIs, NowNowhere, NowNumber, Number, Object, Or, Phrase, Plain, Plus, PropertyOf, Quality, Repeat, RoomFrom, Say, Second, SecondNoun, Silence, Text, The, Then, Those, ThoseHeld, Times, Touchable, Try, TurnCount, Turning, Variable, Visible}
 use Rattle.play_meaning.specs.Turns.{no_action}
 use Rattle.play_meaning.specs.declared.outcome.Flow.{Flow}
 use Rattle.play_meaning.specs.declared.outcome.Flow.TheVariants.{NoDecision, Decides}
@@ -49,7 +50,8 @@ saying text described = record described { description = Some (plain text) }
 unfoldable pub pantry : Sketch
 pantry = with_rules
     (bright (codes "Hall") ∷ saying (codes "Round.") (here thing_kind (codes "ball") []) ∷ saying (codes "Big") (record (here thing_kind (codes "apple") []) { article = article.An })
-    ∷ record (here thing_kind (codes "sand") []) { article = article.Some } ∷ bob ∷ here thing_kind (codes "lamp") (lit_flag ∷ []) ∷ here container_kind (codes "box") (open_flag ∷ []) ∷ [])
+    ∷ record (here thing_kind (codes "sand") []) { article = article.Some } ∷ bob
+    ∷ here thing_kind (codes "lamp") (lit_flag ∷ []) ∷ here container_kind (codes "box") (open_flag ∷ []) ∷ [])
     standard_rules
 
 -- ---- what is said
@@ -75,7 +77,8 @@ everywhere =
 -- in a story a body says this and leaves off so
 abbrev pub does : Body → List ℕ → Flow → Sketch → Type 0
 does body text flow k =
-    next {B = List ℕ × Flow} (do_body (telling_of (script_of k)) (top (game_of_sketch k)) body (scope_of no_action) (fresh (start_in k))) (λ done. Ok (done.progress.text, done.flow)) ≡ Ok (text, flow)
+    next {B = List ℕ × Flow} (do_body (telling_of (script_of k)) (top (game_of_sketch k)) body (scope_of no_action) (fresh (start_in k)))
+    (λ done. Ok (done.progress.text, done.flow)) ≡ Ok (text, flow)
 
 -- ---- words of the bodies
 
@@ -313,3 +316,17 @@ unfoldable pub either_and_both : Body
 either_and_both = asked
     (Or (IsHeld the_ball In the_box) (IsHeld the_ball In the_hall) ∷ And (IsHeld the_ball In the_box) (IsHeld the_ball In the_hall)
     ∷ Or (IsHeld the_ball On the_box) (IsHeld the_ball In the_hall) ∷ [])
+
+-- in a closed box a thing is neither seen nor touched, in an open one both
+unfoldable pub seen_and_touched : Body
+seen_and_touched = body
+    (Say (answers (IsSo the_ball Visible ∷ IsSo the_ball Touchable ∷ [])) ∷ NowIs the_box open_flag true
+    ∷ Say (answers (IsSo the_ball Visible ∷ IsSo the_ball Touchable ∷ [])) ∷ [])
+
+-- the turn count, and the number of things in the hall
+unfoldable pub counted : Body
+counted = only (Say (figures (TurnCount ∷ CountOf things_here ∷ [])))
+
+-- a silent action says nothing of itself
+unfoldable pub silently : Body
+silently = body (Try true taking the_cup Nothing ∷ Try false dropping the_cup Nothing ∷ [])

@@ -10,7 +10,7 @@ use Rattle.play_meaning.specs.Rules.{Anything, Rule}
 use Rattle.play_meaning.specs.Sketches.{Sketch}
 use Rattle.play_meaning.specs.StandardActions.{jumping}
 use Rattle.play_meaning.specs.StandardRules.{line, only, plain}
-use Rattle.play_meaning.specs.Trees.{Body, Bytes, Condition, End, EndStory, Equals, Figure, IfSaid, IsAtMost, Literal, NowVariable, Number, Phrase, Plus, Repeat, Say, Silence, Text, Then, Those, Variable}
+use Rattle.play_meaning.specs.Trees.{Body, Bytes, Condition, End, EndStory, Equals, Figure, Happens, IfSaid, IsAtMost, Literal, NowVariable, Number, Phrase, Plus, Repeat, Say, Silence, Text, Then, Those, Variable}
 use Rattle.play_meaning.specs.declared.action.Needs.{Needs}
 use Rattle.play_meaning.specs.declared.action.Slot.TheVariants.{Absent}
 
@@ -43,6 +43,10 @@ storms = storm_and true []
 -- instead of jumping during the storm
 unfoldable pub wet_jumping : Sketch
 wet_jumping = storm_and false (record (rule_of instead_book (Some jumping) Anything Anything None (says (codes "Wet."))) { scene = Some 0 } ∷ [])
+
+-- the same by the rule's condition
+unfoldable pub wet_while_happening : Sketch
+wet_while_happening = storm_and false (rule_of instead_book (Some jumping) Anything Anything (Some (Happens 0)) (says (codes "Wet.")) ∷ [])
 
 unfoldable pub winning : Sketch
 winning = in_hall [] (rule_of instead_book (Some jumping) Anything Anything None (only (EndStory (codes "You have won"))) ∷ [])

@@ -27,6 +27,6 @@ pub use outcome::{Flow, Outcome};
 pub use phrase_laws::{
     bodies_are_done, conditions_hold, names_and_numbers_are_said, phrases_change_the_world,
 };
-pub use scene::{SceneNo, SceneNow};
+pub use scene::SceneNow;
 pub use sight_laws::sight_is_by_chains;
 pub use work_laws::work_is_bounded;

@@ -1,5 +1,5 @@
 //! The definitions of phrases, computed: each clause says what a body says and how it leaves off.
-ghost use Rattle.play_meaning.specs.PhraseRows.{does, furnished_hall, pantry, at_the_bounds, either_and_both, cannot_hold, carries_and_wears, compared, descriptions, descriptions_said, encloses, fails, has, held_by_one, in_itself, instead, instead_behind_end, lists, moved, moved_to_player, names, names_with_an, no_decision, not_held, nothing_held, nowhere, of_nothing, player_in_rooms, repeat_and_move, repeat_in_repeat, repeated, same, succeeds, sums, weights};
+ghost use Rattle.play_meaning.specs.PhraseRows.{does, furnished_hall, pantry, seen_and_touched, counted, silently, at_the_bounds, either_and_both, cannot_hold, carries_and_wears, compared, descriptions, descriptions_said, encloses, fails, has, held_by_one, in_itself, instead, instead_behind_end, lists, moved, moved_to_player, names, names_with_an, no_decision, not_held, nothing_held, nowhere, of_nothing, player_in_rooms, repeat_and_move, repeat_in_repeat, repeated, same, succeeds, sums, weights};
 ghost use Rattle.play_meaning.specs.declared.outcome.Flow.TheVariants.{GoesOn, NoDecision, Decides};
 ghost use Rattle.play_meaning.specs.declared.outcome.Outcome.TheVariants.{Failure, Success};
 ghost use Rattle.std.specs.Prelude.{[], codes};
@@ -14,6 +14,7 @@ pub fn conditions_hold()
     ensures has { does has (codes "y y n y y n y n n n n n") GoesOn furnished_hall }
     ensures encloses { does encloses (codes "y y y y y n n n y y n n n") GoesOn furnished_hall }
     ensures either_and_both { does either_and_both (codes "y n n") GoesOn furnished_hall }
+    ensures seen_and_touched { does seen_and_touched (codes "n ny y") GoesOn furnished_hall }
     ensures compared { does compared (codes "y n n y y n y n y y n") GoesOn furnished_hall }
 {}
 
@@ -35,6 +36,7 @@ pub fn bodies_are_done()
     ensures repeated { does repeated (codes "yourself box desk Bob ") GoesOn furnished_hall }
     ensures repeat_and_move { does repeat_and_move (codes "nothing; yourself, box, desk, Bob and rock") GoesOn furnished_hall }
     ensures repeat_in_repeat { does repeat_in_repeat (codes "yourself Bob Hall; yourself Bob Yard; ") GoesOn furnished_hall }
+    ensures silently { does silently (codes "Dropped.\n") GoesOn furnished_hall }
     ensures succeeds { does succeeds (codes "a") (Decides Success) furnished_hall }
     ensures fails { does fails (codes "a") (Decides Failure) furnished_hall }
     ensures no_decision { does no_decision (codes "a") NoDecision furnished_hall }
@@ -45,6 +47,7 @@ pub fn bodies_are_done()
 /// Names with their articles, lists, descriptions, and numbers.
 pub fn names_and_numbers_are_said()
     ensures at_the_bounds { does at_the_bounds (codes "-2147483648 2147483647") GoesOn furnished_hall }
+    ensures counted { does counted (codes "1 4") GoesOn furnished_hall }
     ensures sums { does sums (codes "7 -2 25 5 12 -5") GoesOn furnished_hall }
     ensures names { does names (codes "ball the ball The ball a ball A ball") GoesOn pantry }
     ensures names_with_an { does names_with_an (codes "apple the apple The apple an apple An apple") GoesOn pantry }
