@@ -14,4 +14,5 @@ pub mod Fits
 pub mod Stories
 pub mod Carried
 pub mod RoomLemmas
+pub mod Beginnings
 pub mod Telling

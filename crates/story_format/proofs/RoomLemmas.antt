@@ -21,13 +21,13 @@ use Rattle.story_format.specs.Spells.{IsStory}
 use Rattle.story_format.specs.WorldChecks.{suits_kind}
 use Rattle.story_format.proofs.StoryLemmas.{all_at, last_of_five, three}
 
-right_parts : (t : Tables) → are_right t ≡ true → (are_right_objects t ≡ true) × (are_right_ways t ≡ true)
+pub right_parts : (t : Tables) → are_right t ≡ true → (are_right_objects t ≡ true) × (are_right_ways t ≡ true)
 unfolding are_right
 right_parts t right =
     let p = last_of_five (is_right_frame t) (are_distinct t.strings) (are_right_objects t) (stand_rightly t) (are_right_ways t) right in
     (p.2, p.4)
 
-in_place : (t : Tables) → are_right_objects t ≡ true → are_in_place t.strings t.world.kinds (sorts_in t).rooms t.objects ≡ true
+pub in_place : (t : Tables) → are_right_objects t ≡ true → are_in_place t.strings t.world.kinds (sorts_in t).rooms t.objects ≡ true
 unfolding are_right_objects
 in_place t right =
     let placed = are_in_place t.strings t.world.kinds (sorts_in t).rooms t.objects in

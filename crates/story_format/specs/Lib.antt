@@ -9,6 +9,7 @@ pub mod WorldChecks
 pub mod Checks
 pub mod Soundness
 pub mod Facts
+pub mod InPlay
 pub mod FaultTexts
 pub mod Spells
 pub mod Telling

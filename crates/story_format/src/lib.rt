@@ -3,6 +3,8 @@
 #![tactic(auto)]
 
 mod checks;
+mod fact_laws;
+mod facts;
 mod fault;
 mod field;
 mod kind_tables;
@@ -25,6 +27,8 @@ mod world_making;
 mod world_tables;
 mod writing;
 
+pub use fact_laws::stories_begin_in_order;
+pub use facts::door_in;
 pub use fault::LoadFault;
 pub use laws::{
     one_fault, one_spelling, one_story, spelled_or_refused, stories_lead_to_rooms, stories_stand,

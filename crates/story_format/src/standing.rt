@@ -22,7 +22,8 @@ fn kinds_in(alloc: Global, entries: &[Entry]) -> Result<Vec<KindNo>, AllocError>
         .collect(alloc)
 }
 
-fn places_in(alloc: Global, entries: &[Entry]) -> Result<Vec<Option<Place>>, AllocError>
+/// Where the objects of these entries are.
+pub fn places_in(alloc: Global, entries: &[Entry]) -> Result<Vec<Option<Place>>, AllocError>
     ensures { IfOk result (λ places. places.items ≡ places_in entries.now) }
 {
     entries.iter().map(|entry| place_of(entry)).collect(alloc)

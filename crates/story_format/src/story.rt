@@ -38,7 +38,7 @@ fn text_at(strings: &[TextBytes], number: u16) -> &[u8]
 }
 
 /// The ways of a room: they stand in the order of the rooms.
-fn exits_at(
+pub(crate) fn exits_at(
     parents: &[Option<KindNo>],
     entries: &[Entry],
     ways: &[Exits],
@@ -65,6 +65,14 @@ impl Story {
         ensures { result ≡ tables }
     {
         Story { tables }
+    }
+
+    /// The tables, which are a story's.
+    pub(crate) fn tables(&self) -> &Tables
+        ensures tables { result.now ≡ self.now }
+        ensures story { IsStory self.now }
+    {
+        &self.tables
     }
 
     /// How many objects there are: the player, the directions and the author's.
