@@ -1,0 +1,129 @@
+-- What keeps the lists of a world as long as its story says, and the player in a room.
+use Rattle.std.proofs.Common.{◌≡◌, ◌∙◌, sym, ap, refl, subst, ℕ, zero, suc, ◌+◌, ◌<◌, ◌≤◌, ◌≢◌, ℤ, Bool, true, false, eqb, List, [], ◌∷◌, length, map, arith, lit<, inl, inr, get_or-set_same, get_or-set_other}
+use Rattle.std.specs.Prelude.{Option, Some, None, ◌==◌, ◌&&◌, ◌||◌, ◌^◌, not, option_map, replicate, slice_index_or, slice_set}
+use Rattle.std.specs.List.{range_with_len}
+use Rattle.std.proofs.Math.ListN.{length-set}
+use Rattle.std.proofs.lemmas.Bool.{eqb-true, eqb-false}
+use Rattle.std.proofs.lemmas.List.{length-map}
+use Rattle.std.proofs.lemmas.List.FromFn.{length-map-range_with_len}
+use Rattle.std.proofs.lemmas.Option.{none-some, same_Some}
+use Rattle.world_meaning.proofs.Bools.{both_are, either}
+use Rattle.world_meaning.specs.Chains.{IsTree}
+use Rattle.world_meaning.specs.Placing.{Kinds, keeps_player}
+use Rattle.world_meaning.specs.Sight.{is_in}
+use Rattle.world_meaning.specs.Standing.{place_at, place_found}
+use Rattle.world_meaning.specs.declared.place.Place.{Place}
+use Rattle.world_meaning.specs.declared.place.Rel.{Rel}
+use Rattle.world_meaning.specs.declared.place.Rel.TheVariants.{In, On, Carried, Worn, Part}
+use Rattle.object_tree.specs.Places.{holder_of, place_of}
+use Rattle.play_meaning.specs.Worlds.{World}
+use Rattle.play_meaning.specs.declared.scene.SceneNow.{SceneNow}
+use Rattle.story_format.specs.Facts.{start_of}
+use Rattle.story_format.specs.InPlay.{start_flags, start_numbers, start_variable, start_variables, starts_true}
+use Rattle.story_format.specs.Placed.{place_of as place_in, places_in}
+use Rattle.story_format.specs.Spells.{IsStory}
+use Rattle.story_format.specs.declared.tables.Tables.{Tables}
+use Rattle.story_format.proofs.Beginnings.{holders_there, player_in_room, stories_few, stories_tree}
+use Rattle.world_store.specs.StartWorlds.{not_begun, start_world}
+use Rattle.world_store.specs.StoryWorlds.{IsKept}
+
+-- ---- the start
+
+at_or : (places : List (Option Place)) (o : ℕ) → slice_index_or places o None ≡ place_at places o
+at_or [] o = refl
+at_or (place ∷ places) zero = refl
+at_or (place ∷ places) (suc o) = at_or places o
+
+pub tree_of : (places : List (Option Place)) (t : Tables) → places ≡ places_in t.objects → IsStory t → IsTree (place_of places)
+tree_of places t is story =
+    let same : place_at (places_in t.objects) ≡ place_of (places_in t.objects) = λ i o. sym (at_or (places_in t.objects) o) i in
+    subst (λ (ps : List (Option Place)). IsTree (place_of ps)) (sym is) (subst (λ (place : ℕ → Option Place). IsTree place) same (stories_tree t story))
+
+few_of : (n : ℕ) → n ≤ 1000 → n < 2 ^ 16
+few_of n few = below n 1000 (2 ^ 16) few (lit< tt)
+  where
+    below : (a b c : ℕ) → a ≤ b → b < c → a < c
+    below a b c le lt = omega (arith, le, lt)
+
+pub few_places : (places : List (Option Place)) (t : Tables) → places ≡ places_in t.objects → IsStory t → length places < 2 ^ 16
+few_places places t is story =
+    let same : length places ≡ length t.objects = ap length is ∙ length-map t.objects place_in in
+    few_of (length places) (subst (λ (n : ℕ). n ≤ 1000) (sym same) (stories_few t story))
+
+held_within : (t : Tables) (thing holder : ℕ) (found : Option Place) → IsStory t → place_at (places_in t.objects) thing ≡ found → option_map (λ p. p.holder) found ≡ Some holder → holder < length t.objects
+held_within t thing holder None story is held = absurd (none-some holder held)
+held_within t thing holder (Some place) story is held =
+    let there : place.holder < length t.objects = holders_there t thing place story is in
+    subst (λ (n : ℕ). n < length t.objects) (same_Some place.holder holder held) there
+
+pub holders_of : (places : List (Option Place)) (t : Tables) → places ≡ places_in t.objects → IsStory t → (thing holder : ℕ) → holder_of places thing ≡ Some holder → holder < length places
+holders_of places t is story thing holder held =
+    let all : List (Option Place) = places_in t.objects in
+    let as_told : option_map (λ p. p.holder) (place_at all thing) ≡ Some holder = ap (option_map (λ p. p.holder)) (sym (at_or all thing)) ∙ ap (λ (ps : List (Option Place)). holder_of ps thing) (sym is) ∙ held in
+    let there = held_within t thing holder (place_at all thing) story refl as_told in
+    let same : length places ≡ length t.objects = ap length is ∙ length-map t.objects place_in in
+    omega (arith, there, same)
+
+pub length_made : (n : ℕ) → length (replicate n not_begun) ≡ n
+length_made zero = refl
+length_made (suc n) = ap suc (length_made n)
+
+truths_from : (t : Tables) (a n property : ℕ) → length (slice_index_or (map (start_flags t) (range_with_len a n)) property []) ≤ length t.objects
+truths_from t a zero property = omega arith
+truths_from t a (suc n) zero = omega (arith, length-map t.objects (starts_true a))
+truths_from t a (suc n) (suc property) = truths_from t (a + 1) n property
+
+pub kept_at_start : (t : Tables) → IsStory t → IsKept t (start_world t)
+unfolding start_world
+kept_at_start t story = record {
+  story = story;
+  objects = length-map t.objects place_in;
+  flags = length-map-range_with_len (start_flags t) 0 (length t.world.flags);
+  truths = λ property. truths_from t 0 (length t.world.flags) property;
+  numbers = length-map-range_with_len (start_numbers t) 0 (length t.world.numbers);
+  variables = length-map t.world.variables start_variable;
+  scenes = length_made (length t.rules.scenes);
+  room = start_of t;
+  player = at_or (places_in t.objects) 0 ∙ player_in_room t story;
+}
+
+pub kept_begun : (t u : Tables) (places : List (Option Place)) (flags : List (List Bool)) (numbers : List (List ℤ)) (variables : List ℤ) (scenes : List SceneNow) → u ≡ t → places ≡ places_in t.objects → flags ≡ map (start_flags t) (range_with_len 0 (length t.world.flags)) → numbers ≡ map (start_numbers t) (range_with_len 0 (length t.world.numbers)) → variables ≡ start_variables t → scenes ≡ replicate (length t.rules.scenes) not_begun → IsStory t
+    → IsKept u (record { places = places; flags = flags; numbers = numbers; variables = variables; scenes = scenes; turns = 1; ended = None })
+unfolding start_world
+kept_begun t u places flags numbers variables scenes same p f n v s story =
+    let w : World = record { places = places; flags = flags; numbers = numbers; variables = variables; scenes = scenes; turns = 1; ended = None } in
+    let begun : start_world t ≡ w = λ i. record { places = sym p i; flags = sym f i; numbers = sym n i; variables = sym v i; scenes = sym s i; turns = 1; ended = None } in
+    subst (λ (x : Tables). IsKept x w) (sym same) (subst (λ (x : World). IsKept t x) begun (kept_at_start t story))
+
+-- ---- changes
+
+-- the player's place, and with it all places
+moved : (t : Tables) (w : World) (places : List (Option Place)) (room : ℕ) → IsKept t w → length places ≡ length w.places → place_of places 0 ≡ Some (record { relation = In; holder = room }) → IsKept t (record w { places = places })
+moved t w places room k same player = record { story = k.story; objects = same ∙ k.objects; flags = k.flags; truths = k.truths; numbers = k.numbers; variables = k.variables; scenes = k.scenes; room = room; player = player }
+
+not_none : (places : List (Option Place)) (place : Place) → place_of places 0 ≡ Some place → 0 < length places
+not_none [] place e = absurd (none-some place e)
+not_none (p ∷ places) place e = omega arith
+
+directly : (place : Place) → is_in place.relation ≡ true → ◌≡◌ {A = Place} place (record { relation = In; holder = place.holder })
+directly place is = by place.relation place.holder is
+  where
+    by : (relation : Rel) (holder : ℕ) → is_in relation ≡ true → ◌≡◌ {A = Place} (record { relation = relation; holder = holder }) (record { relation = In; holder = holder })
+    by In holder is = refl
+    by On holder is = absurd cc
+    by Carried holder is = absurd cc
+    by Worn holder is = absurd cc
+    by Part holder is = absurd cc
+
+pub keeps_put : (t : Tables) (w : World) (kinds : Kinds) (o : ℕ) (place : Place) (places : List (Option Place)) → IsKept t w → keeps_player kinds o place ≡ true → places ≡ slice_set w.places o (Some place) → IsKept t (record w { places = places })
+keeps_put t w kinds o place places k keeps is =
+    elim (either (eqb o 0)) [
+      | inl player ↦
+          let first : o ≡ 0 = eqb-true o 0 player in
+          let inside : (is_in place.relation && kinds.is_room place.holder) ≡ true = rw player at keeps in
+          let there : place_of places 0 ≡ Some place = ap (λ (ps : List (Option Place)). place_of ps 0) (is ∙ ap (λ (n : ℕ). slice_set w.places n (Some place)) first) ∙ get_or-set_same w.places 0 (Some place) None (not_none w.places _ k.player) in
+          moved t w places place.holder k (ap length is ∙ length-set w.places o (Some place)) (there ∙ ap Some (directly place (both_are _ _ inside).0))
+      | inr other ↦
+          let away : 0 ≢ o = λ e. eqb-false o 0 other (sym e) in
+          moved t w places k.room k (ap length is ∙ length-set w.places o (Some place)) (ap (λ (ps : List (Option Place)). place_of ps 0) is ∙ get_or-set_other w.places o 0 (Some place) None away ∙ k.player)
+    ]

@@ -1,0 +1,6 @@
+pub mod Ending
+pub mod Keeping
+pub mod LawLemmas
+pub mod Lights
+pub mod Putting
+pub mod Tops

@@ -1,0 +1,3 @@
+pub mod StorySettings
+pub mod StartWorlds
+pub mod StoryWorlds

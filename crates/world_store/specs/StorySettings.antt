@@ -1,0 +1,21 @@
+-- What of a loaded story never changes while it is played, read from its tables.
+use Rattle.std.specs.Prelude.{length, is_some}
+use Rattle.play_meaning.specs.Settings.{Setting}
+use Rattle.play_meaning.specs.Tales.{depth_of}
+use Rattle.story_format.specs.Facts.{description_of, name_of, way_of}
+use Rattle.story_format.specs.InPlay.{article_of, door_in, exits_of, has_flag, has_number, is_of}
+use Rattle.story_format.specs.declared.tables.Tables.{Tables}
+
+unfoldable pub setting_of : Tables → Setting
+setting_of t = record {
+  count = length t.objects;
+  name = name_of t;
+  article = article_of t;
+  is_of = is_of t;
+  depth = depth_of t.world.kinds;
+  has_flag = has_flag t;
+  has_number = has_number t;
+  room_beyond = way_of t;
+  door_beyond = λ room direction. door_in (exits_of t room) direction;
+  has_description = λ o. is_some (description_of t o);
+}

@@ -1,0 +1,33 @@
+//! What holds of every world of a story in play, of its changes, and of the dark.
+ghost use Rattle.std.specs.Prelude.{◌≡◌, ◌≢◌, ◌⊎◌, ℕ, ℤ, Bool, true, false, Option};
+ghost use Rattle.play_meaning.specs.Seeing.{encloses, has_light, is_visible};
+ghost use Rattle.play_meaning.specs.Settings.{Setting, thing_kind};
+ghost use Rattle.play_meaning.specs.StoryWorlds.{IsWorldOf};
+ghost use Rattle.play_meaning.specs.Worlds.{World as PlayWorld, is_true_of, number_of, place_of, set_flag, set_number, set_place};
+ghost use Rattle.world_meaning.specs.declared.place.Place.{Place};
+ghost use Rattle.world_store.specs.StorySettings.{setting_of};
+
+use crate::World;
+use world_meaning::ObjNo;
+
+/// A world is one of its story: each chain of holders ends, the player is somewhere, and properties are true of objects
+/// that are there. So what is computed of sight in it is what is said of chains.
+pub fn worlds_are_of_their_stories(world: &World)
+    ensures { IsWorldOf (setting_of world.now.tables) world.now.world }
+{
+    let _ = world.chain(ObjNo::new(0));
+    let _ = &world.tree;
+}
+
+/// A change of one thing leaves the others.
+pub fn changes_leave_others()
+    ensures places { (w : PlayWorld) (o other : ℕ) (place : Option Place) → o ≢ other → place_of (set_place o place w) other ≡ place_of w other }
+    ensures flags { (w : PlayWorld) (property o of x : ℕ) (value : Bool) → (property ≢ of) ⊎ (o ≢ x) → is_true_of (set_flag property o value w) of x ≡ is_true_of w of x }
+    ensures numbers { (w : PlayWorld) (property o of x : ℕ) (value : ℤ) → (property ≢ of) ⊎ (o ≢ x) → number_of (set_number property o value w) of x ≡ number_of w of x }
+{}
+
+/// In the dark nothing is visible of things but the player and what the player holds.
+pub fn the_dark_hides()
+    ensures { (s : Setting) (w : PlayWorld) (o : ℕ) → has_light s w ≡ false → s.is_of o thing_kind ≡ true → is_visible s w o ≡ true
+        → (o ≡ 0) ⊎ (encloses w 0 o ≡ true) }
+{}

@@ -1,0 +1,264 @@
+//! The world of a story in play: how it begins, its copy, and what is read off it.
+ghost use Rattle.std.specs.Prelude.{◌≡◌, ℕ, IfOk, Some, length, map};
+ghost use Rattle.std.specs.List.{list_any, range_with_len};
+ghost use Rattle.std.specs.Option.{option_map};
+ghost use Rattle.play_meaning.specs.Seeing.{encloses, is_held_by};
+ghost use Rattle.play_meaning.specs.Worlds.{chain, is_true_of, location_of, number_of, place_of, scene_of, variable_of};
+ghost use Rattle.world_meaning.specs.Chains.{IsChain};
+ghost use Rattle.story_format.specs.InPlay.{start_flags, start_numbers};
+ghost use Rattle.story_format.specs.Placed.{places_in};
+ghost use Rattle.story_format.specs.Spells.{IsStory};
+ghost use Rattle.world_store.specs.StartWorlds.{start_world};
+ghost use Rattle.world_store.specs.StorySettings.{setting_of};
+
+use crate::columns::Columns;
+use object_tree::{Chain, Tree};
+use play_meaning::SceneNow;
+use std::alloc::{AllocError, Global};
+use std::marker::Model;
+use std::rc::Rc;
+use story_format::Story;
+use world_meaning::{KindNo, ObjNo, Place, TextBytes};
+
+/// A scene that never began.
+const NOT_BEGUN: SceneNow = SceneNow {
+    happens: false,
+    has_begun: false,
+};
+
+/// Where the objects of a story are, what is true of them, their numbers, and where variables, scenes, the turn count
+/// and the ending stand.
+#[derive(Drop)]
+pub struct World {
+    pub(crate) story: Rc<Story>,
+    pub(crate) tree: Tree,
+    pub(crate) flags: Columns<bool>,
+    pub(crate) numbers: Columns<i32>,
+    pub(crate) variables: Vec<i32>,
+    pub(crate) scenes: Vec<SceneNow>,
+    pub(crate) turns: u32,
+    pub(crate) ended: Option<TextBytes>,
+}
+
+impl Model for World {
+    ghost use Rattle.world_store.specs.StoryWorlds.{IsKept, StoryWorld};
+
+    ghost Value = { StoryWorld };
+
+    ghost view = { λ w. record { tables = w.story.value; world = record { places = w.tree; flags = w.flags; numbers = w.numbers; variables = w.variables.items; scenes = w.scenes.items; turns = w.turns; ended = w.ended } } };
+
+    ghost invariant = { λ w. IsKept w.story.value (record { places = w.tree; flags = w.flags; numbers = w.numbers; variables = w.variables.items; scenes = w.scenes.items; turns = w.turns; ended = w.ended }) };
+}
+
+/// Which either-or properties are true of which objects as a story begins.
+fn start_flags(alloc: Global, story: &Story) -> Result<Columns<bool>, AllocError>
+    ensures { IfOk result (λ flags. flags ≡ map (start_flags story.now) (range_with_len 0 (length story.now.world.flags))) }
+{
+    let mut flags = Columns::new(alloc);
+    for property in 0..story.flag_count() {
+        flags.push(story.flags(alloc, property)?)?;
+    }
+    Ok(flags)
+}
+
+/// The numbers with which the objects of a story begin.
+fn start_numbers(alloc: Global, story: &Story) -> Result<Columns<i32>, AllocError>
+    ensures { IfOk result (λ numbers. numbers ≡ map (start_numbers story.now) (range_with_len 0 (length story.now.world.numbers))) }
+{
+    let mut numbers = Columns::new(alloc);
+    for property in 0..story.number_count() {
+        numbers.push(story.numbers(alloc, property)?)?;
+    }
+    Ok(numbers)
+}
+
+/// The tree of a story's objects as it begins.
+fn start_tree(alloc: Global, story: &Story) -> Result<Tree, AllocError>
+    ensures tree { IfOk result (λ tree. tree ≡ places_in story.now.objects) }
+    ensures story { IfOk result (λ tree. IsStory story.now) }
+{
+    let places = story.places(alloc)?;
+    Tree::from_places(alloc, places.as_slice())
+}
+
+/// A copy of the ending's text, if there is one.
+fn copied(alloc: Global, text: &Option<TextBytes>) -> Result<Option<TextBytes>, AllocError>
+    ensures { IfOk result (λ copy. copy ≡ text.now) }
+{
+    match text {
+        None => Ok(None),
+        Some(text) => Ok(Some(TextBytes::copied(alloc, text.as_slice())?)),
+    }
+}
+
+/// Whether a holder stands in a chain.
+fn stands_in(chain: Chain<'_>, holder: ObjNo) -> bool
+    ensures { result ≡ list_any (is_held_by holder) chain.entry }
+{
+    for step in chain {
+        if holder.get() == step.holder.get() {
+            return true;
+        }
+    }
+    false
+}
+
+impl World {
+    /// The world with which a story begins.
+    #[tactic(auto, unfolding(crate::specs::StartWorlds::start_world))]
+    pub fn start(alloc: Global, story: &Rc<Story>) -> Result<World, AllocError>
+        ensures { IfOk result (λ world. world ≡ record { tables = story.now.value; world = start_world story.now.value }) }
+    {
+        let told = story.as_ref();
+        let tree = start_tree(alloc, told)?;
+        let flags = start_flags(alloc, told)?;
+        let numbers = start_numbers(alloc, told)?;
+        let variables = told.variables(alloc)?;
+        let scenes = vec![in alloc; NOT_BEGUN; told.scene_count()]?;
+        Ok(World {
+            story: story.clone()?,
+            tree,
+            flags,
+            numbers,
+            variables,
+            scenes,
+            turns: 1,
+            ended: None,
+        })
+    }
+
+    /// A world that is equal to this one, of the same story.
+    pub fn copy(&self, alloc: Global) -> Result<World, AllocError>
+        ensures { IfOk result (λ world. world ≡ self.now) }
+    {
+        Ok(World {
+            story: self.story.clone()?,
+            tree: self.tree.copy(alloc)?,
+            flags: self.flags.copy(alloc)?,
+            numbers: self.numbers.copy(alloc)?,
+            variables: Vec::from_slice(alloc, self.variables.as_slice())?,
+            scenes: Vec::from_slice(alloc, self.scenes.as_slice())?,
+            turns: self.turns,
+            ended: copied(alloc, &self.ended)?,
+        })
+    }
+
+    /// The story that is played.
+    pub fn story(&self) -> &Story
+        ensures { result.now ≡ self.now.tables }
+    {
+        self.story.as_ref()
+    }
+
+    /// Where an object is: its holder and how it is held, or nothing. An object that isn't there is nowhere.
+    pub fn holder(&self, object: ObjNo) -> Option<Place>
+        ensures { result ≡ place_of self.now.world object }
+    {
+        self.tree.holder(object)
+    }
+
+    /// The chain of an object: where it is, where its holder is, and so on.
+    #[tactic(auto, unfolding(play_meaning::specs::Worlds::chain))]
+    pub fn chain(&self, object: ObjNo) -> Chain<'_>
+        ensures chain { result ≡ chain self.now.world object }
+        ensures ends { (other : ℕ) → IsChain (place_of self.now.world) other (chain self.now.world other) }
+    {
+        self.tree.chain(object)
+    }
+
+    /// Whether an either-or property, by its number, is true of an object.
+    #[tactic(auto, unfolding(play_meaning::specs::Worlds::is_true_of))]
+    pub fn flag(&self, object: ObjNo, property: u8) -> bool
+        ensures { result ≡ is_true_of self.now.world property object }
+    {
+        self.flags.at(property, object, false)
+    }
+
+    /// An object's number in a number property, by the property's number; 0 where its kind lacks that.
+    #[tactic(auto, unfolding(play_meaning::specs::Worlds::number_of))]
+    pub fn number(&self, object: ObjNo, property: u8) -> i32
+        ensures { result ≡ number_of self.now.world property object }
+    {
+        self.numbers.at(property, object, 0)
+    }
+
+    /// A variable, by its number; 0 where there is none.
+    pub fn variable(&self, variable: u8) -> i32
+        ensures { result ≡ variable_of self.now.world variable }
+    {
+        match self.variables.get(usize::from(variable)) {
+            Some(value) => *value,
+            None => 0,
+        }
+    }
+
+    /// Where a scene stands, by its number; it never began where there is none.
+    pub fn scene(&self, scene: u8) -> SceneNow
+        ensures { result ≡ scene_of self.now.world scene }
+    {
+        match self.scenes.get(usize::from(scene)) {
+            Some(now) => *now,
+            None => NOT_BEGUN,
+        }
+    }
+
+    /// The turn count, 1 in the first turn.
+    pub fn turns(&self) -> u32
+        ensures { result ≡ self.now.world.turns }
+    {
+        self.turns
+    }
+
+    /// The text with which the story ended, if it has.
+    pub fn ended(&self) -> Option<&[u8]>
+        ensures { option_map (λ text. text.now) result ≡ self.now.world.ended }
+    {
+        match &self.ended {
+            None => None,
+            Some(text) => Some(text.as_slice()),
+        }
+    }
+
+    /// The room in which the player is.
+    pub fn location(&self) -> ObjNo
+        ensures { location_of self.now.world ≡ Some result }
+    {
+        match self.tree.holder(ObjNo::new(0)) {
+            Some(place) => place.holder,
+            None => ObjNo::new(0),
+        }
+    }
+
+    /// Whether an object is of a kind, or of one below it.
+    #[tactic(auto, unfolding(crate::specs::StorySettings::setting_of))]
+    pub fn is_of(&self, object: ObjNo, kind: KindNo) -> bool
+        ensures { result ≡ (setting_of self.now.tables).is_of object kind }
+    {
+        self.story().is_of(object, kind)
+    }
+
+    /// Whether an object's kind has the either-or property of a number.
+    #[tactic(auto, unfolding(crate::specs::StorySettings::setting_of))]
+    pub fn has_flag(&self, object: ObjNo, property: u8) -> bool
+        ensures { result ≡ (setting_of self.now.tables).has_flag object property }
+    {
+        self.story().has_flag(object, usize::from(property))
+    }
+
+    /// Whether an object's kind has the number property of a number.
+    #[tactic(auto, unfolding(crate::specs::StorySettings::setting_of))]
+    pub fn has_number(&self, object: ObjNo, property: u8) -> bool
+        ensures { result ≡ (setting_of self.now.tables).has_number object property }
+    {
+        self.story().has_number(object, usize::from(property))
+    }
+
+    /// Whether a holder holds an object, at any depth.
+    #[tactic(auto, unfolding(play_meaning::specs::Seeing::encloses))]
+    pub fn encloses(&self, holder: ObjNo, object: ObjNo) -> bool
+        ensures answer { result ≡ encloses self.now.world holder object }
+        ensures ends { (other : ℕ) → IsChain (place_of self.now.world) other (chain self.now.world other) }
+    {
+        stands_in(self.chain(object), holder)
+    }
+}
