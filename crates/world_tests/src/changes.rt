@@ -1,32 +1,34 @@
 //! What changes the world, and what is refused and leaves it as it was.
 use crate::start::{begun, inside};
-use crate::story::{BOX, CAVE, COIN, GATE, GEM, HALL, JAR, TABLE};
+use crate::story::{cave, chest, coin, gate, gem, hall, jar, table};
 use play_meaning::SceneNow;
 use std::test::Fail;
 use world_meaning::{ObjNo, Rel};
 use world_store::WorldFault;
 
 /// The player.
-const PLAYER: ObjNo = ObjNo::new(0);
+fn player() -> ObjNo {
+    ObjNo::new(0)
+}
 
 #[test]
 fn properties_are_set(rt: HostRuntime) -> Result<(), Fail> {
     let mut world = begun(rt.alloc())?;
-    world.set_flag(BOX, 0, true)?;
-    assert!(rt; world.flag(BOX, 0));
-    assert!(rt; !world.flag(JAR, 0));
-    world.set_number(GEM, 0, 9)?;
-    assert_eq!(rt; world.number(GEM, 0), 9);
+    world.set_flag(chest(), 0, true)?;
+    assert!(rt; world.flag(chest(), 0));
+    assert!(rt; !world.flag(jar(), 0));
+    world.set_number(gem(), 0, 9)?;
+    assert_eq!(rt; world.number(gem(), 0), 9);
     Ok(())
 }
 
 #[test]
 fn properties_that_kinds_lack_are_refused(rt: HostRuntime) -> Result<(), Fail> {
     let mut world = begun(rt.alloc())?;
-    assert_eq!(rt; world.set_flag(COIN, 0, true), Err(WorldFault::Misplaced));
-    assert_eq!(rt; world.set_number(HALL, 0, 9), Err(WorldFault::Misplaced));
-    assert!(rt; !world.flag(COIN, 0));
-    assert_eq!(rt; world.number(HALL, 0), 0);
+    assert_eq!(rt; world.set_flag(coin(), 0, true), Err(WorldFault::Misplaced));
+    assert_eq!(rt; world.set_number(hall(), 0, 9), Err(WorldFault::Misplaced));
+    assert!(rt; !world.flag(coin(), 0));
+    assert_eq!(rt; world.number(hall(), 0), 0);
     Ok(())
 }
 
@@ -47,14 +49,14 @@ fn variables_are_set(rt: HostRuntime) -> Result<(), Fail> {
 #[test]
 fn things_are_put_and_taken(rt: HostRuntime) -> Result<(), Fail> {
     let mut world = begun(rt.alloc())?;
-    world.put(COIN, Rel::On, TABLE)?;
-    assert!(rt; world.encloses(TABLE, COIN));
-    world.put(BOX, Rel::Carried, PLAYER)?;
-    world.take_out(COIN)?;
-    assert_eq!(rt; world.holder(COIN), None);
-    world.put(PLAYER, Rel::In, CAVE)?;
-    assert_eq!(rt; world.location(), CAVE);
-    assert!(rt; world.encloses(CAVE, BOX));
+    world.put(coin(), Rel::On, table())?;
+    assert!(rt; world.encloses(table(), coin()));
+    world.put(chest(), Rel::Carried, player())?;
+    world.take_out(coin())?;
+    assert_eq!(rt; world.holder(coin()), None);
+    world.put(player(), Rel::In, cave())?;
+    assert_eq!(rt; world.location(), cave());
+    assert!(rt; world.encloses(cave(), chest()));
     Ok(())
 }
 
@@ -62,23 +64,26 @@ fn things_are_put_and_taken(rt: HostRuntime) -> Result<(), Fail> {
 fn things_out_of_place_are_refused(rt: HostRuntime) -> Result<(), Fail> {
     let mut world = begun(rt.alloc())?;
     let misplaced = Err(WorldFault::Misplaced);
-    assert_eq!(rt; world.put(COIN, Rel::On, HALL), misplaced);
-    assert_eq!(rt; world.put(GATE, Rel::In, HALL), misplaced);
-    assert_eq!(rt; world.put(PLAYER, Rel::In, BOX), misplaced);
-    assert_eq!(rt; world.put(BOX, Rel::In, BOX), misplaced);
-    assert_eq!(rt; world.put(HALL, Rel::In, BOX), misplaced);
-    assert_eq!(rt; world.put(COIN, Rel::In, ObjNo::new(23)), misplaced);
-    assert_eq!(rt; world.take_out(PLAYER), misplaced);
-    assert_eq!(rt; world.holder(COIN), inside(BOX));
+    assert_eq!(rt; world.put(coin(), Rel::On, hall()), misplaced);
+    assert_eq!(rt; world.put(gate(), Rel::In, hall()), misplaced);
+    assert_eq!(rt; world.put(player(), Rel::In, chest()), misplaced);
+    assert_eq!(rt; world.put(chest(), Rel::In, chest()), misplaced);
+    assert_eq!(rt; world.put(hall(), Rel::In, chest()), misplaced);
+    assert_eq!(rt; world.put(coin(), Rel::In, ObjNo::new(23)), misplaced);
+    assert_eq!(rt; world.take_out(player()), misplaced);
+    assert_eq!(rt; world.holder(coin()), inside(chest()));
     Ok(())
 }
 
 #[test]
 fn things_dont_come_to_stand_in_themselves(rt: HostRuntime) -> Result<(), Fail> {
     let mut world = begun(rt.alloc())?;
-    world.put(JAR, Rel::In, BOX)?;
-    assert_eq!(rt; world.put(BOX, Rel::In, JAR), Err(WorldFault::Misplaced));
-    assert_eq!(rt; world.holder(BOX), inside(HALL));
+    world.put(jar(), Rel::In, chest())?;
+    assert_eq!(rt;
+        world.put(chest(), Rel::In, jar()),
+        Err(WorldFault::Misplaced)
+    );
+    assert_eq!(rt; world.holder(chest()), inside(hall()));
     Ok(())
 }
 

@@ -1,5 +1,5 @@
 //! What is read off the world with which a story begins, and off its copy.
-use crate::story::{BOX, CAVE, COIN, GATE, GEM, HALL, JAR, LAMP, furnished};
+use crate::story::{cave, chest, coin, furnished, gate, gem, hall, jar, lamp};
 use std::alloc::Global;
 use std::rc::Rc;
 use std::test::Fail;
@@ -7,7 +7,9 @@ use world_meaning::{Article, KindNo, ObjNo, Place, Rel};
 use world_store::World;
 
 /// The player.
-const PLAYER: ObjNo = ObjNo::new(0);
+fn player() -> ObjNo {
+    ObjNo::new(0)
+}
 
 /// The number of things.
 const WEIGHT: u8 = 0;
@@ -32,25 +34,25 @@ pub fn inside(holder: ObjNo) -> Option<Place> {
 #[test]
 fn objects_begin_where_the_story_says(rt: HostRuntime) -> Result<(), Fail> {
     let world = begun(rt.alloc())?;
-    assert_eq!(rt; world.holder(PLAYER), inside(HALL));
-    assert_eq!(rt; world.holder(COIN), inside(BOX));
-    assert_eq!(rt; world.holder(GATE), None);
+    assert_eq!(rt; world.holder(player()), inside(hall()));
+    assert_eq!(rt; world.holder(coin()), inside(chest()));
+    assert_eq!(rt; world.holder(gate()), None);
     assert_eq!(rt; world.holder(ObjNo::new(23)), None);
-    assert_eq!(rt; world.location(), HALL);
-    assert!(rt; world.encloses(HALL, COIN));
-    assert!(rt; !world.encloses(COIN, HALL));
+    assert_eq!(rt; world.location(), hall());
+    assert!(rt; world.encloses(hall(), coin()));
+    assert!(rt; !world.encloses(coin(), hall()));
     Ok(())
 }
 
 #[test]
 fn properties_begin_as_the_story_says(rt: HostRuntime) -> Result<(), Fail> {
     let world = begun(rt.alloc())?;
-    assert!(rt; world.flag(HALL, LIGHTED));
-    assert!(rt; !world.flag(CAVE, LIGHTED));
-    assert!(rt; !world.flag(HALL, 200));
-    assert_eq!(rt; world.number(COIN, WEIGHT), 7);
-    assert_eq!(rt; world.number(GEM, WEIGHT), -2);
-    assert_eq!(rt; world.number(HALL, WEIGHT), 0);
+    assert!(rt; world.flag(hall(), LIGHTED));
+    assert!(rt; !world.flag(cave(), LIGHTED));
+    assert!(rt; !world.flag(hall(), 200));
+    assert_eq!(rt; world.number(coin(), WEIGHT), 7);
+    assert_eq!(rt; world.number(gem(), WEIGHT), -2);
+    assert_eq!(rt; world.number(hall(), WEIGHT), 0);
     Ok(())
 }
 
@@ -69,21 +71,21 @@ fn variables_scenes_and_turns_begin(rt: HostRuntime) -> Result<(), Fail> {
 #[test]
 fn kinds_have_their_properties(rt: HostRuntime) -> Result<(), Fail> {
     let world = begun(rt.alloc())?;
-    assert!(rt; world.is_of(JAR, KindNo::THING));
-    assert!(rt; !world.is_of(JAR, KindNo::SUPPORTER));
-    assert!(rt; world.has_flag(LAMP, 3));
-    assert!(rt; !world.has_flag(HALL, 3));
-    assert!(rt; world.has_number(JAR, WEIGHT));
-    assert!(rt; !world.has_number(HALL, WEIGHT));
+    assert!(rt; world.is_of(jar(), KindNo::THING));
+    assert!(rt; !world.is_of(jar(), KindNo::SUPPORTER));
+    assert!(rt; world.has_flag(lamp(), 3));
+    assert!(rt; !world.has_flag(hall(), 3));
+    assert!(rt; world.has_number(jar(), WEIGHT));
+    assert!(rt; !world.has_number(hall(), WEIGHT));
     Ok(())
 }
 
 #[test]
 fn worlds_lend_their_story(rt: HostRuntime) -> Result<(), Fail> {
     let world = begun(rt.alloc())?;
-    assert!(rt; world.story().name(JAR) == b"jar".as_slice());
-    assert!(rt; world.story().article(JAR) == Article::A);
-    assert!(rt; world.story().article(PLAYER) == Article::None);
+    assert!(rt; world.story().name(jar()) == b"jar".as_slice());
+    assert!(rt; world.story().article(jar()) == Article::A);
+    assert!(rt; world.story().article(player()) == Article::None);
     Ok(())
 }
 
@@ -92,11 +94,11 @@ fn copies_go_their_own_way(rt: HostRuntime) -> Result<(), Fail> {
     let alloc = rt.alloc();
     let world = begun(alloc)?;
     let mut copy = world.copy(alloc)?;
-    copy.put(COIN, Rel::In, JAR)?;
-    copy.set_number(COIN, WEIGHT, 8)?;
-    assert_eq!(rt; copy.holder(COIN), inside(JAR));
-    assert_eq!(rt; world.holder(COIN), inside(BOX));
-    assert_eq!(rt; copy.number(COIN, WEIGHT), 8);
-    assert_eq!(rt; world.number(COIN, WEIGHT), 7);
+    copy.put(coin(), Rel::In, jar())?;
+    copy.set_number(coin(), WEIGHT, 8)?;
+    assert_eq!(rt; copy.holder(coin()), inside(jar()));
+    assert_eq!(rt; world.holder(coin()), inside(chest()));
+    assert_eq!(rt; copy.number(coin(), WEIGHT), 8);
+    assert_eq!(rt; world.number(coin(), WEIGHT), 7);
     Ok(())
 }
