@@ -102,17 +102,6 @@ fn walks_down_come_to_all_that_is_held(rt: HostRuntime) -> Result<(), Fail> {
 }
 
 #[test]
-fn trees_are_built_from_places(rt: HostRuntime) -> Result<(), Fail> {
-    let alloc = rt.alloc();
-    let bag = ObjNo::new(0);
-    let places = [held(Rel::On, ObjNo::new(1)), None, held(Rel::In, bag)];
-    let tree = Tree::from_places(alloc, &places)?;
-    assert_eq!(rt; tree.holder(bag), held(Rel::On, ObjNo::new(1)));
-    assert!(rt; tree.encloses(ObjNo::new(1), ObjNo::new(2)));
-    Ok(())
-}
-
-#[test]
 fn holders_enclose_at_any_depth(rt: HostRuntime) -> Result<(), Fail> {
     let tree = furnished(rt.alloc())?;
     assert!(rt; tree.encloses(room(), chest()));

@@ -1,5 +1,5 @@
 -- What a story's tables say of its objects in play: kinds, properties and doors, by number, and what each begins with.
-use Rattle.std.specs.Prelude.{ℕ, ◌-◌, ℤ, pos, Bool, false, ◌==◌, List, length, map, take, count_by, slice_get, slice_index_or, Option, Some, None, if◌then◌else◌}
+use Rattle.std.specs.Prelude.{ℕ, ◌-◌, ℤ, pos, Bool, false, ◌==◌, List, map, take, count_by, slice_get, Option, Some, None, if◌then◌else◌}
 use Rattle.std.specs.Int.{w32, cast_signed}
 use Rattle.std.specs.List.{list_any}
 use Rattle.world_meaning.specs.Declarations.{has_property, is_had}

@@ -1,6 +1,6 @@
 -- What keeps the lists of a world as long as its story says, and the player in a room.
-use Rattle.std.proofs.Common.{◌≡◌, ◌∙◌, sym, ap, refl, subst, ℕ, zero, suc, ◌+◌, ◌<◌, ◌≤◌, ◌≢◌, ℤ, Bool, true, false, eqb, List, [], ◌∷◌, length, map, arith, lit<, inl, inr, get_or-set_same, get_or-set_other}
-use Rattle.std.specs.Prelude.{Option, Some, None, ◌==◌, ◌&&◌, ◌||◌, ◌^◌, not, option_map, replicate, slice_index_or, slice_set}
+use Rattle.std.proofs.Common.{◌≡◌, ◌∙◌, sym, ap, refl, subst, ℕ, zero, suc, ◌+◌, ◌<◌, ◌≤◌, ◌≢◌, ℤ, Bool, true, eqb, List, [], ◌∷◌, length, map, arith, lit<, inl, inr, get_or-set_same, get_or-set_other}
+use Rattle.std.specs.Prelude.{Option, Some, None, ◌&&◌, ◌^◌, option_map, replicate, slice_index_or, slice_set}
 use Rattle.std.specs.List.{range_with_len}
 use Rattle.std.proofs.Math.ListN.{length-set}
 use Rattle.std.proofs.lemmas.Bool.{eqb-true, eqb-false}
@@ -11,7 +11,7 @@ use Rattle.world_meaning.proofs.Bools.{both_are, either}
 use Rattle.world_meaning.specs.Chains.{IsTree}
 use Rattle.world_meaning.specs.Placing.{Kinds, keeps_player}
 use Rattle.world_meaning.specs.Sight.{is_in}
-use Rattle.world_meaning.specs.Standing.{place_at, place_found}
+use Rattle.world_meaning.specs.Standing.{place_at}
 use Rattle.world_meaning.specs.declared.place.Place.{Place}
 use Rattle.world_meaning.specs.declared.place.Rel.{Rel}
 use Rattle.world_meaning.specs.declared.place.Rel.TheVariants.{In, On, Carried, Worn, Part}

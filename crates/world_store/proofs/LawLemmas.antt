@@ -1,8 +1,8 @@
 -- What the laws of worlds cite.
-use Rattle.std.proofs.Common.{◌≡◌, ◌∙◌, ◌≢◌, ◌⊎◌, sym, ap, refl, ℕ, zero, suc, ◌<◌, ◌≤◌, ℤ, Bool, true, false, List, [], ◌∷◌, length, arith, inl, inr, get_or-set_other, eqb-true}
+use Rattle.std.proofs.Common.{◌≡◌, ◌∙◌, ◌≢◌, ◌⊎◌, sym, ap, refl, ℕ, zero, suc, ◌<◌, ℤ, Bool, true, false, List, [], ◌∷◌, length, arith, inl, inr, get_or-set_other, eqb-true}
 use Rattle.std.specs.Prelude.{Option, Some, None, ◌&&◌, ◌||◌, ◌==◌, if◌then◌else◌, pos, slice_index_or, slice_set}
 use Rattle.world_meaning.specs.Chains.{IsChain}
-use Rattle.world_meaning.specs.Sight.{Root, thing, room, direction}
+use Rattle.world_meaning.specs.Sight.{thing, room, direction}
 use Rattle.world_meaning.specs.declared.place.Place.{Place}
 use Rattle.world_meaning.specs.declared.place.Rel.TheVariants.{In}
 use Rattle.play_meaning.specs.Seeing.{encloses, has_light, is_in_view, is_visible, is_visible_as, is_visible_thing, stands_here}

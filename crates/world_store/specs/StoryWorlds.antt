@@ -1,9 +1,8 @@
 -- A story in play: its tables, and the world of the moment, whose lists have the lengths that the story gives.
-use Rattle.std.specs.Prelude.{◌≡◌, ℕ, ◌≤◌, List, [], length, Option, Some, slice_index_or}
+use Rattle.std.specs.Prelude.{◌≡◌, ℕ, ◌≤◌, [], length, Some, slice_index_or}
 use Rattle.play_meaning.specs.Worlds.{World, place_of}
 use Rattle.story_format.specs.Spells.{IsStory}
 use Rattle.story_format.specs.declared.tables.Tables.{Tables}
-use Rattle.world_meaning.specs.declared.place.Place.{Place}
 use Rattle.world_meaning.specs.declared.place.Rel.TheVariants.{In}
 
 pub record StoryWorld : Type 0 where
