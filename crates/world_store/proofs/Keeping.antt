@@ -50,16 +50,19 @@ few_places places t is story =
     let same : length places ≡ length t.objects = ap length is ∙ length-map t.objects place_in in
     few_of (length places) (subst (λ (n : ℕ). n ≤ 1000) (sym same) (stories_few t story))
 
-held_within : (t : Tables) (thing holder : ℕ) (found : Option Place) → IsStory t → place_at (places_in t.objects) thing ≡ found → option_map (λ p. p.holder) found ≡ Some holder → holder < length t.objects
+held_within : (t : Tables) (thing holder : ℕ) (found : Option Place) → IsStory t → place_at (places_in t.objects) thing ≡ found
+    → option_map (λ p. p.holder) found ≡ Some holder → holder < length t.objects
 held_within t thing holder None story is held = absurd (none-some holder held)
 held_within t thing holder (Some place) story is held =
     let there : place.holder < length t.objects = holders_there t thing place story is in
     subst (λ (n : ℕ). n < length t.objects) (same_Some place.holder holder held) there
 
-pub holders_of : (places : List (Option Place)) (t : Tables) → places ≡ places_in t.objects → IsStory t → (thing holder : ℕ) → holder_of places thing ≡ Some holder → holder < length places
+pub holders_of : (places : List (Option Place)) (t : Tables) → places ≡ places_in t.objects → IsStory t → (thing holder : ℕ) → holder_of places thing ≡ Some holder
+    → holder < length places
 holders_of places t is story thing holder held =
     let all : List (Option Place) = places_in t.objects in
-    let as_told : option_map (λ p. p.holder) (place_at all thing) ≡ Some holder = ap (option_map (λ p. p.holder)) (sym (at_or all thing)) ∙ ap (λ (ps : List (Option Place)). holder_of ps thing) (sym is) ∙ held in
+    let as_told : option_map (λ p. p.holder) (place_at all thing) ≡ Some holder = ap (option_map (λ p. p.holder)) (sym (at_or all thing))
+    ∙ ap (λ (ps : List (Option Place)). holder_of ps thing) (sym is) ∙ held in
     let there = held_within t thing holder (place_at all thing) story refl as_told in
     let same : length places ≡ length t.objects = ap length is ∙ length-map t.objects place_in in
     omega (arith, there, same)
@@ -87,7 +90,10 @@ kept_at_start t story = record {
   player = at_or (places_in t.objects) 0 ∙ player_in_room t story;
 }
 
-pub kept_begun : (t u : Tables) (places : List (Option Place)) (flags : List (List Bool)) (numbers : List (List ℤ)) (variables : List ℤ) (scenes : List SceneNow) → u ≡ t → places ≡ places_in t.objects → flags ≡ map (start_flags t) (range_with_len 0 (length t.world.flags)) → numbers ≡ map (start_numbers t) (range_with_len 0 (length t.world.numbers)) → variables ≡ start_variables t → scenes ≡ replicate (length t.rules.scenes) not_begun → IsStory t
+pub kept_begun : (t u : Tables) (places : List (Option Place)) (flags : List (List Bool)) (numbers : List (List ℤ)) (variables : List ℤ) (scenes : List SceneNow) → u ≡ t
+    → places ≡ places_in t.objects → flags ≡ map (start_flags t) (range_with_len 0 (length t.world.flags))
+    → numbers ≡ map (start_numbers t) (range_with_len 0 (length t.world.numbers)) → variables ≡ start_variables t → scenes ≡ replicate (length t.rules.scenes) not_begun
+    → IsStory t
     → IsKept u (record { places = places; flags = flags; numbers = numbers; variables = variables; scenes = scenes; turns = 1; ended = None })
 unfolding start_world
 kept_begun t u places flags numbers variables scenes same p f n v s story =
@@ -98,7 +104,8 @@ kept_begun t u places flags numbers variables scenes same p f n v s story =
 -- ---- changes
 
 -- the player's place, and with it all places
-moved : (t : Tables) (w : World) (places : List (Option Place)) (room : ℕ) → IsKept t w → length places ≡ length w.places → place_of places 0 ≡ Some (record { relation = In; holder = room }) → IsKept t (record w { places = places })
+moved : (t : Tables) (w : World) (places : List (Option Place)) (room : ℕ) → IsKept t w → length places ≡ length w.places
+    → place_of places 0 ≡ Some (record { relation = In; holder = room }) → IsKept t (record w { places = places })
 moved t w places room k same player = record { story = k.story; objects = same ∙ k.objects; flags = k.flags; truths = k.truths; numbers = k.numbers; variables = k.variables; scenes = k.scenes; room = room; player = player }
 
 not_none : (places : List (Option Place)) (place : Place) → place_of places 0 ≡ Some place → 0 < length places
@@ -115,13 +122,15 @@ directly place is = by place.relation place.holder is
     by Worn holder is = absurd cc
     by Part holder is = absurd cc
 
-pub keeps_put : (t : Tables) (w : World) (kinds : Kinds) (o : ℕ) (place : Place) (places : List (Option Place)) → IsKept t w → keeps_player kinds o place ≡ true → places ≡ slice_set w.places o (Some place) → IsKept t (record w { places = places })
+pub keeps_put : (t : Tables) (w : World) (kinds : Kinds) (o : ℕ) (place : Place) (places : List (Option Place)) → IsKept t w → keeps_player kinds o place ≡ true
+    → places ≡ slice_set w.places o (Some place) → IsKept t (record w { places = places })
 keeps_put t w kinds o place places k keeps is =
     elim (either (eqb o 0)) [
       | inl player ↦
           let first : o ≡ 0 = eqb-true o 0 player in
           let inside : (is_in place.relation && kinds.is_room place.holder) ≡ true = rw player at keeps in
-          let there : place_of places 0 ≡ Some place = ap (λ (ps : List (Option Place)). place_of ps 0) (is ∙ ap (λ (n : ℕ). slice_set w.places n (Some place)) first) ∙ get_or-set_same w.places 0 (Some place) None (not_none w.places _ k.player) in
+          let there : place_of places 0 ≡ Some place = ap (λ (ps : List (Option Place)). place_of ps 0) (is ∙ ap (λ (n : ℕ). slice_set w.places n (Some place)) first)
+          ∙ get_or-set_same w.places 0 (Some place) None (not_none w.places _ k.player) in
           moved t w places place.holder k (ap length is ∙ length-set w.places o (Some place)) (there ∙ ap Some (directly place (both_are _ _ inside).0))
       | inr other ↦
           let away : 0 ≢ o = λ e. eqb-false o 0 other (sym e) in
