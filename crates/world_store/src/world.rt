@@ -45,9 +45,28 @@ impl Model for World {
 
     ghost Value = { StoryWorld };
 
-    ghost view = { λ w. record { tables = w.story.value; world = record { places = w.tree; flags = w.flags; numbers = w.numbers; variables = w.variables.items; scenes = w.scenes.items; turns = w.turns; ended = w.ended } } };
+    ghost view = { λ w. record {
+      tables = w.story.value;
+      world = record {
+        places = w.tree;
+        flags = w.flags;
+        numbers = w.numbers;
+        variables = w.variables.items;
+        scenes = w.scenes.items;
+        turns = w.turns;
+        ended = w.ended;
+      };
+    } };
 
-    ghost invariant = { λ w. IsKept w.story.value (record { places = w.tree; flags = w.flags; numbers = w.numbers; variables = w.variables.items; scenes = w.scenes.items; turns = w.turns; ended = w.ended }) };
+    ghost invariant = { λ w. IsKept w.story.value (record {
+      places = w.tree;
+      flags = w.flags;
+      numbers = w.numbers;
+      variables = w.variables.items;
+      scenes = w.scenes.items;
+      turns = w.turns;
+      ended = w.ended;
+    }) };
 }
 
 /// Which either-or properties are true of which objects as a story begins.
