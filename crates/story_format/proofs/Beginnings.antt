@@ -48,7 +48,8 @@ stories_tree t story = (walks_decide (places_in t.objects)).0 (stand_parts t (st
 
 -- ---- holders
 
-well_at : (kinds : Kinds) (o : ℕ) (places : List (Option Place)) (i n : ℕ) (place : Place) → are_well_placed kinds o places ≡ true → o + i ≡ n → place_at places i ≡ Some place → is_well_placed kinds n (Some place) ≡ true
+well_at : (kinds : Kinds) (o : ℕ) (places : List (Option Place)) (i n : ℕ) (place : Place) → are_well_placed kinds o places ≡ true → o + i ≡ n
+    → place_at places i ≡ Some place → is_well_placed kinds n (Some place) ≡ true
 unfolding are_well_placed
 well_at kinds o [] i n place h e there = absurd cc
 well_at kinds o (p ∷ ps) zero n place h e there =
@@ -87,13 +88,15 @@ holders_there t thing place story there =
 
 -- ---- the player
 
-player_place : (strings : List (List ℕ)) (parents : List (Option ℕ)) (rooms : List Bool) (e : Entry) → is_player_entry strings parents rooms e ≡ true → place_of e ≡ Some (record { relation = In; holder = e.holder })
+player_place : (strings : List (List ℕ)) (parents : List (Option ℕ)) (rooms : List Bool) (e : Entry) → is_player_entry strings parents rooms e ≡ true
+    → place_of e ≡ Some (record { relation = In; holder = e.holder })
 unfolding is_player_entry
 player_place strings parents rooms e h =
     let parts = last_of_five (is_under parents e.kind 6) (is_named strings e.name (codes "yourself")) (eqb e.article 0) (eqb e.relation 0) (is_at rooms e.holder) h in
     ap (λ (n : ℕ). held_by (relation_of n) e.holder) (eqb-true e.relation 0 parts.3)
 
-start_place : (strings : List (List ℕ)) (parents : List (Option ℕ)) (rooms : List Bool) (entries : List Entry) → are_in_place strings parents rooms entries ≡ true → place_at (places_in entries) 0 ≡ Some (record { relation = In; holder = holder_in (slice_get entries 0) })
+start_place : (strings : List (List ℕ)) (parents : List (Option ℕ)) (rooms : List Bool) (entries : List Entry) → are_in_place strings parents rooms entries ≡ true
+    → place_at (places_in entries) 0 ≡ Some (record { relation = In; holder = holder_in (slice_get entries 0) })
 unfolding are_in_place
 start_place strings parents rooms [] h = absurd cc
 start_place strings parents rooms (player ∷ others) h =
