@@ -3,26 +3,34 @@
 #![tactic(auto)]
 
 mod author_kinds;
+mod beings;
 mod built_in;
 mod claim;
 mod claim_laws;
 mod claiming;
 mod declaring;
+mod demanding;
 mod descriptions;
+mod entries;
+mod faults;
 mod grants;
 mod kinds;
+mod knowns;
 mod lent_text;
 mod limits;
+mod making;
 mod meant;
-mod name_faults;
 mod names;
 mod objects;
+mod places;
 mod quotes;
 mod reserved_names;
 mod scans;
+mod scope;
 mod sorts;
 mod standings;
 mod statements;
+mod suits;
 mod tale;
 mod ways;
 
