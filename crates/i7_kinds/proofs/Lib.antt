@@ -14,6 +14,7 @@ pub mod UnderKinds
 pub mod Fines
 pub mod Setting
 pub mod Placed
+pub mod PlaceScans
 pub mod Readiness
 pub mod FewWords
 mod Quoting

@@ -35,7 +35,8 @@ mod tale;
 mod ways;
 
 pub use claim_laws::{
-    books_twice_are_found, cycles_are_found, kinds_too_many_are_found, names_too_many_are_found,
-    names_twice_are_found, unknown_kinds_are_found,
+    books_twice_are_found, cycles_are_found, holder_cycles_are_found, kinds_too_many_are_found,
+    names_too_many_are_found, names_twice_are_found, second_places_are_found,
+    unknown_kinds_are_found,
 };
 pub use tale::tale_of;
