@@ -1,5 +1,5 @@
 -- The numbers of a tale whose objects are few are small.
-use Rattle.std.proofs.Common.{◌≡◌, ℕ, zero, suc, ◌+◌, ◌≤◌, Bool, true, false, cond, List, [], ◌∷◌, ◌++◌, length, map, refl, subst, arith}
+use Rattle.std.proofs.Common.{◌≡◌, ℕ, zero, suc, ◌+◌, ◌≤◌, Bool, true, false, cond, List, [], ◌∷◌, ◌++◌, length, map, refl, arith}
 use Rattle.std.specs.Prelude.{Option, Some, None, fold, slice_get, if◌then◌else◌}
 use Rattle.std.specs.Option.{option_map}
 use Rattle.std.specs.List.{position_or_len}
@@ -13,15 +13,15 @@ use Rattle.world_meaning.specs.Directions.{opposite_of}
 use Rattle.world_meaning.specs.declared.fault.FaultCode.{FaultCode}
 use Rattle.world_meaning.specs.declared.fault.FaultCode.TheVariants.{Cycle, NoRoom, TooMany, Twice, TwoPlaces, UnknownName, WrongKind}
 use Rattle.i7_kinds.specs.Bounds.{AreWithin, IsSmall, IsWithin, LeadWithin}
-use Rattle.i7_kinds.specs.Demands.{Lead, first_target, line_at, second_target, wrong_kind, implied_in, implied_leads, is_exit, lead_of, stated_in, stated_leads}
+use Rattle.i7_kinds.specs.Demands.{Lead, first_target, line_at, implied_in, implied_leads, is_exit, lead_of, stated_in, stated_leads}
 use Rattle.i7_kinds.specs.Scans.{earlier}
-use Rattle.i7_kinds.specs.declared.name_faults.NameFaults.{NameFaults}
+use Rattle.i7_kinds.specs.declared.faults.Faults.{Faults}
 use Rattle.i7_kinds.specs.Firsts.{first_of}
 use Rattle.i7_kinds.specs.Tales.{frame_refusal, no_room, object_too_many, refusal_at}
 use Rattle.i7_kinds.specs.declared.statements.Numbered.{Numbered}
 use Rattle.i7_kinds.specs.declared.statements.Numbered.TheVariants as numbered
 use Rattle.i7_kinds.specs.declared.statements.NumberedSentence.{NumberedSentence}
-use Rattle.i7_kinds.specs.Statements.{NameAt, Named, built_in_keys, numbered_in, numbered_room, rooms_in, has_key, key_of, named_by, names_at, number_in, place_or, stated_by, statement_in, with_name, with_names_of}
+use Rattle.i7_kinds.specs.Statements.{NameAt, Named, built_in_keys, numbered_in, numbered_subject, has_key, key_of, named_by, names_at, number_in, place_or, stated_by, statement_in, with_name, with_names_of}
 
 -- as many keys as objects
 abbrev pub IsCounted : Named → Type 0
@@ -64,13 +64,14 @@ position-within (k ∷ keys) key =
 pub number-within : (keys : List (List ℕ)) (key : List ℕ) → number_in keys key ≤ length keys
 number-within keys key = place-within (length keys) (position_or_len (bytes_eq key) keys) (position-within keys key) _
 
-room-within : (named : Named) (rooms : List Name) → IsWithin (length named.keys) (numbered_room named rooms)
-room-within named [] = tt
-room-within named (name ∷ names) = tt
+subject-within : (named : Named) (subjects : List Name) → IsWithin (length named.keys) (numbered_subject named subjects)
+subject-within named [] = tt
+subject-within named (name ∷ []) = tt
+subject-within named (name ∷ other ∷ names) = tt
 
 pub assertion-within : (named : Named) (said : Assertion) → IsWithin (length named.keys) (numbered_in named said)
 assertion-within named (Description text) = tt
-assertion-within named (Are being) = room-within named (rooms_in being)
+assertion-within named (Are being) = subject-within named being.subjects
 assertion-within named (Way way) = (number-within named.keys (key_of way.subject.text), number-within named.keys (key_of way.room.text))
 assertion-within named _ = tt
 
@@ -79,8 +80,8 @@ all-within named [] = tt
 all-within named (sentence ∷ sentences) = (assertion-within named sentence.said, all-within named sentences)
 
 -- the numbers of a source's statements
-pub source-within : (sentences : List Sentence) → AreWithin (13 + length (named_by sentences).mentions) (stated_by sentences)
-source-within sentences = subst (λ n. AreWithin n (stated_by sentences)) (counted-source sentences) (all-within (named_by sentences) sentences)
+pub source-within : (sentences : List Sentence) → AreWithin (length (named_by sentences).keys) (stated_by sentences)
+source-within sentences = all-within (named_by sentences) sentences
 
 pub small-first : (a b : Option ℕ) → IsSmall a → IsSmall b → IsSmall (first_of a b)
 small-first None b first second = second
@@ -98,13 +99,13 @@ small-lead lead leads room direction small others =
 pub stated-small-by : (most : ℕ) (fact : Numbered) (line : ℕ) (statements : List NumberedSentence) (room direction : ℕ) → most ≤ 1000 → IsWithin most fact → IsSmall (first_target (stated_leads statements) room direction) → IsSmall (first_target (stated_in fact line ++ stated_leads statements) room direction)
 stated-small-by most numbered.Aside line statements room direction few within others = others
 stated-small-by most (numbered.Description text) line statements room direction few within others = others
-stated-small-by most (numbered.Room o) line statements room direction few within others = others
+stated-small-by most (numbered.Being o) line statements room direction few within others = others
 stated-small-by most (numbered.Way way) line statements room direction few within others = small-lead (lead_of way.subject way.direction way.room line) (stated_leads statements) room direction (omega (arith, within.0, few)) others
 
 pub implied-small-by : (most : ℕ) (fact : Numbered) (line : ℕ) (statements : List NumberedSentence) (room direction : ℕ) → most ≤ 1000 → IsWithin most fact → IsSmall (first_target (implied_leads statements) room direction) → IsSmall (first_target (implied_in fact line ++ implied_leads statements) room direction)
 implied-small-by most numbered.Aside line statements room direction few within others = others
 implied-small-by most (numbered.Description text) line statements room direction few within others = others
-implied-small-by most (numbered.Room o) line statements room direction few within others = others
+implied-small-by most (numbered.Being o) line statements room direction few within others = others
 implied-small-by most (numbered.Way way) line statements room direction few within others = small-lead (lead_of way.room (opposite_of way.direction) way.subject line) (implied_leads statements) room direction (omega (arith, within.1, few)) others
 
 pub stated-small : (most : ℕ) (statements : List NumberedSentence) (room direction : ℕ) → most ≤ 1000 → AreWithin most statements → IsSmall (first_target (stated_leads statements) room direction)
@@ -145,30 +146,30 @@ earlier_none (Some a) (Some b) h = absurd cc
 pub few_objects : (mentions : List NameAt) → object_too_many mentions ≡ None → 13 + length mentions ≤ 1000
 few_objects mentions none = omega (arith, slice_get-none mentions 987 (unmapped line_at (slice_get mentions 987) none))
 
--- where no refusal stands, no object is too many
-pub frame_few : (faults : NameFaults) (statements : List NumberedSentence) (mentions : List NameAt) → frame_refusal faults statements mentions ≡ None → 13 + length mentions ≤ 1000
+-- what no refusal says
+pub record NoFaults (faults : Faults) (mentions : List NameAt) (room : Option ℕ) : Type 0 where
+  pub unknown : faults.unknown ≡ None
+  pub cycle : faults.cycle ≡ None
+  pub wrong : faults.wrong ≡ None
+  pub few : 13 + length mentions ≤ 1000
+  pub too_many : faults.too_many ≡ None
+  pub roomy : no_room room ≡ None
+
+pub frame_parts : (faults : Faults) (mentions : List NameAt) (room : Option ℕ) → frame_refusal faults mentions room ≡ None → NoFaults faults mentions room
 unfolding frame_refusal
-frame_few faults statements mentions none =
+frame_parts faults mentions room none =
     let a = first_none_both (refusal_at Twice faults.twice) _ none in
     let u = first_none_both (refusal_at UnknownName faults.unknown) _ a.1 in
     let v = first_none_both (refusal_at Cycle faults.cycle) _ u.1 in
-    let b = first_none_both (refusal_at WrongKind (wrong_kind statements)) _ v.1 in
-    let c = first_none_both (refusal_at TwoPlaces (second_target statements)) _ b.1 in
-    let d = first_none_both (refusal_at TooMany (earlier (object_too_many mentions) faults.too_many)) (refusal_at NoRoom (no_room mentions)) c.1 in
-    few_objects mentions (earlier_none (object_too_many mentions) faults.too_many (unrefused TooMany (earlier (object_too_many mentions) faults.too_many) d.0)).0
-
--- where no refusal stands, no name is too many
-pub frame_names : (faults : NameFaults) (statements : List NumberedSentence) (mentions : List NameAt) → frame_refusal faults statements mentions ≡ None → (faults.unknown ≡ None) × (faults.cycle ≡ None) × (faults.too_many ≡ None)
-unfolding frame_refusal
-frame_names faults statements mentions none =
-    let a = first_none_both (refusal_at Twice faults.twice) _ none in
-    let u = first_none_both (refusal_at UnknownName faults.unknown) _ a.1 in
-    let v = first_none_both (refusal_at Cycle faults.cycle) _ u.1 in
-    let b = first_none_both (refusal_at WrongKind (wrong_kind statements)) _ v.1 in
-    let c = first_none_both (refusal_at TwoPlaces (second_target statements)) _ b.1 in
-    let d = first_none_both (refusal_at TooMany (earlier (object_too_many mentions) faults.too_many)) (refusal_at NoRoom (no_room mentions)) c.1 in
-    (unrefused UnknownName faults.unknown u.0, unrefused Cycle faults.cycle v.0, (earlier_none (object_too_many mentions) faults.too_many (unrefused TooMany (earlier (object_too_many mentions) faults.too_many) d.0)).1)
-
--- so a source without refusal leads within a story
-pub frame_within : (faults : NameFaults) (statements : List NumberedSentence) (mentions : List NameAt) → AreWithin (13 + length mentions) statements → frame_refusal faults statements mentions ≡ None → LeadWithin statements
-frame_within faults statements mentions within none = lead-within (13 + length mentions) statements (frame_few faults statements mentions none) within
+    let b = first_none_both (refusal_at WrongKind faults.wrong) _ v.1 in
+    let c = first_none_both (refusal_at TwoPlaces faults.second) _ b.1 in
+    let d = first_none_both (refusal_at TooMany (earlier (object_too_many mentions) faults.too_many)) (refusal_at NoRoom (no_room room)) c.1 in
+    let many = earlier_none (object_too_many mentions) faults.too_many (unrefused TooMany (earlier (object_too_many mentions) faults.too_many) d.0) in
+    record {
+      unknown = unrefused UnknownName faults.unknown u.0;
+      cycle = unrefused Cycle faults.cycle v.0;
+      wrong = unrefused WrongKind faults.wrong b.0;
+      few = few_objects mentions many.0;
+      too_many = many.1;
+      roomy = unrefused NoRoom (no_room room) d.1;
+    }

@@ -9,6 +9,12 @@ pub mod Kept
 pub mod Bounds
 pub mod Exits
 pub mod Firsts
-pub mod Rooms
+pub mod ObjectsBehind
+pub mod UnderKinds
+pub mod Fines
+pub mod Setting
+pub mod Placed
+pub mod PlaceScans
+pub mod Readiness
 pub mod FewWords
 mod Quoting

@@ -137,7 +137,7 @@ place_there (k ∷ keys) key h =
       | inr isnt ↦ let later : has_name keys key ≡ true = rw isnt at h in rw isnt (omega (arith, place_there keys key later))
     ]
 
-number_there : (keys : List (List ℕ)) (key : List ℕ) → has_name keys key ≡ true → number_in keys key < length keys
+pub number_there : (keys : List (List ℕ)) (key : List ℕ) → has_name keys key ≡ true → number_in keys key < length keys
 number_there keys key h =
     let t = place_there keys key h in
     let inside = lt-ltb (position_or_len (bytes_eq key) keys) (length keys) t in
@@ -247,7 +247,7 @@ count_grows : (f : Fact) (count : ℕ) → count ≤ with_count count f
 count_grows (Lies l) count = omega arith
 count_grows _ count = omega arith
 
-counts_grow : (claims : List Claim) (count : ℕ) → count ≤ fold with_count_of count claims
+pub counts_grow : (claims : List Claim) (count : ℕ) → count ≤ fold with_count_of count claims
 counts_grow [] count = omega arith
 counts_grow (c ∷ cs) count = omega (arith, count_grows c.fact count, counts_grow cs (with_count count c.fact))
 

@@ -1,9 +1,12 @@
 -- What the sentences may not say together: each refusal's line is that of the first statement that
 -- shows it together with those before it.
-use Rattle.std.specs.Prelude.{ℕ, Bool, false, not, ◌&&◌, ◌||◌, ◌==◌, nat_lt, List, [], ◌∷◌, ◌++◌, flat_map, find, Option, Some, None, is_none, option_map, bytes_eq, if◌then◌else◌}
+use Rattle.std.specs.Prelude.{ℕ, Bool, true, false, not, ◌&&◌, ◌||◌, ◌==◌, List, [], ◌∷◌, ◌++◌, flat_map, find, Option, Some, None, option_map, bytes_eq, if◌then◌else◌}
 use Rattle.world_meaning.specs.Directions.{direction_number, opposite_of}
 use Rattle.world_meaning.specs.declared.direction.Direction.{Direction}
+use Rattle.world_meaning.specs.Kinds.{room_kind}
 use Rattle.i7_kinds.specs.Firsts.{first_of}
+use Rattle.i7_kinds.specs.Knowns.{is_of, is_parted_at}
+use Rattle.i7_kinds.specs.declared.knowns.Known.{Known}
 use Rattle.i7_kinds.specs.Statements.{NameAt}
 use Rattle.i7_kinds.specs.declared.descriptions.Description.{Description}
 use Rattle.i7_kinds.specs.declared.statements.Numbered.{Numbered}
@@ -17,49 +20,63 @@ line_at at = at.line
 abbrev pub first_of_author : ℕ
 first_of_author = 13
 
-abbrev pub is_author : ℕ → Bool
-is_author o = not (nat_lt o first_of_author)
-
 -- the object that a statement is about
 abbrev pub subject_of : Numbered → Option ℕ
 subject_of numbered.Aside = None
 subject_of (numbered.Description text) = None
-subject_of (numbered.Room o) = Some o
+subject_of (numbered.Being o) = Some o
 subject_of (numbered.Way way) = Some way.subject
 
--- C8: the player and the directions are no rooms, and a text alone needs a subject before it
-abbrev pub is_wrong : Option ℕ → Numbered → Bool
-is_wrong before numbered.Aside = false
-is_wrong before (numbered.Description text) = is_none before
-is_wrong before (numbered.Room o) = nat_lt o first_of_author
-is_wrong before (numbered.Way way) = nat_lt way.subject first_of_author || nat_lt way.room first_of_author
+abbrev pub is_room : List (Option ℕ) → List Known → ℕ → Bool
+is_room parents knowns o = is_of parents knowns room_kind o
 
-abbrev pub wrong_after : Option ℕ → List NumberedSentence → Option ℕ
-wrong_after before [] = None
-wrong_after before (statement ∷ statements) =
-    if is_wrong before statement.said then Some statement.line else wrong_after (subject_of statement.said) statements
+abbrev pub is_no_room : List (Option ℕ) → List Known → ℕ → Bool
+is_no_room parents knowns o = not (is_parted_at knowns o) && not (is_room parents knowns o)
 
-abbrev pub wrong_kind : List NumberedSentence → Option ℕ
-wrong_kind statements = wrong_after None statements
+-- a text alone needs a room before it
+abbrev pub is_wrong_subject : List (Option ℕ) → List Known → Option ℕ → Bool
+is_wrong_subject parents knowns None = true
+is_wrong_subject parents knowns (Some o) = is_no_room parents knowns o
 
--- a text describes an object of the author's, at its line
+-- a way leads between rooms
+abbrev pub is_wrong_way : List (Option ℕ) → List Known → ℕ → ℕ → Bool
+is_wrong_way parents knowns subject room =
+    not (is_parted_at knowns subject || is_parted_at knowns room) && not (is_room parents knowns subject && is_room parents knowns room)
+
+-- C8: what the kinds don't allow, where they are known
+abbrev pub is_wrong : List (Option ℕ) → List Known → Option ℕ → Numbered → Bool
+is_wrong parents knowns before numbered.Aside = false
+is_wrong parents knowns before (numbered.Description text) = is_wrong_subject parents knowns before
+is_wrong parents knowns before (numbered.Being o) = false
+is_wrong parents knowns before (numbered.Way way) = is_wrong_way parents knowns way.subject way.room
+
+abbrev pub wrong_after : List (Option ℕ) → List Known → Option ℕ → List NumberedSentence → Option ℕ
+wrong_after parents knowns before [] = None
+wrong_after parents knowns before (statement ∷ statements) =
+    if is_wrong parents knowns before statement.said then Some statement.line else wrong_after parents knowns (subject_of statement.said) statements
+
+abbrev pub wrong_kind : List (Option ℕ) → List Known → List NumberedSentence → Option ℕ
+wrong_kind parents knowns statements = wrong_after parents knowns None statements
+
+-- a text describes a room, at its line
 abbrev pub told_of : ℕ → Numbered → ℕ → List Description
 told_of o (numbered.Description text) line = record { object = o; text = text; line = line } ∷ []
 told_of o numbered.Aside line = []
-told_of o (numbered.Room room) line = []
+told_of o (numbered.Being other) line = []
 told_of o (numbered.Way way) line = []
 
-abbrev pub described_by : Option ℕ → NumberedSentence → List Description
-described_by None statement = []
-described_by (Some o) statement = if is_author o then told_of o statement.said statement.line else []
+abbrev pub described_by : List (Option ℕ) → List Known → Option ℕ → NumberedSentence → List Description
+described_by parents knowns None statement = []
+described_by parents knowns (Some o) statement = if is_room parents knowns o then told_of o statement.said statement.line else []
 
-abbrev pub described_after : Option ℕ → List NumberedSentence → List Description
-described_after before [] = []
-described_after before (statement ∷ statements) = described_by before statement ++ described_after (subject_of statement.said) statements
+abbrev pub described_after : List (Option ℕ) → List Known → Option ℕ → List NumberedSentence → List Description
+described_after parents knowns before [] = []
+described_after parents knowns before (statement ∷ statements) =
+    described_by parents knowns before statement ++ described_after parents knowns (subject_of statement.said) statements
 
--- each text alone describes the author's object that the statement before it is about
-abbrev pub descriptions_of : List NumberedSentence → List Description
-descriptions_of statements = described_after None statements
+-- each text alone describes the room that the statement before it is about
+abbrev pub descriptions_of : List (Option ℕ) → List Known → List NumberedSentence → List Description
+descriptions_of parents knowns statements = described_after parents knowns None statements
 
 -- an object's description: the first text that describes it
 abbrev pub description_of : List Description → ℕ → Option (List ℕ)
@@ -94,14 +111,14 @@ lead_of subject direction room line = record { room = room; direction = directio
 abbrev pub stated_in : Numbered → ℕ → List Lead
 stated_in numbered.Aside line = []
 stated_in (numbered.Description text) line = []
-stated_in (numbered.Room o) line = []
+stated_in (numbered.Being o) line = []
 stated_in (numbered.Way way) line = lead_of way.subject way.direction way.room line ∷ []
 
 -- the ways back that they imply
 abbrev pub implied_in : Numbered → ℕ → List Lead
 implied_in numbered.Aside line = []
 implied_in (numbered.Description text) line = []
-implied_in (numbered.Room o) line = []
+implied_in (numbered.Being o) line = []
 implied_in (numbered.Way way) line = lead_of way.room (opposite_of way.direction) way.subject line ∷ []
 
 abbrev pub stated_by_one : NumberedSentence → List Lead

@@ -14,7 +14,7 @@ use Rattle.i7_kinds.specs.Standings.{has_name}
 use Rattle.i7_kinds.specs.Statements.{number_in}
 use Rattle.i7_kinds.specs.declared.claim.Claim.{Claim}
 use Rattle.i7_kinds.specs.declared.claim.Fact.{Fact}
-use Rattle.i7_kinds.specs.declared.claim.Fact.TheVariants.{Lies, CanBe, HasNumber}
+use Rattle.i7_kinds.specs.declared.claim.Fact.TheVariants.{Lies, CanBe, HasNumber, Demands}
 
 abbrev pub with_kind : List (List ℕ) → Fact → List (List ℕ)
 with_kind names (Lies l) = mention names l.kind
@@ -72,6 +72,7 @@ abbrev pub IsUnknown : List (List ℕ) → Fact → Type 0
 IsUnknown names (Lies l) = has_name names l.parent ≡ false
 IsUnknown names (CanBe g) = has_name names g.kind ≡ false
 IsUnknown names (HasNumber g) = has_name names g.kind ≡ false
+IsUnknown names (Demands d) = has_name names d.kind ≡ false
 IsUnknown names _ = ⊥
 
 -- a kind, which takes the next number, closes a cycle with those before it
@@ -90,6 +91,7 @@ abbrev pub is_unknown : List (List ℕ) → Fact → Bool
 is_unknown names (Lies l) = not (has_name names l.parent)
 is_unknown names (CanBe g) = not (has_name names g.kind)
 is_unknown names (HasNumber g) = not (has_name names g.kind)
+is_unknown names (Demands d) = not (has_name names d.kind)
 is_unknown names _ = false
 
 abbrev pub shows_unknown : List (List ℕ) → Claim → Bool

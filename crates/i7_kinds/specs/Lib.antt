@@ -1,3 +1,4 @@
+pub mod Beings
 pub mod Bounds
 pub mod Claims
 pub mod Demands
@@ -5,12 +6,17 @@ pub mod Described
 pub mod Firsts
 pub mod Grants
 pub mod KindClaims
+pub mod Knowns
+pub mod Making
 pub mod NameScans
+pub mod Numbers
+pub mod Places
 pub mod Quotes
 pub mod Scans
 pub mod Sorts
 pub mod Standings
 pub mod StatedWays
 pub mod Statements
+pub mod Suits
 pub mod Tales
 pub mod Views

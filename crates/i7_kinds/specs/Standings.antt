@@ -1,7 +1,7 @@
 -- What names stand for: the first claim of a name tells, and later ones must suit it.
 use Rattle.std.specs.Prelude.{◌≡◌, ℕ, Bool, true, false, List, [], ◌∷◌, ◌++◌, flat_map, map, Option, Some, None, bytes_eq, option_map, if◌then◌else◌}
-use Rattle.std.specs.List.{list_any}
 use Rattle.world_meaning.specs.declared.kinds.TheConstants.{KINDS, PROPERTIES}
+pub use Rattle.i7_kinds.specs.Numbers.{has_name}
 use Rattle.i7_kinds.specs.Statements.{built_in_keys}
 use Rattle.i7_kinds.specs.declared.claim.Claim.{Claim}
 use Rattle.i7_kinds.specs.declared.claim.Fact.{Fact}
@@ -92,9 +92,6 @@ books_in _ = []
 
 abbrev pub books_of : List Claim → List (List ℕ)
 books_of claims = flat_map (λ c. books_in c.fact) claims
-
-abbrev pub has_name : List (List ℕ) → List ℕ → Bool
-has_name names name = list_any (bytes_eq name) names
 
 -- a rulebook's name is another's
 abbrev pub IsBookTwice : List Claim → Fact → Type 0

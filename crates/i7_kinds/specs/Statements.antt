@@ -1,14 +1,15 @@
 -- What the sentences of a source state, objects by their numbers: 0 the player, 1 to 12 the
 -- directions, then the author's by first mention.
-use Rattle.std.specs.Prelude.{ℕ, Bool, true, false, ◌&&◌, ◌==◌, is_none, List, [], ◌∷◌, ◌++◌, length, map, fold, position, Option, Some, None, codes, bytes_eq, if◌then◌else◌}
+use Rattle.std.specs.Prelude.{ℕ, Bool, true, false, List, [], ◌∷◌, ◌++◌, map, fold, Option, codes, bytes_eq, if◌then◌else◌}
 use Rattle.std.specs.List.{list_any}
 use Rattle.world_meaning.specs.Spelling.{is_spelled, lowered}
 use Rattle.world_meaning.specs.Directions.{all_directions, direction_name}
 use Rattle.i7_sentences.specs.declared.name.Name.{Name}
 use Rattle.i7_sentences.specs.declared.sentence.Assertion.{Assertion}
 use Rattle.i7_sentences.specs.declared.sentence.Assertion.TheVariants.{Aside, Description, Way, Are, EitherOr, KindOfKind, Rulebook, Scene, Variable}
-use Rattle.i7_sentences.specs.declared.sentence.Being.{Being}
 use Rattle.i7_sentences.specs.declared.sentence.Sentence.{Sentence}
+use Rattle.i7_kinds.specs.Beings.{is_being_meant, names_said}
+pub use Rattle.i7_kinds.specs.Numbers.{number_in, place_or}
 use Rattle.i7_kinds.specs.Quotes.{printed}
 use Rattle.i7_kinds.specs.declared.statements.Numbered.{Numbered}
 use Rattle.i7_kinds.specs.declared.statements.Numbered.TheVariants as numbered
@@ -23,30 +24,22 @@ pub record NameAt : Type 0 where
   pub name : Name
   pub line : ℕ
 
--- one name is said to be `a room`, in these words
-unfoldable pub is_room_said : Being → Bool
-is_room_said being = is_spelled being.what (codes "a room") && is_none being.place && (length being.subjects == 1)
-
--- the name of the room that is said to be one
-abbrev pub rooms_in : Being → List Name
-rooms_in being = if is_room_said being then being.subjects else []
-
--- what is said has a meaning so far
-abbrev pub is_meant : Assertion → Bool
-is_meant Aside = true
-is_meant (Description text) = true
-is_meant (Way way) = true
-is_meant (Are being) = is_room_said being
-is_meant (Rulebook name) = true
-is_meant (Scene name is_recurring) = true
-is_meant (KindOfKind kind parent) = true
-is_meant (Variable name) = true
-is_meant (EitherOr kind first second) = true
-is_meant _ = false
+-- what is said has a meaning so far, where the kinds have these names and these kinds above them
+abbrev pub is_meant : List (List ℕ) → List (Option ℕ) → Assertion → Bool
+is_meant kinds parents Aside = true
+is_meant kinds parents (Description text) = true
+is_meant kinds parents (Way way) = true
+is_meant kinds parents (Are being) = is_being_meant kinds parents being
+is_meant kinds parents (Rulebook name) = true
+is_meant kinds parents (Scene name is_recurring) = true
+is_meant kinds parents (KindOfKind kind parent) = true
+is_meant kinds parents (Variable name) = true
+is_meant kinds parents (EitherOr kind first second) = true
+is_meant kinds parents _ = false
 
 -- the names that a sentence mentions, in the order of its words
 abbrev pub names_in : Assertion → List Name
-names_in (Are being) = rooms_in being
+names_in (Are being) = names_said being
 names_in (Way way) = if way.is_room_first then way.room ∷ way.subject ∷ [] else way.subject ∷ way.room ∷ []
 names_in _ = []
 
@@ -59,14 +52,6 @@ built_in_keys = codes "yourself" ∷ map direction_name all_directions
 
 abbrev pub has_key : List (List ℕ) → List ℕ → Bool
 has_key keys key = list_any (bytes_eq key) keys
-
-abbrev pub place_or : ℕ → Option ℕ → ℕ
-place_or other None = other
-place_or other (Some place) = place
-
--- an object's number: the place of its key
-abbrev pub number_in : List (List ℕ) → List ℕ → ℕ
-number_in keys key = place_or (length keys) (position (bytes_eq key) keys)
 
 -- the keys and the first mentions of the author's objects so far
 pub record Named : Type 0 where
@@ -88,14 +73,16 @@ named_by sentences = fold with_names_of (record { keys = built_in_keys; mentions
 abbrev pub number_of : Named → Name → ℕ
 number_of named name = number_in named.keys (key_of name.text)
 
-abbrev pub numbered_room : Named → List Name → Numbered
-numbered_room named [] = numbered.Aside
-numbered_room named (name ∷ names) = numbered.Room (number_of named name)
+-- one object, or none where there are several
+abbrev pub numbered_subject : Named → List Name → Numbered
+numbered_subject named [] = numbered.Aside
+numbered_subject named (name ∷ []) = numbered.Being (number_of named name)
+numbered_subject named (name ∷ other ∷ names) = numbered.Aside
 
 -- what a sentence asserts, objects by their numbers and texts as they are printed
 abbrev pub numbered_in : Named → Assertion → Numbered
 numbered_in named (Description text) = numbered.Description (printed text)
-numbered_in named (Are being) = numbered_room named (rooms_in being)
+numbered_in named (Are being) = numbered_subject named being.subjects
 numbered_in named (Way way) = numbered.Way (record { subject = number_of named way.subject; direction = way.direction; room = number_of named way.room })
 numbered_in named _ = numbered.Aside
 

@@ -1,5 +1,5 @@
 -- The tale that a source's sentences mean, or the refusal that stands.
-use Rattle.std.specs.Prelude.{ℕ, ◌+◌, ◌-◌, Bool, not, ◌||◌, ◌==◌, nat_lt, List, [], ◌∷◌, ◌++◌, length, map, find, replicate, slice_get, Option, Some, None, option_map, codes, Result, Ok, Err, if◌then◌else◌}
+use Rattle.std.specs.Prelude.{ℕ, ◌+◌, ◌-◌, Bool, not, ◌||◌, ◌==◌, nat_lt, List, [], ◌∷◌, ◌++◌, length, map, find, replicate, slice_get, slice_index_or, Option, Some, None, option_map, codes, Result, Ok, Err, if◌then◌else◌}
 use Rattle.std.specs.List.{list_any}
 use Rattle.world_meaning.specs.Directions.{all_directions, direction_name, direction_number}
 use Rattle.world_meaning.specs.declared.article.Article.{Article}
@@ -10,12 +10,11 @@ use Rattle.world_meaning.specs.declared.exits.Way.{Way}
 use Rattle.world_meaning.specs.declared.fault.Fault.{Fault}
 use Rattle.world_meaning.specs.declared.fault.FaultCode.{FaultCode}
 use Rattle.world_meaning.specs.declared.fault.FaultCode.TheVariants.{NotUnderstood, Twice, UnknownName, Cycle, WrongKind, TwoPlaces, TooMany, NoRoom}
-use Rattle.world_meaning.specs.declared.place.Place.{Place}
-use Rattle.world_meaning.specs.declared.place.Rel.TheVariants.{In}
 use Rattle.world_meaning.specs.declared.tale.Object.{Object}
 use Rattle.world_meaning.specs.declared.tale.Tale.{Tale}
-use Rattle.world_meaning.specs.Kinds.{built_in_parents, direction_kind, person_kind, room_kind}
+use Rattle.world_meaning.specs.Kinds.{is_under, room_kind}
 use Rattle.world_meaning.specs.Properties.{start_properties}
+use Rattle.world_meaning.specs.Standing.{place_at}
 use Rattle.i7_sentences.specs.declared.name.NameArticle.{NameArticle}
 use Rattle.i7_sentences.specs.declared.name.NameArticle.TheVariants as written
 use Rattle.i7_sentences.specs.declared.sentence.Sentence.{Sentence}
@@ -23,10 +22,15 @@ use Rattle.i7_kinds.specs.Demands.{wrong_kind, descriptions_of, description_of, 
 use Rattle.object_words.specs.Words.{words_for}
 use Rattle.i7_kinds.specs.Claims.{claims_of}
 use Rattle.i7_kinds.specs.Firsts.{first_of}
-use Rattle.i7_kinds.specs.KindClaims.{declared_by, kind_cycle, kind_names, kind_too_many, unknown_kind}
+use Rattle.i7_kinds.specs.KindClaims.{declared_by, kind_cycle, kind_names, kind_too_many, parents_of, unknown_kind}
+use Rattle.i7_kinds.specs.Knowns.{Scope, kinds_of, knowns_of, off_path}
+use Rattle.i7_kinds.specs.Places.{Places, holder_cycle, places_by, second_place}
+use Rattle.i7_kinds.specs.Suits.{first_room, unsuited, with_player}
+use Rattle.i7_kinds.specs.declared.knowns.Known.{Known}
 use Rattle.i7_kinds.specs.NameScans.{book_twice, name_twice}
 use Rattle.i7_kinds.specs.declared.claim.Claim.{Claim}
-use Rattle.i7_kinds.specs.declared.name_faults.NameFaults.{NameFaults}
+use Rattle.i7_kinds.specs.declared.entries.Entry.{Entry}
+use Rattle.i7_kinds.specs.declared.faults.Faults.{Faults}
 use Rattle.i7_kinds.specs.Scans.{earlier}
 use Rattle.i7_kinds.specs.Sorts.{name_too_many}
 use Rattle.i7_kinds.specs.declared.descriptions.Description.{Description}
@@ -78,104 +82,149 @@ exits_of statements room = record { ways = map (λ d. way_to (target_of statemen
 abbrev pub no_exits : Exits
 no_exits = record { ways = replicate 12 (way_to None) }
 
--- a built-in object, by its number
-abbrev pub built_in : ℕ → ℕ → List ℕ → Option Place → Object
-built_in o kind name place = record {
+-- the objects' kinds and places, the texts that describe rooms, and what sentences state
+pub record Made : Type 0 where
+  pub parents : List (Option ℕ)
+  pub kinds : List ℕ
+  pub places : Places
+  pub descriptions : List Description
+  pub statements : List NumberedSentence
+
+abbrev pub kind_at : List ℕ → ℕ → ℕ
+kind_at kinds o = slice_index_or kinds o 0
+
+abbrev pub player_entry : Entry
+player_entry = record { name = codes "yourself"; article = article.None }
+
+abbrev pub direction_entry : Direction → Entry
+direction_entry d = record { name = direction_name d; article = article.None }
+
+abbrev pub author_entry : NameAt → Entry
+author_entry at = record { name = at.name.text; article = article_of at.name.article at.name.text }
+
+-- the player, the directions, and the author's objects by first mention
+unfoldable pub entries_of : List NameAt → List Entry
+entries_of mentions = player_entry ∷ map direction_entry all_directions ++ map author_entry mentions
+
+-- rooms have ways
+abbrev pub exits_by : List (Option ℕ) → List NumberedSentence → ℕ → ℕ → Exits
+exits_by parents statements kind o = if is_under parents kind room_kind then exits_of statements o else no_exits
+
+-- object o, of a kind
+unfoldable pub object_as : Made → ℕ → ℕ → Entry → Object
+object_as m kind o e = record {
   kind = kind;
-  name = name;
-  article = article.None;
-  description = None;
-  place = place;
-  exits = no_exits;
-  properties = start_properties built_in_parents o kind;
+  name = e.name;
+  article = e.article;
+  description = description_of m.descriptions o;
+  place = place_at m.places o;
+  exits = exits_by m.parents m.statements kind o;
+  properties = start_properties m.parents o kind;
   numbers = [];
 }
 
--- the player stands in the lowest-numbered room
-abbrev pub player : Object
-player = built_in 0 person_kind (codes "yourself") (Some (record { relation = In; holder = first_of_author }))
+abbrev pub object_of : Made → ℕ → Entry → Object
+object_of m o e = object_as m (kind_at m.kinds o) o e
 
-abbrev pub direction_object : Direction → Object
-direction_object d = built_in (direction_number d) direction_kind (direction_name d) None
-
--- a room of the author's, by its number and its first mention
-unfoldable pub room_of : List NumberedSentence → ℕ → NameAt → Object
-room_of statements o at = record {
-  kind = room_kind;
-  name = at.name.text;
-  article = article_of at.name.article at.name.text;
-  description = description_of (descriptions_of statements) o;
-  place = None;
-  exits = exits_of statements o;
-  properties = start_properties built_in_parents o room_kind;
-  numbers = [];
-}
-
-abbrev pub rooms_from : List NumberedSentence → ℕ → List NameAt → List Object
-rooms_from statements o [] = []
-rooms_from statements o (at ∷ mentions) = room_of statements o at ∷ rooms_from statements (o + 1) mentions
-
--- the objects by number: the player, the directions, the author's rooms
-unfoldable pub objects_of : List NumberedSentence → List NameAt → List Object
-objects_of statements mentions = player ∷ map direction_object all_directions ++ rooms_from statements first_of_author mentions
+-- the objects from number o on
+abbrev pub objects_of : Made → ℕ → List Entry → List Object
+objects_of m o [] = []
+objects_of m o (e ∷ entries) = object_of m o e ∷ objects_of m (o + 1) entries
 
 -- a source without a room is refused at line 1
-abbrev pub no_room : List NameAt → Option ℕ
-no_room [] = Some 1
-no_room (at ∷ mentions) = None
+abbrev pub no_room : Option ℕ → Option ℕ
+no_room None = Some 1
+no_room (Some room) = None
 
 abbrev pub refusal_at : FaultCode → Option ℕ → Option Fault
 refusal_at code None = None
 refusal_at code (Some line) = Some (record { code = code; line = line })
 
--- what names may not be, by the lowest lines: C9 of a name that stands for two things, of a rulebook's that is
--- another's and of a second description; C7 of a kind that isn't there; C11 of a cycle of kinds; C12 of a name
+-- ---- from the claims, the names of the objects, and what sentences state
+
+abbrev pub scope_of : List Claim → List (List ℕ) → Scope
+scope_of claims keys = record { objects = keys; kinds = kind_names claims; parents = parents_of (kind_names claims) claims }
+
+-- what sentences may not say together, by the lowest lines: C9 of a name that stands for two things, of a rulebook's that
+-- is another's and of a second description; C7 of a kind that isn't there; C11 of a cycle of kinds or of holders; C8 of
+-- demands off one path and of what the kinds don't allow; C10 of an exit's or an object's second place; C12 of a name
 -- that is one too many
-abbrev pub name_faults : List Claim → List NumberedSentence → NameFaults
-name_faults claims statements = record {
-  twice = earlier (name_twice claims) (earlier (book_twice claims) (second_description (descriptions_of statements)));
-  unknown = unknown_kind (kind_names claims) claims;
-  cycle = kind_cycle (kind_names claims) claims;
+abbrev pub faults_of : Scope → List Known → List Claim → List NumberedSentence → Faults
+faults_of s knowns claims statements = record {
+  twice = earlier (name_twice claims) (earlier (book_twice claims) (second_description (descriptions_of s.parents knowns statements)));
+  unknown = unknown_kind s.kinds claims;
+  cycle = earlier (kind_cycle s.kinds claims) (holder_cycle s.objects claims);
+  wrong = earlier (off_path s claims) (earlier (unsuited s knowns claims) (wrong_kind s.parents knowns statements));
+  second = earlier (second_target statements) (second_place s.objects claims);
   too_many = earlier (kind_too_many claims) (name_too_many claims);
 }
 
--- what the statements may not say together: each code is looked for in all of them before the next
-unfoldable pub frame_refusal : NameFaults → List NumberedSentence → List NameAt → Option Fault
-frame_refusal faults statements mentions =
+-- each code is looked for in all sentences before the next
+unfoldable pub frame_refusal : Faults → List NameAt → Option ℕ → Option Fault
+frame_refusal faults mentions room =
     first_of (refusal_at Twice faults.twice)
     (first_of (refusal_at UnknownName faults.unknown)
     (first_of (refusal_at Cycle faults.cycle)
-    (first_of (refusal_at WrongKind (wrong_kind statements))
-    (first_of (refusal_at TwoPlaces (second_target statements))
+    (first_of (refusal_at WrongKind faults.wrong)
+    (first_of (refusal_at TwoPlaces faults.second)
     (first_of (refusal_at TooMany (earlier (object_too_many mentions) faults.too_many))
-    (refusal_at NoRoom (no_room mentions)))))))
+    (refusal_at NoRoom (no_room room)))))))
 
 -- what is too long
-unfoldable pub limit_refusal : List NumberedSentence → List NameAt → Option Fault
-limit_refusal statements mentions = refusal_at TooMany (earlier (name_too_long mentions) (text_too_long (descriptions_of statements)))
+unfoldable pub limit_refusal : List Description → List NameAt → Option Fault
+limit_refusal descriptions mentions = refusal_at TooMany (earlier (name_too_long mentions) (text_too_long descriptions))
+
+abbrev pub refusal_of : Scope → List Known → List Claim → List NumberedSentence → List NameAt → Option Fault
+refusal_of s knowns claims statements mentions =
+    first_of (frame_refusal (faults_of s knowns claims statements) mentions (first_room s.parents knowns))
+    (limit_refusal (descriptions_of s.parents knowns statements) mentions)
 
 abbrev pub or_refused : Option Fault → Tale → Result Tale Fault
 or_refused None tale = Ok tale
 or_refused (Some fault) tale = Err fault
 
--- the tale, unless a refusal stands
-abbrev pub judged : List Claim → List NumberedSentence → List NameAt → Result Tale Fault
-judged claims statements mentions = or_refused (first_of (frame_refusal (name_faults claims statements) statements mentions) (limit_refusal statements mentions)) (record { declared = declared_by claims; objects = objects_of statements mentions })
+-- the objects as the sentences have them
+abbrev pub made_of : Scope → List Known → List Claim → List NumberedSentence → Made
+made_of s knowns claims statements = record {
+  parents = s.parents;
+  kinds = kinds_of knowns;
+  places = with_player (places_by s.objects claims) (first_room s.parents knowns);
+  descriptions = descriptions_of s.parents knowns statements;
+  statements = statements;
+}
 
-abbrev pub is_unmeant : Sentence → Bool
-is_unmeant sentence = not (is_meant sentence.said)
+-- the tale, unless a refusal stands
+abbrev pub judged_by : Scope → List Known → List Claim → List NumberedSentence → List NameAt → Result Tale Fault
+judged_by s knowns claims statements mentions =
+    or_refused (refusal_of s knowns claims statements mentions)
+    (record { declared = declared_by claims; objects = objects_of (made_of s knowns claims statements) 0 (entries_of mentions) })
+
+abbrev pub judged : Scope → List Claim → List NumberedSentence → List NameAt → Result Tale Fault
+judged s claims statements mentions = judged_by s (knowns_of s claims) claims statements mentions
+
+abbrev pub is_unmeant : List (List ℕ) → List (Option ℕ) → Sentence → Bool
+is_unmeant kinds parents sentence = not (is_meant kinds parents sentence.said)
 
 abbrev pub line_of_sentence : Sentence → ℕ
 line_of_sentence sentence = sentence.line
 
 -- C5: the first sentence whose assertion has no meaning yet
-abbrev pub unmeant : List Sentence → Option ℕ
-unmeant sentences = option_map line_of_sentence (find is_unmeant sentences)
+abbrev pub unmeant : List (List ℕ) → List (Option ℕ) → List Sentence → Option ℕ
+unmeant kinds parents sentences = option_map line_of_sentence (find (is_unmeant kinds parents) sentences)
 
 abbrev pub unless_unmeant : Option ℕ → Result Tale Fault → Result Tale Fault
 unless_unmeant None said = said
 unless_unmeant (Some line) said = Err (record { code = NotUnderstood; line = line })
 
+-- where the kinds have these names and these kinds above them
+abbrev pub said_in : List (List ℕ) → List (Option ℕ) → List Claim → List Sentence → Result Tale Fault
+said_in kinds parents claims sentences =
+    unless_unmeant (unmeant kinds parents sentences)
+    (judged (record { objects = (named_by sentences).keys; kinds = kinds; parents = parents }) claims (stated_by sentences) (named_by sentences).mentions)
+
+abbrev pub said_by : List Claim → List Sentence → Result Tale Fault
+said_by claims sentences = said_in (kind_names claims) (parents_of (kind_names claims) claims) claims sentences
+
 -- the tale of a source's sentences, or the refusal that stands
 abbrev pub tale_said : List Sentence → Result Tale Fault
-tale_said sentences = unless_unmeant (unmeant sentences) (judged (claims_of sentences) (stated_by sentences) ((named_by sentences).mentions))
+tale_said sentences = said_by (claims_of sentences) sentences

@@ -44,6 +44,7 @@ fn is_unknown(names: &Strings, fact: &Fact) -> bool
         Fact::Lies(lying) => !names.contains(lying.parent.as_slice()),
         Fact::CanBe(grant) => !names.contains(grant.kind.as_slice()),
         Fact::HasNumber(grant) => !names.contains(grant.kind.as_slice()),
+        Fact::Demands(demand) => !names.contains(demand.kind.as_slice()),
         _ => false,
     }
 }
@@ -119,7 +120,7 @@ pub fn parents_of(
 
 /// Whether a kind lies under another, or is it.
 #[tactic(auto, unfolding(world_meaning::specs::Kinds::is_under))]
-fn is_under(parents: &[Option<usize>], kind: usize, other: usize) -> bool
+pub fn is_under(parents: &[Option<usize>], kind: usize, other: usize) -> bool
     ensures { result ≡ is_under parents.now kind other }
 {
     let mut at = kind;

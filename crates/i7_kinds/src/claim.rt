@@ -1,5 +1,5 @@
 //! Claims: what sentences state of names, each with its line.
-use world_meaning::TextBytes;
+use world_meaning::{Rel, TextBytes};
 
 /// What a name stands for.
 #[derive(Debug, Drop)]
@@ -38,6 +38,21 @@ pub struct Grant {
     pub property: TextBytes,
 }
 
+/// An object is demanded to be of a kind.
+#[derive(Debug, Drop)]
+pub struct Demand {
+    pub object: TextBytes,
+    pub kind: TextBytes,
+}
+
+/// A holder holds a thing.
+#[derive(Debug, Drop)]
+pub struct Placing {
+    pub thing: TextBytes,
+    pub relation: Rel,
+    pub holder: TextBytes,
+}
+
 /// What is claimed, names in small letters.
 #[derive(Debug, Drop)]
 pub enum Fact {
@@ -46,6 +61,8 @@ pub enum Fact {
     Lies(Lying),
     CanBe(Grant),
     HasNumber(Grant),
+    Demands(Demand),
+    Placed(Placing),
 }
 
 /// A claim and the line of its sentence.

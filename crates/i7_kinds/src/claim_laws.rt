@@ -2,6 +2,7 @@
 ghost use Rattle.std.specs.Prelude.{ℕ, List};
 ghost use Rattle.i7_kinds.specs.KindClaims.{IsCycle, IsKindTooMany, IsUnknown, kind_cycle, kind_too_many, unknown_kind};
 ghost use Rattle.i7_kinds.specs.NameScans.{book_twice, name_twice};
+ghost use Rattle.i7_kinds.specs.Places.{IsHolderCycle, IsSecond, holder_cycle, second_place};
 ghost use Rattle.i7_kinds.specs.Scans.{IsLowest, ShownBy};
 ghost use Rattle.i7_kinds.specs.Sorts.{IsTooMany, too_many_as};
 ghost use Rattle.i7_kinds.specs.Standings.{IsBookTwice, IsTwice};
@@ -36,4 +37,14 @@ pub fn cycles_are_found()
 /// A kind that is one too many is found at its lowest line.
 pub fn kinds_too_many_are_found()
     ensures { (claims : List Claim) → IsLowest (ShownBy (λ before c. IsKindTooMany before c.fact) claims) (kind_too_many claims) }
+{}
+
+/// A second place of an object is found at its lowest line.
+pub fn second_places_are_found()
+    ensures { (objects : List (List ℕ)) (claims : List Claim) → IsLowest (ShownBy (λ before c. IsSecond objects before c.fact) claims) (second_place objects claims) }
+{}
+
+/// A place that closes a cycle of holders is found at its lowest line.
+pub fn holder_cycles_are_found()
+    ensures { (objects : List (List ℕ)) (claims : List Claim) → IsLowest (ShownBy (λ before c. IsHolderCycle objects before c.fact) claims) (holder_cycle objects claims) }
 {}

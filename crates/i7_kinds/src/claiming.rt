@@ -1,20 +1,21 @@
 //! What the sentences of a source claim.
 ghost use Rattle.std.specs.Prelude.{◌≡◌, ◌++◌, ◌∷◌, [], map, IfOk, OnOk};
 ghost use Rattle.world_meaning.specs.Spelling.{lowered as small};
-ghost use Rattle.i7_kinds.specs.Claims.{claimed, claims_in, claims_of, claims_said, either_or, grant_of, lies, named};
-ghost use Rattle.i7_kinds.specs.Statements.{key_of, rooms_in};
+ghost use Rattle.i7_kinds.specs.Beings.{holders_in};
+ghost use Rattle.i7_kinds.specs.Claims.{being_claims, claimed, claims_in, claims_of, claims_said, either_or, grant_of, lies, named, way_claims};
+ghost use Rattle.i7_kinds.specs.Statements.{key_of};
 ghost use Rattle.i7_kinds.specs.declared.claim.Fact.TheVariants.{CanBe, HasNumber, Rulebook};
 ghost use Rattle.i7_kinds.specs.declared.claim.Standing.TheVariants as stands;
 
 use crate::claim::{Claim, Fact, Grant, Lying, Naming, Standing};
-use crate::meant::rooms_in;
+use crate::demanding::{add_demand, add_demands, add_placings};
 use crate::names::key_of;
-use i7_sentences::{Assertion, Name, Sentence};
+use i7_sentences::{Assertion, Being, Holder, Name, Sentence};
 use std::alloc::{AllocError, Global};
 use world_meaning::{TextBytes, lowered};
 
 /// The key of a name, as a text.
-fn key_text(alloc: Global, name: &Name) -> Result<TextBytes, AllocError>
+pub fn key_text(alloc: Global, name: &Name) -> Result<TextBytes, AllocError>
     ensures { IfOk result (λ key. key ≡ key_of name.now.text) }
 {
     Ok(TextBytes::new(key_of(alloc, name.text.as_slice())?))
@@ -167,18 +168,51 @@ fn add_objects(
     Ok(())
 }
 
-/// Adds the names of two objects.
-fn add_two(
+/// Adds what a way between rooms claims.
+fn add_way(
     alloc: Global,
     claims: &mut Vec<Claim>,
-    first: &Name,
-    second: &Name,
+    subject: &Name,
+    room: &Name,
     line: u32,
 ) -> Result<(), AllocError>
-    ensures { OnOk result (claims.new.items ≡ claims.old.items ++ named stands.Object line first.now ∷ named stands.Object line second.now ∷ []) }
+    ensures { OnOk result (claims.new.items ≡ claims.old.items ++ way_claims subject.now room.now line) }
 {
-    add_naming(alloc, claims, first, Standing::Object, line)?;
-    add_naming(alloc, claims, second, Standing::Object, line)
+    add_naming(alloc, claims, subject, Standing::Object, line)?;
+    add_naming(alloc, claims, room, Standing::Object, line)?;
+    add_demand(alloc, claims, b"room", subject, line)?;
+    add_demand(alloc, claims, b"room", room, line)
+}
+
+/// Adds the name of what holds.
+fn add_holder(
+    alloc: Global,
+    claims: &mut Vec<Claim>,
+    place: &Option<Holder>,
+    line: u32,
+) -> Result<(), AllocError>
+    ensures { OnOk result (claims.new.items ≡ claims.old.items ++ map (named stands.Object line) (holders_in place.now)) }
+{
+    match place {
+        None => Ok(()),
+        Some(holder) => add_naming(alloc, claims, &holder.name, Standing::Object, line),
+    }
+}
+
+/// Adds what is claimed of objects that are said to be something.
+fn add_being(
+    alloc: Global,
+    claims: &mut Vec<Claim>,
+    being: &Being,
+    line: u32,
+) -> Result<(), AllocError>
+    ensures { OnOk result (claims.new.items ≡ claims.old.items ++ being_claims being.now line) }
+{
+    let subjects = being.subjects.as_slice();
+    add_objects(alloc, claims, subjects, line)?;
+    add_holder(alloc, claims, &being.place, line)?;
+    add_demands(alloc, claims, being.what.as_slice(), subjects, line)?;
+    add_placings(alloc, claims, &being.place, subjects, line)
 }
 
 /// Adds what a sentence claims.
@@ -203,8 +237,8 @@ fn add_claims(
             add_number(alloc, claims, kind, property, line)
         }
         Assertion::Variable(name) => add_naming(alloc, claims, name, Standing::Variable, line),
-        Assertion::Way(way) => add_two(alloc, claims, &way.subject, &way.room, line),
-        Assertion::Are(being) => add_objects(alloc, claims, rooms_in(being), line),
+        Assertion::Way(way) => add_way(alloc, claims, &way.subject, &way.room, line),
+        Assertion::Are(being) => add_being(alloc, claims, being, line),
         _ => Ok(()),
     }
 }

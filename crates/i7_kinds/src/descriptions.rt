@@ -4,13 +4,14 @@ ghost use Rattle.i7_kinds.specs.Demands.{described_by, description_of, descripti
 ghost use Rattle.i7_kinds.specs.Firsts.{first_of, given};
 ghost use Rattle.i7_kinds.specs.Views.{found_descriptions, text_at};
 
+use crate::kinds::is_room;
+use crate::knowns::Known;
 use crate::lent_text::LentText;
-use crate::names::FIRST_OF_AUTHOR;
 use crate::statements::{Numbered, NumberedSentence};
 use indexmap::IndexMap;
 use std::alloc::{AllocError, Global};
 
-/// An object of the author's, and a text that describes it.
+/// A room, and a text that describes it.
 #[derive(Debug, Drop)]
 pub struct Description<'a> {
     pub object: usize,
@@ -24,20 +25,22 @@ pub fn subject_of(fact: &Numbered) -> Option<usize>
 {
     match fact {
         Numbered::Aside | Numbered::Description(_) => None,
-        Numbered::Room(number) => Some(*number),
+        Numbered::Being(number) => Some(*number),
         Numbered::Way(way) => Some(way.subject),
     }
 }
 
 /// What a statement behind one about this object, or about none, describes.
 fn described_by<'a>(
+    parents: &[Option<usize>],
+    knowns: &[Known],
     before: Option<usize>,
     statement: &'a NumberedSentence,
 ) -> Option<Description<'a>>
-    ensures { found_descriptions result ≡ described_by before statement.now }
+    ensures { found_descriptions result ≡ described_by parents.now knowns.now before statement.now }
 {
     let object = before?;
-    if object < FIRST_OF_AUTHOR {
+    if !is_room(parents, knowns, object) {
         return None;
     }
     match &statement.said {
@@ -46,22 +49,24 @@ fn described_by<'a>(
             text: LentText::new(text.as_slice()),
             line: statement.line,
         }),
-        Numbered::Aside | Numbered::Room(_) | Numbered::Way(_) => None,
+        Numbered::Aside | Numbered::Being(_) | Numbered::Way(_) => None,
     }
 }
 
-/// The descriptions that follow a statement about an object of the author's, in order.
+/// The descriptions that follow a statement about a room, in order.
 pub fn descriptions_of<'a>(
     alloc: Global,
+    parents: &[Option<usize>],
+    knowns: &[Known],
     statements: &'a [NumberedSentence],
 ) -> Result<Vec<Description<'a>>, AllocError>
-    ensures { IfOk result (λ found. found.items ≡ descriptions_of statements.now) }
+    ensures { IfOk result (λ found. found.items ≡ descriptions_of parents.now knowns.now statements.now) }
 {
     let mut descriptions = Vec::new(alloc);
     let mut subject = None;
     let mut rest = statements;
     while let [statement, after @ ..] = rest {
-        if let Some(description) = described_by(subject, statement) {
+        if let Some(description) = described_by(parents, knowns, subject, statement) {
             descriptions.push(description)?;
         }
         subject = subject_of(&statement.said);
@@ -70,7 +75,7 @@ pub fn descriptions_of<'a>(
     Ok(descriptions)
 }
 
-/// The texts that describe the author's objects, and each object's first.
+/// The texts that describe rooms, and each room's first.
 #[derive(Drop)]
 pub struct Descriptions<'a> {
     all: Vec<Description<'a>>,
@@ -113,11 +118,13 @@ impl<'a> Descriptions<'a> {
     /// The descriptions that the statements give.
     pub fn new(
         alloc: Global,
+        parents: &[Option<usize>],
+        knowns: &[Known],
         statements: &'a [NumberedSentence],
     ) -> Result<Descriptions<'a>, AllocError>
-        ensures { IfOk result (λ found. descriptions_in found ≡ descriptions_of statements.now) }
+        ensures { IfOk result (λ found. descriptions_in found ≡ descriptions_of parents.now knowns.now statements.now) }
     {
-        let all = descriptions_of(alloc, statements)?;
+        let all = descriptions_of(alloc, parents, knowns, statements)?;
         let firsts = first_descriptions(alloc, all.as_slice())?;
         Ok(Descriptions { all, firsts })
     }

@@ -1,32 +1,72 @@
-//! Kinds: every sentence so far is about rooms, and the player and the directions are none.
+//! What the kinds of objects don't allow: ways of what is no room, and texts that describe none.
 ghost use Rattle.std.specs.Prelude.{◌≡◌};
-ghost use Rattle.i7_kinds.specs.Demands.{is_wrong, wrong_kind};
+ghost use Rattle.i7_kinds.specs.Demands.{is_no_room, is_room, is_wrong, is_wrong_subject, is_wrong_way, wrong_kind};
 
 use crate::descriptions::subject_of;
-use crate::names::FIRST_OF_AUTHOR;
+use crate::knowns::{Known, is_of, is_parted_at};
 use crate::statements::{Numbered, NumberedSentence};
+use world_meaning::KindNo;
 
-/// Whether a fact, behind a sentence about this object or none, makes a room of the player or of a
-/// direction, or describes nothing.
-fn is_wrong(before: Option<usize>, fact: &Numbered) -> bool
-    ensures { result ≡ is_wrong before fact.now }
+/// Whether an object is a room.
+pub fn is_room(parents: &[Option<usize>], knowns: &[Known], object: usize) -> bool
+    ensures { result ≡ is_room parents.now knowns.now object }
 {
-    match fact {
-        Numbered::Aside => false,
-        Numbered::Description(_) => before.is_none(),
-        Numbered::Room(number) => *number < FIRST_OF_AUTHOR,
-        Numbered::Way(way) => way.subject < FIRST_OF_AUTHOR || way.room < FIRST_OF_AUTHOR,
+    is_of(parents, knowns, KindNo::ROOM, object)
+}
+
+/// Whether an object, where its kind is known, is no room.
+fn is_no_room(parents: &[Option<usize>], knowns: &[Known], object: usize) -> bool
+    ensures { result ≡ is_no_room parents.now knowns.now object }
+{
+    !is_parted_at(knowns, object) && !is_room(parents, knowns, object)
+}
+
+/// Whether a text behind a sentence about this object, or about none, describes no room.
+fn is_wrong_subject(parents: &[Option<usize>], knowns: &[Known], before: Option<usize>) -> bool
+    ensures { result ≡ is_wrong_subject parents.now knowns.now before }
+{
+    match before {
+        None => true,
+        Some(object) => is_no_room(parents, knowns, object),
     }
 }
 
-/// The line of the first sentence that makes a room of what is none, or that describes nothing.
-pub fn wrong_kind(statements: &[NumberedSentence]) -> Option<u32>
-    ensures { result ≡ wrong_kind statements.now }
+/// Whether a way, where the kinds of both ends are known, isn't between rooms.
+fn is_wrong_way(parents: &[Option<usize>], knowns: &[Known], subject: usize, room: usize) -> bool
+    ensures { result ≡ is_wrong_way parents.now knowns.now subject room }
+{
+    let is_parted = is_parted_at(knowns, subject) || is_parted_at(knowns, room);
+    !is_parted && !(is_room(parents, knowns, subject) && is_room(parents, knowns, room))
+}
+
+/// Whether the kinds don't allow a statement behind one about this object or none.
+fn is_wrong(
+    parents: &[Option<usize>],
+    knowns: &[Known],
+    before: Option<usize>,
+    said: &Numbered,
+) -> bool
+    ensures { result ≡ is_wrong parents.now knowns.now before said.now }
+{
+    match said {
+        Numbered::Aside | Numbered::Being(_) => false,
+        Numbered::Description(_) => is_wrong_subject(parents, knowns, before),
+        Numbered::Way(way) => is_wrong_way(parents, knowns, way.subject, way.room),
+    }
+}
+
+/// The line of the first statement that the kinds don't allow.
+pub fn wrong_kind(
+    parents: &[Option<usize>],
+    knowns: &[Known],
+    statements: &[NumberedSentence],
+) -> Option<u32>
+    ensures { result ≡ wrong_kind parents.now knowns.now statements.now }
 {
     let mut subject = None;
     let mut rest = statements;
     while let [statement, after @ ..] = rest {
-        if is_wrong(subject, &statement.said) {
+        if is_wrong(parents, knowns, subject, &statement.said) {
             return Some(statement.line);
         }
         subject = subject_of(&statement.said);

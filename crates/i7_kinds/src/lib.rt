@@ -3,31 +3,40 @@
 #![tactic(auto)]
 
 mod author_kinds;
+mod beings;
 mod built_in;
 mod claim;
 mod claim_laws;
 mod claiming;
 mod declaring;
+mod demanding;
 mod descriptions;
+mod entries;
+mod faults;
 mod grants;
 mod kinds;
+mod knowns;
 mod lent_text;
 mod limits;
+mod making;
 mod meant;
-mod name_faults;
 mod names;
 mod objects;
+mod places;
 mod quotes;
 mod reserved_names;
 mod scans;
+mod scope;
 mod sorts;
 mod standings;
 mod statements;
+mod suits;
 mod tale;
 mod ways;
 
 pub use claim_laws::{
-    books_twice_are_found, cycles_are_found, kinds_too_many_are_found, names_too_many_are_found,
-    names_twice_are_found, unknown_kinds_are_found,
+    books_twice_are_found, cycles_are_found, holder_cycles_are_found, kinds_too_many_are_found,
+    names_too_many_are_found, names_twice_are_found, second_places_are_found,
+    unknown_kinds_are_found,
 };
 pub use tale::tale_of;

@@ -1,60 +1,57 @@
-//! What has a meaning so far: rooms, ways and descriptions.
-ghost use Rattle.std.specs.Prelude.{◌≡◌};
-ghost use Rattle.i7_kinds.specs.Statements.{is_meant, is_room_said, rooms_in};
+//! What has a meaning so far.
+ghost use Rattle.std.specs.Prelude.{◌≡◌, IfOk};
+ghost use Rattle.i7_kinds.specs.Statements.{is_meant};
 ghost use Rattle.i7_kinds.specs.Tales.{is_unmeant, unmeant};
 
-use i7_sentences::{Assertion, Being, Name, Sentence};
-use world_meaning::is_spelled;
+use crate::beings::is_being_meant;
+use i7_sentences::{Assertion, Sentence};
+use object_words::Strings;
+use std::alloc::{AllocError, Global};
 
-/// Whether one name is said to be `a room`, in these words.
-#[tactic(auto, unfolding(crate::specs::Statements::is_room_said))]
-fn is_room_said(being: &Being) -> bool
-    ensures { result ≡ is_room_said being.now }
-{
-    is_spelled(being.what.as_slice(), b"a room")
-        && being.place.is_none()
-        && being.subjects.as_slice().len() == 1
-}
-
-/// The name of the room that is said to be one.
-pub fn rooms_in(being: &Being) -> &[Name]
-    ensures { result.now ≡ rooms_in being.now }
-{
-    if is_room_said(being) {
-        being.subjects.as_slice()
-    } else {
-        &[]
-    }
-}
-
-fn is_meant(said: &Assertion) -> bool
-    ensures { result ≡ is_meant said.now }
+fn is_meant(
+    alloc: Global,
+    kinds: &Strings,
+    parents: &[Option<usize>],
+    said: &Assertion,
+) -> Result<bool, AllocError>
+    ensures { IfOk result (λ is. is ≡ is_meant kinds.now parents.now said.now) }
 {
     match said {
-        Assertion::Aside | Assertion::Description(_) | Assertion::Way(_) => true,
-        Assertion::Rulebook(_) | Assertion::Scene { .. } | Assertion::Variable(_) => true,
-        Assertion::KindOfKind { .. } | Assertion::EitherOr { .. } => true,
-        Assertion::Are(being) => is_room_said(being),
-        _ => false,
+        Assertion::Aside | Assertion::Description(_) | Assertion::Way(_) => Ok(true),
+        Assertion::Rulebook(_) | Assertion::Scene { .. } | Assertion::Variable(_) => Ok(true),
+        Assertion::KindOfKind { .. } | Assertion::EitherOr { .. } => Ok(true),
+        Assertion::Are(being) => is_being_meant(alloc, kinds, parents, being),
+        _ => Ok(false),
     }
 }
 
-fn is_unmeant(sentence: &Sentence) -> bool
-    ensures { result ≡ is_unmeant sentence.now }
+fn is_unmeant(
+    alloc: Global,
+    kinds: &Strings,
+    parents: &[Option<usize>],
+    sentence: &Sentence,
+) -> Result<bool, AllocError>
+    ensures { IfOk result (λ is. is ≡ is_unmeant kinds.now parents.now sentence.now) }
 {
-    !is_meant(&sentence.said)
+    Ok(!is_meant(alloc, kinds, parents, &sentence.said)?)
 }
 
-/// The line of the first sentence whose assertion has no meaning yet.
-pub fn unmeant(sentences: &[Sentence]) -> Option<u32>
-    ensures { result ≡ unmeant sentences.now }
+/// The line of the first sentence whose assertion has no meaning yet, where the kinds have these names and these
+/// kinds above them.
+pub fn unmeant(
+    alloc: Global,
+    kinds: &Strings,
+    parents: &[Option<usize>],
+    sentences: &[Sentence],
+) -> Result<Option<u32>, AllocError>
+    ensures { IfOk result (λ line. line ≡ unmeant kinds.now parents.now sentences.now) }
 {
     let mut rest = sentences;
     while let [sentence, after @ ..] = rest {
-        if is_unmeant(sentence) {
-            return Some(sentence.line);
+        if is_unmeant(alloc, kinds, parents, sentence)? {
+            return Ok(Some(sentence.line));
         }
         rest = after;
     }
-    None
+    Ok(None)
 }

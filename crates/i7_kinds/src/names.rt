@@ -1,11 +1,11 @@
 //! The objects of a source by their names: 0 the player, 1 to 12 the directions, then the author's by
 //! first mention.
 ghost use Rattle.std.specs.Prelude.{◌≡◌, [], fold, map, IfOk, OnOk};
+ghost use Rattle.i7_kinds.specs.Beings.{names_said};
 ghost use Rattle.i7_kinds.specs.Statements.{built_in_keys, key_of, named_by, number_in, number_of, with_name, with_names_of};
 ghost use Rattle.i7_kinds.specs.Views.{names_of};
 
-use crate::meant::rooms_in;
-use i7_sentences::{Assertion, Name, Sentence};
+use i7_sentences::{Assertion, Being, Name, Sentence};
 use object_words::Strings;
 use std::alloc::{AllocError, Global};
 use world_meaning::{Direction, is_spelled, lowered};
@@ -86,21 +86,37 @@ fn take_up<'a>(
     Ok(())
 }
 
-/// Takes up the names of rooms.
-fn take_up_rooms<'a>(
+/// Takes up names.
+fn take_up_names<'a>(
     alloc: Global,
     names: &mut Names<'a>,
-    rooms: &'a [Name],
+    mentioned: &'a [Name],
     line: u32,
 ) -> Result<(), AllocError>
-    ensures { OnOk result (names_of names.new ≡ fold with_name (names_of names.old) (map (λ name. record { name = name; line = line }) rooms.now)) }
+    ensures { OnOk result (names_of names.new ≡ fold with_name (names_of names.old) (map (λ name. record { name = name; line = line }) mentioned.now)) }
 {
-    let mut rest = rooms;
+    let mut rest = mentioned;
     while let [name, after @ ..] = rest {
         take_up(alloc, names, name, line)?;
         rest = after;
     }
     Ok(())
+}
+
+/// Takes up the names of what objects are said to be.
+fn take_up_being<'a>(
+    alloc: Global,
+    names: &mut Names<'a>,
+    being: &'a Being,
+    line: u32,
+) -> Result<(), AllocError>
+    ensures { OnOk result (names_of names.new ≡ fold with_name (names_of names.old) (map (λ name. record { name = name; line = line }) (names_said being.now))) }
+{
+    take_up_names(alloc, names, being.subjects.as_slice(), line)?;
+    match &being.place {
+        None => Ok(()),
+        Some(holder) => take_up(alloc, names, &holder.name, line),
+    }
 }
 
 /// Takes up the names of a sentence, in the order of its words.
@@ -113,7 +129,7 @@ fn take_up_all<'a>(
 {
     let line = sentence.line;
     match &sentence.said {
-        Assertion::Are(being) => take_up_rooms(alloc, names, rooms_in(being), line),
+        Assertion::Are(being) => take_up_being(alloc, names, being, line),
         Assertion::Way(way) => {
             let (first, second) = if way.is_room_first {
                 (&way.room, &way.subject)
@@ -151,6 +167,13 @@ impl<'a> Names<'a> {
         ensures { mentions_of result.now ≡ (names_of self.now).mentions }
     {
         self.mentions.as_slice()
+    }
+
+    /// The keys of the objects, by number.
+    pub fn keys(&self) -> &Strings
+        ensures { result.now ≡ (names_of self.now).keys }
+    {
+        &self.keys
     }
 
     /// The number of the object of this name.

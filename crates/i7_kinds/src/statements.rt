@@ -1,9 +1,8 @@
 //! What the sentences of a source state, objects by their numbers.
 ghost use Rattle.std.specs.Prelude.{◌≡◌, IfOk, map};
-ghost use Rattle.i7_kinds.specs.Statements.{numbered_in, numbered_room, statement_in};
+ghost use Rattle.i7_kinds.specs.Statements.{numbered_in, numbered_subject, statement_in};
 ghost use Rattle.i7_kinds.specs.Views.{names_of};
 
-use crate::meant::rooms_in;
 use crate::names::Names;
 use crate::quotes::printed;
 use i7_sentences::{Assertion, Name, Sentence};
@@ -17,7 +16,8 @@ pub enum Numbered {
     Aside,
     /// A text as it is printed.
     Description(TextBytes),
-    Room(usize),
+    /// What an object is.
+    Being(usize),
     Way(NumberedWay),
 }
 
@@ -36,13 +36,17 @@ pub struct NumberedSentence {
     pub line: u32,
 }
 
-/// The room of this name, if there is one.
-fn numbered_room(alloc: Global, names: &Names<'_>, rooms: &[Name]) -> Result<Numbered, AllocError>
-    ensures { IfOk result (λ numbered. numbered ≡ numbered_room (names_of names.now) rooms.now) }
+/// The one object of these names, if there is one alone.
+fn numbered_subject(
+    alloc: Global,
+    names: &Names<'_>,
+    subjects: &[Name],
+) -> Result<Numbered, AllocError>
+    ensures { IfOk result (λ numbered. numbered ≡ numbered_subject (names_of names.now) subjects.now) }
 {
-    match rooms {
-        [] => Ok(Numbered::Aside),
-        [name, ..] => Ok(Numbered::Room(names.number_of(alloc, name)?)),
+    match subjects {
+        [name] => Ok(Numbered::Being(names.number_of(alloc, name)?)),
+        _ => Ok(Numbered::Aside),
     }
 }
 
@@ -51,7 +55,7 @@ fn numbered_in(alloc: Global, names: &Names<'_>, said: &Assertion) -> Result<Num
 {
     match said {
         Assertion::Description(text) => Ok(Numbered::Description(printed(alloc, text.as_slice())?)),
-        Assertion::Are(being) => Ok(numbered_room(alloc, names, rooms_in(being))?),
+        Assertion::Are(being) => numbered_subject(alloc, names, being.subjects.as_slice()),
         Assertion::Way(way) => Ok(Numbered::Way(NumberedWay {
             subject: names.number_of(alloc, &way.subject)?,
             direction: way.direction,

@@ -1,30 +1,39 @@
 //! The tale of a source's sentences, or the refusal that stands.
-ghost use Rattle.std.specs.Prelude.{◌≡◌, ◌⊎◌, ◌+◌, length, None, Ok, Err, IfErr, IfOk};
+ghost use Rattle.std.specs.Prelude.{◌≡◌, ◌⊎◌, ◌+◌, length, Ok, Err, IfErr, IfOk};
 ghost use Rattle.world_meaning.specs.Faults.{out_of_memory};
-ghost use Rattle.i7_kinds.specs.Bounds.{AreWithin};
+ghost use Rattle.i7_kinds.specs.Bounds.{AreSmallKnowns, AreSmallPlaces, AreWithin, LeadWithin};
 ghost use Rattle.i7_kinds.specs.Demands.{descriptions_of};
 ghost use Rattle.i7_kinds.specs.Described.{descriptions_in};
+ghost use Rattle.i7_kinds.specs.KindClaims.{AreSmallKinds, kind_names, parents_of};
+ghost use Rattle.i7_kinds.specs.Knowns.{knowns_of};
+ghost use Rattle.i7_kinds.specs.Places.{places_by};
 ghost use Rattle.i7_kinds.specs.StatedWays.{stated};
-ghost use Rattle.i7_kinds.specs.Tales.{frame_refusal, judged, limit_refusal, no_room, refusal_at, tale_said};
+ghost use Rattle.i7_kinds.specs.Suits.{first_room, with_player};
+ghost use Rattle.i7_kinds.specs.Tales.{entries_of, frame_refusal, judged, limit_refusal, made_of, no_room, objects_of, refusal_at, refusal_of, said_by, said_in, scope_of, tale_said};
 ghost use Rattle.i7_kinds.specs.Views.{mentions_of};
 
-use crate::author_kinds::kind_names;
+use crate::author_kinds::{kind_names, kind_nos, parents_of};
 use crate::claim::Claim;
 use crate::claiming::claims_of;
 use crate::declaring::declared_by;
 use crate::descriptions::Descriptions;
-use crate::kinds::wrong_kind;
+use crate::faults::{Faults, faults_of};
+use crate::knowns::{Known, knowns_of};
 use crate::limits::{name_too_long, object_too_many, text_too_long};
+use crate::making::{kinds_of, places_in};
 use crate::meant::unmeant;
-use crate::name_faults::{NameFaults, name_faults};
 use crate::names::{Mention, names_of};
-use crate::objects::objects_of;
+use crate::objects::{Makings, objects_of};
+use crate::places::places_by;
 use crate::scans::earlier;
+use crate::scope::Scope;
 use crate::statements::{NumberedSentence, statements_in};
+use crate::suits::{first_room, put_player};
 use crate::ways::Ways;
 use i7_sentences::Sentence;
+use object_words::Strings;
 use std::alloc::{AllocError, Global};
-use world_meaning::{Fault, FaultCode, Tale};
+use world_meaning::{Fault, FaultCode, Listed, Object, Tale};
 
 /// The refusal at a line, if there is one.
 fn refusal_at(code: FaultCode, line: Option<u32>) -> Option<Fault>
@@ -37,27 +46,20 @@ fn refusal_at(code: FaultCode, line: Option<u32>) -> Option<Fault>
 }
 
 /// A source without a room is refused at line 1.
-fn no_room(mentions: &[Mention<'_>]) -> Option<u32>
-    ensures { result ≡ no_room (mentions_of mentions.now) }
+fn no_room(room: Option<usize>) -> Option<u32>
+    ensures { result ≡ no_room room }
 {
-    match mentions {
-        [] => Some(1),
-        [_, ..] => None,
+    match room {
+        None => Some(1),
+        Some(_) => None,
     }
 }
 
-/// What the statements may not say together: a name or a description twice, a kind that isn't there, a
-/// cycle of kinds, a wrong kind, an exit of two targets, a name too many, no room; each is looked for in all
-/// of them before the next.
+/// What sentences may not say together: a name or a description twice, a kind that isn't there, a cycle, a wrong
+/// kind, a second place, a name too many, no room; each is looked for in all of them before the next.
 #[tactic(auto, unfolding(crate::specs::Tales::frame_refusal))]
-fn frame_refusal(
-    faults: NameFaults,
-    mentions: &[Mention<'_>],
-    statements: &[NumberedSentence],
-    ways: &Ways<'_>,
-) -> Option<Fault>
-    requires led { stated ways.now ≡ statements.now }
-    ensures { result ≡ frame_refusal faults statements.now (mentions_of mentions.now) }
+fn frame_refusal(faults: Faults, mentions: &[Mention<'_>], room: Option<usize>) -> Option<Fault>
+    ensures { result ≡ frame_refusal faults (mentions_of mentions.now) room }
 {
     if let Some(fault) = refusal_at(FaultCode::Twice, faults.twice) {
         return Some(fault);
@@ -68,17 +70,17 @@ fn frame_refusal(
     if let Some(fault) = refusal_at(FaultCode::Cycle, faults.cycle) {
         return Some(fault);
     }
-    if let Some(fault) = refusal_at(FaultCode::WrongKind, wrong_kind(statements)) {
+    if let Some(fault) = refusal_at(FaultCode::WrongKind, faults.wrong) {
         return Some(fault);
     }
-    if let Some(fault) = refusal_at(FaultCode::TwoPlaces, ways.second_target()) {
+    if let Some(fault) = refusal_at(FaultCode::TwoPlaces, faults.second) {
         return Some(fault);
     }
     let too_many = earlier(object_too_many(mentions), faults.too_many);
     if let Some(fault) = refusal_at(FaultCode::TooMany, too_many) {
         return Some(fault);
     }
-    refusal_at(FaultCode::NoRoom, no_room(mentions))
+    refusal_at(FaultCode::NoRoom, no_room(room))
 }
 
 /// The first name or text that is too long.
@@ -86,47 +88,106 @@ fn frame_refusal(
 fn limit_refusal(
     alloc: Global,
     mentions: &[Mention<'_>],
-    statements: &[NumberedSentence],
     descriptions: &Descriptions<'_>,
 ) -> Result<Option<Fault>, AllocError>
-    requires described { descriptions_in descriptions.now ≡ descriptions_of statements.now }
-    ensures { IfOk result (λ refusal. refusal ≡ limit_refusal statements.now (mentions_of mentions.now)) }
+    ensures { IfOk result (λ refusal. refusal ≡ limit_refusal (descriptions_in descriptions.now) (mentions_of mentions.now)) }
 {
     let name = name_too_long(alloc, mentions)?;
     let text = text_too_long(descriptions.all());
     Ok(refusal_at(FaultCode::TooMany, earlier(name, text)))
 }
 
-/// The tale of these statements, or the refusal that stands.
+/// The refusal that stands, if there is one.
+fn refusal_of(
+    alloc: Global,
+    scope: &Scope<'_>,
+    knowns: &[Known],
+    claims: &[Claim],
+    mentions: &[Mention<'_>],
+    descriptions: &Descriptions<'_>,
+    ways: &Ways<'_>,
+) -> Result<Option<Fault>, AllocError>
+    requires described { descriptions_in descriptions.now ≡ descriptions_of scope.now.parents knowns.now (stated ways.now) }
+    ensures { IfOk result (λ refusal. refusal ≡ refusal_of scope.now knowns.now claims.now (stated ways.now) (mentions_of mentions.now)) }
+{
+    let faults = faults_of(alloc, scope, knowns, claims, descriptions, ways)?;
+    let room = first_room(scope.parents(), knowns);
+    match frame_refusal(faults, mentions, room) {
+        Some(fault) => Ok(Some(fault)),
+        None => limit_refusal(alloc, mentions, descriptions),
+    }
+}
+
+/// The objects of the tale.
+fn objects_meant(
+    alloc: Global,
+    scope: &Scope<'_>,
+    knowns: &[Known],
+    claims: &[Claim],
+    mentions: &[Mention<'_>],
+    descriptions: &Descriptions<'_>,
+    ways: &Ways<'_>,
+) -> Result<Listed<Object>, AllocError>
+    requires described { descriptions_in descriptions.now ≡ descriptions_of scope.now.parents knowns.now (stated ways.now) }
+    requires within { LeadWithin (stated ways.now) }
+    requires few_kinds { AreSmallKinds scope.now.parents }
+    requires small_kinds { AreSmallKnowns knowns.now }
+    requires small_places { AreSmallPlaces (with_player (places_by scope.now.objects claims.now) (first_room scope.now.parents knowns.now)) }
+    ensures { IfOk result (λ objects. objects ≡ objects_of (made_of scope.now knowns.now claims.now (stated ways.now)) 0 (entries_of (mentions_of mentions.now))) }
+{
+    let parents = kind_nos(alloc, scope.parents())?;
+    let kinds = kinds_of(alloc, knowns)?;
+    let mut spots = places_by(alloc, scope, claims)?;
+    put_player(spots.as_mut_slice(), first_room(scope.parents(), knowns));
+    let places = places_in(alloc, spots.as_slice())?;
+    let makings = Makings {
+        parents: parents.as_slice(),
+        kinds: kinds.as_slice(),
+        places: places.as_slice(),
+        descriptions,
+        ways,
+    };
+    objects_of(alloc, mentions, &makings)
+}
+
+/// The tale of these claims and statements, or the refusal that stands.
 fn judged(
     alloc: Global,
+    scope: &Scope<'_>,
     mentions: &[Mention<'_>],
     claims: &[Claim],
     statements: &[NumberedSentence],
 ) -> Result<Result<Tale, Fault>, AllocError>
-    requires { AreWithin (13 + length (mentions_of mentions.now)) statements.now }
-    ensures { IfOk result (λ said. said ≡ judged claims.now statements.now (mentions_of mentions.now)) }
+    requires within { AreWithin (length scope.now.objects) statements.now }
+    requires counted { length scope.now.objects ≡ 13 + length (mentions_of mentions.now) }
+    requires scope { scope.now ≡ scope_of claims.now scope.now.objects }
+    ensures { IfOk result (λ said. said ≡ judged scope.now claims.now statements.now (mentions_of mentions.now)) }
 {
-    let descriptions = Descriptions::new(alloc, statements)?;
+    let knowns = knowns_of(alloc, scope, claims)?;
+    let descriptions = Descriptions::new(alloc, scope.parents(), knowns.as_slice(), statements)?;
     let ways = Ways::new(alloc, statements)?;
-    let kinds = kind_names(alloc, claims)?;
-    let faults = name_faults(alloc, &kinds, claims, statements, &descriptions)?;
-    if let Some(fault) = frame_refusal(faults, mentions, statements, &ways) {
+    let known = knowns.as_slice();
+    if let Some(fault) = refusal_of(alloc, scope, known, claims, mentions, &descriptions, &ways)? {
         return Ok(Err(fault));
     }
-    if let Some(fault) = limit_refusal(alloc, mentions, statements, &descriptions)? {
-        return Ok(Err(fault));
-    }
-    let objects = objects_of(alloc, mentions, &descriptions, &ways)?;
-    let declared = declared_by(alloc, &kinds, claims)?;
+    let objects = objects_meant(alloc, scope, known, claims, mentions, &descriptions, &ways)?;
+    let declared = declared_by(alloc, scope.kinds(), claims)?;
     Ok(Ok(Tale { declared, objects }))
 }
 
-/// What the sentences mean: a tale or a refusal.
-fn tale_said(alloc: Global, sentences: &[Sentence]) -> Result<Result<Tale, Fault>, AllocError>
-    ensures { IfOk result (λ said. said ≡ tale_said sentences.now) }
+/// What the sentences mean, where the kinds have these names and these kinds above them.
+fn said_in(
+    alloc: Global,
+    kinds: &Strings,
+    parents: &[Option<usize>],
+    claims: &[Claim],
+    sentences: &[Sentence],
+) -> Result<Result<Tale, Fault>, AllocError>
+    requires named { kinds.now ≡ kind_names claims.now }
+    requires above { parents.now ≡ parents_of kinds.now claims.now }
+    ensures { IfOk result (λ said. said ≡ said_in kinds.now parents.now claims.now sentences.now) }
 {
-    if let Some(line) = unmeant(sentences) {
+    if let Some(line) = unmeant(alloc, kinds, parents, sentences)? {
         return Ok(Err(Fault {
             code: FaultCode::NotUnderstood,
             line,
@@ -134,13 +195,32 @@ fn tale_said(alloc: Global, sentences: &[Sentence]) -> Result<Result<Tale, Fault
     }
     let names = names_of(alloc, sentences)?;
     let statements = statements_in(alloc, &names, sentences)?;
+    let scope = Scope::new(names.keys(), kinds, parents);
+    let mentions = names.mentions();
+    let said = judged(alloc, &scope, mentions, claims, statements.as_slice())?;
+    Ok(said)
+}
+
+/// What the sentences with these claims mean: a tale or a refusal.
+fn said_by(
+    alloc: Global,
+    claims: &[Claim],
+    sentences: &[Sentence],
+) -> Result<Result<Tale, Fault>, AllocError>
+    ensures { IfOk result (λ said. said ≡ said_by claims.now sentences.now) }
+{
+    let kinds = kind_names(alloc, claims)?;
+    let parents = parents_of(alloc, &kinds, claims)?;
+    let said = said_in(alloc, &kinds, parents.as_slice(), claims, sentences)?;
+    Ok(said)
+}
+
+/// What the sentences mean: a tale or a refusal.
+fn tale_said(alloc: Global, sentences: &[Sentence]) -> Result<Result<Tale, Fault>, AllocError>
+    ensures { IfOk result (λ said. said ≡ tale_said sentences.now) }
+{
     let claims = claims_of(alloc, sentences)?;
-    let said = judged(
-        alloc,
-        names.mentions(),
-        claims.as_slice(),
-        statements.as_slice(),
-    )?;
+    let said = said_by(alloc, claims.as_slice(), sentences)?;
     Ok(said)
 }
 

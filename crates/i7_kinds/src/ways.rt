@@ -44,7 +44,7 @@ fn lead_stated(targets: &mut Targets, statement: &NumberedSentence) -> Result<()
     ensures { OnOk result (LeadsOn targets.old targets.new (first_target (stated_in statement.now.said statement.now.line))) }
 {
     match &statement.said {
-        Numbered::Aside | Numbered::Description(_) | Numbered::Room(_) => Ok(()),
+        Numbered::Aside | Numbered::Description(_) | Numbered::Being(_) => Ok(()),
         Numbered::Way(way) => {
             let exit = Exit {
                 room: way.room,
@@ -60,7 +60,7 @@ fn lead_back(targets: &mut Targets, statement: &NumberedSentence) -> Result<(), 
     ensures { OnOk result (LeadsOn targets.old targets.new (first_target (implied_in statement.now.said statement.now.line))) }
 {
     match &statement.said {
-        Numbered::Aside | Numbered::Description(_) | Numbered::Room(_) => Ok(()),
+        Numbered::Aside | Numbered::Description(_) | Numbered::Being(_) => Ok(()),
         Numbered::Way(way) => {
             let exit = Exit {
                 room: way.subject,
@@ -146,6 +146,13 @@ impl<'a> Ways<'a> {
             targets,
             second,
         })
+    }
+
+    /// The statements that state them.
+    pub fn statements(&self) -> &'a [NumberedSentence]
+        ensures { result.now ≡ stated self.now }
+    {
+        self.statements
     }
 
     /// The line of the first statement that leads an exit to a second target.

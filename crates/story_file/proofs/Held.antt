@@ -1,233 +1,142 @@
 -- A story file holds the tale that sentences mean.
 use Rattle.std.proofs.Common.{◌≡◌, ℕ, ◌+◌, ◌-◌, ◌<◌, ◌≤◌, Bool, true, false, cond, not, ◌&&◌, ◌||◌, ltb, leb, eqb, List, [], ◌∷◌, ◌++◌, length, map, Option, Some, None, Ok, refl, sym, ap, subst, ◌∙◌, arith, inl, inr}
-use Rattle.std.specs.Prelude.{Result, find, fold, slice_get}
-use Rattle.std.specs.List.{list_all, list_any, position_or_len}
+use Rattle.std.specs.Prelude.{Result, find, is_none, slice_get}
+use Rattle.std.specs.List.{list_all}
 use Rattle.std.specs.Option.{option_map}
-use Rattle.std.specs.Str.{bytes_eq}
 use Rattle.std.proofs.lemmas.Bool.{ltb-false, lt-ltb, le-leb, ne_eqb}
-use Rattle.std.proofs.lemmas.List.Folds.{list_any-append}
 use Rattle.std.proofs.lemmas.Option.{slice_get_past}
 use Rattle.world_meaning.proofs.Bools.{both, both_are, either}
-use Rattle.world_meaning.specs.Declarations.{is_rooted, is_well_declared}
-use Rattle.world_meaning.specs.Sorts.{is_at, kinds_told}
-use Rattle.world_meaning.specs.Standing.{leads}
-use Rattle.world_meaning.specs.WellMade.{IsWellMade}
-use Rattle.world_meaning.specs.declared.declared.Declared.{Declared}
+use Rattle.world_meaning.specs.Chains.{IsTree}
+use Rattle.world_meaning.specs.Declarations.{is_below as is_kind_below, is_rooted, is_well_declared}
 use Rattle.world_meaning.specs.Directions.{all_directions, opposite_of}
+use Rattle.world_meaning.specs.Placing.{Kinds, can_be_held, can_hold, keeps_player}
+use Rattle.world_meaning.specs.Sight.{is_in}
+use Rattle.world_meaning.specs.Sorts.{is_at, kinds_told, sorts_of, under_each}
+use Rattle.world_meaning.specs.Standing.{are_well_placed, is_at_or_none, place_at}
+use Rattle.world_meaning.specs.WellMade.{IsWellMade, begin_rightly, has_right_exits, kinds_of as kinds_in, places_of as places_in, stands_in_room}
+use Rattle.world_meaning.specs.declared.declared.Declared.{Declared}
 use Rattle.world_meaning.specs.declared.fault.Fault.{Fault}
-use Rattle.world_meaning.specs.declared.fault.FaultCode.TheVariants.{Cycle, NoRoom, TooMany, Twice, TwoPlaces, UnknownName, WrongKind}
+use Rattle.world_meaning.specs.declared.fault.FaultCode.TheVariants.{TooMany}
+use Rattle.world_meaning.specs.declared.place.Place.{Place}
 use Rattle.world_meaning.specs.declared.tale.Tale.{Tale}
-use Rattle.i7_sentences.specs.declared.name.Name.{Name}
-use Rattle.i7_sentences.specs.declared.sentence.Assertion.{Assertion}
-use Rattle.i7_sentences.specs.declared.sentence.Assertion.TheVariants.{Description, Way, Are}
 use Rattle.i7_sentences.specs.declared.sentence.Sentence.{Sentence}
 use Rattle.object_words.specs.Words.{more_words, words_for}
-use Rattle.i7_kinds.specs.Demands.{Lead, descriptions_of, description_of, first_target, implied_in, implied_leads, is_exit, is_wrong, lead_of, line_at, line_of_description, second_description, second_target, stated_in, stated_leads, subject_of, target_of, wrong_after, wrong_kind}
 use Rattle.i7_kinds.specs.Claims.{claims_of}
-use Rattle.i7_kinds.specs.KindClaims.{declared_by, kind_too_many}
-use Rattle.i7_kinds.specs.Sorts.{built_in_either_ors, name_too_many, too_many_as}
-use Rattle.i7_kinds.specs.declared.sorts.Sort.TheVariants as sort
-use Rattle.i7_kinds.specs.Scans.{earlier}
-use Rattle.i7_kinds.specs.declared.claim.Claim.{Claim}
-use Rattle.i7_kinds.proofs.KindScans.{either_ors_few, parents_few, variables_few}
-use Rattle.i7_kinds.proofs.Granting.{either_ors_behind}
-use Rattle.i7_kinds.proofs.Rooted.{authors_behind, authors_rooted}
-use Rattle.i7_kinds.specs.declared.name_faults.NameFaults.{NameFaults}
+use Rattle.i7_kinds.specs.Demands.{Lead, descriptions_of, description_of, first_target, implied_in, implied_leads, is_exit, is_wrong, lead_of, line_at, line_of_description, stated_in, stated_leads, subject_of, target_of, wrong_after, wrong_kind}
 use Rattle.i7_kinds.specs.Firsts.{first_of}
-use Rattle.i7_kinds.specs.Statements.{NameAt, Named, built_in_keys, numbered_in, numbered_room, rooms_in, has_key, key_of, named_by, names_at, number_in, stated_by, statement_in, with_name, with_names_of}
+use Rattle.i7_kinds.specs.KindClaims.{declared_by, kind_cycle, kind_names, kind_too_many, parents_of}
+use Rattle.i7_kinds.specs.Knowns.{is_of, is_parted_at, kinds_known, kinds_of, known_at, knowns_of, off_path}
+use Rattle.i7_kinds.specs.Places.{Places, holder_cycle, places_by, put}
+use Rattle.i7_kinds.specs.Scans.{earlier}
+use Rattle.i7_kinds.specs.Sorts.{built_in_either_ors, name_too_many, too_many_as}
+use Rattle.i7_kinds.specs.Statements.{NameAt, named_by, stated_by}
+use Rattle.i7_kinds.specs.Suits.{first_room, unsuited, with_player}
+use Rattle.i7_kinds.specs.Tales.{Made, author_entry, entries_of, faults_of, frame_refusal, has_long_name, has_long_text, is_too_long, judged_by, limit_refusal, made_of, name_too_long, no_room, object_as, object_of, objects_of, or_refused, refusal_of, scope_of, tale_said, text_too_long, unless_unmeant, unmeant}
+use Rattle.i7_kinds.specs.declared.claim.Claim.{Claim}
 use Rattle.i7_kinds.specs.declared.descriptions.Description.{Description as Described}
+use Rattle.i7_kinds.specs.declared.entries.Entry.{Entry}
+use Rattle.i7_kinds.specs.declared.knowns.Known.{Known}
+use Rattle.i7_kinds.specs.declared.sorts.Sort.TheVariants as sort
 use Rattle.i7_kinds.specs.declared.statements.Numbered.{Numbered}
 use Rattle.i7_kinds.specs.declared.statements.Numbered.TheVariants as numbered
 use Rattle.i7_kinds.specs.declared.statements.NumberedSentence.{NumberedSentence}
-use Rattle.i7_kinds.specs.Tales.{frame_refusal, has_long_name, has_long_text, is_too_long, judged, limit_refusal, name_too_long, no_room, object_too_many, objects_of, or_refused, refusal_at, room_of, rooms_from, tale_said, text_too_long, name_faults, unless_unmeant, unmeant}
-use Rattle.i7_kinds.proofs.Bounds.{counted-source, earlier_none, few_objects, first_none_both, frame_names, unmapped, unrefused}
+use Rattle.i7_kinds.proofs.Bounds.{NoFaults, counted-source, earlier_none, first_none_both, frame_parts, unmapped, unrefused}
+use Rattle.i7_kinds.proofs.Fines.{AreFine, base, kind_few, knowns_counted}
+use Rattle.i7_kinds.proofs.Granting.{either_ors_behind}
+use Rattle.i7_kinds.proofs.KindScans.{either_ors_few, parents_few, variables_few}
+use Rattle.i7_kinds.proofs.Placed.{AreSuited, IsSuited, judged, places_counted, places_suited, places_tree, put_length}
+use Rattle.i7_kinds.proofs.Readiness.{fine_of}
+use Rattle.i7_kinds.proofs.Rooted.{authors_behind, authors_rooted}
 use Rattle.story_file.proofs.MadeDeclarations.{Behind, behind_of, declared_held, declared_is, declared_with, kinds_many, kinds_with, suited_held}
-use Rattle.story_file.proofs.MadeObjects.{all_lead, all_placed, begins_held, is_room_number, is_room_or_none, kinds_held, player_held, room_at, room_or_none_at, sorts_of_objects, tree_held}
+use Rattle.story_file.proofs.MadeObjects.{LeadToRooms, all_lead, all_placed, begins_held, entries_counted, kinds_counted, kinds_held, objects_kinds, objects_places, same_kinds, told}
+use Rattle.story_file.proofs.MadePlaces.{all_suited, all_whole, direction_is, direction_nowhere, kind_known, place_in_room, player_person, tree_with_player}
 use Rattle.story_format.specs.Holding.{has_few_words, has_short_texts, is_short, is_short_or_none, IsHeld}
 use Rattle.story_format.specs.Making.{worded, worded_from}
-use Rattle.story_format.proofs.Known.{text_is_itself, passes_at}
 
 none_or : (a b : Bool) → (a || b) ≡ false → (a ≡ false) × (b ≡ false)
 none_or true b h = absurd cc
 none_or false b h = (refl, h)
 
--- ---- each name that sentences mention has a key
-
-key_kept : (named : Named) (at : NameAt) (key : List ℕ) → has_key named.keys key ≡ true → has_key (with_name named at).keys key ≡ true
-key_kept named at key h =
-    elim (either (has_key named.keys (key_of at.name.text))) [
-      | inl is ↦ rw is h
-      | inr isnt ↦ rw isnt (list_any-append (bytes_eq key) named.keys (key_of at.name.text ∷ []) ∙ rw h refl)
-    ]
-
-or_right : (a b : Bool) → b ≡ true → (a || b) ≡ true
-or_right true b e = refl
-or_right false b e = e
-
-key_added : (named : Named) (at : NameAt) → has_key (with_name named at).keys (key_of at.name.text) ≡ true
-key_added named at =
-    let key = key_of at.name.text in
-    elim (either (has_key named.keys key)) [
-      | inl is ↦ rw is is
-      | inr isnt ↦
-          let one : list_any (bytes_eq key) (key ∷ []) ≡ true = rw (text_is_itself key) refl in
-          rw isnt (list_any-append (bytes_eq key) named.keys (key ∷ []) ∙ or_right (list_any (bytes_eq key) named.keys) (list_any (bytes_eq key) (key ∷ [])) one)
-    ]
-
-names_kept : (names : List NameAt) (named : Named) (key : List ℕ) → has_key named.keys key ≡ true → has_key (fold with_name named names).keys key ≡ true
-names_kept [] named key h = h
-names_kept (at ∷ names) named key h = names_kept names (with_name named at) key (key_kept named at key h)
-
-abbrev has_name : List (List ℕ) → NameAt → Bool
-has_name keys at = has_key keys (key_of at.name.text)
-
-names_added : (names : List NameAt) (named : Named) → list_all (has_name (fold with_name named names).keys) names ≡ true
-names_added [] named = refl
-names_added (at ∷ names) named =
-    both (has_name (fold with_name named (at ∷ names)).keys at) (list_all (has_name (fold with_name named (at ∷ names)).keys) names) (names_kept names (with_name named at) (key_of at.name.text) (key_added named at)) (names_added names (with_name named at))
-
-all_kept : (sentences : List Sentence) (named : Named) (key : List ℕ) → has_key named.keys key ≡ true → has_key (fold with_names_of named sentences).keys key ≡ true
-all_kept [] named key h = h
-all_kept (sentence ∷ sentences) named key h = all_kept sentences (with_names_of named sentence) key (names_kept (names_at sentence) named key h)
-
-names_stay : (names : List NameAt) (sentences : List Sentence) (named : Named) → list_all (has_name named.keys) names ≡ true → list_all (has_name (fold with_names_of named sentences).keys) names ≡ true
-names_stay [] sentences named h = refl
-names_stay (at ∷ names) sentences named h =
-    let t = both_are (has_name named.keys at) (list_all (has_name named.keys) names) h in
-    both (has_name (fold with_names_of named sentences).keys at) (list_all (has_name (fold with_names_of named sentences).keys) names) (all_kept sentences named (key_of at.name.text) t.0) (names_stay names sentences named t.1)
-
-abbrev has_names : List (List ℕ) → Sentence → Bool
-has_names keys sentence = list_all (has_name keys) (names_at sentence)
-
-all_added : (sentences : List Sentence) (named : Named) → list_all (has_names (fold with_names_of named sentences).keys) sentences ≡ true
-all_added [] named = refl
-all_added (sentence ∷ sentences) named =
-    both (has_names (fold with_names_of named (sentence ∷ sentences)).keys sentence) (list_all (has_names (fold with_names_of named (sentence ∷ sentences)).keys) sentences)
-    (names_stay (names_at sentence) sentences (with_names_of named sentence) (names_added (names_at sentence) named)) (all_added sentences (with_names_of named sentence))
-
--- ---- so its number is an object's
-
-number_there : (keys : List (List ℕ)) (key : List ℕ) → has_key keys key ≡ true → number_in keys key < length keys
-number_there keys key h =
-    let t = (passes_at keys key h).0 in
-    let inside : ltb (position_or_len (bytes_eq key) keys) (length keys) ≡ true = lt-ltb _ _ t in
-    rw inside t
-
--- the objects of a fact are below this number
-abbrev is_below : ℕ → Numbered → Bool
-is_below n numbered.Aside = true
-is_below n (numbered.Description text) = true
-is_below n (numbered.Room o) = true
-is_below n (numbered.Way way) = ltb way.subject n && ltb way.room n
-
-two_there : (keys : List (List ℕ)) (a b : Name) → has_key keys (key_of a.text) ≡ true → has_key keys (key_of b.text) ≡ true → (ltb (number_in keys (key_of a.text)) (length keys) && ltb (number_in keys (key_of b.text)) (length keys)) ≡ true
-two_there keys a b h k = both (ltb (number_in keys (key_of a.text)) (length keys)) (ltb (number_in keys (key_of b.text)) (length keys)) (lt-ltb _ _ (number_there keys (key_of a.text) h)) (lt-ltb _ _ (number_there keys (key_of b.text) k))
-
-way_below : (keys : List (List ℕ)) (subject room : Name) (is_room_first : Bool) (line : ℕ) → list_all (has_name keys) (map (λ name. record { name = name; line = line }) (cond is_room_first (room ∷ subject ∷ []) (subject ∷ room ∷ []))) ≡ true
-    → (ltb (number_in keys (key_of subject.text)) (length keys) && ltb (number_in keys (key_of room.text)) (length keys)) ≡ true
-way_below keys subject room true line h =
-    let t = both_are (has_key keys (key_of room.text)) (has_key keys (key_of subject.text) && true) h in
-    two_there keys subject room (both_are (has_key keys (key_of subject.text)) true t.1).0 t.0
-way_below keys subject room false line h =
-    let t = both_are (has_key keys (key_of subject.text)) (has_key keys (key_of room.text) && true) h in
-    two_there keys subject room t.0 (both_are (has_key keys (key_of room.text)) true t.1).0
-
-rooms_below : (named : Named) (rooms : List Name) (line : ℕ) → list_all (has_name named.keys) (map (λ name. record { name = name; line = line }) rooms) ≡ true → is_below (length named.keys) (numbered_room named rooms) ≡ true
-rooms_below named [] line h = refl
-rooms_below named (name ∷ names) line h = refl
-
-assertion_below : (named : Named) (said : Assertion) (line : ℕ) → has_names named.keys (record { said = said; line = line }) ≡ true → is_below (length named.keys) (numbered_in named said) ≡ true
-assertion_below named (Description text) line h = refl
-assertion_below named (Are being) line h = rooms_below named (rooms_in being) line h
-assertion_below named (Way way) line h = way_below named.keys way.subject way.room way.is_room_first line h
-assertion_below named _ line h = refl
-
-abbrev are_below : ℕ → NumberedSentence → Bool
-are_below n statement = is_below n statement.said
-
-all_below : (named : Named) (sentences : List Sentence) → list_all (has_names named.keys) sentences ≡ true → list_all (are_below (length named.keys)) (map (statement_in named) sentences) ≡ true
-all_below named [] h = refl
-all_below named (sentence ∷ sentences) h =
-    let t = both_are (has_names named.keys sentence) (list_all (has_names named.keys) sentences) h in
-    both (are_below (length named.keys) (statement_in named sentence)) (list_all (are_below (length named.keys)) (map (statement_in named) sentences)) (assertion_below named sentence.said sentence.line t.0) (all_below named sentences t.1)
-
-source_below : (sentences : List Sentence) → list_all (are_below (13 + length (named_by sentences).mentions)) (stated_by sentences) ≡ true
-source_below sentences =
-    ap (λ n. list_all (are_below n) (stated_by sentences)) (sym (counted-source sentences)) ∙ all_below (named_by sentences) sentences (all_added sentences (record { keys = built_in_keys; mentions = [] }))
-
 -- ---- ways lead between rooms
 
+abbrev is_room_or_none : List (Option ℕ) → List Known → Option ℕ → Bool
+is_room_or_none parents knowns None = true
+is_room_or_none parents knowns (Some o) = is_of parents knowns 1 o
+
 -- the objects of a fact are rooms
-abbrev is_of_rooms : ℕ → Numbered → Bool
-is_of_rooms n numbered.Aside = true
-is_of_rooms n (numbered.Description text) = true
-is_of_rooms n (numbered.Room o) = true
-is_of_rooms n (numbered.Way way) = is_room_number n way.subject && is_room_number n way.room
-
-abbrev are_of_rooms : ℕ → NumberedSentence → Bool
-are_of_rooms n statement = is_of_rooms n statement.said
-
-between : (n : ℕ) (before : Option ℕ) (fact : Numbered) → is_wrong before fact ≡ false → is_below n fact ≡ true → is_of_rooms n fact ≡ true
-between n before numbered.Aside h k = refl
-between n before (numbered.Description text) h k = refl
-between n before (numbered.Room o) h k = refl
-between n before (numbered.Way way) h k =
-    let t = none_or (ltb way.subject 13) (ltb way.room 13) h in
-    let u = both_are (ltb way.subject n) (ltb way.room n) k in
-    both (is_room_number n way.subject) (is_room_number n way.room) (both (leb 13 way.subject) (ltb way.subject n) (le-leb _ _ (ltb-false _ _ t.0)) u.0) (both (leb 13 way.room) (ltb way.room n) (le-leb _ _ (ltb-false _ _ t.1)) u.1)
+abbrev is_of_rooms : List (Option ℕ) → List Known → Numbered → Bool
+is_of_rooms parents knowns numbered.Aside = true
+is_of_rooms parents knowns (numbered.Description text) = true
+is_of_rooms parents knowns (numbered.Being o) = true
+is_of_rooms parents knowns (numbered.Way way) = is_of parents knowns 1 way.subject && is_of parents knowns 1 way.room
 
 nothing_wrong : (wrong : Bool) (line : ℕ) (later : Option ℕ) → cond wrong (Some line) later ≡ None → (wrong ≡ false) × (later ≡ None)
 nothing_wrong true line later h = absurd cc
 nothing_wrong false line later h = (refl, h)
 
-all_of_rooms : (n : ℕ) (before : Option ℕ) (statements : List NumberedSentence) → wrong_after before statements ≡ None → list_all (are_below n) statements ≡ true → list_all (are_of_rooms n) statements ≡ true
-all_of_rooms n before [] h k = refl
-all_of_rooms n before (statement ∷ statements) h k =
-    let t = nothing_wrong (is_wrong before statement.said) statement.line (wrong_after (subject_of statement.said) statements) h in
-    let u = both_are (are_below n statement) (list_all (are_below n) statements) k in
-    both (are_of_rooms n statement) (list_all (are_of_rooms n) statements) (between n before statement.said t.0 u.0) (all_of_rooms n (subject_of statement.said) statements t.1 u.1)
+module _ (parents : List (Option ℕ)) (knowns : List Known) (whole : (o : ℕ) → is_parted_at knowns o ≡ false) where
+  abbrev are_of_rooms : NumberedSentence → Bool
+  are_of_rooms statement = is_of_rooms parents knowns statement.said
 
-lead_room : (n : ℕ) (lead : Lead) (leads : List Lead) (room direction : ℕ) → is_room_number n lead.target ≡ true → is_room_or_none n (first_target leads room direction) ≡ true → is_room_or_none n (first_target (lead ∷ leads) room direction) ≡ true
-lead_room n lead leads room direction h k =
-    elim (either (is_exit room direction lead)) [
-      | inl is ↦ rw is h
-      | inr isnt ↦ rw isnt k
-    ]
+  between : (before : Option ℕ) (fact : Numbered) → is_wrong parents knowns before fact ≡ false → is_of_rooms parents knowns fact ≡ true
+  between before numbered.Aside h = refl
+  between before (numbered.Description text) h = refl
+  between before (numbered.Being o) h = refl
+  between before (numbered.Way way) h = judged (is_parted_at knowns way.subject) (is_parted_at knowns way.room) (is_of parents knowns 1 way.subject && is_of parents knowns 1 way.room) (whole way.subject) (whole way.room) h
 
-stated_one : (n : ℕ) (fact : Numbered) (line : ℕ) (leads : List Lead) (room direction : ℕ) → is_of_rooms n fact ≡ true → is_room_or_none n (first_target leads room direction) ≡ true → is_room_or_none n (first_target (stated_in fact line ++ leads) room direction) ≡ true
-stated_one n numbered.Aside line leads room direction h k = k
-stated_one n (numbered.Description text) line leads room direction h k = k
-stated_one n (numbered.Room o) line leads room direction h k = k
-stated_one n (numbered.Way way) line leads room direction h k = lead_room n (lead_of way.subject way.direction way.room line) leads room direction (both_are (is_room_number n way.subject) (is_room_number n way.room) h).0 k
+  all_of_rooms : (before : Option ℕ) (statements : List NumberedSentence) → wrong_after parents knowns before statements ≡ None → list_all are_of_rooms statements ≡ true
+  all_of_rooms before [] h = refl
+  all_of_rooms before (statement ∷ statements) h =
+      let t = nothing_wrong (is_wrong parents knowns before statement.said) statement.line (wrong_after parents knowns (subject_of statement.said) statements) h in
+      both (are_of_rooms statement) (list_all are_of_rooms statements) (between before statement.said t.0) (all_of_rooms (subject_of statement.said) statements t.1)
 
-implied_one : (n : ℕ) (fact : Numbered) (line : ℕ) (leads : List Lead) (room direction : ℕ) → is_of_rooms n fact ≡ true → is_room_or_none n (first_target leads room direction) ≡ true → is_room_or_none n (first_target (implied_in fact line ++ leads) room direction) ≡ true
-implied_one n numbered.Aside line leads room direction h k = k
-implied_one n (numbered.Description text) line leads room direction h k = k
-implied_one n (numbered.Room o) line leads room direction h k = k
-implied_one n (numbered.Way way) line leads room direction h k = lead_room n (lead_of way.room (opposite_of way.direction) way.subject line) leads room direction (both_are (is_room_number n way.subject) (is_room_number n way.room) h).1 k
+  lead_room : (lead : Lead) (leads : List Lead) (room direction : ℕ) → is_of parents knowns 1 lead.target ≡ true → is_room_or_none parents knowns (first_target leads room direction) ≡ true → is_room_or_none parents knowns (first_target (lead ∷ leads) room direction) ≡ true
+  lead_room lead leads room direction h k =
+      elim (either (is_exit room direction lead)) [
+        | inl is ↦ rw is h
+        | inr isnt ↦ rw isnt k
+      ]
 
-stated_rooms : (n : ℕ) (statements : List NumberedSentence) (room direction : ℕ) → list_all (are_of_rooms n) statements ≡ true → is_room_or_none n (first_target (stated_leads statements) room direction) ≡ true
-stated_rooms n [] room direction h = refl
-stated_rooms n (statement ∷ statements) room direction h =
-    let t = both_are (are_of_rooms n statement) (list_all (are_of_rooms n) statements) h in
-    stated_one n statement.said statement.line (stated_leads statements) room direction t.0 (stated_rooms n statements room direction t.1)
+  stated_one : (fact : Numbered) (line : ℕ) (leads : List Lead) (room direction : ℕ) → is_of_rooms parents knowns fact ≡ true → is_room_or_none parents knowns (first_target leads room direction) ≡ true → is_room_or_none parents knowns (first_target (stated_in fact line ++ leads) room direction) ≡ true
+  stated_one numbered.Aside line leads room direction h k = k
+  stated_one (numbered.Description text) line leads room direction h k = k
+  stated_one (numbered.Being o) line leads room direction h k = k
+  stated_one (numbered.Way way) line leads room direction h k = lead_room (lead_of way.subject way.direction way.room line) leads room direction (both_are (is_of parents knowns 1 way.subject) (is_of parents knowns 1 way.room) h).0 k
 
-implied_rooms : (n : ℕ) (statements : List NumberedSentence) (room direction : ℕ) → list_all (are_of_rooms n) statements ≡ true → is_room_or_none n (first_target (implied_leads statements) room direction) ≡ true
-implied_rooms n [] room direction h = refl
-implied_rooms n (statement ∷ statements) room direction h =
-    let t = both_are (are_of_rooms n statement) (list_all (are_of_rooms n) statements) h in
-    implied_one n statement.said statement.line (implied_leads statements) room direction t.0 (implied_rooms n statements room direction t.1)
+  implied_one : (fact : Numbered) (line : ℕ) (leads : List Lead) (room direction : ℕ) → is_of_rooms parents knowns fact ≡ true → is_room_or_none parents knowns (first_target leads room direction) ≡ true → is_room_or_none parents knowns (first_target (implied_in fact line ++ leads) room direction) ≡ true
+  implied_one numbered.Aside line leads room direction h k = k
+  implied_one (numbered.Description text) line leads room direction h k = k
+  implied_one (numbered.Being o) line leads room direction h k = k
+  implied_one (numbered.Way way) line leads room direction h k = lead_room (lead_of way.room (opposite_of way.direction) way.subject line) leads room direction (both_are (is_of parents knowns 1 way.subject) (is_of parents knowns 1 way.room) h).1 k
 
-either_room : (n : ℕ) (a b : Option ℕ) → is_room_or_none n a ≡ true → is_room_or_none n b ≡ true → is_room_or_none n (first_of a b) ≡ true
-either_room n None b h k = k
-either_room n (Some o) b h k = h
+  stated_rooms : (statements : List NumberedSentence) (room direction : ℕ) → list_all are_of_rooms statements ≡ true → is_room_or_none parents knowns (first_target (stated_leads statements) room direction) ≡ true
+  stated_rooms [] room direction h = refl
+  stated_rooms (statement ∷ statements) room direction h =
+      let t = both_are (are_of_rooms statement) (list_all are_of_rooms statements) h in
+      stated_one statement.said statement.line (stated_leads statements) room direction t.0 (stated_rooms statements room direction t.1)
 
-targets_rooms : (n : ℕ) (statements : List NumberedSentence) → list_all (are_of_rooms n) statements ≡ true → (room direction : ℕ) → is_room_or_none n (target_of statements room direction) ≡ true
-targets_rooms n statements h room direction = either_room n (first_target (stated_leads statements) room direction) (first_target (implied_leads statements) room direction) (stated_rooms n statements room direction h) (implied_rooms n statements room direction h)
+  implied_rooms : (statements : List NumberedSentence) (room direction : ℕ) → list_all are_of_rooms statements ≡ true → is_room_or_none parents knowns (first_target (implied_leads statements) room direction) ≡ true
+  implied_rooms [] room direction h = refl
+  implied_rooms (statement ∷ statements) room direction h =
+      let t = both_are (are_of_rooms statement) (list_all are_of_rooms statements) h in
+      implied_one statement.said statement.line (implied_leads statements) room direction t.0 (implied_rooms statements room direction t.1)
 
-some_room : (mentions : List NameAt) → no_room mentions ≡ None → 1 ≤ length mentions
-some_room [] h = absurd cc
-some_room (at ∷ mentions) h = omega arith
+  either_room : (a b : Option ℕ) → is_room_or_none parents knowns a ≡ true → is_room_or_none parents knowns b ≡ true → is_room_or_none parents knowns (first_of a b) ≡ true
+  either_room None b h k = k
+  either_room (Some o) b h k = h
+
+  targets_rooms : (statements : List NumberedSentence) → wrong_kind parents knowns statements ≡ None → (room direction : ℕ) → is_room_or_none parents knowns (target_of statements room direction) ≡ true
+  targets_rooms statements h room direction =
+      let rooms = all_of_rooms None statements h in
+      either_room (first_target (stated_leads statements) room direction) (first_target (implied_leads statements) room direction) (stated_rooms statements room direction rooms) (implied_rooms statements room direction rooms)
+
+  at_or_none : (o : Option ℕ) → is_room_or_none parents knowns o ≡ true → is_at_or_none (under_each parents (kinds_of knowns) 1) o ≡ true
+  at_or_none None h = refl
+  at_or_none (Some o) h = told parents knowns 1 o ∙ h
+
+  lead_to_rooms : (statements : List NumberedSentence) → wrong_kind parents knowns statements ≡ None → LeadToRooms (sorts_of parents (kinds_of knowns)) statements
+  unfolding sorts_of
+  lead_to_rooms statements h room direction = at_or_none (target_of statements room direction) (targets_rooms statements h room direction)
 
 -- ---- names and texts are short
 
@@ -268,18 +177,28 @@ has_short_name at = not (has_long_name at)
 name_short : (name : List ℕ) → is_too_long name ≡ false → is_short name ≡ true
 name_short name h = short_if name (none_or (ltb 65535 (length name)) (ltb 32 (length (words_for 13 name))) h).0
 
-rooms_short : (statements : List NumberedSentence) (o : ℕ) (mentions : List NameAt) → list_all has_short_name mentions ≡ true → list_all (λ d. not (has_long_text d)) (descriptions_of statements) ≡ true → list_all has_short_texts (rooms_from statements o mentions) ≡ true
-unfolding room_of
-rooms_short statements o [] h k = refl
-rooms_short statements o (at ∷ mentions) h k =
-    let t = both_are (has_short_name at) (list_all has_short_name mentions) h in
-    both (has_short_texts (room_of statements o at)) (list_all has_short_texts (rooms_from statements (o + 1) mentions))
-    (both (is_short at.name.text) (is_short_or_none (description_of (descriptions_of statements) o)) (name_short at.name.text (not_is (has_long_name at) t.0)) (description_short (descriptions_of statements) o k))
-    (rooms_short statements (o + 1) mentions t.1 k)
+abbrev has_short_entry : Entry → Bool
+has_short_entry entry = is_short entry.name
 
-texts_held : (statements : List NumberedSentence) (mentions : List NameAt) → list_all has_short_name mentions ≡ true → list_all (λ d. not (has_long_text d)) (descriptions_of statements) ≡ true → list_all has_short_texts (objects_of statements mentions) ≡ true
-unfolding objects_of
-texts_held statements mentions h k = rooms_short statements 13 mentions h k
+authors_short : (mentions : List NameAt) → list_all has_short_name mentions ≡ true → list_all has_short_entry (map author_entry mentions) ≡ true
+authors_short [] h = refl
+authors_short (at ∷ mentions) h =
+    let t = both_are (has_short_name at) (list_all has_short_name mentions) h in
+    both (is_short at.name.text) (list_all has_short_entry (map author_entry mentions)) (name_short at.name.text (not_is (has_long_name at) t.0)) (authors_short mentions t.1)
+
+entries_short : (mentions : List NameAt) → list_all has_short_name mentions ≡ true → list_all has_short_entry (entries_of mentions) ≡ true
+unfolding entries_of
+entries_short mentions h = authors_short mentions h
+
+objects_short : (m : Made) (o : ℕ) (entries : List Entry) → list_all has_short_entry entries ≡ true → list_all (λ d. not (has_long_text d)) m.descriptions ≡ true → list_all has_short_texts (objects_of m o entries) ≡ true
+unfolding object_as
+objects_short m o [] h k = refl
+objects_short m o (entry ∷ entries) h k =
+    let t = both_are (has_short_entry entry) (list_all has_short_entry entries) h in
+    both (has_short_texts (object_of m o entry)) (list_all has_short_texts (objects_of m (o + 1) entries)) (both (is_short entry.name) (is_short_or_none (description_of m.descriptions o)) t.0 (description_short m.descriptions o k)) (objects_short m (o + 1) entries t.1 k)
+
+texts_held : (m : Made) (mentions : List NameAt) → list_all has_short_name mentions ≡ true → list_all (λ d. not (has_long_text d)) m.descriptions ≡ true → list_all has_short_texts (objects_of m 0 (entries_of mentions)) ≡ true
+texts_held m mentions h k = objects_short m 0 (entries_of mentions) (entries_short mentions h) k
 
 -- ---- words are few
 
@@ -298,18 +217,18 @@ same_words o name le = rw (no_more o le) refl
 few_if : (n : ℕ) → ltb 32 n ≡ false → leb n 32 ≡ true
 few_if n h = le-leb _ _ (ltb-false _ _ h)
 
-rooms_few : (statements : List NumberedSentence) (o p : ℕ) (mentions : List NameAt) → 13 ≤ p → list_all has_short_name mentions ≡ true → list_all has_few_words (worded_from p (rooms_from statements o mentions)) ≡ true
-unfolding room_of
-rooms_few statements o p [] le h = refl
-rooms_few statements o p (at ∷ mentions) le h =
+authors_few : (m : Made) (o : ℕ) (mentions : List NameAt) → 13 ≤ o → list_all has_short_name mentions ≡ true → list_all has_few_words (worded_from o (objects_of m o (map author_entry mentions))) ≡ true
+unfolding object_as
+authors_few m o [] le h = refl
+authors_few m o (at ∷ mentions) le h =
     let t = both_are (has_short_name at) (list_all has_short_name mentions) h in
     let few : leb (length (words_for 13 at.name.text)) 32 ≡ true = few_if (length (words_for 13 at.name.text)) (none_or (ltb 65535 (length at.name.text)) (ltb 32 (length (words_for 13 at.name.text))) (not_is (has_long_name at) t.0)).1 in
-    both (leb (length (words_for p at.name.text)) 32) (list_all has_few_words (worded_from (p + 1) (rooms_from statements (o + 1) mentions))) (ap (λ (ws : List (List ℕ)). leb (length ws) 32) (same_words p at.name.text le) ∙ few)
-    (rooms_few statements (o + 1) (p + 1) mentions (omega (arith, le)) t.1)
+    both (leb (length (words_for o at.name.text)) 32) (list_all has_few_words (worded_from (o + 1) (objects_of m (o + 1) (map author_entry mentions)))) (ap (λ (ws : List (List ℕ)). leb (length ws) 32) (same_words o at.name.text le) ∙ few)
+    (authors_few m (o + 1) mentions (omega (arith, le)) t.1)
 
-words_held : (statements : List NumberedSentence) (mentions : List NameAt) → list_all has_short_name mentions ≡ true → list_all has_few_words (worded (objects_of statements mentions)) ≡ true
-unfolding objects_of words_for more_words
-words_held statements mentions h = rooms_few statements 13 13 mentions (omega arith) h
+words_held : (m : Made) (mentions : List NameAt) → list_all has_short_name mentions ≡ true → list_all has_few_words (worded (objects_of m 0 (entries_of mentions))) ≡ true
+unfolding entries_of object_as words_for more_words
+words_held m mentions h = authors_few m 13 mentions (omega arith) h
 
 -- ---- all of it
 
@@ -317,22 +236,11 @@ meant_none : (refusal : Option Fault) (t tale : Tale) → or_refused refusal t �
 meant_none None t tale h = (refl, cc)
 meant_none (Some fault) t tale h = absurd cc
 
-frame_parts : (faults : NameFaults) (statements : List NumberedSentence) (mentions : List NameAt) → frame_refusal faults statements mentions ≡ None → (wrong_kind statements ≡ None) × (object_too_many mentions ≡ None) × (no_room mentions ≡ None)
-unfolding frame_refusal
-frame_parts faults statements mentions none =
-    let a = first_none_both (refusal_at Twice faults.twice) _ none in
-    let u = first_none_both (refusal_at UnknownName faults.unknown) _ a.1 in
-    let v = first_none_both (refusal_at Cycle faults.cycle) _ u.1 in
-    let b = first_none_both (refusal_at WrongKind (wrong_kind statements)) _ v.1 in
-    let c = first_none_both (refusal_at TwoPlaces (second_target statements)) _ b.1 in
-    let d = first_none_both (refusal_at TooMany (earlier (object_too_many mentions) faults.too_many)) (refusal_at NoRoom (no_room mentions)) c.1 in
-    (unrefused WrongKind (wrong_kind statements) b.0, (earlier_none (object_too_many mentions) faults.too_many (unrefused TooMany (earlier (object_too_many mentions) faults.too_many) d.0)).0, unrefused NoRoom (no_room mentions) d.1)
-
-limit_parts : (statements : List NumberedSentence) (mentions : List NameAt) → limit_refusal statements mentions ≡ None → (list_all has_short_name mentions ≡ true) × (list_all (λ d. not (has_long_text d)) (descriptions_of statements) ≡ true)
+limit_parts : (descriptions : List Described) (mentions : List NameAt) → limit_refusal descriptions mentions ≡ None → (list_all has_short_name mentions ≡ true) × (list_all (λ d. not (has_long_text d)) descriptions ≡ true)
 unfolding limit_refusal
-limit_parts statements mentions none =
-    let t = earlier_none (name_too_long mentions) (text_too_long (descriptions_of statements)) (unrefused TooMany (earlier (name_too_long mentions) (text_too_long (descriptions_of statements))) none) in
-    (none_found has_long_name mentions (unmapped line_at (find has_long_name mentions) t.0), none_found has_long_text (descriptions_of statements) (unmapped line_of_description (find has_long_text (descriptions_of statements)) t.1))
+limit_parts descriptions mentions none =
+    let t = earlier_none (name_too_long mentions) (text_too_long descriptions) (unrefused TooMany (earlier (name_too_long mentions) (text_too_long descriptions)) none) in
+    (none_found has_long_name mentions (unmapped line_at (find has_long_name mentions) t.0), none_found has_long_text descriptions (unmapped line_of_description (find has_long_text descriptions) t.1))
 
 sorts_fine : (claims : List Claim) → name_too_many claims ≡ None → (too_many_as sort.EitherOr claims ≡ None) × (too_many_as sort.Variable claims ≡ None)
 sorts_fine claims none =
@@ -340,42 +248,120 @@ sorts_fine claims none =
     let b = earlier_none (too_many_as sort.Number claims) _ a.1 in
     (a.0, (earlier_none (too_many_as sort.Variable claims) (earlier (too_many_as sort.Rulebook claims) (too_many_as sort.Scene claims)) b.1).0)
 
+-- what is known of a source without a refusal, its objects' places without the player's
+record Whole (parents : List (Option ℕ)) (knowns : List Known) (places : Places) (room : ℕ) (statements : List NumberedSentence) (count : ℕ) : Type 0 where
+  fine : AreFine parents (length parents) knowns
+  counted : length knowns ≡ 13 + count
+  many : length places ≡ 13 + count
+  few : 13 + count ≤ 1000
+  suited : AreSuited (kinds_known parents knowns) places
+  tree : IsTree (place_at places)
+  first : first_room parents knowns ≡ Some room
+  ways : wrong_kind parents knowns statements ≡ None
+
+abbrev made_with : List (Option ℕ) → List Known → Places → List Described → List NumberedSentence → Made
+made_with parents knowns places descriptions statements = record { parents = parents; kinds = kinds_of knowns; places = places; descriptions = descriptions; statements = statements }
+
+stands : (kinds : Kinds) (rooms : List Bool) (place : Option Place) → ((o : ℕ) → kinds.is_room o ≡ is_at rooms o) → IsSuited kinds 0 place → is_none place ≡ false → stands_in_room rooms place ≡ true
+stands kinds rooms None told h k = absurd cc
+stands kinds rooms (Some place) told h k =
+    let t = both_are (can_be_held kinds 0 && can_hold kinds place.relation place.holder) (keeps_player kinds 0 place) h in
+    let u = both_are (is_in place.relation) (kinds.is_room place.holder) t.1 in
+    both (is_in place.relation) (is_at rooms place.holder) u.0 (sym (told place.holder) ∙ u.1)
+
+put_there : (places : Places) (place : Place) → 1 ≤ length places → is_none (place_at (put places 0 place) 0) ≡ false
+put_there [] place le = absurd (omega (arith, le))
+put_there (None ∷ places) place le = refl
+put_there (Some p ∷ places) place le = refl
+
 -- with what is declared behind the built-in kinds and properties
-objects_made : (b : Behind) (statements : List NumberedSentence) (mentions : List NameAt) → is_well_declared (declared_with b) ≡ true → list_all (are_below (13 + length mentions)) statements ≡ true → (wrong_kind statements ≡ None) × (object_too_many mentions ≡ None) × (no_room mentions ≡ None) → IsWellMade (record { declared = declared_with b; objects = objects_of statements mentions })
-objects_made b statements mentions declared below frame =
-    let few = few_objects mentions frame.1 in
-    let some = some_room mentions frame.2 in
-    let sorts = sorts_of_objects b.kinds statements mentions in
-    let start : is_at sorts.rooms 13 ≡ true = room_at b.kinds statements mentions 13 (lt-ltb _ _ (omega (arith, some))) in
-    let between = all_of_rooms (13 + length mentions) None statements frame.0 below in
-    let lead = λ (room direction : ℕ). room_or_none_at b.kinds statements mentions (target_of statements room direction) (targets_rooms (13 + length mentions) statements between room direction) in
+objects_made : (b : Behind) (knowns : List Known) (places : Places) (room : ℕ) (descriptions : List Described) (statements : List NumberedSentence) (mentions : List NameAt) → is_well_declared (declared_with b) ≡ true → Whole (kinds_with b) knowns places room statements (length mentions)
+    → IsWellMade (record { declared = declared_with b; objects = objects_of (made_with (kinds_with b) knowns (put places 0 (place_in_room room)) descriptions statements) 0 (entries_of mentions) })
+unfolding sorts_of
+objects_made b knowns places room descriptions statements mentions declared w =
+    let S = kinds_with b in
+    let placed = put places 0 (place_in_room room) in
+    let m = made_with S knowns placed descriptions statements in
+    let entries = entries_of mentions in
+    let n = length S in
+    let whole = all_whole S n knowns w.fine in
+    let kinds_same : kinds_in (objects_of m 0 entries) ≡ kinds_of knowns = objects_kinds m entries (omega (arith, kinds_counted knowns, w.counted, entries_counted mentions)) in
+    let places_same : places_in (objects_of m 0 entries) ≡ placed = objects_places m entries (omega (arith, put_length places 0 (place_in_room room), w.many, entries_counted mentions)) in
+    let suited = all_suited b.kinds n knowns (length mentions) w.counted w.fine places w.suited room w.first in
+    let player = stands (kinds_known S knowns) (under_each S (kinds_of knowns) 1) (place_at placed 0) (λ o. sym (told S knowns 1 o)) (suited 0) (put_there places (place_in_room room) (omega (arith, w.many))) in
+    let begins = begins_held m (under_each S (kinds_of knowns) 1) mentions w.few (player_person b.kinds n knowns (length mentions) w.counted w.fine) player
+    (λ o le ge. (direction_is b.kinds n knowns (length mentions) w.counted w.fine o le ge, direction_nowhere b.kinds n knowns (length mentions) w.counted w.fine places w.suited room w.first o le ge)) in
+    let below = kinds_held n (kinds_of knowns) (λ o. subst (λ (k : ℕ). k < n) (sym (kind_known knowns o)) (kind_few S n (base o) (known_at knowns o).demanded (known_at knowns o).holds (kinds_many b) (w.fine o))) in
+    let where_allowed = subst (λ (kinds : Kinds). are_well_placed kinds 0 placed ≡ true) (same_kinds S knowns) (all_placed (kinds_known S knowns) placed suited) in
     record {
       declared = declared;
-      begins = begins_held b.kinds sorts.rooms statements mentions few start;
-      kinds = kinds_held (length (kinds_with b)) statements mentions (kinds_many b);
-      suited = suited_held b statements mentions;
-      placed = all_placed (kinds_told sorts) statements mentions (player_held b.kinds statements mentions) start;
-      tree = tree_held statements mentions;
-      exits = all_lead b.kinds sorts statements mentions lead;
+      begins = subst (λ (ks : List ℕ). begin_rightly S (sorts_of S ks).rooms (objects_of m 0 entries) ≡ true) (sym kinds_same) begins;
+      kinds = subst (λ (ks : List ℕ). list_all (is_kind_below n) ks ≡ true) (sym kinds_same) below;
+      suited = suited_held b m 0 entries refl;
+      placed = subst (λ (ks : List ℕ). are_well_placed (kinds_told (sorts_of S ks)) 0 (places_in (objects_of m 0 entries)) ≡ true) (sym kinds_same) (subst (λ (ps : Places). are_well_placed (kinds_told (sorts_of S (kinds_of knowns))) 0 ps ≡ true) (sym places_same) where_allowed);
+      tree = subst (λ (ps : Places). IsTree (place_at ps)) (sym places_same) (tree_with_player b.kinds n knowns (length mentions) w.counted w.fine places w.suited room w.first (omega (arith, w.many)) w.tree);
+      exits = subst (λ (ks : List ℕ). list_all (has_right_exits S (sorts_of S ks)) (objects_of m 0 entries) ≡ true) (sym kinds_same) (all_lead m (sorts_of S (kinds_of knowns)) 0 entries (lead_to_rooms S knowns whole statements w.ways));
     }
 
-objects_held : (claims : List Claim) (statements : List NumberedSentence) (mentions : List NameAt) → list_all (are_below (13 + length mentions)) statements ≡ true → first_of (frame_refusal (name_faults claims statements) statements mentions) (limit_refusal statements mentions) ≡ None → IsHeld (record { declared = declared_by claims; objects = objects_of statements mentions })
-objects_held claims statements mentions below none =
-    let faults = name_faults claims statements in
-    let t = first_none_both (frame_refusal faults statements mentions) (limit_refusal statements mentions) none in
-    let frame = frame_parts faults statements mentions t.0 in
-    let none_wrong = frame_names faults statements mentions t.0 in
-    let many = earlier_none (kind_too_many claims) (name_too_many claims) none_wrong.2 in
-    let limits = limit_parts statements mentions t.1 in
-    let fine = sorts_fine claims many.1 in
+some_room : (found : Option ℕ) → no_room found ≡ None → (room : ℕ) × (found ≡ Some room)
+some_room None h = absurd cc
+some_room (Some room) h = (room, refl)
+
+whole_of : (claims : List Claim) (keys : List (List ℕ)) (statements : List NumberedSentence) (mentions : List NameAt) (room : ℕ) → length keys ≡ 13 + length mentions
+    → NoFaults (faults_of (scope_of claims keys) (knowns_of (scope_of claims keys) claims) claims statements) mentions (first_room (parents_of (kind_names claims) claims) (knowns_of (scope_of claims keys) claims))
+    → first_room (parents_of (kind_names claims) claims) (knowns_of (scope_of claims keys) claims) ≡ Some room
+    → Whole (parents_of (kind_names claims) claims) (knowns_of (scope_of claims keys) claims) (places_by keys claims) room statements (length mentions)
+whole_of claims keys statements mentions room counted none first =
+    let s = scope_of claims keys in
+    let knowns = knowns_of s claims in
+    let off = earlier_none (off_path s claims) (earlier (unsuited s knowns claims) (wrong_kind s.parents knowns statements)) none.wrong in
+    let wrong = earlier_none (unsuited s knowns claims) (wrong_kind s.parents knowns statements) off.1 in
+    let cycles = earlier_none (kind_cycle (kind_names claims) claims) (holder_cycle keys claims) none.cycle in
+    let fine = fine_of claims keys none.unknown off.0 in
+    record {
+      fine = fine;
+      counted = knowns_counted s claims (length mentions) counted;
+      many = places_counted keys claims None ∙ counted;
+      few = none.few;
+      suited = places_suited s knowns (all_whole s.parents (length s.parents) knowns fine) claims wrong.0;
+      tree = places_tree keys claims cycles.1;
+      first = first;
+      ways = wrong.1;
+    }
+
+abbrev tale_with : Declared → List (Option ℕ) → List Known → Places → List Described → List NumberedSentence → List NameAt → Tale
+tale_with declared parents knowns places descriptions statements mentions = record { declared = declared; objects = objects_of (made_with parents knowns places descriptions statements) 0 (entries_of mentions) }
+
+objects_held : (claims : List Claim) (keys : List (List ℕ)) (statements : List NumberedSentence) (mentions : List NameAt) → length keys ≡ 13 + length mentions
+    → refusal_of (scope_of claims keys) (knowns_of (scope_of claims keys) claims) claims statements mentions ≡ None
+    → IsHeld (record { declared = declared_by claims; objects = objects_of (made_of (scope_of claims keys) (knowns_of (scope_of claims keys) claims) claims statements) 0 (entries_of mentions) })
+objects_held claims keys statements mentions counted none =
+    let s = scope_of claims keys in
+    let knowns = knowns_of s claims in
+    let descriptions = descriptions_of s.parents knowns statements in
+    let faults = faults_of s knowns claims statements in
+    let found = first_room s.parents knowns in
+    let t = first_none_both (frame_refusal faults mentions found) (limit_refusal descriptions mentions) none in
+    let fine = frame_parts faults mentions found t.0 in
+    let room = some_room found fine.roomy in
+    let w = whole_of claims keys statements mentions room.0 counted fine room.1 in
+    let many = earlier_none (kind_too_many claims) (name_too_many claims) fine.too_many in
+    let cycles = earlier_none (kind_cycle (kind_names claims) claims) (holder_cycle keys claims) fine.cycle in
+    let limits = limit_parts descriptions mentions t.1 in
+    let sorts = sorts_fine claims many.1 in
     let behind = behind_of claims in
     let kinds = authors_behind claims in
-    let few : length (kinds_with behind) ≤ 100 = subst (λ (s : List (Option ℕ)). length s ≤ 100) kinds (parents_few claims many.0) in
-    let few_properties : length (built_in_either_ors ++ behind.properties) ≤ 100 = subst (λ (s : List (List ℕ)). length s ≤ 100) (either_ors_behind claims).1 (either_ors_few claims fine.0) in
-    let roots : list_all (is_rooted (kinds_with behind)) behind.kinds ≡ true = subst (λ (s : List (Option ℕ)). list_all (is_rooted s) behind.kinds ≡ true) kinds (authors_rooted claims none_wrong.0 none_wrong.1) in
-    let declared = declared_held behind few few_properties (variables_few claims fine.1) roots in
-    subst (λ (d : Declared). IsHeld (record { declared = d; objects = objects_of statements mentions })) (declared_is claims)
-    (record { made = objects_made behind statements mentions declared below frame; texts = texts_held statements mentions limits.0 limits.1; words = words_held statements mentions limits.0 })
+    let few : length (kinds_with behind) ≤ 100 = subst (λ (p : List (Option ℕ)). length p ≤ 100) kinds (parents_few claims many.0) in
+    let few_properties : length (built_in_either_ors ++ behind.properties) ≤ 100 = subst (λ (p : List (List ℕ)). length p ≤ 100) (either_ors_behind claims).1 (either_ors_few claims sorts.0) in
+    let roots : list_all (is_rooted (kinds_with behind)) behind.kinds ≡ true = subst (λ (p : List (Option ℕ)). list_all (is_rooted p) behind.kinds ≡ true) kinds (authors_rooted claims fine.unknown cycles.0) in
+    let declared = declared_held behind few few_properties (variables_few claims sorts.1) roots in
+    let whole = subst (λ (p : List (Option ℕ)). Whole p knowns (places_by keys claims) room.0 statements (length mentions)) kinds w in
+    let placed = put (places_by keys claims) 0 (place_in_room room.0) in
+    let m = made_with (kinds_with behind) knowns placed descriptions statements in
+    let held : IsHeld (tale_with (declared_with behind) (kinds_with behind) knowns placed descriptions statements mentions) = record { made = objects_made behind knowns (places_by keys claims) room.0 descriptions statements mentions declared whole; texts = texts_held m mentions limits.0 limits.1; words = words_held m mentions limits.0 } in
+    let declares : declared_with behind ≡ declared_by claims = declared_is claims in
+    let where_placed : placed ≡ with_player (places_by keys claims) found = sym (ap (with_player (places_by keys claims)) room.1) in
+    subst IsHeld (λ i. tale_with (declares i) (sym kinds i) knowns (where_placed i) descriptions statements mentions) held
 
 meant_whole : (line : Option ℕ) (said : Result Tale Fault) (tale : Tale) → unless_unmeant line said ≡ Ok tale → said ≡ Ok tale
 meant_whole None said tale meant = meant
@@ -385,7 +371,11 @@ meant_whole (Some line) said tale meant = absurd cc
 pub tale_held : (sentences : List Sentence) (tale : Tale) → tale_said sentences ≡ Ok tale → IsHeld tale
 tale_held sentences tale meant =
     let claims = claims_of sentences in
+    let keys = (named_by sentences).keys in
+    let s = scope_of claims keys in
+    let knowns = knowns_of s claims in
     let statements = stated_by sentences in
     let mentions = (named_by sentences).mentions in
-    let t = meant_none (first_of (frame_refusal (name_faults claims statements) statements mentions) (limit_refusal statements mentions)) (record { declared = declared_by claims; objects = objects_of statements mentions }) tale (meant_whole (unmeant sentences) (judged claims statements mentions) tale meant) in
-    subst IsHeld t.1 (objects_held claims statements mentions (source_below sentences) t.0)
+    let whole : Tale = record { declared = declared_by claims; objects = objects_of (made_of s knowns claims statements) 0 (entries_of mentions) } in
+    let t = meant_none (refusal_of s knowns claims statements mentions) whole tale (meant_whole (unmeant (kind_names claims) (parents_of (kind_names claims) claims) sentences) (judged_by s knowns claims statements mentions) tale meant) in
+    subst IsHeld t.1 (objects_held claims keys statements mentions (counted-source sentences) t.0)

@@ -1,4 +1,5 @@
 pub mod Held
 pub mod MadeDeclarations
 pub mod MadeObjects
+pub mod MadePlaces
 pub mod Outcomes

@@ -1,155 +1,157 @@
 -- The objects of the tale that sentences mean are what their kinds allow.
-use Rattle.std.proofs.Common.{◌≡◌, ℕ, zero, suc, ◌+◌, ◌-◌, ◌<◌, ◌≤◌, Bool, true, false, ◌&&◌, ltb, leb, List, [], ◌∷◌, ◌++◌, length, map, drop, Option, Some, None, refl, sym, ap, ◌∙◌, arith}
-use Rattle.std.specs.Prelude.{is_none, slice_get}
+use Rattle.std.proofs.Common.{◌≡◌, ℕ, zero, suc, ◌+◌, ◌<◌, ◌≤◌, Bool, true, ltb, leb, List, [], ◌∷◌, ◌++◌, length, map, Option, Some, None, refl, sym, ap, subst, arith, inl, inr}
+use Rattle.std.specs.Prelude.{take}
 use Rattle.std.specs.List.{list_all}
-use Rattle.std.proofs.lemmas.Bool.{ltb-true, lt-ltb, leb-true, le-leb}
-use Rattle.std.proofs.lemmas.Option.{get_or_from_slice_get}
-use Rattle.world_meaning.proofs.Bools.{both, both_are}
-use Rattle.world_meaning.specs.Chains.{IsChain, IsTree}
+use Rattle.std.proofs.lemmas.Bool.{lt-ltb, le-leb}
+use Rattle.world_meaning.proofs.Bools.{both, both_are, either}
 use Rattle.world_meaning.specs.Declarations.{is_below as is_kind_below}
-use Rattle.world_meaning.specs.Kinds.{built_in_parents, is_under}
-use Rattle.world_meaning.specs.Placing.{Kinds, can_be_held}
-use Rattle.world_meaning.specs.Sorts.{is_at, kinds_told, sorts_of, under_each}
-use Rattle.world_meaning.specs.Standing.{are_well_placed, is_at_or_none, lead_rightly, leads, place_at}
-use Rattle.world_meaning.specs.WellMade.{are_directions, begin_rightly, has_right_exits, is_direction, is_player, kinds_of, places_of}
-use Rattle.world_meaning.specs.declared.place.Place.{Place}
-use Rattle.world_meaning.specs.declared.place.Rel.TheVariants.{In}
-use Rattle.world_meaning.specs.declared.sorts.Sorts.{Sorts}
 use Rattle.world_meaning.specs.Directions.{all_directions, direction_number}
+use Rattle.world_meaning.specs.Kinds.{is_under}
+use Rattle.world_meaning.specs.Placing.{Kinds}
+use Rattle.world_meaning.specs.Sorts.{is_at, kinds_told, sorts_of, under_each}
+use Rattle.world_meaning.specs.Standing.{are_well_placed, is_at_or_none, is_well_placed, lead_rightly, leads, place_at}
+use Rattle.world_meaning.specs.WellMade.{are_directions, begin_rightly, has_right_exits, is_direction, is_player, kinds_of as kinds_in, places_of as places_in, stands_in_room}
 use Rattle.world_meaning.specs.declared.direction.Direction.{Direction}
+use Rattle.world_meaning.specs.declared.place.Place.{Place}
+use Rattle.world_meaning.specs.declared.sorts.Sorts.{Sorts}
 use Rattle.i7_kinds.specs.Demands.{target_of}
+use Rattle.i7_kinds.specs.Knowns.{is_of, kinds_known, kinds_of}
+use Rattle.i7_kinds.specs.Places.{Places}
 use Rattle.i7_kinds.specs.Statements.{NameAt}
+use Rattle.i7_kinds.specs.declared.entries.Entry.{Entry}
+use Rattle.i7_kinds.specs.declared.knowns.Known.{Known}
 use Rattle.i7_kinds.specs.declared.statements.NumberedSentence.{NumberedSentence}
-use Rattle.i7_kinds.specs.Tales.{direction_object, exits_of, objects_of, room_of, rooms_from, way_to}
-use Rattle.story_format.proofs.StoryLemmas.{get_dropped}
+use Rattle.i7_kinds.specs.Tales.{Made, author_entry, direction_entry, entries_of, exits_of, kind_at, object_as, object_of, objects_of, way_to}
+use Rattle.i7_kinds.proofs.Placed.{AreSuited, IsSuited}
+use Rattle.story_format.proofs.Known.{text_is_itself}
 
--- of n objects, this one is a room: they stand behind the player and the directions
-abbrev pub is_room_number : ℕ → ℕ → Bool
-is_room_number n o = leb 13 o && ltb o n
+-- ---- kinds and places, object by object
 
-abbrev pub is_room_or_none : ℕ → Option ℕ → Bool
-is_room_or_none n None = true
-is_room_or_none n (Some o) = is_room_number n o
+cons_same : {X : Type 0} (x y : X) (xs ys : List X) → x ≡ y → xs ≡ ys → x ∷ xs ≡ y ∷ ys
+cons_same x y xs ys h k = λ i. h i ∷ k i
 
--- ---- which objects are rooms
+kinds_from : (m : Made) (o : ℕ) (entries : List Entry) (ks : List ℕ) → length ks ≡ length entries → ((i j : ℕ) → o + i ≡ j → kind_at m.kinds j ≡ kind_at ks i) → kinds_in (objects_of m o entries) ≡ ks
+unfolding object_as
+kinds_from m o [] [] e h = refl
+kinds_from m o [] (k ∷ ks) e h = absurd cc
+kinds_from m o (entry ∷ entries) [] e h = absurd cc
+kinds_from m o (entry ∷ entries) (k ∷ ks) e h =
+    cons_same (kind_at m.kinds o) k (kinds_in (objects_of m (o + 1) entries)) ks (h 0 o (omega arith)) (kinds_from m (o + 1) entries ks (omega (arith, e)) (λ i j q. h (suc i) j (omega (arith, q))))
 
--- the built-in kinds, and the author's behind them
-abbrev pub parents_with : List (Option ℕ) → List (Option ℕ)
-parents_with others = built_in_parents ++ others
+pub objects_kinds : (m : Made) (entries : List Entry) → length m.kinds ≡ length entries → kinds_in (objects_of m 0 entries) ≡ m.kinds
+objects_kinds m entries e = kinds_from m 0 entries m.kinds e (λ i j q. let same : j ≡ i = omega (arith, q) in ap (kind_at m.kinds) same)
 
-abbrev pub sorts_of_objects : List (Option ℕ) → List NumberedSentence → List NameAt → Sorts
-sorts_of_objects others statements mentions = sorts_of (parents_with others) (kinds_of (objects_of statements mentions))
+places_from : (m : Made) (o : ℕ) (entries : List Entry) (ps : Places) → length ps ≡ length entries → ((i j : ℕ) → o + i ≡ j → place_at m.places j ≡ place_at ps i) → places_in (objects_of m o entries) ≡ ps
+unfolding object_as
+places_from m o [] [] e h = refl
+places_from m o [] (p ∷ ps) e h = absurd cc
+places_from m o (entry ∷ entries) [] e h = absurd cc
+places_from m o (entry ∷ entries) (p ∷ ps) e h =
+    cons_same (place_at m.places o) p (places_in (objects_of m (o + 1) entries)) ps (h 0 o (omega arith)) (places_from m (o + 1) entries ps (omega (arith, e)) (λ i j q. h (suc i) j (omega (arith, q))))
 
-rooms_told : (others : List (Option ℕ)) (statements : List NumberedSentence) (o i : ℕ) (mentions : List NameAt) → i < length mentions → slice_get (under_each (parents_with others) (kinds_of (rooms_from statements o mentions)) 1) i ≡ Some true
-unfolding room_of is_under built_in_parents
-rooms_told others statements o i [] lt = absurd (omega (arith, lt))
-rooms_told others statements o zero (at ∷ mentions) lt = refl
-rooms_told others statements o (suc i) (at ∷ mentions) lt = rooms_told others statements (o + 1) i mentions (omega (arith, lt))
+pub objects_places : (m : Made) (entries : List Entry) → length m.places ≡ length entries → places_in (objects_of m 0 entries) ≡ m.places
+objects_places m entries e = places_from m 0 entries m.places e (λ i j q. let same : j ≡ i = omega (arith, q) in ap (place_at m.places) same)
 
-rooms_last : (others : List (Option ℕ)) (statements : List NumberedSentence) (mentions : List NameAt) → drop 13 (under_each (parents_with others) (kinds_of (objects_of statements mentions)) 1) ≡ under_each (parents_with others) (kinds_of (rooms_from statements 13 mentions)) 1
-unfolding objects_of
-rooms_last others statements mentions = refl
+-- what is told of an object is what is known of it
+pub told : (parents : List (Option ℕ)) (knowns : List Known) (kind o : ℕ) → is_at (under_each parents (kinds_of knowns) kind) o ≡ is_of parents knowns kind o
+told parents [] kind o = refl
+told parents (known ∷ knowns) kind zero = refl
+told parents (known ∷ knowns) kind (suc o) = told parents knowns kind o
 
-pub room_at : (others : List (Option ℕ)) (statements : List NumberedSentence) (mentions : List NameAt) (o : ℕ) → is_room_number (13 + length mentions) o ≡ true → is_at (sorts_of_objects others statements mentions).rooms o ≡ true
+pub same_kinds : (parents : List (Option ℕ)) (knowns : List Known) → kinds_known parents knowns ≡ kinds_told (sorts_of parents (kinds_of knowns))
 unfolding sorts_of
-room_at others statements mentions o h =
-    let told = under_each (parents_with others) (kinds_of (objects_of statements mentions)) 1 in
-    let t = both_are (leb 13 o) (ltb o (13 + length mentions)) h in
-    let low : 13 ≤ o = leb-true _ _ t.0 in
-    let high : o < 13 + length mentions = ltb-true _ _ t.1 in
-    let there : slice_get told o ≡ Some true =
-    sym (get_dropped 13 (o - 13) o told (omega (arith, low))) ∙ ap (λ (later : List Bool). slice_get later (o - 13)) (rooms_last others statements mentions) ∙ rooms_told others statements 13 (o - 13) mentions (omega (arith, low, high)) in
-    get_or_from_slice_get told o true false there
+same_kinds parents knowns = λ i. record {
+  is_thing = λ o. sym (told parents knowns 0 o) i;
+  is_room = λ o. sym (told parents knowns 1 o) i;
+  is_door = λ o. sym (told parents knowns 3 o) i;
+  is_container = λ o. sym (told parents knowns 4 o) i;
+  is_supporter = λ o. sym (told parents knowns 5 o) i;
+  is_person = λ o. sym (told parents knowns 6 o) i;
+}
 
-pub room_or_none_at : (others : List (Option ℕ)) (statements : List NumberedSentence) (mentions : List NameAt) (o : Option ℕ) → is_room_or_none (13 + length mentions) o ≡ true → is_at_or_none (sorts_of_objects others statements mentions).rooms o ≡ true
-room_or_none_at others statements mentions None h = refl
-room_or_none_at others statements mentions (Some o) h = room_at others statements mentions o h
+pub kinds_counted : (knowns : List Known) → length (kinds_of knowns) ≡ length knowns
+kinds_counted [] = refl
+kinds_counted (known ∷ knowns) = ap suc (kinds_counted knowns)
+
+-- ---- each is of a kind that is declared
+
+pub kinds_held : (n : ℕ) (kinds : List ℕ) → ((o : ℕ) → kind_at kinds o < n) → list_all (is_kind_below n) kinds ≡ true
+kinds_held n [] h = refl
+kinds_held n (kind ∷ kinds) h = both (ltb kind n) (list_all (is_kind_below n) kinds) (lt-ltb kind n (h 0)) (kinds_held n kinds (λ o. h (suc o)))
+
+-- ---- each is where it may be
+
+well_placed : (kinds : Kinds) (o : ℕ) (place : Option Place) → IsSuited kinds o place → is_well_placed kinds o place ≡ true
+well_placed kinds o None h = refl
+well_placed kinds o (Some place) h = (both_are (is_well_placed kinds o (Some place)) _ h).0
+
+placed_from : (kinds : Kinds) (o : ℕ) (places : Places) → ((i j : ℕ) → o + i ≡ j → IsSuited kinds j (place_at places i)) → are_well_placed kinds o places ≡ true
+unfolding are_well_placed
+placed_from kinds o [] h = refl
+placed_from kinds o (place ∷ places) h =
+    both (is_well_placed kinds o place) (are_well_placed kinds (o + 1) places) (well_placed kinds o place (h 0 o (omega arith))) (placed_from kinds (o + 1) places (λ i j q. h (suc i) j (omega (arith, q))))
+
+pub all_placed : (kinds : Kinds) (places : Places) → AreSuited kinds places → are_well_placed kinds 0 places ≡ true
+all_placed kinds places h = placed_from kinds 0 places (λ i j q. let same : i ≡ j = omega (arith, q) in subst (λ (x : ℕ). IsSuited kinds x (place_at places i)) same (h i))
+
+-- ---- ways lead between rooms
 
 ways_lead : (sorts : Sorts) (targets : Direction → Option ℕ) (ds : List Direction) → ((d : Direction) → is_at_or_none sorts.rooms (targets d) ≡ true) → list_all (leads sorts) (map (λ d. way_to (targets d)) ds) ≡ true
 ways_lead sorts targets [] h = refl
 ways_lead sorts targets (d ∷ ds) h = both (leads sorts (way_to (targets d))) (list_all (leads sorts) (map (λ d. way_to (targets d)) ds)) (both (is_at_or_none sorts.rooms (targets d)) true (h d) refl) (ways_lead sorts targets ds h)
 
-room_leads : (others : List (Option ℕ)) (sorts : Sorts) (statements : List NumberedSentence) (o : ℕ) (at : NameAt) → ((room direction : ℕ) → is_at_or_none sorts.rooms (target_of statements room direction) ≡ true) → has_right_exits (parents_with others) sorts (room_of statements o at) ≡ true
-unfolding has_right_exits lead_rightly room_of exits_of is_under built_in_parents
-room_leads others sorts statements o at h = ways_lead sorts (λ d. target_of statements o (direction_number d)) all_directions (λ d. h o (direction_number d))
+abbrev pub LeadToRooms : Sorts → List NumberedSentence → Type 0
+LeadToRooms sorts statements = (room direction : ℕ) → is_at_or_none sorts.rooms (target_of statements room direction) ≡ true
 
-rooms_lead : (others : List (Option ℕ)) (sorts : Sorts) (statements : List NumberedSentence) (o : ℕ) (mentions : List NameAt) → ((room direction : ℕ) → is_at_or_none sorts.rooms (target_of statements room direction) ≡ true) → list_all (has_right_exits (parents_with others) sorts) (rooms_from statements o mentions) ≡ true
-rooms_lead others sorts statements o [] h = refl
-rooms_lead others sorts statements o (at ∷ mentions) h =
-    both (has_right_exits (parents_with others) sorts (room_of statements o at)) (list_all (has_right_exits (parents_with others) sorts) (rooms_from statements (o + 1) mentions)) (room_leads others sorts statements o at h) (rooms_lead others sorts statements (o + 1) mentions h)
+exits_lead : (sorts : Sorts) (statements : List NumberedSentence) (o : ℕ) → LeadToRooms sorts statements → lead_rightly sorts (exits_of statements o) ≡ true
+unfolding lead_rightly exits_of
+exits_lead sorts statements o h = ways_lead sorts (λ d. target_of statements o (direction_number d)) all_directions (λ d. h o (direction_number d))
 
-pub all_lead : (others : List (Option ℕ)) (sorts : Sorts) (statements : List NumberedSentence) (mentions : List NameAt) → ((room direction : ℕ) → is_at_or_none sorts.rooms (target_of statements room direction) ≡ true) → list_all (has_right_exits (parents_with others) sorts) (objects_of statements mentions) ≡ true
-unfolding objects_of has_right_exits is_under built_in_parents
-all_lead others sorts statements mentions h = rooms_lead others sorts statements 13 mentions h
+object_leads : (m : Made) (sorts : Sorts) (kind o : ℕ) (entry : Entry) → LeadToRooms sorts m.statements → has_right_exits m.parents sorts (object_as m kind o entry) ≡ true
+unfolding has_right_exits object_as
+object_leads m sorts kind o entry h =
+    elim (either (is_under m.parents kind 1)) [
+      | inl is ↦ rw is (exits_lead sorts m.statements o h)
+      | inr isnt ↦ rw isnt refl
+    ]
 
--- ---- which objects there are, and where
+pub all_lead : (m : Made) (sorts : Sorts) (o : ℕ) (entries : List Entry) → LeadToRooms sorts m.statements → list_all (has_right_exits m.parents sorts) (objects_of m o entries) ≡ true
+all_lead m sorts o [] h = refl
+all_lead m sorts o (entry ∷ entries) h =
+    both (has_right_exits m.parents sorts (object_of m o entry)) (list_all (has_right_exits m.parents sorts) (objects_of m (o + 1) entries)) (object_leads m sorts (kind_at m.kinds o) o entry h) (all_lead m sorts (o + 1) entries h)
 
-rooms_below : (n : ℕ) (statements : List NumberedSentence) (o : ℕ) (mentions : List NameAt) → ltb 1 n ≡ true → list_all (is_kind_below n) (kinds_of (rooms_from statements o mentions)) ≡ true
-unfolding room_of
-rooms_below n statements o [] h = refl
-rooms_below n statements o (at ∷ mentions) h = both (ltb 1 n) (list_all (is_kind_below n) (kinds_of (rooms_from statements (o + 1) mentions))) h (rooms_below n statements (o + 1) mentions h)
+-- ---- the objects that stand first
 
--- of so many kinds, the built-in ones among them
-pub kinds_held : (n : ℕ) (statements : List NumberedSentence) (mentions : List NameAt) → 10 ≤ n → list_all (is_kind_below n) (kinds_of (objects_of statements mentions)) ≡ true
-unfolding objects_of
-kinds_held n statements mentions many =
-    let person : ltb 6 n ≡ true = lt-ltb _ _ (omega (arith, many)) in
-    let way : ltb 2 n ≡ true = lt-ltb _ _ (omega (arith, many)) in
-    rw (person, way) (rooms_below n statements 13 mentions (lt-ltb _ _ (omega (arith, many))))
+abbrev pub IsDirectionAt : Made → ℕ → Type 0
+IsDirectionAt m o = (is_under m.parents (kind_at m.kinds o) 2 ≡ true) × (place_at m.places o ≡ None)
 
-rooms_placed : (kinds : Kinds) (statements : List NumberedSentence) (o p : ℕ) (mentions : List NameAt) → are_well_placed kinds p (places_of (rooms_from statements o mentions)) ≡ true
-unfolding are_well_placed room_of
-rooms_placed kinds statements o p [] = refl
-rooms_placed kinds statements o p (at ∷ mentions) = rooms_placed kinds statements (o + 1) (p + 1) mentions
+directions_right : (m : Made) (o : ℕ) (ds : List Direction) → ((i j : ℕ) → o + i ≡ j → i < length ds → IsDirectionAt m j) → are_directions m.parents ds (objects_of m o (map direction_entry ds)) ≡ true
+unfolding are_directions is_direction object_as
+directions_right m o [] h = refl
+directions_right m o (d ∷ ds) h =
+    let t = h 0 o (omega arith) (omega arith) in
+    let rest : are_directions m.parents ds (objects_of m (o + 1) (map direction_entry ds)) ≡ true = directions_right m (o + 1) ds (λ i j q lt. h (suc i) j (omega (arith, q)) (omega (arith, lt))) in
+    rw (t.0, t.1, text_is_itself (direction_entry d).name) rest
 
-pub all_placed : (kinds : Kinds) (statements : List NumberedSentence) (mentions : List NameAt) → can_be_held kinds 0 ≡ true → kinds.is_room 13 ≡ true → are_well_placed kinds 0 (places_of (objects_of statements mentions)) ≡ true
-unfolding are_well_placed objects_of
-all_placed kinds statements mentions held room = rw (held, room) (rooms_placed kinds statements 13 13 mentions)
+objects_counted : (m : Made) (o : ℕ) (entries : List Entry) → length (objects_of m o entries) ≡ length entries
+objects_counted m o [] = refl
+objects_counted m o (entry ∷ entries) = ap suc (objects_counted m (o + 1) entries)
 
-pub player_held : (others : List (Option ℕ)) (statements : List NumberedSentence) (mentions : List NameAt) → can_be_held (kinds_told (sorts_of_objects others statements mentions)) 0 ≡ true
-unfolding sorts_of objects_of is_under built_in_parents
-player_held others statements mentions = refl
+authors_counted : (mentions : List NameAt) → length (map author_entry mentions) ≡ length mentions
+authors_counted [] = refl
+authors_counted (at ∷ mentions) = ap suc (authors_counted mentions)
 
-rooms_nowhere : (statements : List NumberedSentence) (o : ℕ) (mentions : List NameAt) → list_all (λ p. is_none p) (places_of (rooms_from statements o mentions)) ≡ true
-unfolding room_of
-rooms_nowhere statements o [] = refl
-rooms_nowhere statements o (at ∷ mentions) = rooms_nowhere statements (o + 1) mentions
+pub entries_counted : (mentions : List NameAt) → length (entries_of mentions) ≡ 13 + length mentions
+unfolding entries_of
+entries_counted mentions = omega (arith, authors_counted mentions)
 
-abbrev behind_player : List NumberedSentence → List NameAt → List (Option Place)
-behind_player statements mentions = drop 1 (places_of (objects_of statements mentions))
-
-others_nowhere : (statements : List NumberedSentence) (mentions : List NameAt) → list_all (λ p. is_none p) (behind_player statements mentions) ≡ true
-unfolding objects_of
-others_nowhere statements mentions = rooms_nowhere statements 13 mentions
-
-nowhere_at : (places : List (Option Place)) (n : ℕ) → list_all (λ p. is_none p) places ≡ true → place_at places n ≡ None
-nowhere_at [] n h = refl
-nowhere_at (None ∷ places) zero h = refl
-nowhere_at (Some p ∷ places) zero h = absurd cc
-nowhere_at (None ∷ places) (suc n) h = nowhere_at places n h
-nowhere_at (Some p ∷ places) (suc n) h = absurd cc
-
--- the player is in a room that nothing holds
-tree_of : (place : Place) (others : List (Option Place)) (n : ℕ) → place.holder ≡ suc n → list_all (λ p. is_none p) others ≡ true → IsTree (place_at (Some place ∷ others))
-tree_of place others n e h = record { ends = λ thing. by_number thing }
-  where
-    by_number : (thing : ℕ) → (steps : List Place) × IsChain (place_at (Some place ∷ others)) thing steps
-    by_number zero = (place ∷ [], (refl, ap (place_at (Some place ∷ others)) e ∙ nowhere_at others n h))
-    by_number (suc k) = ([], nowhere_at others k h)
-
-pub tree_held : (statements : List NumberedSentence) (mentions : List NameAt) → IsTree (place_at (places_of (objects_of statements mentions)))
-unfolding objects_of
-tree_held statements mentions = tree_of (record { relation = In; holder = 13 }) (behind_player statements mentions) 12 refl (others_nowhere statements mentions)
-
-rooms_counted : (statements : List NumberedSentence) (o : ℕ) (mentions : List NameAt) → length (rooms_from statements o mentions) ≡ length mentions
-rooms_counted statements o [] = refl
-rooms_counted statements o (at ∷ mentions) = ap suc (rooms_counted statements (o + 1) mentions)
-
-pub begins_held : (others : List (Option ℕ)) (rooms : List Bool) (statements : List NumberedSentence) (mentions : List NameAt) → 13 + length mentions ≤ 1000 → is_at rooms 13 ≡ true → begin_rightly (parents_with others) rooms (objects_of statements mentions) ≡ true
-unfolding begin_rightly objects_of is_player are_directions is_direction is_under built_in_parents
-begins_held others rooms statements mentions few start =
-    let behind = map direction_object all_directions ++ rooms_from statements 13 mentions in
-    let count : length behind ≡ 12 + length mentions = omega (arith, rooms_counted statements 13 mentions) in
+pub begins_held : (m : Made) (rooms : List Bool) (mentions : List NameAt) → 13 + length mentions ≤ 1000 → is_under m.parents (kind_at m.kinds 0) 6 ≡ true → stands_in_room rooms (place_at m.places 0) ≡ true → ((o : ℕ) → 1 ≤ o → o ≤ 12 → IsDirectionAt m o)
+    → begin_rightly m.parents rooms (objects_of m 0 (entries_of mentions)) ≡ true
+unfolding begin_rightly entries_of is_player object_as
+begins_held m rooms mentions few person stands directions =
+    let behind = objects_of m 1 (map direction_entry all_directions ++ map author_entry mentions) in
+    let count : length behind ≡ 12 + length mentions = omega (arith, objects_counted m 1 (map direction_entry all_directions ++ map author_entry mentions), authors_counted mentions) in
     let few_others : leb (length behind) 999 ≡ true = le-leb _ _ (omega (arith, count, few)) in
     let many_others : leb 12 (length behind) ≡ true = le-leb _ _ (omega (arith, count)) in
-    rw (few_others, many_others, start) refl
+    let right : are_directions m.parents all_directions (take 12 behind) ≡ true = directions_right m 1 all_directions (λ i j q lt. directions j (omega (arith, q)) (omega (arith, q, lt))) in
+    rw (few_others, many_others, person, stands, right) refl

@@ -43,11 +43,6 @@ const REFUSED: &[(&str, FaultCode, u32)] = &[
     ),
     ("The Hall of Mirrors is a room.", FaultCode::ReservedWord, 1),
     ("The is a room.", FaultCode::ReservedWord, 1),
-    (
-        "The Hall and the Yard are a room.",
-        FaultCode::NotUnderstood,
-        1,
-    ),
     ("North is a room.", FaultCode::WrongKind, 1),
     ("The player is a room.", FaultCode::WrongKind, 1),
     (
@@ -66,9 +61,39 @@ const REFUSED: &[(&str, FaultCode, u32)] = &[
         3,
     ),
     (
-        "The Hall is a room.\nThe ball is in the Hall.",
+        "The Hall is a room.\nThe hat is worn by Bob.",
         FaultCode::NotUnderstood,
         2,
+    ),
+    (
+        "The Hall is a room.\nThe ball is in the Hall. \"Round.\"",
+        FaultCode::WrongKind,
+        2,
+    ),
+    (
+        "The Hall is a room.\nThe box is a container.\nThe ball is on the box.",
+        FaultCode::WrongKind,
+        3,
+    ),
+    (
+        "The Hall is a room.\nThe ball is in the cup.\nThe cup is a supporter.",
+        FaultCode::WrongKind,
+        2,
+    ),
+    (
+        "The Hall is a room.\nThe player is on the desk.",
+        FaultCode::WrongKind,
+        2,
+    ),
+    (
+        "The Hall is a room.\nThe ball is in the Hall.\n\nThe ball is on the desk.",
+        FaultCode::TwoPlaces,
+        4,
+    ),
+    (
+        "The Hall is a room.\nThe pea is in the pod.\nThe pod is on the dish.\nThe dish is part of the pea.",
+        FaultCode::Cycle,
+        4,
     ),
     ("Nothing is a room.", FaultCode::Twice, 1),
     (
@@ -146,6 +171,10 @@ const REFUSED: &[(&str, FaultCode, u32)] = &[
 const TAKEN: &[&str] = &[
     "the HALL IS A Room",
     "Hall are a room.",
+    "The Hall and the Yard are a room.",
+    "The ball is in the cup. The cup is on the desk. The desk is in the Hall. The Hall is a room.",
+    "The Yard is a room. The Hall is a room. The player is in the Hall. The arm is part of the player.",
+    "A chest is a kind of container. The Hall is a room. The ball is in the trunk. The trunk is a chest in the Hall.",
     "007 is a room.",
     "2147483647 is a room.",
     "The Hall is a room.\n\"9999999999.\"\n",

@@ -1,25 +1,31 @@
-use Rattle.std.proofs.Common.{◌≤◌, ap, length, subst, sym, ◌∙◌}
-use Rattle.i7_kinds.specs.Bounds.{LeadWithin}
-use Rattle.i7_kinds.specs.Views.{mentions_of}
-use Rattle.i7_kinds.proofs.Bounds.{earlier_none, frame_names, frame_within}
+use Rattle.std.proofs.Common.{sym, ◌∙◌, subst, length, ◌≤◌, List, ℕ}
 use Rattle.i7_kinds.specs.KindClaims.{AreSmallKinds, parents_of}
-use Rattle.i7_kinds.specs.declared.name_faults.NameFaults.{NameFaults}
-use Rattle.i7_kinds.proofs.KindScans.{kinds_small, parents_few}
+use Rattle.i7_kinds.specs.Views.{mentions_of}
+use Rattle.i7_kinds.proofs.Readiness.{ready_at}
 use Rattle.i7_kinds.proofs.tale.judged.Goals as goal
 
-pub objects_of-requires-clause-within : goal.objects_of-requires-clause-within
-objects_of-requires-clause-within c =
-    subst (λ statements. LeadWithin statements) (sym c.in_ok-ways.ensures)
-    (frame_within _ c.args.statements.now (mentions_of c.args.mentions.now) c.requires (sym c.frame_refusal.ensures ∙ c.in_default.is))
+pub objects_meant-requires-clause-within : goal.objects_meant-requires-clause-within
+objects_meant-requires-clause-within c =
+    (ready_at c.args.scope.now c.args.claims.now c.args.statements.now _ (mentions_of c.args.mentions.now) _ c.in_ok-ways.ensures (c.as_slice-known.ensures.value ∙ c.in_ok-knowns.ensures) c.requires.scope c.requires.within c.requires.counted (sym c.in_ok-fault.ensures ∙ c.in_default.is)).within
+
+pub objects_meant-requires-clause-few_kinds : goal.objects_meant-requires-clause-few_kinds
+objects_meant-requires-clause-few_kinds c =
+    (ready_at c.args.scope.now c.args.claims.now c.args.statements.now _ (mentions_of c.args.mentions.now) _ c.in_ok-ways.ensures (c.as_slice-known.ensures.value ∙ c.in_ok-knowns.ensures) c.requires.scope c.requires.within c.requires.counted (sym c.in_ok-fault.ensures ∙ c.in_default.is)).few_kinds
+
+pub objects_meant-requires-clause-small_kinds : goal.objects_meant-requires-clause-small_kinds
+objects_meant-requires-clause-small_kinds c =
+    (ready_at c.args.scope.now c.args.claims.now c.args.statements.now _ (mentions_of c.args.mentions.now) _ c.in_ok-ways.ensures (c.as_slice-known.ensures.value ∙ c.in_ok-knowns.ensures) c.requires.scope c.requires.within c.requires.counted (sym c.in_ok-fault.ensures ∙ c.in_default.is)).small_kinds
+
+pub objects_meant-requires-clause-small_places : goal.objects_meant-requires-clause-small_places
+objects_meant-requires-clause-small_places c =
+    (ready_at c.args.scope.now c.args.claims.now c.args.statements.now _ (mentions_of c.args.mentions.now) _ c.in_ok-ways.ensures (c.as_slice-known.ensures.value ∙ c.in_ok-knowns.ensures) c.requires.scope c.requires.within c.requires.counted (sym c.in_ok-fault.ensures ∙ c.in_default.is)).small_places
 
 pub declared_by-requires-clause-few : goal.declared_by-requires-clause-few
 declared_by-requires-clause-few c =
-    let none = frame_names _ _ _ (sym c.frame_refusal.ensures ∙ c.in_default.is) in
-    let few = sym (ap (λ (faults : NameFaults). faults.too_many) c.in_ok-faults.ensures) ∙ none.2 in
-    subst (λ names. AreSmallKinds (parents_of names c.args.claims.now)) (sym c.in_ok-kinds.ensures) (kinds_small c.args.claims.now (earlier_none _ _ few).0)
+    let r = ready_at c.args.scope.now c.args.claims.now c.args.statements.now _ (mentions_of c.args.mentions.now) _ c.in_ok-ways.ensures (c.as_slice-known.ensures.value ∙ c.in_ok-knowns.ensures) c.requires.scope c.requires.within c.requires.counted (sym c.in_ok-fault.ensures ∙ c.in_default.is) in
+    subst (λ (names : List (List ℕ)). AreSmallKinds (parents_of names c.args.claims.now)) (sym c.kinds.ensures) r.few_declared
 
 pub declared_by-requires-clause-short : goal.declared_by-requires-clause-short
 declared_by-requires-clause-short c =
-    let none = frame_names _ _ _ (sym c.frame_refusal.ensures ∙ c.in_default.is) in
-    let few = sym (ap (λ (faults : NameFaults). faults.too_many) c.in_ok-faults.ensures) ∙ none.2 in
-    subst (λ names. length (parents_of names c.args.claims.now) ≤ 100) (sym c.in_ok-kinds.ensures) (parents_few c.args.claims.now (earlier_none _ _ few).0)
+    let r = ready_at c.args.scope.now c.args.claims.now c.args.statements.now _ (mentions_of c.args.mentions.now) _ c.in_ok-ways.ensures (c.as_slice-known.ensures.value ∙ c.in_ok-knowns.ensures) c.requires.scope c.requires.within c.requires.counted (sym c.in_ok-fault.ensures ∙ c.in_default.is) in
+    subst (λ (names : List (List ℕ)). length (parents_of names c.args.claims.now) ≤ 100) (sym c.kinds.ensures) r.short

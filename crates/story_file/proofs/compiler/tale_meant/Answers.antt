@@ -25,3 +25,10 @@ returns-in_err-tale-clause-refused c =
       })
       | inr is ↦ memory c.in_ok-lexed.ensures.readable.short is
     ])
+
+pub returns-clause-meant : goal.returns-clause-meant
+returns-clause-meant c = record {
+  sentences = c.in_ok-sentences.sentences.items;
+  says = record { tokens = c.in_ok-lexed.lexed; spells = c.in_ok-lexed.ensures; reads = c.in_ok-sentences.ensures };
+  meant = ap tale_said (sym c.as_slice.ensures.value) ∙ c.in_ok-tale.ensures.told;
+}

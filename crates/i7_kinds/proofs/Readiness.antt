@@ -1,0 +1,108 @@
+-- Where no refusal stands, objects have kinds and places of small numbers.
+use Rattle.std.proofs.Common.{◌≡◌, ℕ, suc, ◌+◌, ◌≤◌, List, [], ◌∷◌, length, map, Option, sym, ap, ◌∙◌, subst, arith}
+use Rattle.std.specs.Prelude.{None}
+use Rattle.i7_kinds.specs.Bounds.{AreSmallKnowns, AreSmallPlaces, AreWithin, LeadWithin}
+use Rattle.i7_kinds.specs.Demands.{descriptions_of, wrong_kind}
+use Rattle.i7_kinds.specs.KindClaims.{AreSmallKinds, kind_names, kind_too_many, parents_of, unknown_kind}
+use Rattle.i7_kinds.specs.Knowns.{Scope, kind_of, known_at, knowns_of, off_path}
+use Rattle.i7_kinds.specs.Places.{places_by}
+use Rattle.i7_kinds.specs.Scans.{earlier}
+use Rattle.i7_kinds.specs.Sorts.{name_too_many}
+use Rattle.i7_sentences.specs.declared.sentence.Sentence.{Sentence}
+use Rattle.i7_kinds.specs.Statements.{NameAt, Named, named_by, statement_in}
+use Rattle.i7_kinds.specs.Suits.{first_room, unsuited, with_player}
+use Rattle.i7_kinds.specs.Tales.{faults_of, frame_refusal, limit_refusal, judged, refusal_of, said_by, said_in, scope_of, unless_unmeant, unmeant}
+use Rattle.i7_kinds.specs.declared.claim.Claim.{Claim}
+use Rattle.i7_kinds.specs.declared.knowns.Known.{Known}
+use Rattle.i7_kinds.specs.declared.statements.NumberedSentence.{NumberedSentence}
+use Rattle.i7_kinds.proofs.Bounds.{counted-source, earlier_none, first_none_both, frame_parts, lead-within, source-within}
+use Rattle.i7_kinds.proofs.Fines.{AreFine, base, kind_few, knowns_counted, knowns_fine}
+use Rattle.i7_kinds.proofs.KindScans.{kind_names_counted, kinds_small, parents_are_kinds, parents_few}
+use Rattle.i7_kinds.proofs.Placed.{places_small}
+use Rattle.i7_kinds.proofs.Rooted.{counts_grow, number_there}
+
+pub kinds_many : (claims : List Claim) → 10 ≤ length (parents_of (kind_names claims) claims)
+kinds_many claims = omega (arith, counts_grow claims 10, parents_are_kinds (kind_names claims) claims)
+
+pub fine_of : (claims : List Claim) (keys : List (List ℕ)) → unknown_kind (kind_names claims) claims ≡ None → off_path (scope_of claims keys) claims ≡ None
+    → AreFine (parents_of (kind_names claims) claims) (length (parents_of (kind_names claims) claims)) (knowns_of (scope_of claims keys) claims)
+fine_of claims keys unknown off =
+    let names = kind_names claims in
+    knowns_fine (scope_of claims keys) (length (parents_of names claims)) claims (λ kind h. omega (arith, number_there names kind h, kind_names_counted claims, parents_are_kinds names claims)) (kinds_many claims) off unknown
+
+small_kinds : (knowns : List Known) → ((o : ℕ) → kind_of (known_at knowns o) ≤ 100) → AreSmallKnowns knowns
+small_kinds [] h = tt
+small_kinds (known ∷ knowns) h = (h 0, small_kinds knowns (λ o. h (suc o)))
+
+kinds_are_small : (parents : List (Option ℕ)) (knowns : List Known) → 10 ≤ length parents → length parents ≤ 100 → AreFine parents (length parents) knowns → AreSmallKnowns knowns
+kinds_are_small parents knowns many few fine =
+    small_kinds knowns (λ o. let lt = kind_few parents (length parents) (base o) (known_at knowns o).demanded (known_at knowns o).holds many (fine o) in omega (arith, lt, few))
+
+-- what no refusal says of the objects
+pub record Ready (s : Scope) (knowns : List Known) (claims : List Claim) (statements : List NumberedSentence) : Type 0 where
+  pub within : LeadWithin statements
+  pub few_kinds : AreSmallKinds s.parents
+  pub few_declared : AreSmallKinds (parents_of s.kinds claims)
+  pub short : length (parents_of s.kinds claims) ≤ 100
+  pub small_kinds : AreSmallKnowns knowns
+  pub small_places : AreSmallPlaces (with_player (places_by s.objects claims) (first_room s.parents knowns))
+
+ready : (claims : List Claim) (keys : List (List ℕ)) (statements : List NumberedSentence) (mentions : List NameAt) → AreWithin (length keys) statements → length keys ≡ 13 + length mentions
+    → refusal_of (scope_of claims keys) (knowns_of (scope_of claims keys) claims) claims statements mentions ≡ None → Ready (scope_of claims keys) (knowns_of (scope_of claims keys) claims) claims statements
+ready claims keys statements mentions within counted none =
+    let s = scope_of claims keys in
+    let knowns = knowns_of s claims in
+    let faults = faults_of s knowns claims statements in
+    let room = first_room s.parents knowns in
+    let t = first_none_both (frame_refusal faults mentions room) (limit_refusal (descriptions_of s.parents knowns statements) mentions) none in
+    let fine = frame_parts faults mentions room t.0 in
+    let off = earlier_none (off_path s claims) (earlier (unsuited s knowns claims) (wrong_kind s.parents knowns statements)) fine.wrong in
+    let many = earlier_none (kind_too_many claims) (name_too_many claims) fine.too_many in
+    let few : length keys ≤ 1000 = omega (arith, counted, fine.few) in
+    let known : length knowns ≡ 13 + length mentions = knowns_counted s claims (length mentions) counted in
+    record {
+      within = lead-within (length keys) statements few within;
+      few_kinds = kinds_small claims many.0;
+      few_declared = kinds_small claims many.0;
+      short = parents_few claims many.0;
+      small_kinds = kinds_are_small s.parents knowns (kinds_many claims) (parents_few claims many.0) (fine_of claims keys fine.unknown off.0);
+      small_places = places_small keys claims s.parents knowns few (omega (arith, known)) (omega (arith, known, fine.few));
+    }
+
+ready_by : (s : Scope) (claims : List Claim) (statements : List NumberedSentence) (mentions : List NameAt) → s ≡ scope_of claims s.objects → AreWithin (length s.objects) statements → length s.objects ≡ 13 + length mentions
+    → refusal_of s (knowns_of s claims) claims statements mentions ≡ None → Ready s (knowns_of s claims) claims statements
+ready_by s claims statements mentions same within counted =
+    subst (λ (x : Scope). refusal_of x (knowns_of x claims) claims statements mentions ≡ None → Ready x (knowns_of x claims) claims statements) (sym same) (ready claims s.objects statements mentions within counted)
+
+-- by what is equal to the statements and to what is known
+pub ready_at : (s : Scope) (claims : List Claim) (statements stated : List NumberedSentence) (mentions : List NameAt) (knowns : List Known) → stated ≡ statements → knowns ≡ knowns_of s claims → s ≡ scope_of claims s.objects → AreWithin (length s.objects) statements
+    → length s.objects ≡ 13 + length mentions → refusal_of s knowns claims stated mentions ≡ None → Ready s knowns claims stated
+ready_at s claims statements stated mentions knowns same_statements same_knowns same within counted none =
+    subst (λ (k : List Known). refusal_of s k claims stated mentions ≡ None → Ready s k claims stated) (sym same_knowns)
+    (subst (λ (w : List NumberedSentence). refusal_of s (knowns_of s claims) claims w mentions ≡ None → Ready s (knowns_of s claims) claims w) (sym same_statements) (ready_by s claims statements mentions same within counted))
+    none
+
+-- the names and the statements of a source
+pub named_within : (sentences : List Sentence) (named : Named) → named ≡ named_by sentences → AreWithin (length named.keys) (map (statement_in named) sentences)
+named_within sentences named same = subst (λ (n : Named). AreWithin (length n.keys) (map (statement_in n) sentences)) (sym same) (source-within sentences)
+
+pub named_counted : (sentences : List Sentence) (named : Named) → named ≡ named_by sentences → length named.keys ≡ 13 + length named.mentions
+named_counted sentences named same = subst (λ (n : Named). length n.keys ≡ 13 + length n.mentions) (sym same) (counted-source sentences)
+
+-- ---- from the code's names to the sentences'
+
+abbrev pub scope_with : List (List ℕ) → List (Option ℕ) → List (List ℕ) → Scope
+scope_with kinds parents objects = record { objects = objects; kinds = kinds; parents = parents }
+
+pub said_same : (kinds : List (List ℕ)) (parents : List (Option ℕ)) (claims : List Claim) (sentences : List Sentence) (s : Scope) (statements : List NumberedSentence) (mentions : List NameAt) (line : Option ℕ) (named : Named)
+    → named ≡ named_by sentences → s ≡ scope_with kinds parents named.keys → statements ≡ map (statement_in named) sentences → mentions ≡ named.mentions → line ≡ unmeant kinds parents sentences → line ≡ None
+    → judged s claims statements mentions ≡ said_in kinds parents claims sentences
+said_same kinds parents claims sentences s statements mentions line named same scope stated mentioned meant none =
+    let of_names = λ (n : Named). judged (scope_with kinds parents n.keys) claims (map (statement_in n) sentences) n.mentions in
+    (λ i. judged (scope i) claims (stated i) (mentioned i))
+    ∙ ap of_names same
+    ∙ sym (ap (λ (l : Option ℕ). unless_unmeant l (of_names (named_by sentences))) (sym meant ∙ none))
+
+pub said_above : (claims : List Claim) (sentences : List Sentence) (kinds : List (List ℕ)) (parents : List (Option ℕ)) → kinds ≡ kind_names claims → parents ≡ parents_of kinds claims → said_in kinds parents claims sentences ≡ said_by claims sentences
+said_above claims sentences kinds parents named above =
+    ap (λ (ps : List (Option ℕ)). said_in kinds ps claims sentences) above ∙ ap (λ (names : List (List ℕ)). said_in names (parents_of names claims) claims sentences) named

@@ -1,0 +1,63 @@
+-- What lies under what among the kinds of a source.
+use Rattle.std.proofs.Common.{◌≡◌, ℕ, Bool, true, false, List, ◌++◌, Option, refl, sym, ◌∙◌, subst, inl, inr, ◌⊎◌, ⊎_elim, true≢false}
+use Rattle.std.specs.Prelude.{Some, slice_get}
+use Rattle.world_meaning.proofs.Climbs.{climbs_decide}
+use Rattle.world_meaning.specs.Kinds.{Under, itself, above, built_in_parents, is_under}
+
+pub trans : (S : List (Option ℕ)) (a b c : ℕ) → Under S a b → Under S b c → Under S a c
+trans S a b c itself v = v
+trans S a b c (above {parent = p} h u) v = above h (trans S p b c u v)
+
+same_parent : (o : Option (Option ℕ)) (p q : ℕ) → o ≡ Some (Some p) → o ≡ Some (Some q) → p ≡ q
+same_parent o p q h k = cc
+
+-- two kinds above one lie on its path
+pub comparable : (S : List (Option ℕ)) (d i j : ℕ) → Under S d i → Under S d j → Under S i j ⊎ Under S j i
+comparable S d i j itself u = inl u
+comparable S d i j (above h v) itself = inr (above h v)
+comparable S d i j (above {parent = p} h v) (above {parent = q} k u) =
+    comparable S p i j v (subst (λ (o : ℕ). Under S o j) (same_parent (slice_get S d) q p k h) u)
+
+abbrev pub Apart : List (Option ℕ) → ℕ → ℕ → Type 0
+Apart S i j = (is_under S i j ≡ false) × (is_under S j i ≡ false)
+
+-- what lies under one of two kinds that are apart doesn't lie under the other
+pub not_both : (S : List (Option ℕ)) (d i j : ℕ) → Apart S i j → Under S d i → Under S d j → ⊥
+not_both S d i j apart u v =
+    ⊎_elim (λ w. true≢false (sym ((climbs_decide S i j).1 w) ∙ apart.0)) (λ w. true≢false (sym ((climbs_decide S j i).1 w) ∙ apart.1)) (comparable S d i j u v)
+
+false_if : (b : Bool) → (b ≡ true → ⊥) → b ≡ false
+false_if true h = absurd (h refl)
+false_if false h = refl
+
+pub isnt_under : (S : List (Option ℕ)) (d i j : ℕ) → Apart S i j → Under S d i → is_under S d j ≡ false
+isnt_under S d i j apart u = false_if (is_under S d j) (λ h. not_both S d i j apart u ((climbs_decide S d j).0 h))
+
+-- ---- the built-in kinds
+
+abbrev pub with_others : List (Option ℕ) → List (Option ℕ)
+with_others others = built_in_parents ++ others
+
+pub person_is_thing : (others : List (Option ℕ)) → is_under (with_others others) 6 0 ≡ true
+unfolding is_under built_in_parents
+person_is_thing others = refl
+
+pub person_and_door : (others : List (Option ℕ)) → Apart (with_others others) 6 3
+unfolding is_under built_in_parents
+person_and_door others = (refl, refl)
+
+pub room_and_thing : (others : List (Option ℕ)) → Apart (with_others others) 1 0
+unfolding is_under built_in_parents
+room_and_thing others = (refl, refl)
+
+pub direction_and_thing : (others : List (Option ℕ)) → Apart (with_others others) 2 0
+unfolding is_under built_in_parents
+direction_and_thing others = (refl, refl)
+
+pub direction_and_room : (others : List (Option ℕ)) → Apart (with_others others) 2 1
+unfolding is_under built_in_parents
+direction_and_room others = (refl, refl)
+
+pub person_and_room : (others : List (Option ℕ)) → Apart (with_others others) 6 1
+unfolding is_under built_in_parents
+person_and_room others = (refl, refl)

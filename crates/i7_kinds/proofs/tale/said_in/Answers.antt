@@ -1,0 +1,27 @@
+use Rattle.std.proofs.Common.{◌+◌, sym, ◌∙◌, subst, ap, length, List, ℕ}
+use Rattle.i7_kinds.specs.Bounds.{AreWithin}
+use Rattle.i7_kinds.specs.Knowns.{Scope}
+use Rattle.i7_kinds.specs.Statements.{NameAt}
+use Rattle.i7_kinds.specs.Views.{mentions_of, names_of}
+use Rattle.i7_kinds.specs.declared.statements.NumberedSentence.{NumberedSentence}
+use Rattle.i7_kinds.proofs.Readiness.{named_counted, named_within, said_same, scope_with}
+use Rattle.i7_kinds.proofs.tale.said_in.Goals as goal
+
+pub judged-requires-clause-within : goal.judged-requires-clause-within
+judged-requires-clause-within c =
+    let objects = ap (λ (s : Scope). s.objects) c.new-scope.ensures ∙ c.keys.ensures in
+    let statements = c.as_slice.ensures.value ∙ c.in_ok-statements.ensures in
+    subst (λ (os : List (List ℕ)). AreWithin (length os) c.as_slice.result.now) (sym objects)
+    (subst (λ (ss : List NumberedSentence). AreWithin (length (names_of c.in_ok-names.names).keys) ss) (sym statements) (named_within c.args.sentences.now (names_of c.in_ok-names.names) c.in_ok-names.ensures))
+
+pub judged-requires-clause-counted : goal.judged-requires-clause-counted
+judged-requires-clause-counted c =
+    ap (λ (s : Scope). length s.objects) c.new-scope.ensures ∙ ap (λ (os : List (List ℕ)). length os) c.keys.ensures
+    ∙ named_counted c.args.sentences.now (names_of c.in_ok-names.names) c.in_ok-names.ensures
+    ∙ ap (λ (ms : List NameAt). 13 + length ms) (sym c.mentions-mentions.ensures)
+
+pub returns : goal.returns
+returns c =
+    c.in_ok-said.ensures
+    ∙ said_same c.args.kinds.now c.args.parents.now c.args.claims.now c.args.sentences.now c.new-scope.result c.as_slice.result.now (mentions_of c.mentions-mentions.result.now) c.in_ok-line.field-0 (names_of c.in_ok-names.names)
+    c.in_ok-names.ensures (c.new-scope.ensures ∙ ap (scope_with c.args.kinds.now c.args.parents.now) c.keys.ensures) (c.as_slice.ensures.value ∙ c.in_ok-statements.ensures) c.mentions-mentions.ensures c.in_ok-line.ensures c.in_default.is

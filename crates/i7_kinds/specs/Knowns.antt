@@ -1,0 +1,130 @@
+-- The kinds of objects: the deepest kind that is demanded of each, all of its demands lying on one path.
+use Rattle.std.specs.Prelude.{ℕ, ◌-◌, Bool, true, false, ◌==◌, List, ◌∷◌, ◌++◌, length, map, fold, replicate, slice_get, slice_index_or, slice_set, Option, Some, None, if◌then◌else◌}
+use Rattle.world_meaning.specs.Kinds.{direction_kind, is_under, person_kind}
+use Rattle.world_meaning.specs.Placing.{Kinds}
+use Rattle.world_meaning.specs.declared.place.Rel.{Rel}
+use Rattle.world_meaning.specs.declared.place.Rel.TheVariants.{In}
+use Rattle.i7_kinds.specs.Numbers.{number_in}
+use Rattle.i7_kinds.specs.Scans.{lowest}
+use Rattle.i7_kinds.specs.declared.claim.Claim.{Claim}
+use Rattle.i7_kinds.specs.declared.claim.Demand.{Demand}
+use Rattle.i7_kinds.specs.declared.claim.Fact.{Fact}
+use Rattle.i7_kinds.specs.declared.claim.Fact.TheVariants.{Demands, Placed}
+use Rattle.i7_kinds.specs.declared.claim.Placing.{Placing}
+use Rattle.i7_kinds.specs.declared.knowns.Demanded.{Demanded}
+use Rattle.i7_kinds.specs.declared.knowns.Demanded.TheVariants.{Nothing, Deepest, Parted}
+use Rattle.i7_kinds.specs.declared.knowns.Known.{Known}
+
+-- the names of objects and of kinds, by number, and of each kind the kind above it
+pub record Scope : Type 0 where
+  pub objects : List (List ℕ)
+  pub kinds : List (List ℕ)
+  pub parents : List (Option ℕ)
+
+-- ---- what is known of an object by the claims so far
+
+abbrev pub unknown : Known
+unknown = record { demanded = Nothing; holds = false }
+
+abbrev pub known_as : ℕ → Known
+known_as kind = record { demanded = Deepest kind; holds = false }
+
+-- of so many objects: the player, the directions, and the author's
+abbrev pub first_knowns : ℕ → List Known
+first_knowns count = known_as person_kind ∷ replicate 12 (known_as direction_kind) ++ replicate (count - 13) unknown
+
+abbrev pub known_at : List Known → ℕ → Known
+known_at knowns o = slice_index_or knowns o unknown
+
+-- one demand more
+abbrev pub deepen : List (Option ℕ) → Demanded → ℕ → Demanded
+deepen parents Nothing kind = Deepest kind
+deepen parents (Deepest d) kind = if is_under parents d kind then Deepest d else (if is_under parents kind d then Deepest kind else Parted)
+deepen parents Parted kind = Parted
+
+abbrev pub deepened : Scope → List Known → Demand → Demanded
+deepened s knowns d = deepen s.parents (known_at knowns (number_in s.objects d.object)).demanded (number_in s.kinds d.kind)
+
+abbrev pub with_demand : Scope → List Known → Demand → List Known
+with_demand s knowns d = slice_set knowns (number_in s.objects d.object) (record (known_at knowns (number_in s.objects d.object)) { demanded = deepened s knowns d })
+
+abbrev pub is_in : Rel → Bool
+is_in In = true
+is_in _ = false
+
+-- something is in the holder
+abbrev pub with_holder : Scope → List Known → Placing → List Known
+with_holder s knowns p =
+    if is_in p.relation then slice_set knowns (number_in s.objects p.holder) (record (known_at knowns (number_in s.objects p.holder)) { holds = true })
+    else knowns
+
+abbrev pub with_known : Scope → List Known → Fact → List Known
+with_known s knowns (Demands d) = with_demand s knowns d
+with_known s knowns (Placed p) = with_holder s knowns p
+with_known s knowns _ = knowns
+
+abbrev pub with_known_of : Scope → List Known → Claim → List Known
+with_known_of s knowns c = with_known s knowns c.fact
+
+-- what is known of each object by these claims
+abbrev pub knowns_of : Scope → List Claim → List Known
+knowns_of s claims = fold (with_known_of s) (first_knowns (length s.objects)) claims
+
+-- ---- kinds
+
+abbrev pub thing_or_container : Bool → ℕ
+thing_or_container holds = if holds then 4 else 0
+
+abbrev pub kind_by : Demanded → Bool → ℕ
+kind_by Nothing holds = thing_or_container holds
+kind_by (Deepest kind) holds = if kind == 0 then thing_or_container holds else kind
+kind_by Parted holds = 0
+
+-- what something is in, and is demanded nothing deeper than a thing, is a container, and else a thing
+abbrev pub kind_of : Known → ℕ
+kind_of known = kind_by known.demanded known.holds
+
+abbrev pub kinds_of : List Known → List ℕ
+kinds_of knowns = map kind_of knowns
+
+abbrev pub is_parted : Demanded → Bool
+is_parted Parted = true
+is_parted _ = false
+
+abbrev pub is_parted_in : Option Known → Bool
+is_parted_in None = false
+is_parted_in (Some known) = is_parted known.demanded
+
+-- the demands of an object lie on no one path
+abbrev pub is_parted_at : List Known → ℕ → Bool
+is_parted_at knowns o = is_parted_in (slice_get knowns o)
+
+abbrev pub is_of_in : List (Option ℕ) → ℕ → Option Known → Bool
+is_of_in parents kind None = false
+is_of_in parents kind (Some known) = is_under parents (kind_of known) kind
+
+-- an object is of a kind or of one below it
+abbrev pub is_of : List (Option ℕ) → List Known → ℕ → ℕ → Bool
+is_of parents knowns kind o = is_of_in parents kind (slice_get knowns o)
+
+abbrev pub kinds_known : List (Option ℕ) → List Known → Kinds
+kinds_known parents knowns = record {
+  is_thing = is_of parents knowns 0;
+  is_room = is_of parents knowns 1;
+  is_door = is_of parents knowns 3;
+  is_container = is_of parents knowns 4;
+  is_supporter = is_of parents knowns 5;
+  is_person = is_of parents knowns 6;
+}
+
+-- ---- C8: the first demand off the path of the earlier ones
+
+abbrev pub is_off : Scope → List Known → Fact → Bool
+is_off s knowns (Demands d) = is_parted (deepened s knowns d)
+is_off s knowns _ = false
+
+abbrev pub shows_off : Scope → List Known → Claim → Bool
+shows_off s knowns c = is_off s knowns c.fact
+
+abbrev pub off_path : Scope → List Claim → Option ℕ
+off_path s claims = lowest (shows_off s) (with_known_of s) (first_knowns (length s.objects)) claims None

@@ -1,0 +1,47 @@
+-- Which places the kinds of objects allow, and where the player begins.
+use Rattle.std.specs.Prelude.{ℕ, ◌+◌, Bool, false, not, ◌&&◌, ◌||◌, List, [], ◌∷◌, drop, Option, Some, None, if◌then◌else◌}
+use Rattle.world_meaning.specs.Kinds.{is_under, room_kind}
+use Rattle.world_meaning.specs.Placing.{Kinds, can_be_held, can_hold, keeps_player}
+use Rattle.world_meaning.specs.declared.place.Place.{Place}
+use Rattle.world_meaning.specs.declared.place.Rel.TheVariants.{In}
+use Rattle.i7_kinds.specs.Knowns.{Scope, is_parted_at, kind_of, kinds_known}
+use Rattle.i7_kinds.specs.Places.{Places, place_of, put, thing_of}
+use Rattle.i7_kinds.specs.Scans.{lowest}
+use Rattle.i7_kinds.specs.declared.claim.Claim.{Claim}
+use Rattle.i7_kinds.specs.declared.claim.Fact.{Fact}
+use Rattle.i7_kinds.specs.declared.claim.Fact.TheVariants.{Placed}
+use Rattle.i7_kinds.specs.declared.knowns.Known.{Known}
+
+-- the kinds allow the place: the player is directly in a room
+abbrev pub suits : Kinds → ℕ → Place → Bool
+suits kinds o place = can_be_held kinds o && can_hold kinds place.relation place.holder && keeps_player kinds o place
+
+-- C8: a place that the kinds don't allow, where they are known
+abbrev pub is_unsuited : Scope → List Known → Fact → Bool
+is_unsuited s knowns (Placed p) =
+    not (is_parted_at knowns (thing_of s.objects p) || is_parted_at knowns (place_of s.objects p).holder)
+    && not (suits (kinds_known s.parents knowns) (thing_of s.objects p) (place_of s.objects p))
+is_unsuited s knowns _ = false
+
+abbrev pub shows_unsuited : Scope → List Known → Claim → Bool
+shows_unsuited s knowns c = is_unsuited s knowns c.fact
+
+abbrev pub same_knowns : List Known → Claim → List Known
+same_knowns knowns c = knowns
+
+abbrev pub unsuited : Scope → List Known → List Claim → Option ℕ
+unsuited s knowns claims = lowest (shows_unsuited s) same_knowns knowns claims None
+
+-- the first room among objects counted from o
+abbrev pub room_from : List (Option ℕ) → ℕ → List Known → Option ℕ
+room_from parents o [] = None
+room_from parents o (known ∷ knowns) = if is_under parents (kind_of known) room_kind then Some o else room_from parents (o + 1) knowns
+
+-- the lowest-numbered room
+abbrev pub first_room : List (Option ℕ) → List Known → Option ℕ
+first_room parents knowns = room_from parents 13 (drop 13 knowns)
+
+-- the player is where a sentence says, and else in this room
+abbrev pub with_player : Places → Option ℕ → Places
+with_player places None = places
+with_player places (Some room) = put places 0 (record { relation = In; holder = room })

@@ -1,0 +1,118 @@
+//! The lines at which sentences say together what they may not.
+ghost use Rattle.std.specs.Prelude.{◌≡◌, IfOk};
+ghost use Rattle.i7_kinds.specs.Demands.{descriptions_of, second_description, wrong_kind};
+ghost use Rattle.i7_kinds.specs.Described.{descriptions_in};
+ghost use Rattle.i7_kinds.specs.KindClaims.{kind_cycle};
+ghost use Rattle.i7_kinds.specs.Knowns.{off_path};
+ghost use Rattle.i7_kinds.specs.NameScans.{book_twice, name_twice};
+ghost use Rattle.i7_kinds.specs.Places.{holder_cycle};
+ghost use Rattle.i7_kinds.specs.Scans.{earlier};
+ghost use Rattle.i7_kinds.specs.Sorts.{name_too_many};
+ghost use Rattle.i7_kinds.specs.StatedWays.{stated};
+ghost use Rattle.i7_kinds.specs.Suits.{unsuited};
+ghost use Rattle.i7_kinds.specs.Tales.{faults_of};
+
+use crate::author_kinds::{kind_cycle, kind_too_many, unknown_kind};
+use crate::claim::Claim;
+use crate::descriptions::Descriptions;
+use crate::kinds::wrong_kind;
+use crate::knowns::{Known, off_path};
+use crate::places::{holder_cycle, second_place};
+use crate::scans::earlier;
+use crate::scope::Scope;
+use crate::sorts::{Sort, too_many_as};
+use crate::standings::{book_twice, name_twice};
+use crate::statements::NumberedSentence;
+use crate::suits::unsuited;
+use crate::ways::Ways;
+use std::alloc::{AllocError, Global};
+
+/// The lowest line of each fault.
+#[derive(Clone, Copy, Debug, PartialEq, Eq)]
+pub struct Faults {
+    /// A name or a description that is a second one.
+    pub twice: Option<u32>,
+    /// A kind that isn't there.
+    pub unknown: Option<u32>,
+    /// A kind or a place that closes a cycle.
+    pub cycle: Option<u32>,
+    /// A demand off the path of earlier ones, or what the kinds don't allow.
+    pub wrong: Option<u32>,
+    /// A second place of an object or of an exit.
+    pub second: Option<u32>,
+    /// A name that is one too many.
+    pub too_many: Option<u32>,
+}
+
+/// The lowest line of a name that is one too many of its sort.
+fn name_too_many(alloc: Global, claims: &[Claim]) -> Result<Option<u32>, AllocError>
+    ensures { IfOk result (λ line. line ≡ name_too_many claims.now) }
+{
+    let either_or = too_many_as(alloc, Sort::EitherOr, claims)?;
+    let number = too_many_as(alloc, Sort::Number, claims)?;
+    let variable = too_many_as(alloc, Sort::Variable, claims)?;
+    let rulebook = too_many_as(alloc, Sort::Rulebook, claims)?;
+    let scene = too_many_as(alloc, Sort::Scene, claims)?;
+    let others = earlier(variable, earlier(rulebook, scene));
+    Ok(earlier(either_or, earlier(number, others)))
+}
+
+/// The lowest line of what is a second name or description.
+fn twice(
+    alloc: Global,
+    claims: &[Claim],
+    descriptions: &Descriptions<'_>,
+) -> Result<Option<u32>, AllocError>
+    ensures { IfOk result (λ line. line ≡ earlier (name_twice claims.now) (earlier (book_twice claims.now) (second_description (descriptions_in descriptions.now)))) }
+{
+    let name = name_twice(alloc, claims)?;
+    let book = book_twice(alloc, claims)?;
+    Ok(earlier(name, earlier(book, descriptions.second())))
+}
+
+/// The lowest line of what closes a cycle.
+fn cycle(alloc: Global, scope: &Scope<'_>, claims: &[Claim]) -> Result<Option<u32>, AllocError>
+    ensures { IfOk result (λ line. line ≡ earlier (kind_cycle scope.now.kinds claims.now) (holder_cycle scope.now.objects claims.now)) }
+{
+    let kind = kind_cycle(alloc, scope.kinds(), claims)?;
+    let holder = holder_cycle(alloc, scope, claims)?;
+    Ok(earlier(kind, holder))
+}
+
+/// The lowest line of what the kinds don't allow.
+fn wrong(
+    alloc: Global,
+    scope: &Scope<'_>,
+    knowns: &[Known],
+    claims: &[Claim],
+    statements: &[NumberedSentence],
+) -> Result<Option<u32>, AllocError>
+    ensures { IfOk result (λ line. line ≡ earlier (off_path scope.now claims.now) (earlier (unsuited scope.now knowns.now claims.now) (wrong_kind scope.now.parents knowns.now statements.now))) }
+{
+    let off = off_path(alloc, scope, claims)?;
+    let unsuited = unsuited(scope, knowns, claims);
+    let wrong = wrong_kind(scope.parents(), knowns, statements);
+    Ok(earlier(off, earlier(unsuited, wrong)))
+}
+
+/// The faults of a source's claims and statements.
+pub fn faults_of(
+    alloc: Global,
+    scope: &Scope<'_>,
+    knowns: &[Known],
+    claims: &[Claim],
+    descriptions: &Descriptions<'_>,
+    ways: &Ways<'_>,
+) -> Result<Faults, AllocError>
+    requires described { descriptions_in descriptions.now ≡ descriptions_of scope.now.parents knowns.now (stated ways.now) }
+    ensures { IfOk result (λ faults. faults ≡ faults_of scope.now knowns.now claims.now (stated ways.now)) }
+{
+    Ok(Faults {
+        twice: twice(alloc, claims, descriptions)?,
+        unknown: unknown_kind(scope.kinds(), claims),
+        cycle: cycle(alloc, scope, claims)?,
+        wrong: wrong(alloc, scope, knowns, claims, ways.statements())?,
+        second: earlier(ways.second_target(), second_place(alloc, scope, claims)?),
+        too_many: earlier(kind_too_many(claims), name_too_many(alloc, claims)?),
+    })
+}

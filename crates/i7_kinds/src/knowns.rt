@@ -1,0 +1,216 @@
+//! The kinds of objects: the deepest kind that is demanded of each.
+ghost use Rattle.std.specs.Prelude.{◌≡◌, IfOk, length, slice_set};
+ghost use Rattle.world_meaning.specs.Kinds.{direction_kind, person_kind};
+ghost use Rattle.i7_kinds.specs.Knowns.{deepen, deepened, first_knowns, is_of, is_off, is_parted, is_parted_at, kind_by, kind_of, known_as, known_at, knowns_of, off_path, thing_or_container, unknown, with_demand, with_holder, with_known};
+
+use crate::author_kinds::is_under;
+use crate::claim::{Claim, Demand, Fact, Placing};
+use crate::names::FIRST_OF_AUTHOR;
+use crate::scans::lower;
+use crate::scope::Scope;
+use std::alloc::{AllocError, Global};
+use world_meaning::{KindNo, Rel};
+
+/// What is demanded of an object so far: the deepest kind on whose path all demands lie, if there are any.
+#[derive(Clone, Copy, Debug)]
+pub enum Demanded {
+    Nothing,
+    Deepest(usize),
+    Parted,
+}
+
+/// What is known of an object so far.
+#[derive(Clone, Copy, Debug)]
+pub struct Known {
+    pub demanded: Demanded,
+    /// Whether something is in it.
+    pub holds: bool,
+}
+
+/// What is known of an object that no claim names.
+const UNKNOWN: Known = Known {
+    demanded: Demanded::Nothing,
+    holds: false,
+};
+
+fn known_as(kind: KindNo) -> Known
+    ensures { result ≡ known_as kind }
+{
+    Known {
+        demanded: Demanded::Deepest(kind.get() as usize),
+        holds: false,
+    }
+}
+
+/// What is known of so many objects before any claim.
+fn first_knowns(alloc: Global, count: usize) -> Result<Vec<Known>, AllocError>
+    ensures { IfOk result (λ knowns. knowns.items ≡ first_knowns count) }
+{
+    let mut knowns = Vec::new(alloc);
+    knowns.push(known_as(KindNo::PERSON))?;
+    knowns.resize(FIRST_OF_AUTHOR, known_as(KindNo::DIRECTION))?;
+    if count > FIRST_OF_AUTHOR {
+        knowns.resize(count, UNKNOWN)?;
+    }
+    Ok(knowns)
+}
+
+fn known_at(knowns: &[Known], object: usize) -> Known
+    ensures { result ≡ known_at knowns.now object }
+{
+    match knowns.get(object) {
+        Some(known) => *known,
+        None => UNKNOWN,
+    }
+}
+
+#[tactic(auto, using(crate::proofs::Setting::set_past))]
+fn keep(knowns: &mut [Known], object: usize, known: Known)
+    ensures { knowns.new ≡ slice_set knowns.old object known }
+{
+    if object < knowns.len() {
+        knowns[object] = known;
+    }
+}
+
+/// What is demanded with one demand more.
+fn deepen(parents: &[Option<usize>], demanded: Demanded, kind: usize) -> Demanded
+    ensures { result ≡ deepen parents.now demanded kind }
+{
+    match demanded {
+        Demanded::Nothing => Demanded::Deepest(kind),
+        Demanded::Parted => Demanded::Parted,
+        Demanded::Deepest(deepest) => {
+            if is_under(parents, deepest, kind) {
+                Demanded::Deepest(deepest)
+            } else if is_under(parents, kind, deepest) {
+                Demanded::Deepest(kind)
+            } else {
+                Demanded::Parted
+            }
+        }
+    }
+}
+
+fn deepened(scope: &Scope<'_>, knowns: &[Known], demand: &Demand) -> Demanded
+    ensures { result ≡ deepened scope.now knowns.now demand.now }
+{
+    let known = known_at(knowns, scope.object(demand.object.as_slice()));
+    let kind = scope.kind(demand.kind.as_slice());
+    deepen(scope.parents(), known.demanded, kind)
+}
+
+fn add_demand(scope: &Scope<'_>, knowns: &mut [Known], demand: &Demand)
+    ensures { knowns.new ≡ with_demand scope.now knowns.old demand.now }
+{
+    let demanded = deepened(scope, knowns, demand);
+    let object = scope.object(demand.object.as_slice());
+    let holds = known_at(knowns, object).holds;
+    keep(knowns, object, Known { demanded, holds });
+}
+
+fn add_holder(scope: &Scope<'_>, knowns: &mut [Known], placing: &Placing)
+    ensures { knowns.new ≡ with_holder scope.now knowns.old placing.now }
+{
+    if let Rel::In = placing.relation {
+        let object = scope.object(placing.holder.as_slice());
+        let demanded = known_at(knowns, object).demanded;
+        let holds = true;
+        keep(knowns, object, Known { demanded, holds });
+    }
+}
+
+fn add_fact(scope: &Scope<'_>, knowns: &mut [Known], fact: &Fact)
+    ensures { knowns.new ≡ with_known scope.now knowns.old fact.now }
+{
+    match fact {
+        Fact::Demands(demand) => add_demand(scope, knowns, demand),
+        Fact::Placed(placing) => add_holder(scope, knowns, placing),
+        _ => {}
+    }
+}
+
+/// What is known of each object by the claims.
+pub fn knowns_of(
+    alloc: Global,
+    scope: &Scope<'_>,
+    claims: &[Claim],
+) -> Result<Vec<Known>, AllocError>
+    ensures { IfOk result (λ knowns. knowns.items ≡ knowns_of scope.now claims.now) }
+{
+    let mut knowns = first_knowns(alloc, scope.count())?;
+    let mut rest = claims;
+    while let [claim, after @ ..] = rest {
+        add_fact(scope, knowns.as_mut_slice(), &claim.fact);
+        rest = after;
+    }
+    Ok(knowns)
+}
+
+fn is_off(scope: &Scope<'_>, knowns: &[Known], fact: &Fact) -> bool
+    ensures { result ≡ is_off scope.now knowns.now fact.now }
+{
+    match fact {
+        Fact::Demands(demand) => matches!(deepened(scope, knowns, demand), Demanded::Parted),
+        _ => false,
+    }
+}
+
+/// The lowest line of a demand that lies off the path of the earlier ones.
+pub fn off_path(
+    alloc: Global,
+    scope: &Scope<'_>,
+    claims: &[Claim],
+) -> Result<Option<u32>, AllocError>
+    ensures { IfOk result (λ found. found ≡ off_path scope.now claims.now) }
+{
+    let mut knowns = first_knowns(alloc, scope.count())?;
+    let mut found = None;
+    let mut rest = claims;
+    while let [claim, after @ ..] = rest {
+        let shows = is_off(scope, knowns.as_slice(), &claim.fact);
+        found = lower(shows, claim.line, found);
+        add_fact(scope, knowns.as_mut_slice(), &claim.fact);
+        rest = after;
+    }
+    Ok(found)
+}
+
+/// A thing, or a container where something is in it.
+fn thing_or_container(holds: bool) -> usize
+    ensures { result ≡ thing_or_container holds }
+{
+    if holds { 4 } else { 0 }
+}
+
+/// The kind of an object of which this is known.
+pub fn kind_of(known: Known) -> usize
+    ensures { result ≡ kind_of known }
+{
+    match known.demanded {
+        Demanded::Nothing => thing_or_container(known.holds),
+        Demanded::Deepest(0) => thing_or_container(known.holds),
+        Demanded::Deepest(kind) => kind,
+        Demanded::Parted => 0,
+    }
+}
+
+/// Whether the demands of an object lie on no one path.
+pub fn is_parted_at(knowns: &[Known], object: usize) -> bool
+    ensures { result ≡ is_parted_at knowns.now object }
+{
+    match knowns.get(object) {
+        Some(known) => matches!(known.demanded, Demanded::Parted),
+        None => false,
+    }
+}
+
+/// Whether an object is of a kind or of one below it.
+pub fn is_of(parents: &[Option<usize>], knowns: &[Known], kind: KindNo, object: usize) -> bool
+    ensures { result ≡ is_of parents.now knowns.now kind object }
+{
+    match knowns.get(object) {
+        Some(known) => is_under(parents, kind_of(*known), kind.get() as usize),
+        None => false,
+    }
+}

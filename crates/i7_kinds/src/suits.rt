@@ -1,0 +1,122 @@
+//! Which places the kinds of objects allow, and where the player begins.
+ghost use Rattle.std.specs.Prelude.{◌≡◌, drop, map};
+ghost use Rattle.world_meaning.specs.Placing.{can_be_held, can_hold, keeps_player};
+ghost use Rattle.i7_kinds.specs.Knowns.{kinds_known};
+ghost use Rattle.i7_kinds.specs.Suits.{first_room, is_unsuited, room_from, suits, unsuited, with_player};
+
+use crate::author_kinds::is_under;
+use crate::claim::{Claim, Fact};
+use crate::knowns::{Known, is_of, is_parted_at, kind_of};
+use crate::names::FIRST_OF_AUTHOR;
+use crate::places::{Spot, place_of, put};
+use crate::scans::lower;
+use crate::scope::Scope;
+use world_meaning::{KindNo, Rel};
+
+fn can_hold(parents: &[Option<usize>], knowns: &[Known], place: Spot) -> bool
+    ensures { result ≡ can_hold (kinds_known parents.now knowns.now) place.relation place.holder }
+{
+    let holder = place.holder;
+    match place.relation {
+        Rel::In => {
+            is_of(parents, knowns, KindNo::ROOM, holder)
+                || is_of(parents, knowns, KindNo::CONTAINER, holder)
+        }
+        Rel::On => is_of(parents, knowns, KindNo::SUPPORTER, holder),
+        Rel::Carried => is_of(parents, knowns, KindNo::PERSON, holder),
+        Rel::Worn => is_of(parents, knowns, KindNo::PERSON, holder),
+        Rel::Part => is_of(parents, knowns, KindNo::THING, holder),
+    }
+}
+
+fn can_be_held(parents: &[Option<usize>], knowns: &[Known], object: usize) -> bool
+    ensures { result ≡ can_be_held (kinds_known parents.now knowns.now) object }
+{
+    is_of(parents, knowns, KindNo::THING, object) && !is_of(parents, knowns, KindNo::DOOR, object)
+}
+
+/// The player is directly in a room.
+fn keeps_player(parents: &[Option<usize>], knowns: &[Known], object: usize, place: Spot) -> bool
+    ensures { result ≡ keeps_player (kinds_known parents.now knowns.now) object place }
+{
+    object != 0
+        || (matches!(place.relation, Rel::In) && is_of(parents, knowns, KindNo::ROOM, place.holder))
+}
+
+/// Whether the kinds allow an object's place.
+fn suits(parents: &[Option<usize>], knowns: &[Known], object: usize, place: Spot) -> bool
+    ensures { result ≡ suits (kinds_known parents.now knowns.now) object place }
+{
+    can_be_held(parents, knowns, object)
+        && can_hold(parents, knowns, place)
+        && keeps_player(parents, knowns, object, place)
+}
+
+fn is_unsuited(scope: &Scope<'_>, knowns: &[Known], fact: &Fact) -> bool
+    ensures { result ≡ is_unsuited scope.now knowns.now fact.now }
+{
+    match fact {
+        Fact::Placed(placing) => {
+            let thing = scope.object(placing.thing.as_slice());
+            let place = place_of(scope, placing);
+            let is_parted = is_parted_at(knowns, thing) || is_parted_at(knowns, place.holder);
+            !is_parted && !suits(scope.parents(), knowns, thing, place)
+        }
+        _ => false,
+    }
+}
+
+/// The lowest line of a place that the kinds don't allow.
+pub fn unsuited(scope: &Scope<'_>, knowns: &[Known], claims: &[Claim]) -> Option<u32>
+    ensures { result ≡ unsuited scope.now knowns.now claims.now }
+{
+    let mut found = None;
+    let mut rest = claims;
+    while let [claim, after @ ..] = rest {
+        found = lower(is_unsuited(scope, knowns, &claim.fact), claim.line, found);
+        rest = after;
+    }
+    found
+}
+
+/// The first room among the author's objects.
+fn room_among(parents: &[Option<usize>], knowns: &[Known]) -> Option<usize>
+    ensures { result ≡ room_from parents.now 13 knowns.now }
+{
+    let mut object = FIRST_OF_AUTHOR;
+    let mut rest = knowns;
+    while let [known, after @ ..] = rest {
+        if is_under(parents, kind_of(*known), KindNo::ROOM.get() as usize) {
+            return Some(object);
+        }
+        object += 1;
+        rest = after;
+    }
+    None
+}
+
+/// The lowest-numbered room.
+pub fn first_room(parents: &[Option<usize>], knowns: &[Known]) -> Option<usize>
+    ensures { result ≡ first_room parents.now knowns.now }
+{
+    match knowns.get(FIRST_OF_AUTHOR..) {
+        Some(authors) => room_among(parents, authors),
+        None => None,
+    }
+}
+
+/// Puts the player where a sentence says, and else in a room.
+pub fn put_player(places: &mut [Option<Spot>], room: Option<usize>)
+    ensures { places.new ≡ with_player places.old room }
+{
+    if let Some(holder) = room {
+        put(
+            places,
+            0,
+            Spot {
+                relation: Rel::In,
+                holder,
+            },
+        );
+    }
+}
