@@ -1,6 +1,9 @@
 pub mod Agreement
 pub mod Consultations
+pub mod Going
 pub mod Lines
+pub mod Looking
 pub mod Ordering
+pub mod PlainTurns
 pub mod Seen
 pub mod Work

@@ -4,11 +4,13 @@ pub mod Agreement
 pub mod Changes
 pub mod Commands
 pub mod Consulting
+pub mod Deeds
 pub mod Doing
 pub mod Games
 pub mod Grammar
 pub mod Order
 pub mod PhraseRows
+pub mod PlainStories
 pub mod Progress
 pub mod Rows
 pub mod RuleRows
