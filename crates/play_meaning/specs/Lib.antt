@@ -2,12 +2,15 @@ pub mod Acting
 pub mod ActionRows
 pub mod Agreement
 pub mod Changes
+pub mod Codes
 pub mod Commands
 pub mod Consulting
 pub mod Deeds
 pub mod Doing
 pub mod Games
 pub mod Grammar
+pub mod Instructions
+pub mod Machines
 pub mod Order
 pub mod PhraseRows
 pub mod PlainStories
@@ -28,6 +31,7 @@ pub mod StandardRules
 pub mod StoryWorlds
 pub mod Tales
 pub mod Transcripts
+pub mod Translation
 pub mod Trees
 pub mod Truth
 pub mod Turns
