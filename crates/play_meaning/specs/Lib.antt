@@ -2,6 +2,7 @@ pub mod Acting
 pub mod ActionRows
 pub mod Agreement
 pub mod Changes
+pub mod CodedStories
 pub mod Codes
 pub mod Commands
 pub mod Consulting
@@ -31,6 +32,7 @@ pub mod StandardRules
 pub mod StoryWorlds
 pub mod Tales
 pub mod Transcripts
+pub mod TranslatedScripts
 pub mod Translation
 pub mod Trees
 pub mod Truth
