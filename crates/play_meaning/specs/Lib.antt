@@ -12,6 +12,7 @@ pub mod Games
 pub mod Grammar
 pub mod Instructions
 pub mod Machines
+pub mod Operands
 pub mod Order
 pub mod PhraseRows
 pub mod PlainStories
@@ -26,6 +27,7 @@ pub mod SessionRows
 pub mod Sessions
 pub mod Settings
 pub mod Sketches
+pub mod SoundCodes
 pub mod StandardActions
 pub mod StandardGrammar
 pub mod StandardRules
