@@ -1,3 +1,4 @@
+pub mod Admitted
 pub mod Agreement
 pub mod Consultations
 pub mod Going

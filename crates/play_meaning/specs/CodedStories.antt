@@ -65,8 +65,15 @@ answer_or otherwise c s now w (Some n) = test_of c (undescribed s) now n [] w
 -- what a rule is about is read as in a tale
 abbrev pub head_of : CodedRule → Rule
 head_of rule = record {
-  book = rule.book; action = rule.action; noun = rule.noun; second = rule.second; place = rule.place; scene = rule.scene;
-  condition = None; body = End; listed = InOrder;
+  book = rule.book;
+  action = rule.action;
+  noun = rule.noun;
+  second = rule.second;
+  place = rule.place;
+  scene = rule.scene;
+  condition = None;
+  body = End;
+  listed = InOrder;
 }
 
 abbrev pub coded_is_about : Setting → ActionNow → World → Option CodedRule → Bool

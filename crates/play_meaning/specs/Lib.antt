@@ -1,5 +1,6 @@
 pub mod Acting
 pub mod ActionRows
+pub mod Admitting
 pub mod Agreement
 pub mod Changes
 pub mod CodedStories

@@ -1,14 +1,13 @@
 -- What an instruction does, and the run of a code, instruction by instruction.
-use Rattle.std.specs.Prelude.{ℕ, zero, suc, ◌+◌, ◌-◌, ℤ, ◌+ℤ◌, ◌-ℤ◌, ◌*ℤ◌, pos, negsuc, int_le, int_lt, Bool, true, false, not, ◌&&◌, ◌||◌, List, [], ◌∷◌, ◌++◌, length, map, take, Option, None, Some, Ok, Err, slice_index_or, if◌then◌else◌}
+use Rattle.std.specs.Prelude.{ℕ, zero, suc, ◌+◌, ◌-◌, ℤ, ◌+ℤ◌, ◌-ℤ◌, ◌*ℤ◌, pos, negsuc, int_le, int_lt, Bool, true, false, not, ◌&&◌, ◌||◌, List, [], ◌∷◌, ◌++◌, length, take, Option, None, Some, Ok, Err, slice_index_or, if◌then◌else◌}
 use Rattle.std.specs.Fmt.{signed_decimal}
 use Rattle.std.specs.Ordering.{int_eq}
 use Rattle.world_meaning.specs.Progress.{Attempt, next}
 use Rattle.world_meaning.specs.declared.session.Abandon.{Abandon}
-use Rattle.world_meaning.specs.declared.session.Abandon.TheVariants.{NestedTooDeep}
 use Rattle.play_meaning.specs.Changes.{make_number, make_so, move, put, take_away}
 use Rattle.play_meaning.specs.Doing.{Inner}
-use Rattle.play_meaning.specs.Instructions.{Add, And, Answer, Asked, AtMost, Away, Begin, Count, Dark, Description, Done, Door, Encloses, EndStory, Eq, Figure, Flag, Follow, Happens, HasDescription, Held, Holder, IfZero, Instruction, IsFirst, IsNotFirst, IsNotSecond, IsSecond, Jump, Kind, Less, Location, Loop, Move, Mul, Name, Names, Next, NoDecision, Not, Noun, Num, Or, Prop, PutAt, Room, Say, Second, SetFlag, SetProp, SetVar, Sub, Success, Failure, Touchable, Try, Turns, Var, Visible, at_place, size_of, sizes}
-use Rattle.play_meaning.specs.Progress.{Done as BodyDone, Progress, change, most_work, say, spend}
+use Rattle.play_meaning.specs.Instructions.{Add, And, Answer, Asked, AtMost, Away, Begin, Count, Dark, Description, Done, Door, Encloses, EndStory, Eq, Figure, Flag, Follow, Happens, HasDescription, Held, Holder, IfZero, Instruction, IsFirst, IsNotFirst, IsNotSecond, IsSecond, Jump, Kind, Less, Location, Loop, Move, Mul, Name, Names, Next, NoDecision, Not, Noun, Num, Or, Prop, PutAt, Room, Say, Second, SetFlag, SetProp, SetVar, Sub, Success, Failure, Touchable, Try, Turns, Var, Visible, at_place, size_of}
+use Rattle.play_meaning.specs.Progress.{Progress, change, say, spend}
 use Rattle.play_meaning.specs.Saying.{Telling, description_in, listed, name_in}
 use Rattle.play_meaning.specs.Seeing.{encloses, has_light, is_touchable, is_visible}
 use Rattle.play_meaning.specs.Settings.{Setting, objects_of}

@@ -68,7 +68,7 @@ abbrev pub LeapsTo : Labelled → ℕ → ℕ → ℕ → List OpenLoop → Type
 LeapsTo c place behind to loops =
     LeadsTo c to (bare loops)
     × (((place < to) × GoesOnInside c behind loops)
-        ⊎ ((to ≤ place) × ((outer : List OpenLoop) × ((loops ≡ record { head = to; exit = behind } ∷ outer) × LeadsTo c behind (bare outer)))))
+    ⊎ ((to ≤ place) × ((outer : List OpenLoop) × ((loops ≡ record { head = to; exit = behind } ∷ outer) × LeadsTo c behind (bare outer)))))
 
 -- a loop's next turn stands right behind its beginning
 abbrev pub OpensTo : Labelled → ℕ → List OpenLoop → Type 0

@@ -63,7 +63,12 @@ abbrev pub coded_rules : ℕ → ℕ → List Rule → List CodedRule
 coded_rules number n [] = []
 coded_rules number n (rule ∷ rules) =
     record {
-      book = rule.book; action = rule.action; noun = rule.noun; second = rule.second; place = rule.place; scene = rule.scene;
+      book = rule.book;
+      action = rule.action;
+      noun = rule.noun;
+      second = rule.second;
+      place = rule.place;
+      scene = rule.scene;
       condition = number_if rule.condition n;
       body = body_by number (n + length (in_list rule.condition));
     }

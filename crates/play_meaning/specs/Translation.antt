@@ -1,5 +1,5 @@
 -- The codes of trees. A part of a code is told by the number that its first test has and the place at which it stands.
-use Rattle.std.specs.Prelude.{ℕ, ◌+◌, pos, negsuc, Bool, true, false, List, [], ◌∷◌, ◌++◌, length, Option, None, Some}
+use Rattle.std.specs.Prelude.{ℕ, ◌+◌, pos, negsuc, List, [], ◌∷◌, ◌++◌, length, Option, None, Some}
 use Rattle.std.specs.List.{position_or_len}
 use Rattle.std.specs.Str.{bytes_eq}
 use Rattle.world_meaning.specs.declared.place.Rel.{Rel}
@@ -11,7 +11,6 @@ use Rattle.play_meaning.specs.Trees as tree
 use Rattle.play_meaning.specs.Trees.{Adjective, Body, Condition, Description, First, NotSo, Number, Object, Phrase, Quality, Second, Side, Text, Touchable, Visible}
 use Rattle.play_meaning.specs.declared.outcome.Flow.{Flow}
 use Rattle.play_meaning.specs.declared.outcome.Flow.TheVariants.{GoesOn, NoDecision, Decides}
-use Rattle.play_meaning.specs.declared.outcome.Outcome.{Outcome}
 use Rattle.play_meaning.specs.declared.outcome.Outcome.TheVariants.{Failure, Success}
 
 -- instructions, and the test codes that they name, in order

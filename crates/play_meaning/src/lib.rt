@@ -24,7 +24,7 @@ pub use laws::{
     rules_stand_in_order, scenes_and_stories_end, texts_are_said, things_are_handled,
     turns_are_undone, ways_and_doors_are_gone_through, work_has_an_end,
 };
-pub use order_laws::rulebooks_are_in_order;
+pub use order_laws::{rulebooks_are_in_order, rules_passed_over_are_false};
 pub use outcome::{Flow, Outcome};
 pub use phrase_laws::{
     bodies_are_done, conditions_hold, names_and_numbers_are_said, phrases_change_the_world,
