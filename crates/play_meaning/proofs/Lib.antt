@@ -7,4 +7,6 @@ pub mod Looking
 pub mod Ordering
 pub mod PlainTurns
 pub mod Seen
+pub mod Standing
+pub mod Straight
 pub mod Work

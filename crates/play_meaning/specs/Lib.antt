@@ -22,6 +22,7 @@ pub mod Rows
 pub mod RuleRows
 pub mod Rules
 pub mod Saying
+pub mod Scoping
 pub mod Scripts
 pub mod Seeing
 pub mod SessionRows
