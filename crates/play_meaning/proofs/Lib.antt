@@ -1,5 +1,6 @@
 pub mod Admitted
 pub mod Agreement
+pub mod Asking
 pub mod Consultations
 pub mod Going
 pub mod Lines

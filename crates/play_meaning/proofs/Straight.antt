@@ -9,7 +9,7 @@ use Rattle.world_meaning.specs.declared.place.Rel.{Rel}
 use Rattle.play_meaning.specs.Codes.{answered, start_at}
 use Rattle.play_meaning.specs.Instructions as code
 use Rattle.play_meaning.specs.Instructions.{Instruction, at_place, size_of, sizes}
-use Rattle.play_meaning.specs.Machines.{Abandons, Answers, Frame, Goes, State, Step, does, does_at, goes_further, holder_by, is_asked, is_true, object_at, object_number, run, step, truth_number}
+use Rattle.play_meaning.specs.Machines.{Abandons, Answers, Frame, Goes, State, Step, does, does_at, goes_further, is_asked, is_true, object_at, object_number, run, step, truth_number}
 use Rattle.play_meaning.specs.Progress.{Progress, fresh}
 use Rattle.play_meaning.specs.Scoping.{DescriptionIsWithin, ObjectIsWithin}
 use Rattle.play_meaning.specs.Settings.{Setting}
@@ -116,7 +116,7 @@ module _ (f : Frame) (c : List Instruction) (turning : List ℕ) (p : Progress) 
   one_gives q i xs ys has is = one_leads f c (open_loops turning) p q i xs (Ok ys) has is
 
   -- two codes that give an object each, and an instruction that takes both
-  two_objects : (ca cb : List Instruction) (i : Instruction) (a b : Option ℕ) (n : ℤ) → GivesObject ca a → GivesObject cb b
+  pub two_objects : (ca cb : List Instruction) (i : Instruction) (a b : Option ℕ) (n : ℤ) → GivesObject ca a → GivesObject cb b
       → ((q : ℕ) (xs : List ℤ) → does f (St q (object_number b ∷ object_number a ∷ xs) (open_loops turning) p) i ≡ Goes (St (q + size_of i) (n ∷ xs) (open_loops turning) p))
       → (q : ℕ) (xs : List ℤ) → HasAt c q (ca ++ cb ++ i ∷ []) → Gives q (ca ++ cb ++ i ∷ []) xs (Ok (n ∷ xs))
   two_objects ca cb i a b n ga gb is q xs has =
@@ -126,7 +126,7 @@ module _ (f : Frame) (c : List Instruction) (turning : List ℕ) (p : Progress) 
           (one_gives (q + sizes (ca ++ cb)) i (object_number b ∷ object_number a ∷ xs) (n ∷ xs) (has_back c q (ca ++ cb) (i ∷ []) has) (is (q + sizes (ca ++ cb)) xs))
 
   -- a code that gives an object, and an instruction that takes it
-  one_object : (ca : List Instruction) (i : Instruction) (a : Option ℕ) (n : ℤ) → GivesObject ca a
+  pub one_object : (ca : List Instruction) (i : Instruction) (a : Option ℕ) (n : ℤ) → GivesObject ca a
       → ((q : ℕ) (xs : List ℤ) → does f (St q (object_number a ∷ xs) (open_loops turning) p) i ≡ Goes (St (q + size_of i) (n ∷ xs) (open_loops turning) p))
       → (q : ℕ) (xs : List ℤ) → HasAt c q (ca ++ i ∷ []) → Gives q (ca ++ i ∷ []) xs (Ok (n ∷ xs))
   one_object ca i a n ga is q xs has =
@@ -156,7 +156,7 @@ module _ (f : Frame) (c : List Instruction) (turning : List ℕ) (p : Progress) 
   is_object : Option ℕ → Bool
   is_object v = of_some v (λ o. true)
 
-  one_truth : (ca : List Instruction) (a : Bool) → GivesTruth ca a → GivesTruth (ca ++ code.Not ∷ []) (not a)
+  pub one_truth : (ca : List Instruction) (a : Bool) → GivesTruth ca a → GivesTruth (ca ++ code.Not ∷ []) (not a)
   unfolding does
   one_truth ca a ga q xs has =
       then_also f c (open_loops turning) p q ca (code.Not ∷ []) xs (truth_number a ∷ xs) (Ok (truth_number (not a) ∷ xs)) (ga q xs (has_front c q ca (code.Not ∷ []) has))
@@ -164,7 +164,7 @@ module _ (f : Frame) (c : List Instruction) (turning : List ℕ) (p : Progress) 
               (ap (λ b. Goes (St (q + sizes ca + 1) (truth_number (not b) ∷ xs) (open_loops turning) p)) (truth_back a)))
 
   -- both of two truths, or one of them
-  two_truths : (ca cb : List Instruction) (i : Instruction) (a b n : Bool) → GivesTruth ca a → GivesTruth cb b
+  pub two_truths : (ca cb : List Instruction) (i : Instruction) (a b n : Bool) → GivesTruth ca a → GivesTruth cb b
       → ((q : ℕ) (xs : List ℤ) → does f (St q (truth_number b ∷ truth_number a ∷ xs) (open_loops turning) p) i ≡ Goes (St (q + size_of i) (truth_number n ∷ xs) (open_loops turning) p))
       → GivesTruth (ca ++ cb ++ i ∷ []) n
   two_truths ca cb i a b n ga gb is q xs has =
@@ -173,11 +173,11 @@ module _ (f : Frame) (c : List Instruction) (turning : List ℕ) (p : Progress) 
           (then_also f c (open_loops turning) p q ca cb xs (truth_number a ∷ xs) (Ok (truth_number b ∷ truth_number a ∷ xs)) (ga q xs (has_front c q ca cb both)) (gb (q + sizes ca) (truth_number a ∷ xs) (has_back c q ca cb both)))
           (one_gives (q + sizes (ca ++ cb)) i (truth_number b ∷ truth_number a ∷ xs) (truth_number n ∷ xs) (has_back c q (ca ++ cb) (i ∷ []) has) (is (q + sizes (ca ++ cb)) xs))
 
-  both_are : (a b : Bool) (q : ℕ) (xs : List ℤ) → does f (St q (truth_number b ∷ truth_number a ∷ xs) (open_loops turning) p) code.And ≡ Goes (St (q + 1) (truth_number (a && b) ∷ xs) (open_loops turning) p)
+  pub both_are : (a b : Bool) (q : ℕ) (xs : List ℤ) → does f (St q (truth_number b ∷ truth_number a ∷ xs) (open_loops turning) p) code.And ≡ Goes (St (q + 1) (truth_number (a && b) ∷ xs) (open_loops turning) p)
   unfolding does
   both_are a b q xs = rw (truth_back a, truth_back b) refl
 
-  one_is : (a b : Bool) (q : ℕ) (xs : List ℤ) → does f (St q (truth_number b ∷ truth_number a ∷ xs) (open_loops turning) p) code.Or ≡ Goes (St (q + 1) (truth_number (a || b) ∷ xs) (open_loops turning) p)
+  pub one_is : (a b : Bool) (q : ℕ) (xs : List ℤ) → does f (St q (truth_number b ∷ truth_number a ∷ xs) (open_loops turning) p) code.Or ≡ Goes (St (q + 1) (truth_number (a || b) ∷ xs) (open_loops turning) p)
   unfolding does
   one_is a b q xs = rw (truth_back a, truth_back b) refl
 
@@ -185,7 +185,7 @@ module _ (f : Frame) (c : List Instruction) (turning : List ℕ) (p : Progress) 
   and_gives ca cb a b ga gb = two_truths ca cb code.And a b (a && b) ga gb (both_are a b)
 
   -- what is asked of one object
-  asks_object : (ca : List Instruction) (i : Instruction) (v : Option ℕ) (holds : ℕ → Bool) → GivesObject ca v
+  pub asks_object : (ca : List Instruction) (i : Instruction) (v : Option ℕ) (holds : ℕ → Bool) → GivesObject ca v
       → ((q : ℕ) (xs : List ℤ) (o : ℤ) → does f (St q (o ∷ xs) (open_loops turning) p) i ≡ Goes (St (q + size_of i) (truth_number (of_some (object_at o) holds) ∷ xs) (open_loops turning) p))
       → GivesTruth (ca ++ i ∷ []) (of_some v holds)
   asks_object ca i v holds gives is =
@@ -211,7 +211,7 @@ module _ (f : Frame) (c : List Instruction) (turning : List ℕ) (p : Progress) 
 
   -- ---- descriptions
 
-  alike_truth : (ca : List Instruction) (a b : Bool) → a ≡ b → GivesTruth ca a → GivesTruth ca b
+  pub alike_truth : (ca : List Instruction) (a b : Bool) → a ≡ b → GivesTruth ca a → GivesTruth ca b
   alike_truth ca a b e gives q xs has = alike f c (open_loops turning) p q ca xs (Ok (truth_number a ∷ xs)) (Ok (truth_number b ∷ xs)) (ap (λ t. Ok (truth_number t ∷ xs)) e) (gives q xs has)
 
   not_so : (v : Option ℕ) (holds : ℕ → Bool) → (is_object v && not (of_some v holds)) ≡ of_some v (λ o. not (holds o))

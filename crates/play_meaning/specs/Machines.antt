@@ -1,5 +1,5 @@
 -- What an instruction does, and the run of a code, instruction by instruction.
-use Rattle.std.specs.Prelude.{ℕ, zero, suc, ◌+◌, ◌-◌, ℤ, ◌+ℤ◌, ◌-ℤ◌, ◌*ℤ◌, pos, negsuc, int_le, int_lt, Bool, true, false, not, ◌&&◌, ◌||◌, List, [], ◌∷◌, ◌++◌, length, take, Option, None, Some, Ok, Err, slice_index_or, if◌then◌else◌}
+use Rattle.std.specs.Prelude.{ℕ, zero, suc, ◌+◌, ◌-◌, ◌==◌, nat_lt, ℤ, ◌+ℤ◌, ◌-ℤ◌, ◌*ℤ◌, pos, negsuc, int_le, int_lt, Bool, true, false, not, ◌&&◌, ◌||◌, List, [], ◌∷◌, ◌++◌, length, take, Option, None, Some, Ok, Err, slice_index_or, if◌then◌else◌}
 use Rattle.std.specs.Fmt.{signed_decimal}
 use Rattle.std.specs.Ordering.{int_eq}
 use Rattle.world_meaning.specs.Progress.{Attempt, next}
@@ -13,8 +13,9 @@ use Rattle.play_meaning.specs.Seeing.{encloses, has_light, is_touchable, is_visi
 use Rattle.play_meaning.specs.Settings.{Setting, objects_of}
 use Rattle.play_meaning.specs.Trees.{First, NotSo, Quality, Second as SecondName}
 use Rattle.play_meaning.specs.Truth.{of_both, of_some}
-use Rattle.play_meaning.specs.Values.{beyond, in_range, is_held, is_so, number_at}
-use Rattle.play_meaning.specs.Worlds.{World, end_with, holder_in, location_of, place_of, scene_of, set_variable, variable_of}
+use Rattle.play_meaning.specs.Values.{beyond, in_range, is_held, is_so, number_at, relation_number}
+use Rattle.play_meaning.specs.Worlds.{World, end_with, location_of, place_of, scene_of, set_variable, variable_of}
+use Rattle.world_meaning.specs.declared.place.Place.{Place}
 use Rattle.world_meaning.specs.declared.place.Rel.{Rel}
 use Rattle.play_meaning.specs.declared.action.ActionNow.{ActionNow}
 use Rattle.play_meaning.specs.declared.outcome.Flow.{Flow}
@@ -120,13 +121,15 @@ is_asked s w p IsSecond o = is_so s w (Quality p SecondName) o
 is_asked s w p IsNotFirst o = is_so s w (NotSo (Quality p First)) o
 is_asked s w p IsNotSecond o = is_so s w (NotSo (Quality p SecondName)) o
 
-abbrev pub holder_if : Bool → Option ℕ → Option ℕ
-holder_if held holder = if held then holder else None
+-- a holder of this relation, if it is an object of the story
+abbrev pub holder_at : Setting → Rel → Option Place → Option ℕ
+holder_at s r None = None
+holder_at s r (Some place) = if (relation_number place.relation == relation_number r) && nat_lt place.holder s.count then Some place.holder else None
 
 -- what holds an object so; nothing where nothing does
-abbrev pub holder_by : World → Rel → Option ℕ → Option ℕ
-holder_by w r None = None
-holder_by w r (Some o) = holder_if (is_held w r (holder_in (place_of w o)) o) (holder_in (place_of w o))
+abbrev pub holder_by : Setting → World → Rel → Option ℕ → Option ℕ
+holder_by s w r None = None
+holder_by s w r (Some o) = holder_at s r (place_of w o)
 
 -- ---- objects that pass a test
 
@@ -198,7 +201,7 @@ does f s (Loop k) = pushes (Loop k) s s.operands (object_number (slice_index_or 
 does f s (Flag p asked) = of_object (Flag p asked) s (is_asked f.telling.setting s.progress.world p asked)
 does f s (Kind kind) = of_object (Kind kind) s (λ o. f.telling.setting.is_of o kind)
 does f s (Held r) = of_two (Held r) s (λ o holder. truth_number (of_some (object_at o) (is_held s.progress.world r (object_at holder))))
-does f s (Holder r) = of_one (Holder r) s (λ o. object_number (holder_by s.progress.world r (object_at o)))
+does f s (Holder r) = of_one (Holder r) s (λ o. object_number (holder_by f.telling.setting s.progress.world r (object_at o)))
 does f s Encloses = of_two Encloses s (λ a b. truth_number (of_both (object_at a) (object_at b) (encloses s.progress.world)))
 does f s Visible = of_object Visible s (is_visible f.telling.setting s.progress.world)
 does f s Touchable = of_object Touchable s (is_touchable f.telling.setting s.progress.world)
