@@ -78,11 +78,14 @@ those_pass f t d turning q xs p within test =
 
 -- ---- values behind one another
 
-module _ (f : Frame) (c : List Instruction) (turning : List ℕ) (p : Progress) where
-  -- a value on top of the operands, if play isn't abandoned
-  abbrev pub on_top : {A : Type 0} → (A → ℤ) → List ℤ → Attempt A → Attempt (List ℤ)
-  on_top shown xs a = next a (λ v. Ok (shown v ∷ xs))
+-- a value on top of the operands, if play isn't abandoned
+abbrev pub on_top : {A : Type 0} → (A → ℤ) → List ℤ → Attempt A → Attempt (List ℤ)
+on_top shown xs a = next a (λ v. Ok (shown v ∷ xs))
 
+abbrev pub same : ℤ → ℤ
+same n = n
+
+module _ (f : Frame) (c : List Instruction) (turning : List ℕ) (p : Progress) where
   stops : (q : ℕ) (is js : List Instruction) (xs : List ℤ) (reason : Abandon) → Gives f c turning p q is xs (Err reason) → Gives f c turning p q (is ++ js) xs (Err reason)
   stops q is js xs reason gives k =
       let count : length (is ++ js) + k ≡ length is + (length js + k) = omega (arith, length-append is js) in
@@ -93,9 +96,6 @@ module _ (f : Frame) (c : List Instruction) (turning : List ℕ) (p : Progress) 
       → Gives f c turning p q is xs (on_top shown xs a) → ((v : A) → Gives f c turning p (q + sizes is) js (shown v ∷ xs) (g v)) → Gives f c turning p q (is ++ js) xs (next a g)
   then_value shown q is js xs (Ok v) g first second = then_also f c (open_loops turning) p q is js xs (shown v ∷ xs) (g v) first (second v)
   then_value shown q is js xs (Err reason) g first second = stops q is js xs reason first
-
-  abbrev same : ℤ → ℤ
-  same n = n
 
   nested : {A B C : Type 0} (a : Attempt A) (b : Attempt B) (h : A → B → Attempt C) (k : C → Attempt (List ℤ)) → next a (λ x. next b (λ y. next (h x y) k)) ≡ next (next a (λ x. next b (λ y. h x y))) k
   nested (Ok x) (Ok y) h k = refl
@@ -149,7 +149,7 @@ any_inside b x is start (suc len) low high = by_order (λ more. any_inside b x i
         let rest = any_outside b start is (start + 1) len (inl (omega arith)) in
         ap (λ n. list_any (λ h. b && (n == h)) (filter is (range_with_len start (suc len)))) e ∙ (any_first b is start (is start) (filter is (range_with_len (start + 1) len)) rest ∙ ap (λ n. b && is n) (sym e))
 
-held_at : (s : Setting) (r : Rel) (is : ℕ → Bool) (place : Option Place) → of_some (holder_at s r place) is ≡ list_any (λ h. is_place r h place) (filter is (objects_of s))
+pub held_at : (s : Setting) (r : Rel) (is : ℕ → Bool) (place : Option Place) → of_some (holder_at s r place) is ≡ list_any (λ h. is_place r h place) (filter is (objects_of s))
 held_at s r is None = sym (never (filter is (objects_of s)))
   where
     never : (hs : List ℕ) → list_any (λ h. false) hs ≡ false

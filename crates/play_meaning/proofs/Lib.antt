@@ -7,6 +7,7 @@ pub mod Lines
 pub mod Looking
 pub mod Ordering
 pub mod PlainTurns
+pub mod Reckoning
 pub mod Seen
 pub mod Standing
 pub mod Straight
