@@ -1,6 +1,7 @@
 pub mod Admitted
 pub mod Agreement
 pub mod Asking
+pub mod Coming
 pub mod Consultations
 pub mod Going
 pub mod Lines
