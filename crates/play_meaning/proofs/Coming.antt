@@ -6,8 +6,8 @@ use Rattle.world_meaning.specs.Progress.{Attempt, next}
 use Rattle.world_meaning.specs.declared.session.Abandon.{Abandon}
 use Rattle.play_meaning.specs.Doing.{repeat, turn_if}
 use Rattle.play_meaning.specs.Instructions as code
-use Rattle.play_meaning.specs.Instructions.{Instruction, size_of, sizes}
-use Rattle.play_meaning.specs.Machines.{Abandons, Frame, Goes, Leaves, State, Step, does, first_passing, goes_further, is_true, number_behind, run, truth_number, turns_to, unless_abandoned}
+use Rattle.play_meaning.specs.Instructions.{Instruction, at_place, size_of, sizes}
+use Rattle.play_meaning.specs.Machines.{Abandons, Frame, Goes, Leaves, State, Step, does, does_at, first_passing, goes_further, next_object, number_behind, or_later, run, truth_number, turns_to, unless_abandoned, with_object}
 use Rattle.play_meaning.specs.Progress.{Done, Progress, goes_on, spend, then_do}
 use Rattle.play_meaning.specs.Saying.{chosen}
 use Rattle.play_meaning.specs.Worlds.{World}
@@ -65,14 +65,14 @@ module _ (f : Frame) (c : List Instruction) where
       done (Ok p') = ap (λ n. run f c k (St n [] (open_loops turning) p')) size
       done (Err reason) = refl
 
+  pub jump_is : (ls : List (Option ℕ)) (q to : ℕ) (p : Progress) (k : ℕ) → at_place c q ≡ Some (code.Jump to) → run f c (suc k) (St q [] ls p) ≡ run f c k (St to [] ls p)
+  unfolding does
+  jump_is ls q to p k at = next_is f c (St q [] ls p) (code.Jump to) (Ok (St to [] ls p)) k at refl
+
   -- a jump
   pub jumps : (turning : List ℕ) (q to : ℕ) (p : Progress) → HasAt c q (code.Jump to ∷ []) → Comes turning q p (Ok (goes_on p)) to
   unfolding does
   jumps turning q to p has k = (suc k, next_is f c (St q [] (open_loops turning) p) (code.Jump to) (Ok (St to [] (open_loops turning) p)) k has.0 refl)
-
-  -- an instruction that ends the code
-  pub ends : (turning : List ℕ) (q r : ℕ) (p : Progress) (i : Instruction) (flow : Flow) → ((k : ℕ) → run f c (suc k) (St q [] (open_loops turning) p) ≡ Leaves flow p) → (k : ℕ) → (j : ℕ) × (run f c j (St q [] (open_loops turning) p) ≡ Leaves flow p)
-  ends turning q r p i flow is k = (1, is 0)
 
   -- ---- a choice
 
@@ -89,3 +89,111 @@ module _ (f : Frame) (c : List Instruction) where
       let on = first k in (length is + suc on.0, gives (suc on.0) ∙ (chooses turning (q + sizes is) to p true has on.0 ∙ on.1))
   choice_comes turning q is to s p (Ok false) a b has gives first second k =
       let on = second k in (length is + suc on.0, gives (suc on.0) ∙ (chooses turning (q + sizes is) to p false has on.0 ∙ on.1))
+
+  -- ---- a loop
+
+  take_outer : (turning : List ℕ) (last : Option ℕ) → take (length turning) (open_loops turning ++ last ∷ []) ≡ open_loops turning
+  take_outer [] last = refl
+  take_outer (t ∷ ts) last = ap (λ ls. Some t ∷ ls) (take_outer ts last)
+
+  last_loop : (turning : List ℕ) (last : Option ℕ) → slice_index_or (open_loops turning ++ last ∷ []) (length turning) None ≡ last
+  last_loop [] last = refl
+  last_loop (t ∷ ts) last = last_loop ts last
+
+  opened : (turning : List ℕ) (o : ℕ) → open_loops turning ++ Some o ∷ [] ≡ open_loops (turning ++ o ∷ [])
+  opened [] o = refl
+  opened (t ∷ ts) o = ap (λ ls. Some t ∷ ls) (opened ts o)
+
+  module _ (turning : List ℕ) (t head exit : ℕ) (is : ℕ → World → Bool) (does_to : ℕ → Progress → Attempt Done)
+      (tells : (o : ℕ) (w : World) → f.tests t (open_loops (turning ++ o ∷ [])) w ≡ Ok (is o w))
+      (has_next : HasAt c head (code.Next (length turning) t exit ∷ [])) where
+    -- the state behind the search for the next object
+    found : Progress → Option ℕ → Step
+    found p None = Goes (St exit [] (open_loops turning) p)
+    found p (Some o) = unless_abandoned (spend p) (λ p'. Goes (St (head + 6) [] (open_loops (turning ++ o ∷ [])) p'))
+
+    searched : ℕ → ℕ → Progress → Attempt (Option ℕ)
+    searched left o p = first_passing (λ o. f.tests t (open_loops (turning ++ o ∷ [])) p.world) left o
+
+    found_is : (last : Option ℕ) (p : Progress) (o : Option ℕ) → turns_to (code.Next (length turning) t exit) (St head [] (open_loops turning ++ last ∷ []) p) (length turning) exit o ≡ found p o
+    unfolding found
+    found_is last p None = ap (λ ls. Goes (St exit [] ls p)) (take_outer turning last)
+    found_is last p (Some o) = ap (λ ls. unless_abandoned (spend p) (λ p'. Goes (St (head + 6) [] ls p'))) (ap (λ ls. ls ++ Some o ∷ []) (take_outer turning last) ∙ opened turning o)
+
+    same_search : (g h : ℕ → Attempt Bool) (left o : ℕ) → ((n : ℕ) → g n ≡ h n) → first_passing g left o ≡ first_passing h left o
+    same_search g h zero o same = refl
+    same_search g h (suc left) o same = rw (same o, same_search g h left (o + 1) same) refl
+
+    then_found : (last : Option ℕ) (p : Progress) (a : Attempt (Option ℕ)) → unless_abandoned a (turns_to (code.Next (length turning) t exit) (St head [] (open_loops turning ++ last ∷ []) p) (length turning) exit) ≡ unless_abandoned a (found p)
+    then_found last p (Ok o) = found_is last p o
+    then_found last p (Err reason) = refl
+
+    loops_with : (last : Option ℕ) (o : ℕ) → with_object (open_loops turning ++ last ∷ []) (length turning) o ≡ open_loops (turning ++ o ∷ [])
+    loops_with last o = ap (λ ls. ls ++ Some o ∷ []) (take_outer turning last) ∙ opened turning o
+
+    -- at the place of the next turn
+    at_head : (last : Option ℕ) (p : Progress) (j : ℕ) → run f c (suc j) (St head [] (open_loops turning ++ last ∷ []) p)
+        ≡ goes_further (run f c j) (unless_abandoned (searched (f.telling.setting.count - number_behind last) (number_behind last) p) (found p))
+    unfolding run does searched
+    at_head last p j =
+        let s = St head [] (open_loops turning ++ last ∷ []) p in
+        let tested : next_object f s (length turning) t ≡ searched (f.telling.setting.count - number_behind last) (number_behind last) p =
+            ap (λ l. first_passing (λ o. f.tests t (with_object s.loops (length turning) o) p.world) (f.telling.setting.count - number_behind l) (number_behind l)) (last_loop turning last)
+            ∙ same_search (λ o. f.tests t (with_object s.loops (length turning) o) p.world) (λ o. f.tests t (open_loops (turning ++ o ∷ [])) p.world) (f.telling.setting.count - number_behind last) (number_behind last)
+                (λ o. ap (λ ls. f.tests t ls p.world) (loops_with last o))
+        in
+        ap (λ i. goes_further (run f c j) (does_at f s i)) has_next.0
+        ∙ (ap (λ a. goes_further (run f c j) (unless_abandoned a (turns_to (code.Next (length turning) t exit) s (length turning) exit))) tested
+        ∙ ap (goes_further (run f c j)) (then_found last p (searched (f.telling.setting.count - number_behind last) (number_behind last) p)))
+
+    -- what the turns from here on come to, so many objects being left
+    Turns : ℕ → ℕ → Progress → Type 0
+    Turns left o p = (k : ℕ) → (j : ℕ) × (goes_further (run f c j) (unless_abandoned (searched left o p) (found p)) ≡ behind k turning exit (repeat is does_to (range_with_len o left) p))
+
+    module _ (back : ℕ) (jumps_back : HasAt c back (code.Jump head ∷ [])) (does_so : (o : ℕ) (p : Progress) → Comes (turning ++ o ∷ []) (head + 6) p (does_to o p) back) where
+      -- behind the body the next turn follows
+      next_turn : (left o k : ℕ) → f.telling.setting.count - (o + 1) ≡ left → ((p' : Progress) → Turns left (o + 1) p') → (a : Attempt Done) (q : ℕ) (p : Progress) → Comes (turning ++ o ∷ []) q p a back
+          → (j : ℕ) × (run f c j (St q [] (open_loops (turning ++ o ∷ [])) p) ≡ behind k turning exit (then_do a (repeat is does_to (range_with_len (o + 1) left))))
+      unfolding Turns
+      next_turn left o k count more (Err reason) q p comes = comes 0
+      next_turn left o k count more (Ok done) q p comes = by_flow done.flow done.progress comes
+        where
+          by_flow : (flow : Flow) (p' : Progress) → Comes (turning ++ o ∷ []) q p (Ok (record { progress = p'; flow = flow })) back
+              → (j : ℕ) × (run f c j (St q [] (open_loops (turning ++ o ∷ [])) p) ≡ behind k turning exit (then_do (Ok (record { progress = p'; flow = flow })) (repeat is does_to (range_with_len (o + 1) left))))
+          by_flow GoesOn p' comes =
+              let later = more p' k in
+              let early = comes (suc (suc later.0)) in
+              (early.0, early.1 ∙ (jump_is (open_loops (turning ++ o ∷ [])) back head p' (suc later.0) jumps_back.0
+                  ∙ (ap (λ ls. run f c (suc later.0) (St head [] ls p')) (sym (opened turning o)) ∙ (at_head (Some o) p' later.0
+                  ∙ (ap (λ n. goes_further (run f c later.0) (unless_abandoned (searched n (o + 1) p') (found p'))) count ∙ later.1)))))
+          by_flow NoDecision p' comes = comes 0
+          by_flow (Decides outcome) p' comes = comes 0
+
+      spent : (left o k : ℕ) → f.telling.setting.count - (o + 1) ≡ left → ((p' : Progress) → Turns left (o + 1) p') → (a : Attempt Progress)
+          → (j : ℕ) × (goes_further (run f c j) (unless_abandoned a (λ p'. Goes (St (head + 6) [] (open_loops (turning ++ o ∷ [])) p'))) ≡ behind k turning exit (then_do (next a (does_to o)) (repeat is does_to (range_with_len (o + 1) left))))
+      spent left o k count more (Err reason) = (0, refl)
+      spent left o k count more (Ok p') = next_turn left o k count more (does_to o p') (head + 6) p' (does_so o p')
+
+      tested : (left o k : ℕ) (p : Progress) (b : Bool) → f.telling.setting.count - (o + 1) ≡ left → ((p' : Progress) → Turns left (o + 1) p')
+          → (j : ℕ) × (goes_further (run f c j) (unless_abandoned (or_later b o (searched left (o + 1) p)) (found p)) ≡ behind k turning exit (then_do (turn_if b (does_to o) p) (repeat is does_to (range_with_len (o + 1) left))))
+      unfolding found Turns
+      tested left o k p false count more = more p k
+      tested left o k p true count more = spent left o k count more (spend p)
+
+      all_turns : (left o : ℕ) (p : Progress) → f.telling.setting.count - o ≡ left → Turns left o p
+      unfolding found Turns searched
+      all_turns zero o p count k = (k, refl)
+      all_turns (suc left) o p count k =
+          let fewer : f.telling.setting.count - (o + 1) ≡ left = omega (arith, count) in
+          let r = tested left o k p (is o p.world) fewer (λ p'. all_turns left (o + 1) p' fewer) in
+          (r.0, ap (λ a. goes_further (run f c r.0) (unless_abandoned (next a (λ so. or_later so o (searched left (o + 1) p))) (found p))) (tells o p.world) ∙ r.1)
+
+      -- a loop, from its beginning to its exit
+      pub loops : (p : Progress) (start : ℕ) → HasAt c start (code.Begin (length turning) ∷ []) → start + 2 ≡ head
+          → Comes turning start p (repeat is does_to (range_with_len 0 f.telling.setting.count) p) exit
+      unfolding does Turns
+      loops p start has at k =
+          let r = all_turns f.telling.setting.count 0 p (omega arith) k in
+          (suc (suc r.0), next_is f c (St start [] (open_loops turning) p) (code.Begin (length turning)) (Ok (St (start + 2) [] (open_loops turning ++ None ∷ []) p)) (suc r.0) has.0 refl
+              ∙ (ap (λ n. run f c (suc r.0) (St n [] (open_loops turning ++ None ∷ []) p)) at ∙ (at_head None p r.0
+              ∙ (ap (λ n. goes_further (run f c r.0) (unless_abandoned (searched n 0 p) (found p))) (omega arith) ∙ r.1))))
