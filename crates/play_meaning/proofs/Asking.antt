@@ -55,11 +55,15 @@ take_loops [] o = refl
 take_loops (t ∷ ts) o = ap (λ ls. Some t ∷ ls) (take_loops ts o)
 
 -- a test of a description tells what the description means
-pub test_tells : (f : Frame) (t : ℕ) (d : Description) (turning : List ℕ) (o : ℕ) (w : World) → DescriptionIsWithin (length turning) d → TestRuns f t (test_code (length turning) d)
+pub test_says : (f : Frame) (t : ℕ) (d : Description) (turning : List ℕ) (o : ℕ) (w : World) → DescriptionIsWithin (length turning) d → TestRuns f t (test_code (length turning) d)
+    → f.tests t (open_loops (turning ++ o ∷ [])) w ≡ Ok (is_one f.telling.setting (scope_in f turning) w d o)
+test_says f t d turning o w within test =
+    test.runs (open_loops (turning ++ o ∷ [])) w ∙ (test_answers test.frame d turning o w within
+    ∙ (ap (λ s. Ok (is_one s (scope_in test.frame turning) w d o)) test.setting ∙ ap (λ now. Ok (is_one f.telling.setting (record { now = now; turning = turning }) w d o)) test.now))
+
+test_tells : (f : Frame) (t : ℕ) (d : Description) (turning : List ℕ) (o : ℕ) (w : World) → DescriptionIsWithin (length turning) d → TestRuns f t (test_code (length turning) d)
     → f.tests t (with_object (open_loops turning) (length turning) o) w ≡ Ok (is_one f.telling.setting (scope_in f turning) w d o)
-test_tells f t d turning o w within test =
-    ap (λ ls. f.tests t ls w) (take_loops turning o) ∙ (test.runs (open_loops (turning ++ o ∷ [])) w ∙ (test_answers test.frame d turning o w within
-    ∙ (ap (λ s. Ok (is_one s (scope_in test.frame turning) w d o)) test.setting ∙ ap (λ now. Ok (is_one f.telling.setting (record { now = now; turning = turning }) w d o)) test.now)))
+test_tells f t d turning o w within test = ap (λ ls. f.tests t ls w) (take_loops turning o) ∙ test_says f t d turning o w within test
 
 joined : (b : Bool) (o : ℕ) (os : List ℕ) → joined_if b o os ≡ (if b then o ∷ os else os)
 joined true o os = refl

@@ -65,6 +65,11 @@ module _ (f : Frame) (c : List Instruction) where
       done (Ok p') = ap (λ n. run f c k (St n [] (open_loops turning) p')) size
       done (Err reason) = refl
 
+  -- an instruction that ends the code
+  pub stops_at : (s : State) (i : Instruction) (flow : Flow) (p : Progress) (k : ℕ) → at_place c s.place ≡ Some i → does f s i ≡ Leaves flow p → run f c (suc k) s ≡ Leaves flow p
+  unfolding run
+  stops_at s i flow p k at is = ap (λ o. goes_further (run f c k) (does_at f s o)) at ∙ ap (goes_further (run f c k)) is
+
   pub jump_is : (ls : List (Option ℕ)) (q to : ℕ) (p : Progress) (k : ℕ) → at_place c q ≡ Some (code.Jump to) → run f c (suc k) (St q [] ls p) ≡ run f c k (St to [] ls p)
   unfolding does
   jump_is ls q to p k at = next_is f c (St q [] ls p) (code.Jump to) (Ok (St to [] ls p)) k at refl

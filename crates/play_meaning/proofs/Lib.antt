@@ -6,6 +6,7 @@ pub mod Consultations
 pub mod Going
 pub mod Lines
 pub mod Looking
+pub mod Meaning
 pub mod Ordering
 pub mod PlainTurns
 pub mod Reckoning

@@ -115,6 +115,13 @@ module _ (f : Frame) (c : List Instruction) (turning : List ℕ) (p : Progress) 
   pub one_gives : (q : ℕ) (i : Instruction) (xs ys : List ℤ) → HasAt c q (i ∷ []) → does f (St q xs (open_loops turning) p) i ≡ Goes (St (q + size_of i) ys (open_loops turning) p) → Gives q (i ∷ []) xs (Ok ys)
   one_gives q i xs ys has is = one_leads f c (open_loops turning) p q i xs (Ok ys) has is
 
+  -- no instruction at all
+  pub none_gives : (q : ℕ) (xs : List ℤ) → Gives q [] xs (Ok xs)
+  none_gives q xs k =
+      let count : 0 + k ≡ k = omega arith in
+      let place : q ≡ q + 0 = omega arith in
+      ap (λ n. run f c n (St q xs (open_loops turning) p)) count ∙ ap (λ n. run f c k (St n xs (open_loops turning) p)) place
+
   -- two codes that give an object each, and an instruction that takes both
   pub two_objects : (ca cb : List Instruction) (i : Instruction) (a b : Option ℕ) (n : ℤ) → GivesObject ca a → GivesObject cb b
       → ((q : ℕ) (xs : List ℤ) → does f (St q (object_number b ∷ object_number a ∷ xs) (open_loops turning) p) i ≡ Goes (St (q + size_of i) (n ∷ xs) (open_loops turning) p))

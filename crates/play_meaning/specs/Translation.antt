@@ -149,7 +149,7 @@ condition_part k (tree.Or a b) = seq (condition_part k a) (seq (condition_part k
 unfoldable pub text_part : (List ℕ → ℕ) → ℕ → Text → Part
 text_part string k tree.Silence = nothing
 text_part string k (tree.Bytes bytes more) = seq (one (code.Say (string bytes))) (text_part string k more)
-text_part string k (tree.Figure number more) = seq (number_part k number) (seq (one code.Figure) (text_part string k more))
+text_part string k (tree.Figure number more) = seq (seq (number_part k number) (one code.Figure)) (text_part string k more)
 text_part string k (tree.Name naming o more) = seq (these (object_code o ++ code.Name naming ∷ [])) (text_part string k more)
 text_part string k (tree.Listing naming description more) = seq (testing (code.Names naming k) (test_code k description)) (text_part string k more)
 text_part string k (tree.DescriptionOf o more) = seq (these (object_code o ++ code.Description ∷ [])) (text_part string k more)
@@ -170,7 +170,7 @@ unfoldable mutual
   phrase_part string k (tree.NowHeld o r holder) = these (object_code o ++ object_code holder ++ code.PutAt r ∷ [])
   phrase_part string k (tree.NowNowhere o) = these (object_code o ++ code.Away ∷ [])
   phrase_part string k (tree.Move o holder) = these (object_code o ++ object_code holder ++ code.Move ∷ [])
-  phrase_part string k (tree.NowNumber p o number) = seq (these (object_code o)) (seq (number_part k number) (one (code.SetProp p)))
+  phrase_part string k (tree.NowNumber p o number) = seq (seq (these (object_code o)) (number_part k number)) (one (code.SetProp p))
   phrase_part string k (tree.NowVariable v number) = seq (number_part k number) (one (code.SetVar v))
   phrase_part string k (tree.Try silent action noun second) = these (object_code noun ++ object_code second ++ code.Try silent action ∷ [])
   phrase_part string k (tree.Follow book) = one (code.Follow book)
