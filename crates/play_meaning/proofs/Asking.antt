@@ -1,29 +1,25 @@
 -- What the codes of numbers and conditions do.
-use Rattle.std.proofs.Common.{◌≡◌, ◌∙◌, ap, sym, subst, ℕ, ◌+◌, Bool, true, false, not, ◌&&◌, ◌||◌, List, [], ◌∷◌, ◌++◌, ◌<◌, ◌≤◌, ◌==◌, ◌⊎◌, inl, inr, zero, suc, length, map, filter, length-append, refl, Option, Some, None, Ok, Err, ℤ, pos, ◌+ℤ◌, ◌-ℤ◌, ◌*ℤ◌, arith}
-use Rattle.std.specs.Prelude.{int_le, int_lt, take, if◌then◌else◌}
+use Rattle.std.proofs.Common.{◌≡◌, ◌∙◌, ap, sym, subst, ℕ, ◌+◌, Bool, true, false, ◌&&◌, List, [], ◌∷◌, ◌++◌, ◌<◌, ◌≤◌, ◌==◌, ◌⊎◌, inl, inr, zero, suc, length, filter, length-append, refl, Option, Some, None, Ok, Err, ℤ, arith}
+use Rattle.std.specs.Prelude.{if◌then◌else◌}
 use Rattle.std.specs.List.{list_any, range_with_len}
-use Rattle.std.specs.Ordering.{int_eq}
 use Rattle.std.proofs.lemmas.Bool.{cases_lt, eq-eqb, le-ltb, lt-ltb, ne_eqb}
 use Rattle.world_meaning.specs.Progress.{Attempt, next}
 use Rattle.world_meaning.specs.declared.place.Place.{Place}
 use Rattle.world_meaning.specs.declared.place.Rel.{Rel}
-use Rattle.world_meaning.specs.declared.place.Rel.TheVariants.{Carried, Worn}
 use Rattle.world_meaning.specs.declared.session.Abandon.{Abandon}
 use Rattle.play_meaning.specs.Codes.{answered, start_at}
-use Rattle.play_meaning.specs.Instructions as code
 use Rattle.play_meaning.specs.Instructions.{Instruction, size_of, sizes}
-use Rattle.play_meaning.specs.Machines.{Frame, Goes, State, Step, does, holder_at, holder_by, is_true, object_at, joined_if, object_number, passing, passing_in, run, truth_number, with_object}
+use Rattle.play_meaning.specs.Machines.{Frame, does, holder_at, joined_if, passing, passing_in, run, with_object}
 use Rattle.play_meaning.specs.Progress.{Progress, fresh}
-use Rattle.play_meaning.specs.Scoping.{ConditionIsWithin, DescriptionIsWithin, NumberIsWithin}
+use Rattle.play_meaning.specs.Scoping.{DescriptionIsWithin}
 use Rattle.play_meaning.specs.Settings.{Setting, objects_of}
-use Rattle.play_meaning.specs.Translation.{condition_part, description_code, held_code, number_part, object_code, seq, test_code}
-use Rattle.play_meaning.specs.Trees as tree
-use Rattle.play_meaning.specs.Trees.{Condition, Description, Number}
-use Rattle.play_meaning.specs.Truth.{of_both, of_some, truth_in}
-use Rattle.play_meaning.specs.Values.{in_range, is_held, is_one, is_place, relation_number, number_at, number_in, those}
-use Rattle.play_meaning.specs.Worlds.{World, variable_of}
-use Rattle.play_meaning.proofs.Standing.{HasAt, has_back, has_front, sizes-append}
-use Rattle.play_meaning.proofs.Straight.{Gives, GivesObject, GivesTruth, Leads, St, alike, from, held_gives, adjective_gives, description_gives, object_back, object_gives, object_here, one_gives, one_leads, open_loops, scope_in, step_of, test_answers, then_also, truth_back}
+use Rattle.play_meaning.specs.Translation.{test_code}
+use Rattle.play_meaning.specs.Trees.{Description}
+use Rattle.play_meaning.specs.Truth.{of_some}
+use Rattle.play_meaning.specs.Values.{is_one, is_place, relation_number, those}
+use Rattle.play_meaning.specs.Worlds.{World}
+use Rattle.play_meaning.proofs.Standing.{HasAt}
+use Rattle.play_meaning.proofs.Straight.{Gives, St, alike, one_leads, open_loops, scope_in, step_of, test_answers, then_also}
 
 -- ---- tests of a code
 
@@ -114,9 +110,9 @@ module _ (f : Frame) (c : List Instruction) (turning : List ℕ) (p : Progress) 
       → Gives f c turning p q (ca ++ (cb ++ i ∷ [])) xs (on_top shows xs (next a (λ x. next b (λ y. h x y))))
   two_values shown shows q ca cb i xs a b h has ga gb is =
       alike f c (open_loops turning) p q (ca ++ (cb ++ i ∷ [])) xs _ _ (nested a b h (λ v. Ok (shows v ∷ xs)))
-          (then_value shown q ca (cb ++ i ∷ []) xs a (λ x. next b (λ y. next (h x y) (λ v. Ok (shows v ∷ xs)))) ga
-              (λ x. then_value shown (q + sizes ca) cb (i ∷ []) (shown x ∷ xs) b (λ y. next (h x y) (λ v. Ok (shows v ∷ xs))) (gb x)
-                  (λ y. one_leads f c (open_loops turning) p (q + sizes ca + sizes cb) i (shown y ∷ shown x ∷ xs) (next (h x y) (λ v. Ok (shows v ∷ xs))) has (is (q + sizes ca + sizes cb) x y))))
+      (then_value shown q ca (cb ++ i ∷ []) xs a (λ x. next b (λ y. next (h x y) (λ v. Ok (shows v ∷ xs)))) ga
+      (λ x. then_value shown (q + sizes ca) cb (i ∷ []) (shown x ∷ xs) b (λ y. next (h x y) (λ v. Ok (shows v ∷ xs))) (gb x)
+      (λ y. one_leads f c (open_loops turning) p (q + sizes ca + sizes cb) i (shown y ∷ shown x ∷ xs) (next (h x y) (λ v. Ok (shows v ∷ xs))) has (is (q + sizes ca + sizes cb) x y))))
 
 -- ---- what holds an object is one of these
 
@@ -164,6 +160,7 @@ held_at s r is (Some place) = by_range (cases_lt place.holder s.count)
     by_so : (b : Bool) → of_some (if b && true then Some place.holder else None) is ≡ (b && is place.holder)
     by_so true = refl
     by_so false = refl
+
     by_range : (place.holder < s.count) ⊎ (s.count ≤ place.holder) → of_some (holder_at s r (Some place)) is ≡ list_any (λ h. is_place r h (Some place)) (filter is (objects_of s))
     by_range (inl less) = rw (lt-ltb place.holder s.count less) (by_so (relation_number place.relation == relation_number r) ∙ sym (any_inside (relation_number place.relation == relation_number r) place.holder is 0 s.count (omega arith) (omega (arith, less))))
     by_range (inr more) = rw (le-ltb place.holder s.count more) (off (relation_number place.relation == relation_number r) ∙ sym (any_outside (relation_number place.relation == relation_number r) place.holder is 0 s.count (inr (omega (arith, more)))))

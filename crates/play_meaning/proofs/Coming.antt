@@ -1,9 +1,8 @@
 -- What the codes of texts and phrases come to.
-use Rattle.std.proofs.Common.{◌≡◌, ◌∙◌, ap, sym, subst, ℕ, zero, suc, ◌+◌, ◌-◌, ◌<◌, ◌≤◌, Bool, true, false, List, [], ◌∷◌, ◌++◌, length, map, append_assoc, length-append, refl, Option, Some, None, Ok, Err, ℤ, arith}
+use Rattle.std.proofs.Common.{◌≡◌, ◌∙◌, ap, sym, ℕ, zero, suc, ◌+◌, ◌-◌, Bool, true, false, List, [], ◌∷◌, ◌++◌, length, refl, Option, Some, None, Ok, Err, ℤ, arith}
 use Rattle.std.specs.Prelude.{slice_index_or, take}
 use Rattle.std.specs.List.{range_with_len}
 use Rattle.world_meaning.specs.Progress.{Attempt, next}
-use Rattle.world_meaning.specs.declared.session.Abandon.{Abandon}
 use Rattle.play_meaning.specs.Doing.{repeat, turn_if}
 use Rattle.play_meaning.specs.Instructions as code
 use Rattle.play_meaning.specs.Instructions.{Instruction, at_place, size_of, sizes}
@@ -14,8 +13,8 @@ use Rattle.play_meaning.specs.Worlds.{World}
 use Rattle.play_meaning.specs.declared.outcome.Flow.{Flow}
 use Rattle.play_meaning.specs.declared.outcome.Flow.TheVariants.{GoesOn, NoDecision, Decides}
 use Rattle.play_meaning.proofs.Asking.{on_top}
-use Rattle.play_meaning.proofs.Standing.{HasAt, has_back, has_front, sizes-append}
-use Rattle.play_meaning.proofs.Straight.{Gives, St, from, next_is, open_loops, step_of, truth_back}
+use Rattle.play_meaning.proofs.Standing.{HasAt, sizes-append}
+use Rattle.play_meaning.proofs.Straight.{Gives, St, from, next_is, open_loops, step_of}
 
 module _ (f : Frame) (c : List Instruction) where
   -- what follows a phrase's code at a place, unless the phrase ended the body
@@ -55,12 +54,15 @@ module _ (f : Frame) (c : List Instruction) where
       → ((r : ℕ) (v : A) → does f (St r (shown v) (open_loops turning) p) i ≡ step_of (next (h v) (λ p'. Ok (St (r + size_of i) [] (open_loops turning) p'))))
       → Comes turning q p (next a (λ v. next (h v) (λ p'. Ok (goes_on p')))) (q + sizes (is ++ i ∷ []))
   taken turning q is i p shown (Err reason) h has gives takes k = (length is + 0, gives 0)
-  taken turning q is i p shown (Ok v) h has gives takes k =
-      (length is + suc k, gives (suc k) ∙ (next_is f c (St (q + sizes is) (shown v) (open_loops turning) p) i (next (h v) (λ p'. Ok (St (q + sizes is + size_of i) [] (open_loops turning) p'))) k has.0 (takes (q + sizes is) v)
-          ∙ done (h v)))
+  taken turning q is i p shown (Ok v) h has gives takes k = (
+    length is + suc k,
+    gives (suc k) ∙ (next_is f c (St (q + sizes is) (shown v) (open_loops turning) p) i (next (h v) (λ p'. Ok (St (q + sizes is + size_of i) [] (open_loops turning) p'))) k has.0 (takes (q + sizes is) v)
+        ∙ done (h v)),
+  )
     where
       size : q + sizes is + size_of i ≡ q + sizes (is ++ i ∷ [])
       size = omega (arith, sizes-append is (i ∷ []))
+
       done : (b : Attempt Progress) → from f c k (next b (λ p'. Ok (St (q + sizes is + size_of i) [] (open_loops turning) p'))) ≡ behind k turning (q + sizes (is ++ i ∷ [])) (next b (λ p'. Ok (goes_on p')))
       done (Ok p') = ap (λ n. run f c k (St n [] (open_loops turning) p')) size
       done (Err reason) = refl
@@ -143,9 +145,9 @@ module _ (f : Frame) (c : List Instruction) where
     at_head last p j =
         let s = St head [] (open_loops turning ++ last ∷ []) p in
         let tested : next_object f s (length turning) t ≡ searched (f.telling.setting.count - number_behind last) (number_behind last) p =
-            ap (λ l. first_passing (λ o. f.tests t (with_object s.loops (length turning) o) p.world) (f.telling.setting.count - number_behind l) (number_behind l)) (last_loop turning last)
-            ∙ same_search (λ o. f.tests t (with_object s.loops (length turning) o) p.world) (λ o. f.tests t (open_loops (turning ++ o ∷ [])) p.world) (f.telling.setting.count - number_behind last) (number_behind last)
-                (λ o. ap (λ ls. f.tests t ls p.world) (loops_with last o))
+        ap (λ l. first_passing (λ o. f.tests t (with_object s.loops (length turning) o) p.world) (f.telling.setting.count - number_behind l) (number_behind l)) (last_loop turning last)
+        ∙ same_search (λ o. f.tests t (with_object s.loops (length turning) o) p.world) (λ o. f.tests t (open_loops (turning ++ o ∷ [])) p.world) (f.telling.setting.count - number_behind last) (number_behind last)
+        (λ o. ap (λ ls. f.tests t ls p.world) (loops_with last o))
         in
         ap (λ i. goes_further (run f c j) (does_at f s i)) has_next.0
         ∙ (ap (λ a. goes_further (run f c j) (unless_abandoned a (turns_to (code.Next (length turning) t exit) s (length turning) exit))) tested
@@ -167,10 +169,12 @@ module _ (f : Frame) (c : List Instruction) where
               → (j : ℕ) × (run f c j (St q [] (open_loops (turning ++ o ∷ [])) p) ≡ behind k turning exit (then_do (Ok (record { progress = p'; flow = flow })) (repeat is does_to (range_with_len (o + 1) left))))
           by_flow GoesOn p' comes =
               let later = more p' k in
-              let early = comes (suc (suc later.0)) in
-              (early.0, early.1 ∙ (jump_is (open_loops (turning ++ o ∷ [])) back head p' (suc later.0) jumps_back.0
-                  ∙ (ap (λ ls. run f c (suc later.0) (St head [] ls p')) (sym (opened turning o)) ∙ (at_head (Some o) p' later.0
-                  ∙ (ap (λ n. goes_further (run f c later.0) (unless_abandoned (searched n (o + 1) p') (found p'))) count ∙ later.1)))))
+              let early = comes (suc (suc later.0)) in (
+                early.0,
+                early.1 ∙ (jump_is (open_loops (turning ++ o ∷ [])) back head p' (suc later.0) jumps_back.0
+                    ∙ (ap (λ ls. run f c (suc later.0) (St head [] ls p')) (sym (opened turning o)) ∙ (at_head (Some o) p' later.0
+                    ∙ (ap (λ n. goes_further (run f c later.0) (unless_abandoned (searched n (o + 1) p') (found p'))) count ∙ later.1)))),
+              )
           by_flow NoDecision p' comes = comes 0
           by_flow (Decides outcome) p' comes = comes 0
 
@@ -198,7 +202,9 @@ module _ (f : Frame) (c : List Instruction) where
           → Comes turning start p (repeat is does_to (range_with_len 0 f.telling.setting.count) p) exit
       unfolding does Turns
       loops p start has at k =
-          let r = all_turns f.telling.setting.count 0 p (omega arith) k in
-          (suc (suc r.0), next_is f c (St start [] (open_loops turning) p) (code.Begin (length turning)) (Ok (St (start + 2) [] (open_loops turning ++ None ∷ []) p)) (suc r.0) has.0 refl
-              ∙ (ap (λ n. run f c (suc r.0) (St n [] (open_loops turning ++ None ∷ []) p)) at ∙ (at_head None p r.0
-              ∙ (ap (λ n. goes_further (run f c r.0) (unless_abandoned (searched n 0 p) (found p))) (omega arith) ∙ r.1))))
+          let r = all_turns f.telling.setting.count 0 p (omega arith) k in (
+            suc (suc r.0),
+            next_is f c (St start [] (open_loops turning) p) (code.Begin (length turning)) (Ok (St (start + 2) [] (open_loops turning ++ None ∷ []) p)) (suc r.0) has.0 refl
+                ∙ (ap (λ n. run f c (suc r.0) (St n [] (open_loops turning ++ None ∷ []) p)) at ∙ (at_head None p r.0
+                ∙ (ap (λ n. goes_further (run f c r.0) (unless_abandoned (searched n 0 p) (found p))) (omega arith) ∙ r.1))),
+          )

@@ -13,4 +13,5 @@ pub mod Reckoning
 pub mod Seen
 pub mod Standing
 pub mod Straight
+pub mod Translated
 pub mod Work

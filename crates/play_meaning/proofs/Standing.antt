@@ -1,9 +1,7 @@
 -- Where instructions stand in a code, and runs through those that stand one behind the other.
-use Rattle.std.proofs.Common.{◌≡◌, ◌∙◌, ap, sym, subst, ℕ, zero, suc, ◌+◌, ◌-◌, ◌<◌, ◌≤◌, ◌==◌, nat_lt, Bool, true, false, if◌then◌else◌, List, [], ◌∷◌, ◌++◌, length, append_assoc, length-append, refl, Option, Some, None, Ok, Err, arith}
+use Rattle.std.proofs.Common.{◌≡◌, ◌∙◌, subst, ℕ, suc, ◌+◌, ◌-◌, ◌≤◌, List, [], ◌∷◌, ◌++◌, length, append_assoc, refl, Some, arith}
 use Rattle.std.proofs.lemmas.Bool.{le-ltb, ne_eqb}
-use Rattle.world_meaning.specs.Progress.{Attempt, next}
 use Rattle.play_meaning.specs.Instructions.{Add, And, Answer, AtMost, Away, Begin, Count, Dark, Description, Done, Door, Encloses, EndStory, Eq, Failure, Figure, Flag, Follow, Happens, HasDescription, Held, Holder, IfZero, Instruction, Jump, Kind, Less, Location, Loop, Move, Mul, Name, Names, Next, NoDecision, Not, Noun, Num, Or, Prop, PutAt, Room, Say, Second, SetFlag, SetProp, SetVar, Sub, Success, Touchable, Try, Turns, Var, Visible, at_place, size_of, sizes}
-use Rattle.play_meaning.specs.Machines.{Abandons, Frame, Goes, State, Step, does, goes_further, run, step}
 
 -- every instruction takes a byte
 pub size_is : (i : Instruction) → size_of i ≡ suc (size_of i - 1)

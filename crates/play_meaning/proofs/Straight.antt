@@ -1,23 +1,21 @@
 -- What codes without ways do: objects, descriptions and the tests of descriptions.
-use Rattle.std.proofs.Common.{◌≡◌, ◌∙◌, ap, sym, subst, ℕ, zero, suc, ◌+◌, ◌-◌, ◌<◌, ◌≤◌, Bool, true, false, not, ◌&&◌, ◌||◌, List, [], ◌∷◌, ◌++◌, length, map, append_assoc, length-append, refl, Option, Some, None, Ok, Err, ℤ, pos, negsuc, arith}
-use Rattle.std.specs.Prelude.{slice_get, slice_index_or, take}
+use Rattle.std.proofs.Common.{◌≡◌, ◌∙◌, ap, subst, ℕ, zero, suc, ◌+◌, ◌-◌, ◌<◌, Bool, true, false, not, ◌&&◌, ◌||◌, List, [], ◌∷◌, ◌++◌, length, map, length-append, refl, Option, Some, None, Ok, Err, ℤ, pos, negsuc, arith}
+use Rattle.std.specs.Prelude.{slice_get, slice_index_or}
 use Rattle.std.specs.List.{list_all}
 use Rattle.std.specs.Ordering.{int_eq}
 use Rattle.world_meaning.specs.Progress.{Attempt, next}
-use Rattle.world_meaning.specs.declared.place.Place.{Place}
 use Rattle.world_meaning.specs.declared.place.Rel.{Rel}
 use Rattle.play_meaning.specs.Codes.{answered, start_at}
 use Rattle.play_meaning.specs.Instructions as code
 use Rattle.play_meaning.specs.Instructions.{Instruction, at_place, size_of, sizes}
-use Rattle.play_meaning.specs.Machines.{Abandons, Answers, Frame, Goes, State, Step, does, does_at, goes_further, is_asked, is_true, object_at, object_number, run, step, truth_number}
+use Rattle.play_meaning.specs.Machines.{Abandons, Answers, Frame, Goes, State, Step, does, does_at, goes_further, is_true, object_at, object_number, run, truth_number}
 use Rattle.play_meaning.specs.Progress.{Progress, fresh}
 use Rattle.play_meaning.specs.Scoping.{DescriptionIsWithin, ObjectIsWithin}
-use Rattle.play_meaning.specs.Settings.{Setting}
 use Rattle.play_meaning.specs.Translation.{adjective_code, adjectives_code, and_code, asked_of, description_code, is_there_code, kind_code, object_code, test_code}
 use Rattle.play_meaning.specs.Trees as tree
 use Rattle.play_meaning.specs.Trees.{Adjective, Description, First, NotSo, Object, Quality, Second, Touchable, Visible}
 use Rattle.play_meaning.specs.Truth.{of_some}
-use Rattle.play_meaning.specs.Values.{Scope, beyond, is_among, is_held, is_of_kind, is_one, is_so, object_in}
+use Rattle.play_meaning.specs.Values.{Scope, beyond, is_among, is_held, is_one, is_so, object_in}
 use Rattle.play_meaning.specs.Worlds.{World, location_of}
 use Rattle.play_meaning.proofs.Standing.{HasAt, has_all, has_back, has_front, length-sizes, sizes-append}
 
@@ -129,8 +127,8 @@ module _ (f : Frame) (c : List Instruction) (turning : List ℕ) (p : Progress) 
   two_objects ca cb i a b n ga gb is q xs has =
       let both = has_front c q (ca ++ cb) (i ∷ []) has in
       then_also f c (open_loops turning) p q (ca ++ cb) (i ∷ []) xs (object_number b ∷ object_number a ∷ xs) (Ok (n ∷ xs))
-          (then_also f c (open_loops turning) p q ca cb xs (object_number a ∷ xs) (Ok (object_number b ∷ object_number a ∷ xs)) (ga q xs (has_front c q ca cb both)) (gb (q + sizes ca) (object_number a ∷ xs) (has_back c q ca cb both)))
-          (one_gives (q + sizes (ca ++ cb)) i (object_number b ∷ object_number a ∷ xs) (n ∷ xs) (has_back c q (ca ++ cb) (i ∷ []) has) (is (q + sizes (ca ++ cb)) xs))
+      (then_also f c (open_loops turning) p q ca cb xs (object_number a ∷ xs) (Ok (object_number b ∷ object_number a ∷ xs)) (ga q xs (has_front c q ca cb both)) (gb (q + sizes ca) (object_number a ∷ xs) (has_back c q ca cb both)))
+      (one_gives (q + sizes (ca ++ cb)) i (object_number b ∷ object_number a ∷ xs) (n ∷ xs) (has_back c q (ca ++ cb) (i ∷ []) has) (is (q + sizes (ca ++ cb)) xs))
 
   -- a code that gives an object, and an instruction that takes it
   pub one_object : (ca : List Instruction) (i : Instruction) (a : Option ℕ) (n : ℤ) → GivesObject ca a
@@ -138,7 +136,7 @@ module _ (f : Frame) (c : List Instruction) (turning : List ℕ) (p : Progress) 
       → (q : ℕ) (xs : List ℤ) → HasAt c q (ca ++ i ∷ []) → Gives q (ca ++ i ∷ []) xs (Ok (n ∷ xs))
   one_object ca i a n ga is q xs has =
       then_also f c (open_loops turning) p q ca (i ∷ []) xs (object_number a ∷ xs) (Ok (n ∷ xs)) (ga q xs (has_front c q ca (i ∷ []) has))
-          (one_gives (q + sizes ca) i (object_number a ∷ xs) (n ∷ xs) (has_back c q ca (i ∷ []) has) (is (q + sizes ca) xs))
+      (one_gives (q + sizes ca) i (object_number a ∷ xs) (n ∷ xs) (has_back c q ca (i ∷ []) has) (is (q + sizes ca) xs))
 
   pub object_gives : (o : Object) → GivesObject (object_code o) (object_here f turning p o)
   unfolding object_in does
@@ -151,12 +149,12 @@ module _ (f : Frame) (c : List Instruction) (turning : List ℕ) (p : Progress) 
       one_gives q (code.Loop k) xs (object_number (slice_get turning k) ∷ xs) has (ap (λ o. Goes (St (q + 2) (object_number o ∷ xs) (open_loops turning) p)) (loop_object turning k))
   object_gives (tree.RoomFrom d room) q xs has =
       two_objects (object_code d) (object_code room) code.Room (object_here f turning p d) (object_here f turning p room) _ (object_gives d) (object_gives room)
-          (λ q xs. ap (λ o. Goes (St (q + 1) (object_number (beyond f.telling.setting.room_beyond o (object_at (object_number (object_here f turning p room)))) ∷ xs) (open_loops turning) p)) (object_back (object_here f turning p d))
-              ∙ ap (λ o. Goes (St (q + 1) (object_number (beyond f.telling.setting.room_beyond (object_here f turning p d) o) ∷ xs) (open_loops turning) p)) (object_back (object_here f turning p room))) q xs has
+      (λ q xs. ap (λ o. Goes (St (q + 1) (object_number (beyond f.telling.setting.room_beyond o (object_at (object_number (object_here f turning p room)))) ∷ xs) (open_loops turning) p)) (object_back (object_here f turning p d))
+      ∙ ap (λ o. Goes (St (q + 1) (object_number (beyond f.telling.setting.room_beyond (object_here f turning p d) o) ∷ xs) (open_loops turning) p)) (object_back (object_here f turning p room))) q xs has
   object_gives (tree.DoorFrom d room) q xs has =
       two_objects (object_code d) (object_code room) code.Door (object_here f turning p d) (object_here f turning p room) _ (object_gives d) (object_gives room)
-          (λ q xs. ap (λ o. Goes (St (q + 1) (object_number (beyond f.telling.setting.door_beyond o (object_at (object_number (object_here f turning p room)))) ∷ xs) (open_loops turning) p)) (object_back (object_here f turning p d))
-              ∙ ap (λ o. Goes (St (q + 1) (object_number (beyond f.telling.setting.door_beyond (object_here f turning p d) o) ∷ xs) (open_loops turning) p)) (object_back (object_here f turning p room))) q xs has
+      (λ q xs. ap (λ o. Goes (St (q + 1) (object_number (beyond f.telling.setting.door_beyond o (object_at (object_number (object_here f turning p room)))) ∷ xs) (open_loops turning) p)) (object_back (object_here f turning p d))
+      ∙ ap (λ o. Goes (St (q + 1) (object_number (beyond f.telling.setting.door_beyond (object_here f turning p d) o) ∷ xs) (open_loops turning) p)) (object_back (object_here f turning p room))) q xs has
 
   -- ---- truths
 
@@ -167,8 +165,8 @@ module _ (f : Frame) (c : List Instruction) (turning : List ℕ) (p : Progress) 
   unfolding does
   one_truth ca a ga q xs has =
       then_also f c (open_loops turning) p q ca (code.Not ∷ []) xs (truth_number a ∷ xs) (Ok (truth_number (not a) ∷ xs)) (ga q xs (has_front c q ca (code.Not ∷ []) has))
-          (one_gives (q + sizes ca) code.Not (truth_number a ∷ xs) (truth_number (not a) ∷ xs) (has_back c q ca (code.Not ∷ []) has)
-              (ap (λ b. Goes (St (q + sizes ca + 1) (truth_number (not b) ∷ xs) (open_loops turning) p)) (truth_back a)))
+      (one_gives (q + sizes ca) code.Not (truth_number a ∷ xs) (truth_number (not a) ∷ xs) (has_back c q ca (code.Not ∷ []) has)
+      (ap (λ b. Goes (St (q + sizes ca + 1) (truth_number (not b) ∷ xs) (open_loops turning) p)) (truth_back a)))
 
   -- both of two truths, or one of them
   pub two_truths : (ca cb : List Instruction) (i : Instruction) (a b n : Bool) → GivesTruth ca a → GivesTruth cb b
@@ -177,8 +175,8 @@ module _ (f : Frame) (c : List Instruction) (turning : List ℕ) (p : Progress) 
   two_truths ca cb i a b n ga gb is q xs has =
       let both = has_front c q (ca ++ cb) (i ∷ []) has in
       then_also f c (open_loops turning) p q (ca ++ cb) (i ∷ []) xs (truth_number b ∷ truth_number a ∷ xs) (Ok (truth_number n ∷ xs))
-          (then_also f c (open_loops turning) p q ca cb xs (truth_number a ∷ xs) (Ok (truth_number b ∷ truth_number a ∷ xs)) (ga q xs (has_front c q ca cb both)) (gb (q + sizes ca) (truth_number a ∷ xs) (has_back c q ca cb both)))
-          (one_gives (q + sizes (ca ++ cb)) i (truth_number b ∷ truth_number a ∷ xs) (truth_number n ∷ xs) (has_back c q (ca ++ cb) (i ∷ []) has) (is (q + sizes (ca ++ cb)) xs))
+      (then_also f c (open_loops turning) p q ca cb xs (truth_number a ∷ xs) (Ok (truth_number b ∷ truth_number a ∷ xs)) (ga q xs (has_front c q ca cb both)) (gb (q + sizes ca) (truth_number a ∷ xs) (has_back c q ca cb both)))
+      (one_gives (q + sizes (ca ++ cb)) i (truth_number b ∷ truth_number a ∷ xs) (truth_number n ∷ xs) (has_back c q (ca ++ cb) (i ∷ []) has) (is (q + sizes (ca ++ cb)) xs))
 
   pub both_are : (a b : Bool) (q : ℕ) (xs : List ℤ) → does f (St q (truth_number b ∷ truth_number a ∷ xs) (open_loops turning) p) code.And ≡ Goes (St (q + 1) (truth_number (a && b) ∷ xs) (open_loops turning) p)
   unfolding does
@@ -197,7 +195,7 @@ module _ (f : Frame) (c : List Instruction) (turning : List ℕ) (p : Progress) 
       → GivesTruth (ca ++ i ∷ []) (of_some v holds)
   asks_object ca i v holds gives is =
       one_object ca i v (truth_number (of_some v holds)) gives
-          (λ q xs. is q xs (object_number v) ∙ ap (λ t. Goes (St (q + size_of i) (truth_number (of_some t holds) ∷ xs) (open_loops turning) p)) (object_back v))
+      (λ q xs. is q xs (object_number v) ∙ ap (λ t. Goes (St (q + size_of i) (truth_number (of_some t holds) ∷ xs) (open_loops turning) p)) (object_back v))
 
   there_is : (v : Option ℕ) → truth_number (not (is_true (truth_number (int_eq (object_number v) (negsuc 0))))) ≡ truth_number (is_object v)
   unfolding is_object
@@ -214,7 +212,7 @@ module _ (f : Frame) (c : List Instruction) (turning : List ℕ) (p : Progress) 
       let other = one_gives (r + 5 + 1) code.Not (truth_number (int_eq (object_number v) (negsuc 0)) ∷ xs) (truth_number (is_object v) ∷ xs) (behind.1.1.0, tt) (ap (λ n. Goes (St (r + 5 + 1 + 1) (n ∷ xs) (open_loops turning) p)) (there_is v)) in
       let tested = then_also f c (open_loops turning) p (r + 5) (code.Eq ∷ []) (code.Not ∷ []) (negsuc 0 ∷ object_number v ∷ xs) (truth_number (int_eq (object_number v) (negsuc 0)) ∷ xs) (Ok (truth_number (is_object v) ∷ xs)) same other in
       then_also f c (open_loops turning) p q ca (code.Num (negsuc 0) ∷ code.Eq ∷ code.Not ∷ []) xs (object_number v ∷ xs) (Ok (truth_number (is_object v) ∷ xs)) (gives q xs (has_front c q ca (code.Num (negsuc 0) ∷ code.Eq ∷ code.Not ∷ []) has))
-          (then_also f c (open_loops turning) p r (code.Num (negsuc 0) ∷ []) (code.Eq ∷ code.Not ∷ []) (object_number v ∷ xs) (negsuc 0 ∷ object_number v ∷ xs) (Ok (truth_number (is_object v) ∷ xs)) nothing tested)
+      (then_also f c (open_loops turning) p r (code.Num (negsuc 0) ∷ []) (code.Eq ∷ code.Not ∷ []) (object_number v ∷ xs) (negsuc 0 ∷ object_number v ∷ xs) (Ok (truth_number (is_object v) ∷ xs)) nothing tested)
 
   -- ---- descriptions
 
@@ -239,8 +237,8 @@ module _ (f : Frame) (c : List Instruction) (turning : List ℕ) (p : Progress) 
   adjective_gives Touchable ca v gives = asks_object ca code.Touchable v (is_so f.telling.setting p.world Touchable) gives (λ q xs o. refl)
   adjective_gives (NotSo adjective) ca v gives =
       alike_truth (adjective_code ca (NotSo adjective)) _ _ (not_so v (is_so f.telling.setting p.world adjective))
-          (and_gives (is_there_code ca) (adjective_code ca adjective ++ code.Not ∷ []) (is_object v) (not (of_some v (is_so f.telling.setting p.world adjective))) (there_gives ca v gives)
-              (one_truth (adjective_code ca adjective) (of_some v (is_so f.telling.setting p.world adjective)) (adjective_gives adjective ca v gives)))
+      (and_gives (is_there_code ca) (adjective_code ca adjective ++ code.Not ∷ []) (is_object v) (not (of_some v (is_so f.telling.setting p.world adjective))) (there_gives ca v gives)
+      (one_truth (adjective_code ca adjective) (of_some v (is_so f.telling.setting p.world adjective)) (adjective_gives adjective ca v gives)))
 
   all_so : (v : Option ℕ) (adjective : Adjective) (adjectives : List Adjective)
       → (of_some v (is_so f.telling.setting p.world adjective) && of_some v (λ o. list_all (λ a. is_so f.telling.setting p.world a o) adjectives)) ≡ of_some v (λ o. list_all (λ a. is_so f.telling.setting p.world a o) (adjective ∷ adjectives))
@@ -253,7 +251,7 @@ module _ (f : Frame) (c : List Instruction) (turning : List ℕ) (p : Progress) 
   adjectives_give [] ca v gives = there_gives ca v gives
   adjectives_give (adjective ∷ adjectives) ca v gives =
       alike_truth (adjectives_code ca (adjective ∷ adjectives)) _ _ (all_so v adjective adjectives)
-          (and_gives (adjective_code ca adjective) (adjectives_code ca adjectives) _ _ (adjective_gives adjective ca v gives) (adjectives_give adjectives ca v gives))
+      (and_gives (adjective_code ca adjective) (adjectives_code ca adjectives) _ _ (adjective_gives adjective ca v gives) (adjectives_give adjectives ca v gives))
 
   both_some : (v : Option ℕ) (a b : ℕ → Bool) → (of_some v a && of_some v b) ≡ of_some v (λ o. a o && b o)
   both_some None a b = refl
@@ -265,14 +263,14 @@ module _ (f : Frame) (c : List Instruction) (turning : List ℕ) (p : Progress) 
   among_gives adjectives None ca v gives = adjectives_give adjectives ca v gives
   among_gives adjectives (Some kind) ca v gives =
       alike_truth (kind_code ca (Some kind) (adjectives_code ca adjectives)) _ _ (both_some v (λ o. f.telling.setting.is_of o kind) (λ o. list_all (λ a. is_so f.telling.setting p.world a o) adjectives))
-          (and_gives (ca ++ code.Kind kind ∷ []) (adjectives_code ca adjectives) _ _ (asks_object ca (code.Kind kind) v (λ o. f.telling.setting.is_of o kind) gives (λ q xs o. refl)) (adjectives_give adjectives ca v gives))
+      (and_gives (ca ++ code.Kind kind ∷ []) (adjectives_code ca adjectives) _ _ (asks_object ca (code.Kind kind) v (λ o. f.telling.setting.is_of o kind) gives (λ q xs o. refl)) (adjectives_give adjectives ca v gives))
 
   pub held_gives : (r : Rel) (ca cb : List Instruction) (v holder : Option ℕ) → GivesObject ca v → GivesObject cb holder → GivesTruth (ca ++ cb ++ code.Held r ∷ []) (of_some v (is_held p.world r holder))
   unfolding does
   held_gives r ca cb v holder gives holds =
       two_objects ca cb (code.Held r) v holder (truth_number (of_some v (is_held p.world r holder))) gives holds
-          (λ q xs. ap (λ o. Goes (St (q + 2) (truth_number (of_some o (is_held p.world r (object_at (object_number holder)))) ∷ xs) (open_loops turning) p)) (object_back v)
-              ∙ ap (λ h. Goes (St (q + 2) (truth_number (of_some v (is_held p.world r h)) ∷ xs) (open_loops turning) p)) (object_back holder))
+      (λ q xs. ap (λ o. Goes (St (q + 2) (truth_number (of_some o (is_held p.world r (object_at (object_number holder)))) ∷ xs) (open_loops turning) p)) (object_back v)
+      ∙ ap (λ h. Goes (St (q + 2) (truth_number (of_some v (is_held p.world r h)) ∷ xs) (open_loops turning) p)) (object_back holder))
 
   -- the object that a code gives is one of those that a description means
   pub description_gives : (d : Description) (ca : List Instruction) (v : Option ℕ) → GivesObject ca v → GivesTruth (description_code ca d) (of_some v (is_one f.telling.setting (scope_in f turning) p.world d))
@@ -280,8 +278,8 @@ module _ (f : Frame) (c : List Instruction) (turning : List ℕ) (p : Progress) 
   description_gives (tree.Those adjectives kind) ca v gives = among_gives adjectives kind ca v gives
   description_gives (tree.ThoseHeld adjectives kind r holder) ca v gives =
       alike_truth (description_code ca (tree.ThoseHeld adjectives kind r holder)) _ _ (both_some v (is_among f.telling.setting p.world adjectives kind) (is_held p.world r (object_here f turning p holder)))
-          (and_gives (kind_code ca kind (adjectives_code ca adjectives)) (ca ++ object_code holder ++ code.Held r ∷ []) _ _ (among_gives adjectives kind ca v gives)
-              (held_gives r ca (object_code holder) v (object_here f turning p holder) gives (object_gives holder)))
+      (and_gives (kind_code ca kind (adjectives_code ca adjectives)) (ca ++ object_code holder ++ code.Held r ∷ []) _ _ (among_gives adjectives kind ca v gives)
+      (held_gives r ca (object_code holder) v (object_here f turning p holder) gives (object_gives holder)))
 
 -- ---- tests
 

@@ -1,5 +1,5 @@
 -- What the codes of a story mean: what a test answers, what a description says, what a body does.
-use Rattle.std.specs.Prelude.{ℕ, zero, suc, ◌+◌, ◌*◌, Bool, false, List, [], length, Option, Ok, Err, slice_index_or}
+use Rattle.std.specs.Prelude.{◌≡◌, ℕ, zero, suc, ◌+◌, ◌*◌, Bool, false, List, [], length, Option, Ok, Err, slice_index_or}
 use Rattle.world_meaning.specs.Progress.{Attempt}
 use Rattle.world_meaning.specs.declared.session.Abandon.TheVariants.{NestedTooDeep}
 use Rattle.play_meaning.specs.Doing.{Inner}
@@ -62,6 +62,15 @@ most_steps code = sizes code * (most_work + 1)
 
 unfoldable pub body_done : Codes → Telling → Inner → ℕ → ActionNow → Progress → Attempt Done
 body_done c t inner n now p = left_off (run (frame_of c t inner (test_of c t now) now) (code_of c n) (most_steps (code_of c n)) (start_at [] p)) p
+
+-- what a run comes to that leaves off so
+abbrev pub leaves_so : Attempt Done → Step
+leaves_so (Ok done) = Leaves done.flow done.progress
+leaves_so (Err reason) = Abandons reason
+
+-- a run of a body's code, after some number of instructions, leaves off so
+abbrev pub RunsTo : Codes → Telling → Inner → ℕ → ActionNow → Progress → Attempt Done → Type 0
+RunsTo c t inner n now p attempt = (steps : ℕ) × (run (frame_of c t inner (test_of c t now) now) (code_of c n) steps (start_at [] p) ≡ leaves_so attempt)
 
 -- ---- descriptions
 

@@ -1,6 +1,6 @@
 -- Words that name the object of no loop but those that are open, so many.
 use Rattle.std.specs.Prelude.{ℕ, ◌+◌, ◌<◌}
-use Rattle.play_meaning.specs.Trees.{Adjective, And, Body, Bytes, Condition, CountOf, Description, DescriptionOf, DoorFrom, Encloses, End, EndStory, Equals, Figure, Follow, Happens, Has, HasDescription, If, IfSaid, InDarkness, Instead, IsAtMost, IsHeld, IsHeldByOne, IsLess, IsOne, IsSame, IsSo, Leave, Listing, Literal, Location, Minus, Move, Name, Not, Nothing, Noun, NowHeld, NowIs, NowNowhere, NowNumber, NowVariable, Number, Object, Or, Phrase, Plus, PropertyOf, Repeat, RoomFrom, Say, SecondNoun, Silence, Text, The, Then, Those, ThoseHeld, Times, Try, TurnCount, Turning, Variable}
+use Rattle.play_meaning.specs.Trees.{And, Body, Bytes, Condition, CountOf, Description, DescriptionOf, DoorFrom, Encloses, End, Equals, Figure, Has, HasDescription, If, IfSaid, Instead, IsAtMost, IsHeld, IsHeldByOne, IsLess, IsOne, IsSame, IsSo, Listing, Minus, Move, Name, Not, NowHeld, NowIs, NowNowhere, NowNumber, NowVariable, Number, Object, Or, Phrase, Plus, PropertyOf, Repeat, RoomFrom, Say, Silence, Text, Then, Those, ThoseHeld, Times, Try, Turning}
 
 abbrev pub ObjectIsWithin : ℕ → Object → Type 0
 ObjectIsWithin k (Turning n) = n < k

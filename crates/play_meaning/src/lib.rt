@@ -3,6 +3,7 @@
 #![tactic(auto)]
 
 mod action;
+mod code_laws;
 mod deed_laws;
 mod game_laws;
 mod laws;
@@ -14,6 +15,7 @@ mod sight_laws;
 mod work_laws;
 
 pub use action::{ActNo, ActionNow, Needs, Slot};
+pub use code_laws::codes_mean_their_trees;
 pub use deed_laws::{going_is_one_deed, looking_is_one_deed, plain_turns_are_deeds};
 pub use game_laws::{
     abandoned_lines_change_nothing, agreeing_games_are_one, decisions_end_consultations,
