@@ -1,6 +1,17 @@
+pub mod Admitted
 pub mod Agreement
+pub mod Asking
+pub mod Coming
 pub mod Consultations
+pub mod Going
 pub mod Lines
+pub mod Looking
+pub mod Meaning
 pub mod Ordering
+pub mod PlainTurns
+pub mod Reckoning
 pub mod Seen
+pub mod Standing
+pub mod Straight
+pub mod Translated
 pub mod Work

@@ -1,18 +1,20 @@
 -- What phrases do in a furnished hall and in a pantry.
 use Rattle.std.specs.Prelude.{List, None, Ok, Some, [], codes, false, neg_ℤ, pos, true, ℕ, ◌∷◌, ◌≡◌}
-use Rattle.world_meaning.specs.Progress.{next}
+use Rattle.world_meaning.specs.Progress.{Attempt, next}
 use Rattle.world_meaning.specs.declared.article.Article.TheVariants as article
 use Rattle.world_meaning.specs.declared.place.Rel.{Rel}
 use Rattle.world_meaning.specs.declared.place.Rel.TheVariants.{In, On, Carried, Worn, Part}
 use Rattle.play_meaning.specs.Acting.{top}
+use Rattle.play_meaning.specs.Codes.{body_done}
 use Rattle.play_meaning.specs.Doing.{do_body}
-use Rattle.play_meaning.specs.Progress.{fresh}
+use Rattle.play_meaning.specs.Progress.{Done, fresh}
 use Rattle.play_meaning.specs.Rows.{at, bright, here, item, with_rules}
 use Rattle.play_meaning.specs.Scripts.{scope_of, telling_of}
 use Rattle.play_meaning.specs.Settings.{container_kind, described_flag, fixed_in_place_flag, lit_flag, man_kind, open_flag, openable_flag, person_kind, room_kind, supporter_kind, thing_kind, wearable_flag}
 use Rattle.play_meaning.specs.Sketches.{Item, Sketch, game_of_sketch, script_of, start_in}
 use Rattle.play_meaning.specs.StandardActions.{dropping, taking}
 use Rattle.play_meaning.specs.StandardRules.{line, only, plain, standard_rules, the_player}
+use Rattle.play_meaning.specs.Translation.{translated}
 use Rattle.play_meaning.specs.Trees.{And, Body, Bytes, CapitalDefinite, CapitalIndefinite, Condition, CountOf, Definite, Description, DescriptionOf, Encloses, End, Equals, Figure, First, Has, If, IfSaid, Indefinite, Instead, IsAtMost, IsHeld, IsHeldByOne, IsLess, IsOne, IsSame, IsSo, Leave, Listing, Literal, Location, Minus, Move, Name, Naming, Not, Nothing, Noun, NowHeld, NowIs, NowNowhere, NowNumber, Number, Object, Or, Phrase, Plain, Plus, PropertyOf, Quality, Repeat, RoomFrom, Say, Second, SecondNoun, Silence, Text, The, Then, Those, ThoseHeld, Times, Touchable, Try, TurnCount, Turning, Variable, Visible}
 use Rattle.play_meaning.specs.Turns.{no_action}
 use Rattle.play_meaning.specs.declared.outcome.Flow.{Flow}
@@ -74,11 +76,14 @@ everywhere =
     things_there In (The 13) (then_things In (The 14) (then_things Carried (The 18) (then_things Worn (The 18)
     (then_things Carried (The 0) (then_things Part (The 16) (then_things On (The 16) Silence))))))
 
--- in a story a body says this and leaves off so
+abbrev pub LeavesOff : Attempt Done → List ℕ → Flow → Type 0
+LeavesOff attempt text flow = next {B = List ℕ × Flow} attempt (λ done. Ok (done.progress.text, done.flow)) ≡ Ok (text, flow)
+
+-- in a story a body says this and leaves off so, told by its tree and by the run of its code
 abbrev pub does : Body → List ℕ → Flow → Sketch → Type 0
 does body text flow k =
-    next {B = List ℕ × Flow} (do_body (telling_of (script_of k)) (top (game_of_sketch k)) body (scope_of no_action) (fresh (start_in k)))
-    (λ done. Ok (done.progress.text, done.flow)) ≡ Ok (text, flow)
+    LeavesOff (do_body (telling_of (script_of k)) (top (game_of_sketch k)) body (scope_of no_action) (fresh (start_in k))) text flow
+    × LeavesOff (body_done (translated body) (telling_of (script_of k)) (top (game_of_sketch k)) 0 no_action (fresh (start_in k))) text flow
 
 -- ---- words of the bodies
 

@@ -7,9 +7,11 @@ use Rattle.world_meaning.specs.declared.place.Place.{Place}
 use Rattle.world_meaning.specs.declared.place.Rel.{Rel}
 use Rattle.world_meaning.specs.declared.session.Ending.{Ending}
 use Rattle.world_meaning.specs.declared.place.Rel.TheVariants.{In}
+use Rattle.play_meaning.specs.CodedStories.{game_of_codes}
 use Rattle.play_meaning.specs.Rules.{Anything, Aspect, InOrder, Listed, Rule}
-use Rattle.play_meaning.specs.Sketches.{Item, Sketch, game_of_sketch}
+use Rattle.play_meaning.specs.Sketches.{Item, Sketch, game_of_sketch, script_of}
 use Rattle.play_meaning.specs.StandardRules.{line, only, standard_rules}
+use Rattle.play_meaning.specs.TranslatedScripts.{coded}
 use Rattle.play_meaning.specs.Trees.{Body, Condition, Leave, Say, Then}
 use Rattle.play_meaning.specs.Sessions.{opened}
 use Rattle.play_meaning.specs.Transcripts.{last_state, transcript}
@@ -81,13 +83,22 @@ typed [] = []
 typed (line ∷ []) = []
 typed (line ∷ next ∷ more) = typed_in line (typed (next ∷ more))
 
+-- sessions of the story's two games, of its trees and of their codes, show this
+abbrev pub AreBoth : List (List ℕ) → List ℕ → Sketch → Type 0
+AreBoth commands text sketch =
+    (transcript (game_of_sketch sketch) true [] commands ≡ text) × (transcript (game_of_codes (coded (script_of sketch))) true [] commands ≡ text)
+
 -- a session of the story shows these lines, the prompts and what is typed among them
 abbrev pub shows : List (List ℕ) → Sketch → Type 0
-shows lines sketch = transcript (game_of_sketch sketch) true [] (typed lines) ≡ on_lines lines
+shows lines sketch = AreBoth (typed lines) (on_lines lines) sketch
+
+-- told by its trees alone: of ten thousand turns the run of the code is too long to compute
+abbrev pub shows_by_trees : List (List ℕ) → Sketch → Type 0
+shows_by_trees lines sketch = transcript (game_of_sketch sketch) true [] (typed lines) ≡ on_lines lines
 
 -- and nothing of what is typed behind its end
 abbrev pub shows_to_end : List (List ℕ) → List (List ℕ) → Sketch → Type 0
-shows_to_end lines unheard sketch = transcript (game_of_sketch sketch) true [] (typed lines ++ unheard) ≡ on_lines lines
+shows_to_end lines unheard sketch = AreBoth (typed lines ++ unheard) (on_lines lines) sketch
 
 -- where memory is refused in lines
 abbrev pub refused_in : List (Option ℕ) → List (List ℕ) → Sketch → Type 0

@@ -20,13 +20,12 @@ use Rattle.play_meaning.specs.Grammar.{Grammar, Line}
 use Rattle.play_meaning.specs.Rules.{Rule}
 use Rattle.play_meaning.specs.Scripts.{Scene, Script, game_of}
 use Rattle.play_meaning.specs.Settings.{Setting}
-use Rattle.play_meaning.specs.StandardActions.{standard_needs}
+use Rattle.play_meaning.specs.StandardActions.{no_needs, standard_needs}
 use Rattle.play_meaning.specs.StandardGrammar.{standard_lines}
 use Rattle.play_meaning.specs.Tales.{setting_of, start_of}
 use Rattle.play_meaning.specs.Trees.{Text}
 use Rattle.play_meaning.specs.Worlds.{World}
 use Rattle.play_meaning.specs.declared.action.Needs.{Needs}
-use Rattle.play_meaning.specs.declared.action.Slot.TheVariants.{Absent}
 
 pub record Item : Type 0 where
   pub kind : ℕ
@@ -115,9 +114,6 @@ setting_in k = record (setting_of (tale_of k)) { has_description = λ o. is_some
 
 unfoldable pub start_in : Sketch → World
 start_in k = record (start_of (tale_of k)) { scenes = map (λ scene. record { happens = false; has_begun = false }) k.scenes }
-
-abbrev pub no_needs : Needs
-no_needs = record { noun = Absent; second = Absent; light = false; out_of_world = false }
 
 -- the words of its name, and those that it goes by besides
 abbrev pub words_in : Option Item → List (List ℕ)

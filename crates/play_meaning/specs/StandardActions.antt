@@ -55,6 +55,10 @@ switching_off = 15
 abbrev pub asking : Slot → Slot → Bool → Needs
 asking noun second light = record { noun = noun; second = second; light = light; out_of_world = false }
 
+-- what an action that isn't there asks for
+abbrev pub no_needs : Needs
+no_needs = asking Absent Absent false
+
 -- by number
 unfoldable pub standard_needs : List Needs
 standard_needs =

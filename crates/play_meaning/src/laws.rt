@@ -1,6 +1,6 @@
 //! The definitions, computed on small stories written by hand: each clause is what one session shows.
 ghost use Rattle.play_meaning.specs.ActionRows.{ball_in_box, ball_in_box_not_things_shown, ball_in_box_shown, ball_looked_at, ball_looked_at_shown, ball_on_table, ball_on_table_shown, ball_out_of_range, ball_out_of_range_shown, coin_out_of_sight, coin_out_of_sight_shown, endless_following, endless_following_shown, endless_jumping, endless_jumping_abandoned_shown, endless_jumping_shown, lamp_in_bag, lamp_in_bag_shown, parted_words, parted_words_shown, question_refused_shown, score_at_its_top, score_at_its_top_shown, seventeen_deep, seventeen_deep_shown, sixteen_deep, sixteen_deep_shown, two_boxes, two_boxes_shown, two_open_boxes, two_open_boxes_shown, weighing, weighing_shown};
-ghost use Rattle.play_meaning.specs.Rows.{ends_by, refused_in, shows, shows_to_end};
+ghost use Rattle.play_meaning.specs.Rows.{ends_by, refused_in, shows, shows_by_trees, shows_to_end};
 ghost use Rattle.play_meaning.specs.RuleRows.{closed_box, closed_box_shown, got_it, got_it_and_goes_on, got_it_and_goes_on_shown, got_it_shown, graded, graded_shown, left_behind, left_behind_shown, listed_first, listed_first_shown, met_on_the_way, met_on_the_way_shown, open_box, open_box_shown, scenery_goes, scenery_goes_shown, scenery_stays, scenery_stays_shown, statue_spoken_for, statue_spoken_for_shown, three_rules, three_rules_shown, two_nouns, two_nouns_shown, unlisted, unlisted_shown};
 ghost use Rattle.play_meaning.specs.SessionRows.{empty_hall, empty_hall_shown, enough_work, enough_work_shown, one_storm, one_storm_shown, over_at_once, over_at_once_shown, past_the_top, past_the_top_shown, scoring, scoring_shown, storms, storms_shown, sums_and_choices, sums_and_choices_shown, too_much_work, too_much_work_shown, wet_jumping, wet_jumping_shown, wet_while_happening, winning, winning_shown, without_stop, without_stop_shown};
 ghost use Rattle.play_meaning.specs.WorldRows.{bulb_of_closed_box, bulb_of_closed_box_shown, closed_gate, closed_gate_opened_shown, closed_gate_shown, dark_cave, dark_cave_shown, hall_and_garden, hall_and_garden_nowhere_shown, hall_and_garden_shown, jar_in_tank, jar_in_tank_shown, lamp_here, lamp_here_shown, lamp_in_closed_box, lamp_in_closed_box_shown, lamp_in_jar, lamp_in_jar_shown, lamp_of_bob, lamp_of_bob_shown, many_things, many_things_put_shown, many_things_shown, many_things_switched_shown, open_box_in_closed_sack, open_box_in_closed_sack_shown};
@@ -111,6 +111,6 @@ pub fn things_are_handled()
 
 /// A line may do 10,000 units of work, and not one more.
 pub fn work_has_an_end()
-    ensures enough { shows enough_work_shown enough_work }
-    ensures one_more { shows too_much_work_shown too_much_work }
+    ensures enough { shows_by_trees enough_work_shown enough_work }
+    ensures one_more { shows_by_trees too_much_work_shown too_much_work }
 {}

@@ -3,6 +3,8 @@
 #![tactic(auto)]
 
 mod action;
+mod code_laws;
+mod deed_laws;
 mod game_laws;
 mod laws;
 mod order_laws;
@@ -13,6 +15,8 @@ mod sight_laws;
 mod work_laws;
 
 pub use action::{ActNo, ActionNow, Needs, Slot};
+pub use code_laws::codes_mean_their_trees;
+pub use deed_laws::{going_is_one_deed, looking_is_one_deed, plain_turns_are_deeds};
 pub use game_laws::{
     abandoned_lines_change_nothing, agreeing_games_are_one, decisions_end_consultations,
     undo_brings_back_the_world,
@@ -22,7 +26,7 @@ pub use laws::{
     rules_stand_in_order, scenes_and_stories_end, texts_are_said, things_are_handled,
     turns_are_undone, ways_and_doors_are_gone_through, work_has_an_end,
 };
-pub use order_laws::rulebooks_are_in_order;
+pub use order_laws::{rulebooks_are_in_order, rules_passed_over_are_false};
 pub use outcome::{Flow, Outcome};
 pub use phrase_laws::{
     bodies_are_done, conditions_hold, names_and_numbers_are_said, phrases_change_the_world,

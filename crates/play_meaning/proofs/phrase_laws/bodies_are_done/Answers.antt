@@ -5,10 +5,12 @@ use Rattle.world_meaning.specs.Kinds.{built_in_parents, is_under}
 use Rattle.world_meaning.specs.Properties.{built_in_properties}
 use Rattle.play_meaning.specs.Acting.{access, act, carrying, inner_of, stages, visibility}
 use Rattle.play_meaning.specs.Changes.{may_be_put}
+use Rattle.play_meaning.specs.Codes.{body_done, test_within}
 use Rattle.play_meaning.specs.Commands.{answer, command, first_reading, read, settle}
 use Rattle.play_meaning.specs.Consulting.{applies, ask, consult}
 use Rattle.play_meaning.specs.Doing.{do_body, do_phrase}
 use Rattle.play_meaning.specs.Grammar.{candidates, splits}
+use Rattle.play_meaning.specs.Machines.{does, run}
 use Rattle.play_meaning.specs.Order.{book_of}
 use Rattle.play_meaning.specs.PhraseRows.{fails, furnished_hall, instead, instead_behind_end, no_decision, repeat_and_move, repeat_in_repeat, repeated, silently, succeeds}
 use Rattle.play_meaning.specs.Progress.{spend}
@@ -23,6 +25,7 @@ use Rattle.play_meaning.specs.StandardGrammar.{standard_lines}
 use Rattle.play_meaning.specs.StandardRules.{rules_of_closing, rules_of_dropping, rules_of_examining, rules_of_going, rules_of_inserting, rules_of_inventory, rules_of_looking, rules_of_opening, rules_of_putting, rules_of_switching, rules_of_taking, rules_of_wearing, standard_rules}
 use Rattle.play_meaning.specs.Tales.{depth_of, setting_of, start_of}
 use Rattle.play_meaning.specs.Transcripts.{exchanges, last_state, played, transcript}
+use Rattle.play_meaning.specs.Translation.{adjective_code, body_part, choice, condition_part, description_code, loop, number_part, phrase_part, seq, strings_of_body, strings_of_phrase, text_part, translated}
 use Rattle.play_meaning.specs.Truth.{truth_in}
 use Rattle.play_meaning.specs.Turns.{beginning_of, ending_of, opening, pass, turn}
 use Rattle.play_meaning.specs.Values.{is_one, number_in, object_in, those}
@@ -30,5 +33,5 @@ use Rattle.play_meaning.specs.Worlds.{chain, is_true_of, number_of, set_flag, se
 use Rattle.play_meaning.proofs.phrase_laws.bodies_are_done.Goals as goal
 
 pub returns : goal.returns
-unfolding count_of_numbers built_in_parents is_under built_in_properties digits visibility access carrying stages act inner_of may_be_put settle first_reading command answer read applies ask consult do_phrase do_body splits candidates book_of furnished_hall repeated repeat_and_move repeat_in_repeat succeeds fails no_decision instead instead_behind_end silently spend is_about said_in game_of encloses is_in_view has_light is_visible_thing is_visible is_touchable answer_of opened tale_of start_in grammar_of script_of standard_needs standard_lines rules_of_looking rules_of_examining rules_of_taking rules_of_dropping rules_of_putting rules_of_inserting rules_of_opening rules_of_closing rules_of_going rules_of_wearing rules_of_inventory rules_of_switching standard_rules depth_of setting_of start_of exchanges played last_state transcript truth_in ending_of beginning_of pass turn opening object_in is_one those number_in chain is_true_of number_of set_flag set_number
-returns c = record { repeated = refl; repeat_and_move = refl; repeat_in_repeat = refl; silently = refl; succeeds = refl; fails = refl; no_decision = refl; instead = refl; instead_behind_end = refl }
+unfolding body_done test_within does run adjective_code body_part choice condition_part description_code loop number_part phrase_part seq strings_of_body strings_of_phrase text_part translated count_of_numbers built_in_parents is_under built_in_properties digits visibility access carrying stages act inner_of may_be_put settle first_reading command answer read applies ask consult do_phrase do_body splits candidates book_of furnished_hall repeated repeat_and_move repeat_in_repeat succeeds fails no_decision instead instead_behind_end silently spend is_about said_in game_of encloses is_in_view has_light is_visible_thing is_visible is_touchable answer_of opened tale_of start_in grammar_of script_of standard_needs standard_lines rules_of_looking rules_of_examining rules_of_taking rules_of_dropping rules_of_putting rules_of_inserting rules_of_opening rules_of_closing rules_of_going rules_of_wearing rules_of_inventory rules_of_switching standard_rules depth_of setting_of start_of exchanges played last_state transcript truth_in ending_of beginning_of pass turn opening object_in is_one those number_in chain is_true_of number_of set_flag set_number
+returns c = record { repeated = (refl, refl); repeat_and_move = (refl, refl); repeat_in_repeat = (refl, refl); silently = (refl, refl); succeeds = (refl, refl); fails = (refl, refl); no_decision = (refl, refl); instead = (refl, refl); instead_behind_end = (refl, refl) }

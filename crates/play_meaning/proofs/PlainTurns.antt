@@ -1,0 +1,113 @@
+-- Turns and the opening of a story without rules of its own.
+use Rattle.std.proofs.Common.{◌≡◌, ◌∙◌, ap, ℕ, Bool, true, false, List, [], ◌∷◌, ◌++◌, ◌+◌, refl, Ok, Err, arith}
+use Rattle.std.specs.Prelude.{Option, None, Some, slice_set, slice_index_or, if◌then◌else◌}
+use Rattle.world_meaning.specs.Progress.{Attempt, next}
+use Rattle.world_meaning.specs.Sight.{direction}
+use Rattle.world_meaning.specs.declared.place.Rel.TheVariants.{In}
+use Rattle.play_meaning.specs.Acting.{inner_of}
+use Rattle.play_meaning.specs.Changes.{make_so, may_be_put, put}
+use Rattle.play_meaning.specs.Consulting.{consult}
+use Rattle.play_meaning.specs.Deeds.{arrive, closed_text, go, going_to, is_closed, look}
+use Rattle.play_meaning.specs.Order.{book_of}
+use Rattle.play_meaning.specs.PlainStories.{PlainStory, game_of_plain, script_of_plain}
+use Rattle.play_meaning.specs.Progress.{Progress, fresh}
+use Rattle.play_meaning.specs.Scripts.{game_of}
+use Rattle.play_meaning.specs.Seeing.{has_light, root_of}
+use Rattle.play_meaning.specs.Settings.{Setting}
+use Rattle.play_meaning.specs.StandardRules.{rules_of_closing, rules_of_dropping, rules_of_examining, rules_of_going, rules_of_inserting, rules_of_inventory, rules_of_looking, rules_of_opening, rules_of_putting, rules_of_switching, rules_of_taking, rules_of_wearing, standard_rules}
+use Rattle.play_meaning.specs.Turns.{count_turn, follow, look_round, opening, parts, pass, perform, turn, unless_over}
+use Rattle.play_meaning.specs.Values.{beyond}
+use Rattle.play_meaning.specs.Worlds.{World, location_of, set_flag, set_place}
+use Rattle.play_meaning.specs.declared.action.ActionNow.{ActionNow}
+use Rattle.play_meaning.proofs.Going.{LooksRound, gone}
+use Rattle.play_meaning.proofs.Looking.{looked}
+
+looks_round : (k : PlainStory) → LooksRound k (inner_of (game_of_plain k) 16)
+unfolding inner_of
+looks_round k q most = rw (looked k (inner_of (game_of_plain k) 15) q most) refl
+
+pub look_performed : (k : PlainStory) (w : World) → perform (game_of_plain k) look_round (fresh w) ≡ Ok (look k (fresh w))
+look_performed k w = rw (looked k (inner_of (game_of_plain k) 16) (fresh w) (omega arith)) refl
+
+pub go_performed : (k : PlainStory) (d : ℕ) (w : World) → root_of k.setting d ≡ Some direction → perform (game_of_plain k) (going_to d) (fresh w) ≡ Ok (go k d (fresh w))
+go_performed k d w is_direction = gone k (inner_of (game_of_plain k) 16) d (fresh w) is_direction (omega arith) (looks_round k)
+
+no_scenes : (k : PlainStory) (p : Progress) → pass (game_of_plain k) p ≡ Ok p
+unfolding pass game_of script_of_plain
+no_scenes k p = refl
+
+no_rules_outside : (k : PlainStory) (p : Progress) → (follow (game_of_plain k) 6 p ≡ Ok p) × (follow (game_of_plain k) 7 p ≡ Ok p)
+unfolding consult book_of game_of script_of_plain rules_of_looking rules_of_examining rules_of_taking rules_of_dropping rules_of_putting rules_of_inserting rules_of_opening rules_of_closing rules_of_going rules_of_wearing rules_of_inventory rules_of_switching standard_rules
+no_rules_outside k p = (refl, refl)
+
+-- a part that leaves the story going, and then the others
+part_done : (part : Progress → Attempt Progress) (more : List (Progress → Attempt Progress)) (p q : Progress) → p.world.ended ≡ None → part p ≡ Ok q → parts (part ∷ more) p ≡ parts more q
+part_done part more p q going done = ap (λ ended. next (unless_over ended part p) (parts more)) going ∙ ap (λ attempt. next attempt (parts more)) done
+
+counted : (k : PlainStory) (q : Progress) (counted : Attempt Progress) → q.world.ended ≡ None → count_turn q ≡ counted → parts (count_turn ∷ pass (game_of_plain k) ∷ []) q ≡ counted
+counted k q (Err reason) going is = ap (λ ended. next (unless_over ended count_turn q) (parts (pass (game_of_plain k) ∷ []))) going ∙ ap (λ attempt. next attempt (parts (pass (game_of_plain k) ∷ []))) is
+counted k q (Ok r) going is = part_done count_turn (pass (game_of_plain k) ∷ []) q r going is ∙ last r r.world.ended refl
+  where
+    last : (r : Progress) (ended : Option (List ℕ)) → r.world.ended ≡ ended → parts (pass (game_of_plain k) ∷ []) r ≡ Ok r
+    last r None e = part_done (pass (game_of_plain k)) [] r r e (no_scenes k r)
+    last r (Some text) e = ap (λ ended. next (unless_over ended (pass (game_of_plain k)) r) (parts [])) e
+
+pub turn_counted : (k : PlainStory) (now : ActionNow) (p q : Progress) → p.world.ended ≡ None → perform (game_of_plain k) now p ≡ Ok q → q.world.ended ≡ None
+    → turn (game_of_plain k) now p ≡ count_turn q
+unfolding turn
+turn_counted k now p q going done on =
+    let g = game_of_plain k in
+    part_done (perform g now) (pass g ∷ follow g 6 ∷ count_turn ∷ pass g ∷ []) p q going done
+    ∙ (part_done (pass g) (follow g 6 ∷ count_turn ∷ pass g ∷ []) q q on (no_scenes k q)
+    ∙ (part_done (follow g 6) (count_turn ∷ pass g ∷ []) q q on (no_rules_outside k q).0
+    ∙ counted k q (count_turn q) on refl))
+
+pub opened_by_looking : (k : PlainStory) → k.start.ended ≡ None → opening (game_of_plain k) (fresh k.start) ≡ Ok (look k (fresh k.start))
+unfolding opening
+opened_by_looking k going =
+    let g = game_of_plain k in
+    part_done (pass g) (follow g 7 ∷ perform g look_round ∷ []) (fresh k.start) (fresh k.start) going (no_scenes k (fresh k.start))
+    ∙ (part_done (follow g 7) (perform g look_round ∷ []) (fresh k.start) (fresh k.start) going (no_rules_outside k (fresh k.start)).1
+    ∙ part_done (perform g look_round) [] (fresh k.start) (look k (fresh k.start)) going (look_performed k k.start))
+
+-- ---- looking and going end no story
+
+make_so_ended : (s : Setting) (o : Option ℕ) (property : ℕ) (value : Bool) (w : World) → (make_so s o property value w).ended ≡ w.ended
+unfolding set_flag
+make_so_ended s None property value w = refl
+make_so_ended s (Some o) property value w = by_flag (s.has_flag o property)
+  where
+    by_flag : (has : Bool) → (if has then record w { flags = slice_set w.flags property (slice_set (slice_index_or w.flags property []) o value) } else w).ended ≡ w.ended
+    by_flag true = refl
+    by_flag false = refl
+
+look_ended : (k : PlainStory) (p : Progress) → (look k p).world.ended ≡ p.world.ended
+look_ended k p = by_light (has_light k.setting p.world)
+  where
+    by_light : (light : Bool) → (if light then make_so k.setting (location_of p.world) 10 true p.world else p.world).ended ≡ p.world.ended
+    by_light true = make_so_ended k.setting (location_of p.world) 10 true p.world
+    by_light false = refl
+
+put_ended : (s : Setting) (room : ℕ) (w : World) → (put s (Some 0) In (Some room) w).ended ≡ w.ended
+put_ended s room w = by_rule (may_be_put s w 0 (record { relation = In; holder = room }))
+  where
+    by_rule : (may : Bool) → (if may then set_place 0 (Some (record { relation = In; holder = room })) w else w).ended ≡ w.ended
+    by_rule true = refl
+    by_rule false = refl
+
+arrive_ended : (k : PlainStory) (p : Progress) (room : Option ℕ) → (arrive k p room).world.ended ≡ p.world.ended
+arrive_ended k p None = refl
+arrive_ended k p (Some room) = look_ended k (record p { world = put k.setting (Some 0) In (Some room) p.world; work = p.work + 4 }) ∙ put_ended k.setting room p.world
+
+go_ended : (k : PlainStory) (d : ℕ) (p : Progress) → (go k d p).world.ended ≡ p.world.ended
+go_ended k d p = by_door (is_closed k.setting p.world (beyond k.setting.door_beyond (Some d) (location_of p.world)))
+  where
+    by_door : (closed : Bool) → (if closed then record p { text = p.text ++ closed_text k.setting (beyond k.setting.door_beyond (Some d) (location_of p.world)); work = p.work + 1 } else arrive k p (beyond k.setting.room_beyond (Some d) (location_of p.world))).world.ended ≡ p.world.ended
+    by_door true = refl
+    by_door false = arrive_ended k p (beyond k.setting.room_beyond (Some d) (location_of p.world))
+
+pub look_turn : (k : PlainStory) (w : World) → w.ended ≡ None → turn (game_of_plain k) look_round (fresh w) ≡ count_turn (look k (fresh w))
+look_turn k w going = turn_counted k look_round (fresh w) (look k (fresh w)) going (look_performed k w) (look_ended k (fresh w) ∙ going)
+
+pub go_turn : (k : PlainStory) (d : ℕ) (w : World) → root_of k.setting d ≡ Some direction → w.ended ≡ None → turn (game_of_plain k) (going_to d) (fresh w) ≡ count_turn (go k d (fresh w))
+go_turn k d w is_direction going = turn_counted k (going_to d) (fresh w) (go k d (fresh w)) going (go_performed k d w is_direction) (go_ended k d (fresh w) ∙ going)

@@ -1,0 +1,217 @@
+-- What instructions take and give, what their arguments name, and in which codes they may stand.
+use Rattle.std.specs.Prelude.{ℕ, ◌+◌, ℤ, pos, negsuc, int_le, int_lt, nat_lt, ◌==◌, Bool, true, false, not, ◌&&◌, ◌||◌, List, [], ◌∷◌, length, Option, None, Some, if◌then◌else◌}
+use Rattle.play_meaning.specs.Instructions.{Add, And, Answer, AtMost, Away, Begin, Count, Description, Done, Door, Encloses, EndStory, Eq, Figure, Flag, Follow, Happens, HasDescription, Held, Holder, IfZero, Instruction, Jump, Kind, Less, Loop, Move, Mul, Name, Names, Next, NoDecision, Not, Num, Or, Prop, PutAt, Room, Say, SetFlag, SetProp, SetVar, Sub, Success, Failure, Touchable, Try, Turns, Var, Visible, Dark, Location, Noun, Second}
+
+-- what a code is for
+pub data Use : Type 0 where
+  -- its answer is a truth; so many loops are open around it
+  Test : ℕ → Use
+  Describing : Use
+  Body : Use
+
+-- how many there are of each; a code's own number
+pub record Counts : Type 0 where
+  pub objects : ℕ
+  pub kinds : ℕ
+  pub flags : ℕ
+  pub numbers : ℕ
+  pub variables : ℕ
+  pub scenes : ℕ
+  pub strings : ℕ
+  pub codes : ℕ
+  pub actions : ℕ
+  pub books : ℕ
+  pub own : ℕ
+
+-- ---- operands
+
+-- a number that stands in a code may be an object too
+pub data Sort : Type 0 where
+  Number : Sort
+  Truth : Sort
+  Object : Sort
+  NumberOrObject : Sort
+
+abbrev pub serves : Sort → Sort → Bool
+serves NumberOrObject Number = true
+serves NumberOrObject Truth = false
+serves NumberOrObject Object = true
+serves NumberOrObject NumberOrObject = true
+serves Number Number = true
+serves Truth Truth = true
+serves Object Object = true
+serves _ _ = false
+
+-- of one sort: two numbers, two truths, two objects
+abbrev pub are_alike : Sort → Sort → Bool
+are_alike a b = (serves a Number && serves b Number) || (serves a Truth && serves b Truth) || (serves a Object && serves b Object)
+
+-- what an instruction takes, the last pushed first
+abbrev pub takes : Instruction → List Sort
+takes (Prop p) = Object ∷ []
+takes Add = Number ∷ Number ∷ []
+takes Sub = Number ∷ Number ∷ []
+takes Mul = Number ∷ Number ∷ []
+takes Less = Number ∷ Number ∷ []
+takes AtMost = Number ∷ Number ∷ []
+takes Not = Truth ∷ []
+takes And = Truth ∷ Truth ∷ []
+takes Or = Truth ∷ Truth ∷ []
+takes (Flag p asked) = Object ∷ []
+takes (Kind kind) = Object ∷ []
+takes (Held r) = Object ∷ Object ∷ []
+takes (Holder r) = Object ∷ []
+takes Encloses = Object ∷ Object ∷ []
+takes Visible = Object ∷ []
+takes Touchable = Object ∷ []
+takes HasDescription = Object ∷ []
+takes Room = Object ∷ Object ∷ []
+takes Door = Object ∷ Object ∷ []
+takes (Name naming) = Object ∷ []
+takes Figure = Number ∷ []
+takes Description = Object ∷ []
+takes (SetFlag p value) = Object ∷ []
+takes (SetProp p) = Number ∷ Object ∷ []
+takes (SetVar v) = Number ∷ []
+takes (PutAt r) = Object ∷ Object ∷ []
+takes Move = Object ∷ Object ∷ []
+takes Away = Object ∷ []
+takes (Try silent action) = Object ∷ Object ∷ []
+takes (IfZero place) = Truth ∷ []
+takes Answer = Truth ∷ []
+takes _ = []
+
+abbrev pub is_object : Counts → ℤ → Bool
+is_object z n = int_le (negsuc 0) n && int_lt n (pos z.objects)
+
+abbrev pub gives : Counts → Instruction → Option Sort
+gives z (Num n) = if is_object z n then Some NumberOrObject else Some Number
+gives z (Var v) = Some Number
+gives z (Prop p) = Some Number
+gives z Turns = Some Number
+gives z Add = Some Number
+gives z Sub = Some Number
+gives z Mul = Some Number
+gives z (Count k test) = Some Number
+gives z Noun = Some Object
+gives z Second = Some Object
+gives z Location = Some Object
+gives z (Loop k) = Some Object
+gives z (Holder r) = Some Object
+gives z Room = Some Object
+gives z Door = Some Object
+gives z Less = Some Truth
+gives z AtMost = Some Truth
+gives z Not = Some Truth
+gives z And = Some Truth
+gives z Or = Some Truth
+gives z (Flag p asked) = Some Truth
+gives z (Kind kind) = Some Truth
+gives z (Held r) = Some Truth
+gives z Encloses = Some Truth
+gives z Visible = Some Truth
+gives z Touchable = Some Truth
+gives z Dark = Some Truth
+gives z (Happens scene) = Some Truth
+gives z HasDescription = Some Truth
+gives z _ = None
+
+abbrev pub below : List Sort → List Sort → Option (List Sort)
+below [] sorts = Some sorts
+below (wanted ∷ more) [] = None
+below (wanted ∷ more) (sort ∷ sorts) = if serves sort wanted then below more sorts else None
+
+-- no more than sixty-four operands
+abbrev pub with_given : Option Sort → Option (List Sort) → Option (List Sort)
+with_given given None = None
+with_given None (Some sorts) = Some sorts
+with_given (Some sort) (Some sorts) = if nat_lt (length sorts) 64 then Some (sort ∷ sorts) else None
+
+-- `eq` takes two of one sort
+abbrev pub behind_eq : List Sort → Option (List Sort)
+behind_eq (b ∷ a ∷ sorts) = if are_alike a b then Some sorts else None
+behind_eq _ = None
+
+-- the operands behind an instruction; none where it lacks its own
+unfoldable pub operands_behind : Counts → Instruction → List Sort → Option (List Sort)
+operands_behind z Eq sorts = with_given (Some Truth) (behind_eq sorts)
+operands_behind z i sorts = with_given (gives z i) (below (takes i) sorts)
+
+-- ---- arguments
+
+-- a test has a greater number than the code that names it
+abbrev pub is_test : Counts → ℕ → Bool
+is_test z n = nat_lt z.own n && nat_lt n z.codes
+
+-- a loop's number is the count of those that are open around it, and no more than eight are open
+abbrev pub may_open : ℕ → ℕ → Bool
+may_open depth k = (k == depth) && nat_lt depth 8
+
+-- each argument names something that is there, inside so many loops
+unfoldable pub names_what_is_there : Counts → ℕ → Instruction → Bool
+names_what_is_there z depth (Var v) = nat_lt v z.variables
+names_what_is_there z depth (SetVar v) = nat_lt v z.variables
+names_what_is_there z depth (Prop p) = nat_lt p z.numbers
+names_what_is_there z depth (SetProp p) = nat_lt p z.numbers
+names_what_is_there z depth (Flag p asked) = nat_lt p z.flags
+names_what_is_there z depth (SetFlag p value) = nat_lt p z.flags
+names_what_is_there z depth (Kind kind) = nat_lt kind z.kinds
+names_what_is_there z depth (Happens scene) = nat_lt scene z.scenes
+names_what_is_there z depth (Loop k) = nat_lt k depth
+names_what_is_there z depth (Count k test) = may_open depth k && is_test z test
+names_what_is_there z depth (Names naming k test) = may_open depth k && is_test z test
+names_what_is_there z depth (Begin k) = may_open depth k
+names_what_is_there z depth (Next k test exit) = (k + 1 == depth) && is_test z test
+names_what_is_there z depth (Say string) = nat_lt string z.strings
+names_what_is_there z depth (EndStory string) = nat_lt string z.strings
+names_what_is_there z depth (Try silent action) = nat_lt action z.actions
+names_what_is_there z depth (Follow book) = nat_lt book z.books
+names_what_is_there z depth i = true
+
+-- ---- what a code is for
+
+-- asks, and changes and says nothing
+abbrev pub asks_only : Instruction → Bool
+asks_only (Names naming k test) = false
+asks_only (Say string) = false
+asks_only (Name naming) = false
+asks_only Figure = false
+asks_only Description = false
+asks_only (SetFlag p value) = false
+asks_only (SetProp p) = false
+asks_only (SetVar v) = false
+asks_only (PutAt r) = false
+asks_only Move = false
+asks_only Away = false
+asks_only (Try silent action) = false
+asks_only (Follow book) = false
+asks_only (IfZero place) = false
+asks_only (Jump place) = false
+asks_only (Begin k) = false
+asks_only (Next k test exit) = false
+asks_only (EndStory string) = false
+asks_only Done = false
+asks_only NoDecision = false
+asks_only Success = false
+asks_only Failure = false
+asks_only Answer = false
+asks_only _ = true
+
+abbrev pub only_says : Instruction → Bool
+only_says (Names naming k test) = true
+only_says (Say string) = true
+only_says (Name naming) = true
+only_says Figure = true
+only_says (IfZero place) = true
+only_says (Jump place) = true
+only_says Done = true
+only_says _ = false
+
+abbrev pub is_answer : Instruction → Bool
+is_answer Answer = true
+is_answer _ = false
+
+unfoldable pub may_hold : Use → Instruction → Bool
+may_hold (Test loops) i = asks_only i || is_answer i
+may_hold Describing i = asks_only i || only_says i
+may_hold Body i = not (is_answer i)

@@ -1,0 +1,29 @@
+//! What looking and going come to in a story without rules of its own: consulting the standard rules, rule by rule,
+//! makes of each of them one deed.
+ghost use Rattle.std.specs.Prelude.{◌≡◌, ℕ, None, Ok, Some};
+ghost use Rattle.play_meaning.specs.Deeds.{go, going_to, look};
+ghost use Rattle.play_meaning.specs.PlainStories.{PlainStory, game_of_plain};
+ghost use Rattle.play_meaning.specs.Progress.{fresh};
+ghost use Rattle.play_meaning.specs.Seeing.{root_of};
+ghost use Rattle.play_meaning.specs.Turns.{count_turn, look_round, opening, perform, turn};
+ghost use Rattle.play_meaning.specs.Worlds.{World};
+ghost use Rattle.world_meaning.specs.Sight.{direction};
+
+/// Looking says the room's heading, its description and what can be seen there, and marks it visited.
+pub fn looking_is_one_deed()
+    ensures { (k : PlainStory) (w : World) → perform (game_of_plain k) look_round (fresh w) ≡ Ok (look k (fresh w)) }
+{}
+
+/// Going in a direction finds a closed door or no way, or takes the player to the room beyond, to look round there.
+pub fn going_is_one_deed()
+    ensures { (k : PlainStory) (way : ℕ) (w : World) → root_of k.setting way ≡ Some direction
+        → perform (game_of_plain k) (going_to way) (fresh w) ≡ Ok (go k way (fresh w)) }
+{}
+
+/// A turn is its deed, counted; and the story opens with a look round.
+pub fn plain_turns_are_deeds()
+    ensures opening { (k : PlainStory) → k.start.ended ≡ None → opening (game_of_plain k) (fresh k.start) ≡ Ok (look k (fresh k.start)) }
+    ensures looking { (k : PlainStory) (w : World) → w.ended ≡ None → turn (game_of_plain k) look_round (fresh w) ≡ count_turn (look k (fresh w)) }
+    ensures going { (k : PlainStory) (way : ℕ) (w : World) → root_of k.setting way ≡ Some direction → w.ended ≡ None
+        → turn (game_of_plain k) (going_to way) (fresh w) ≡ count_turn (go k way (fresh w)) }
+{}
