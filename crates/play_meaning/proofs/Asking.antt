@@ -70,7 +70,8 @@ passing_filter test is [] tells = refl
 passing_filter test is (o ∷ os) tells = rw (tells o, passing_filter test is os tells) (ap Ok (joined (is o) o (filter is os)))
 
 -- the objects that pass the test of a description are those that it means
-pub those_pass : (f : Frame) (t : ℕ) (d : Description) (turning : List ℕ) (q : ℕ) (xs : List ℤ) (p : Progress) → DescriptionIsWithin (length turning) d → TestRuns f t (test_code (length turning) d)
+pub those_pass : (f : Frame) (t : ℕ) (d : Description) (turning : List ℕ) (q : ℕ) (xs : List ℤ) (p : Progress)
+    → DescriptionIsWithin (length turning) d → TestRuns f t (test_code (length turning) d)
     → passing_in f (St q xs (open_loops turning) p) (length turning) t ≡ Ok (those f.telling.setting (scope_in f turning) p.world d)
 unfolding those
 those_pass f t d turning q xs p within test =
@@ -97,7 +98,8 @@ module _ (f : Frame) (c : List Instruction) (turning : List ℕ) (p : Progress) 
   then_value shown q is js xs (Ok v) g first second = then_also f c (open_loops turning) p q is js xs (shown v ∷ xs) (g v) first (second v)
   then_value shown q is js xs (Err reason) g first second = stops q is js xs reason first
 
-  nested : {A B C : Type 0} (a : Attempt A) (b : Attempt B) (h : A → B → Attempt C) (k : C → Attempt (List ℤ)) → next a (λ x. next b (λ y. next (h x y) k)) ≡ next (next a (λ x. next b (λ y. h x y))) k
+  nested : {A B C : Type 0} (a : Attempt A) (b : Attempt B) (h : A → B → Attempt C) (k : C → Attempt (List ℤ))
+      → next a (λ x. next b (λ y. next (h x y) k)) ≡ next (next a (λ x. next b (λ y. h x y))) k
   nested (Ok x) (Ok y) h k = refl
   nested (Ok x) (Err reason) h k = refl
   nested (Err reason) b h k = refl
@@ -118,7 +120,9 @@ module _ (f : Frame) (c : List Instruction) (turning : List ℕ) (p : Progress) 
 
 -- the item in front is no holder, so those behind it tell
 any_behind : (b : Bool) (x : ℕ) (is : ℕ → Bool) (start len : ℕ) (first : Bool) → (x == start) ≡ false
-    → list_any (λ h. b && (x == h)) (if first then start ∷ filter is (range_with_len (start + 1) len) else filter is (range_with_len (start + 1) len)) ≡ list_any (λ h. b && (x == h)) (filter is (range_with_len (start + 1) len))
+    → list_any (λ h. b && (x == h))
+    (if first then start ∷ filter is (range_with_len (start + 1) len) else filter is (range_with_len (start + 1) len))
+    ≡ list_any (λ h. b && (x == h)) (filter is (range_with_len (start + 1) len))
 any_behind b x is start len false other = refl
 any_behind false x is start len true other = refl
 any_behind true x is start len true other = rw other refl
@@ -131,7 +135,8 @@ any_outside b x is start (suc len) (inr more) =
     any_behind b x is start len (is start) (ne_eqb x start (λ e. omega (arith, more, e))) ∙ any_outside b x is (start + 1) len (inr (omega (arith, more)))
 
 -- the item in front is the holder
-any_first : (b : Bool) (is : ℕ → Bool) (start : ℕ) (first : Bool) (rest : List ℕ) → list_any (λ h. b && (start == h)) rest ≡ false → list_any (λ h. b && (start == h)) (if first then start ∷ rest else rest) ≡ (b && first)
+any_first : (b : Bool) (is : ℕ → Bool) (start : ℕ) (first : Bool) (rest : List ℕ) → list_any (λ h. b && (start == h)) rest ≡ false
+    → list_any (λ h. b && (start == h)) (if first then start ∷ rest else rest) ≡ (b && first)
 any_first false is start false rest none = none
 any_first true is start false rest none = none
 any_first false is start true rest none = none
@@ -147,7 +152,8 @@ any_inside b x is start (suc len) low high = by_order (λ more. any_inside b x i
     by_order inside (inr less) =
         let e : x ≡ start = omega (arith, less, low) in
         let rest = any_outside b start is (start + 1) len (inl (omega arith)) in
-        ap (λ n. list_any (λ h. b && (n == h)) (filter is (range_with_len start (suc len)))) e ∙ (any_first b is start (is start) (filter is (range_with_len (start + 1) len)) rest ∙ ap (λ n. b && is n) (sym e))
+        ap (λ n. list_any (λ h. b && (n == h)) (filter is (range_with_len start (suc len)))) e
+        ∙ (any_first b is start (is start) (filter is (range_with_len (start + 1) len)) rest ∙ ap (λ n. b && is n) (sym e))
 
 pub held_at : (s : Setting) (r : Rel) (is : ℕ → Bool) (place : Option Place) → of_some (holder_at s r place) is ≡ list_any (λ h. is_place r h place) (filter is (objects_of s))
 held_at s r is None = sym (never (filter is (objects_of s)))
@@ -162,8 +168,10 @@ held_at s r is (Some place) = by_range (cases_lt place.holder s.count)
     by_so false = refl
 
     by_range : (place.holder < s.count) ⊎ (s.count ≤ place.holder) → of_some (holder_at s r (Some place)) is ≡ list_any (λ h. is_place r h (Some place)) (filter is (objects_of s))
-    by_range (inl less) = rw (lt-ltb place.holder s.count less) (by_so (relation_number place.relation == relation_number r) ∙ sym (any_inside (relation_number place.relation == relation_number r) place.holder is 0 s.count (omega arith) (omega (arith, less))))
-    by_range (inr more) = rw (le-ltb place.holder s.count more) (off (relation_number place.relation == relation_number r) ∙ sym (any_outside (relation_number place.relation == relation_number r) place.holder is 0 s.count (inr (omega (arith, more)))))
+    by_range (inl less) = rw (lt-ltb place.holder s.count less)
+        (by_so (relation_number place.relation == relation_number r) ∙ sym (any_inside (relation_number place.relation == relation_number r) place.holder is 0 s.count (omega arith) (omega (arith, less))))
+    by_range (inr more) = rw (le-ltb place.holder s.count more)
+        (off (relation_number place.relation == relation_number r) ∙ sym (any_outside (relation_number place.relation == relation_number r) place.holder is 0 s.count (inr (omega (arith, more)))))
       where
         off : (b : Bool) → of_some (if b && false then Some place.holder else None) is ≡ false
         off true = refl

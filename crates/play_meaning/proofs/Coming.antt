@@ -39,11 +39,13 @@ module _ (f : Frame) (c : List Instruction) where
   stays turning q r p e k = (k, ap (λ n. run f c k (St n [] (open_loops turning) p)) e)
 
   -- one behind the other
-  pub then_comes : (turning : List ℕ) (q r s : ℕ) (p : Progress) (a : Attempt Done) (more : Progress → Attempt Done) → Comes turning q p a r → ((p' : Progress) → Comes turning r p' (more p') s) → Comes turning q p (then_do a more) s
+  pub then_comes : (turning : List ℕ) (q r s : ℕ) (p : Progress) (a : Attempt Done) (more : Progress → Attempt Done) → Comes turning q p a r
+      → ((p' : Progress) → Comes turning r p' (more p') s) → Comes turning q p (then_do a more) s
   then_comes turning q r s p (Err reason) more first second k = first 0
   then_comes turning q r s p (Ok done) more first second k = by_flow done.flow done.progress first
     where
-      by_flow : (flow : Flow) (p' : Progress) → Comes turning q p (Ok (record { progress = p'; flow = flow })) r → (j : ℕ) × (run f c j (St q [] (open_loops turning) p) ≡ behind k turning s (then_do (Ok (record { progress = p'; flow = flow })) more))
+      by_flow : (flow : Flow) (p' : Progress) → Comes turning q p (Ok (record { progress = p'; flow = flow })) r
+          → (j : ℕ) × (run f c j (St q [] (open_loops turning) p) ≡ behind k turning s (then_do (Ok (record { progress = p'; flow = flow })) more))
       by_flow GoesOn p' comes = let later = second p' k in let early = comes later.0 in (early.0, early.1 ∙ later.1)
       by_flow NoDecision p' comes = comes 0
       by_flow (Decides outcome) p' comes = comes 0
@@ -63,7 +65,9 @@ module _ (f : Frame) (c : List Instruction) where
       size : q + sizes is + size_of i ≡ q + sizes (is ++ i ∷ [])
       size = omega (arith, sizes-append is (i ∷ []))
 
-      done : (b : Attempt Progress) → from f c k (next b (λ p'. Ok (St (q + sizes is + size_of i) [] (open_loops turning) p'))) ≡ behind k turning (q + sizes (is ++ i ∷ [])) (next b (λ p'. Ok (goes_on p')))
+      done : (b : Attempt Progress)
+          → from f c k (next b (λ p'. Ok (St (q + sizes is + size_of i) [] (open_loops turning) p')))
+          ≡ behind k turning (q + sizes (is ++ i ∷ [])) (next b (λ p'. Ok (goes_on p')))
       done (Ok p') = ap (λ n. run f c k (St n [] (open_loops turning) p')) size
       done (Err reason) = refl
 
@@ -83,14 +87,17 @@ module _ (f : Frame) (c : List Instruction) where
 
   -- ---- a choice
 
-  chooses : (turning : List ℕ) (q to : ℕ) (p : Progress) (b : Bool) → HasAt c q (code.IfZero to ∷ []) → (k : ℕ) → run f c (suc k) (St q (truth_number b ∷ []) (open_loops turning) p) ≡ run f c k (St (chosen b (q + 3) to) [] (open_loops turning) p)
+  chooses : (turning : List ℕ) (q to : ℕ) (p : Progress) (b : Bool) → HasAt c q (code.IfZero to ∷ []) → (k : ℕ)
+      → run f c (suc k) (St q (truth_number b ∷ []) (open_loops turning) p) ≡ run f c k (St (chosen b (q + 3) to) [] (open_loops turning) p)
   unfolding does
   chooses turning q to p true has k = next_is f c (St q (truth_number true ∷ []) (open_loops turning) p) (code.IfZero to) (Ok (St (q + 3) [] (open_loops turning) p)) k has.0 refl
   chooses turning q to p false has k = next_is f c (St q (truth_number false ∷ []) (open_loops turning) p) (code.IfZero to) (Ok (St to [] (open_loops turning) p)) k has.0 refl
 
   -- a truth, and one of two ways on
-  pub choice_comes : (turning : List ℕ) (q : ℕ) (is : List Instruction) (to s : ℕ) (p : Progress) (truth : Attempt Bool) (a b : Attempt Done) → HasAt c (q + sizes is) (code.IfZero to ∷ [])
-      → Gives f c turning p q is [] (on_top truth_number [] truth) → Comes turning (q + sizes is + 3) p a s → Comes turning to p b s → Comes turning q p (next truth (λ x. chosen x a b)) s
+  pub choice_comes : (turning : List ℕ) (q : ℕ) (is : List Instruction) (to s : ℕ) (p : Progress) (truth : Attempt Bool) (a b : Attempt Done)
+      → HasAt c (q + sizes is) (code.IfZero to ∷ [])
+      → Gives f c turning p q is [] (on_top truth_number [] truth) → Comes turning (q + sizes is + 3) p a s → Comes turning to p b s
+      → Comes turning q p (next truth (λ x. chosen x a b)) s
   choice_comes turning q is to s p (Err reason) a b has gives first second k = (length is + 0, gives 0)
   choice_comes turning q is to s p (Ok true) a b has gives first second k =
       let on = first k in (length is + suc on.0, gives (suc on.0) ∙ (chooses turning (q + sizes is) to p true has on.0 ∙ on.1))
@@ -122,16 +129,20 @@ module _ (f : Frame) (c : List Instruction) where
     searched : ℕ → ℕ → Progress → Attempt (Option ℕ)
     searched left o p = first_passing (λ o. f.tests t (open_loops (turning ++ o ∷ [])) p.world) left o
 
-    found_is : (last : Option ℕ) (p : Progress) (o : Option ℕ) → turns_to (code.Next (length turning) t exit) (St head [] (open_loops turning ++ last ∷ []) p) (length turning) exit o ≡ found p o
+    found_is : (last : Option ℕ) (p : Progress) (o : Option ℕ)
+        → turns_to (code.Next (length turning) t exit) (St head [] (open_loops turning ++ last ∷ []) p) (length turning) exit o ≡ found p o
     unfolding found
     found_is last p None = ap (λ ls. Goes (St exit [] ls p)) (take_outer turning last)
-    found_is last p (Some o) = ap (λ ls. unless_abandoned (spend p) (λ p'. Goes (St (head + 6) [] ls p'))) (ap (λ ls. ls ++ Some o ∷ []) (take_outer turning last) ∙ opened turning o)
+    found_is last p (Some o) = ap (λ ls. unless_abandoned (spend p) (λ p'. Goes (St (head + 6) [] ls p')))
+        (ap (λ ls. ls ++ Some o ∷ []) (take_outer turning last) ∙ opened turning o)
 
     same_search : (g h : ℕ → Attempt Bool) (left o : ℕ) → ((n : ℕ) → g n ≡ h n) → first_passing g left o ≡ first_passing h left o
     same_search g h zero o same = refl
     same_search g h (suc left) o same = rw (same o, same_search g h left (o + 1) same) refl
 
-    then_found : (last : Option ℕ) (p : Progress) (a : Attempt (Option ℕ)) → unless_abandoned a (turns_to (code.Next (length turning) t exit) (St head [] (open_loops turning ++ last ∷ []) p) (length turning) exit) ≡ unless_abandoned a (found p)
+    then_found : (last : Option ℕ) (p : Progress) (a : Attempt (Option ℕ))
+        → unless_abandoned a (turns_to (code.Next (length turning) t exit) (St head [] (open_loops turning ++ last ∷ []) p) (length turning) exit)
+        ≡ unless_abandoned a (found p)
     then_found last p (Ok o) = found_is last p o
     then_found last p (Err reason) = refl
 
@@ -146,7 +157,8 @@ module _ (f : Frame) (c : List Instruction) where
         let s = St head [] (open_loops turning ++ last ∷ []) p in
         let tested : next_object f s (length turning) t ≡ searched (f.telling.setting.count - number_behind last) (number_behind last) p =
         ap (λ l. first_passing (λ o. f.tests t (with_object s.loops (length turning) o) p.world) (f.telling.setting.count - number_behind l) (number_behind l)) (last_loop turning last)
-        ∙ same_search (λ o. f.tests t (with_object s.loops (length turning) o) p.world) (λ o. f.tests t (open_loops (turning ++ o ∷ [])) p.world) (f.telling.setting.count - number_behind last) (number_behind last)
+        ∙ same_search (λ o. f.tests t (with_object s.loops (length turning) o) p.world) (λ o. f.tests t (open_loops (turning ++ o ∷ [])) p.world)
+        (f.telling.setting.count - number_behind last) (number_behind last)
         (λ o. ap (λ ls. f.tests t ls p.world) (loops_with last o))
         in
         ap (λ i. goes_further (run f c j) (does_at f s i)) has_next.0
@@ -155,11 +167,13 @@ module _ (f : Frame) (c : List Instruction) where
 
     -- what the turns from here on come to, so many objects being left
     Turns : ℕ → ℕ → Progress → Type 0
-    Turns left o p = (k : ℕ) → (j : ℕ) × (goes_further (run f c j) (unless_abandoned (searched left o p) (found p)) ≡ behind k turning exit (repeat is does_to (range_with_len o left) p))
+    Turns left o p = (k : ℕ)
+        → (j : ℕ) × (goes_further (run f c j) (unless_abandoned (searched left o p) (found p)) ≡ behind k turning exit (repeat is does_to (range_with_len o left) p))
 
     module _ (back : ℕ) (jumps_back : HasAt c back (code.Jump head ∷ [])) (does_so : (o : ℕ) (p : Progress) → Comes (turning ++ o ∷ []) (head + 6) p (does_to o p) back) where
       -- behind the body the next turn follows
-      next_turn : (left o k : ℕ) → f.telling.setting.count - (o + 1) ≡ left → ((p' : Progress) → Turns left (o + 1) p') → (a : Attempt Done) (q : ℕ) (p : Progress) → Comes (turning ++ o ∷ []) q p a back
+      next_turn : (left o k : ℕ) → f.telling.setting.count - (o + 1) ≡ left → ((p' : Progress) → Turns left (o + 1) p')
+          → (a : Attempt Done) (q : ℕ) (p : Progress) → Comes (turning ++ o ∷ []) q p a back
           → (j : ℕ) × (run f c j (St q [] (open_loops (turning ++ o ∷ [])) p) ≡ behind k turning exit (then_do a (repeat is does_to (range_with_len (o + 1) left))))
       unfolding Turns
       next_turn left o k count more (Err reason) q p comes = comes 0

@@ -91,7 +91,8 @@ unfolding asked_in consult applies ask is_about book_of game_of script_of_plain 
 report_first k inner d p = refl
 
 behind_asked : (k : PlainStory) (inner : Inner) (d : ℕ) (p : Progress)
-    → (asked_in k inner 2 d checks_behind p ≡ Ok (undecided p)) × (asked_in k inner 3 d carry_outs_behind p ≡ Ok (undecided p)) × (asked_in k inner 5 d reports_behind p ≡ Ok (undecided p))
+    → (asked_in k inner 2 d checks_behind p ≡ Ok (undecided p)) × (asked_in k inner 3 d carry_outs_behind p ≡ Ok (undecided p))
+    × (asked_in k inner 5 d reports_behind p ≡ Ok (undecided p))
 unfolding asked_in applies ask is_about game_of script_of_plain rules_of_looking rules_of_examining rules_of_taking rules_of_dropping rules_of_putting rules_of_inserting rules_of_opening rules_of_closing rules_of_going rules_of_wearing rules_of_inventory rules_of_switching standard_rules
 behind_asked k inner d p = (refl, refl, refl)
 
@@ -102,7 +103,8 @@ unfolding asked_in
 then_asked k inner book d rule rules p q e = asked_first (game_of_plain k) inner book (going_to d) rule rules p q e
 
 -- one that decides ends the consultation
-decided : (k : PlainStory) (inner : Inner) (book d rule : ℕ) (rules : List ℕ) (p q : Progress) → ask (game_of_plain k) inner book (going_to d) rule p ≡ Ok (record { progress = q; decision = Some Failure })
+decided : (k : PlainStory) (inner : Inner) (book d rule : ℕ) (rules : List ℕ) (p q : Progress)
+    → ask (game_of_plain k) inner book (going_to d) rule p ≡ Ok (record { progress = q; decision = Some Failure })
     → asked_in k inner book d (rule ∷ rules) p ≡ Ok (record { progress = q; decision = Some Failure })
 unfolding asked_in
 decided k inner book d rule rules p q e = rw e refl
@@ -120,7 +122,8 @@ checked k inner d p is_direction = rw (before_asked k inner (going_to d) p, is_d
 abbrev pub LooksRound : PlainStory → Inner → Type 0
 LooksRound k inner = (q : Progress) → q.work + 4 ≤ 10000 → inner.tries look_round q ≡ Ok (look k q)
 
-gone_closed : (k : PlainStory) (inner : Inner) (d : ℕ) (p : Progress) → root_of k.setting d ≡ Some direction → p.work + 8 ≤ 10000 → is_closed k.setting p.world (door_of k d p.world) ≡ true
+gone_closed : (k : PlainStory) (inner : Inner) (d : ℕ) (p : Progress) → root_of k.setting d ≡ Some direction → p.work + 8 ≤ 10000
+    → is_closed k.setting p.world (door_of k d p.world) ≡ true
     → progress_of (act (game_of_plain k) inner (going_to d) p) ≡ Ok (go k d p)
 gone_closed k inner d p is_direction most closed =
     rw (
@@ -130,7 +133,8 @@ gone_closed k inner d p is_direction most closed =
       closed,
     ) refl
 
-gone_nowhere : (k : PlainStory) (inner : Inner) (d : ℕ) (p : Progress) → root_of k.setting d ≡ Some direction → p.work + 8 ≤ 10000 → is_closed k.setting p.world (door_of k d p.world) ≡ false
+gone_nowhere : (k : PlainStory) (inner : Inner) (d : ℕ) (p : Progress) → root_of k.setting d ≡ Some direction → p.work + 8 ≤ 10000
+    → is_closed k.setting p.world (door_of k d p.world) ≡ false
     → room_of k d p.world ≡ None → progress_of (act (game_of_plain k) inner (going_to d) p) ≡ Ok (go k d p)
 gone_nowhere k inner d p is_direction most closed none =
     let work : p.work + 1 + 1 ≡ p.work + 2 = omega arith in
@@ -145,7 +149,8 @@ gone_nowhere k inner d p is_direction most closed none =
     ) refl
 
 -- the three books behind one another, where a way is there and no door is closed
-check_passed : (k : PlainStory) (inner : Inner) (d room : ℕ) (w : World) (text : List ℕ) (n : ℕ) → n + 8 ≤ 10000 → is_closed k.setting w (door_of k d w) ≡ false → room_of k d w ≡ Some room
+check_passed : (k : PlainStory) (inner : Inner) (d room : ℕ) (w : World) (text : List ℕ) (n : ℕ) → n + 8 ≤ 10000
+    → is_closed k.setting w (door_of k d w) ≡ false → room_of k d w ≡ Some room
     → consult (game_of_plain k) inner 2 (going_to d) (At w text n) ≡ Ok (undecided (At w text (n + 1 + 1)))
 check_passed k inner d room w text n most closed some =
     check_first k inner d (At w text n)
@@ -167,7 +172,8 @@ reported k inner d w text n looks most =
     ∙ (then_asked k inner 5 d 41 reports_behind (At w text n) (look k (At w text (n + 1))) (arrived_in k inner d w text n _ (looks (At w text (n + 1)) (omega arith)) (lt-ltb n 10000 (omega arith)))
     ∙ (behind_asked k inner d (look k (At w text (n + 1)))).2)
 
-gone_there : (k : PlainStory) (inner : Inner) (d room : ℕ) (p : Progress) → root_of k.setting d ≡ Some direction → p.work + 8 ≤ 10000 → LooksRound k inner → is_closed k.setting p.world (door_of k d p.world) ≡ false
+gone_there : (k : PlainStory) (inner : Inner) (d room : ℕ) (p : Progress) → root_of k.setting d ≡ Some direction → p.work + 8 ≤ 10000
+    → LooksRound k inner → is_closed k.setting p.world (door_of k d p.world) ≡ false
     → room_of k d p.world ≡ Some room → progress_of (act (game_of_plain k) inner (going_to d) p) ≡ Ok (go k d p)
 gone_there k inner d room p is_direction most looks closed some =
     let work : p.work + 1 + 1 + 1 + 1 ≡ p.work + 4 = omega arith in

@@ -48,7 +48,8 @@ described k now w o false text has is = rw has refl
 described k now w o true None has is = rw (has, is) refl
 described k now w o true (Some text) has is = rw (has, is, append-nil text, append-nil (text ++ 10 ∷ [])) refl
 
-body_said : (k : PlainStory) (now : ActionNow) (w : World) (here : Option ℕ) → then_said (description_in (game_of_plain k).telling now w here) (Ok []) ≡ Ok (description_text k here)
+body_said : (k : PlainStory) (now : ActionNow) (w : World) (here : Option ℕ)
+    → then_said (description_in (game_of_plain k).telling now w here) (Ok []) ≡ Ok (description_text k here)
 body_said k now w None = refl
 body_said k now w (Some o) = described k now w o (k.setting.has_description o) (k.descriptions o) refl refl
 
@@ -65,7 +66,8 @@ view_said : (k : PlainStory) (w : World) → those k.setting (scope_of look_roun
 unfolding those is_one object_in
 view_said k w = refl
 
-contents_in : (k : PlainStory) (inner : Inner) (w : World) (text : List ℕ) (n : ℕ) (light : Bool) (things : List ℕ) → has_light k.setting w ≡ light → those k.setting (scope_of look_round) w room_contents ≡ things
+contents_in : (k : PlainStory) (inner : Inner) (w : World) (text : List ℕ) (n : ℕ) (light : Bool) (things : List ℕ) → has_light k.setting w ≡ light
+    → those k.setting (scope_of look_round) w room_contents ≡ things
     → nat_lt n 10000 ≡ true → ask (game_of_plain k) inner 3 look_round 2 (At w text n) ≡ Ok (undecided (At w (text ++ (if light then view_text k.setting things else [])) (n + 1)))
 unfolding applies ask do_phrase do_body spend is_about said_in game_of script_of_plain rules_of_looking standard_rules truth_in object_in number_in
 contents_in k inner w text n false things light are low = rw (low, light) (ap (λ t. Ok (undecided (At w t (n + 1)))) (sym (append-nil text)))
@@ -92,7 +94,8 @@ others_asked : (k : PlainStory) (inner : Inner) (p : Progress) → first_decisio
 unfolding applies ask is_about game_of script_of_plain rules_of_looking rules_of_examining rules_of_taking rules_of_dropping rules_of_putting rules_of_inserting rules_of_opening rules_of_closing rules_of_going rules_of_wearing rules_of_inventory rules_of_switching standard_rules
 others_asked k inner p = refl
 
-all_said : (w : World) (text a b c : List ℕ) (n : ℕ) → ◌≡◌ {A = Attempt Asked} (Ok (undecided (At w (((text ++ a) ++ b) ++ c) (n + 1 + 1 + 1 + 1)))) (Ok (undecided (At w (text ++ (a ++ b ++ c)) (n + 4))))
+all_said : (w : World) (text a b c : List ℕ) (n : ℕ)
+    → ◌≡◌ {A = Attempt Asked} (Ok (undecided (At w (((text ++ a) ++ b) ++ c) (n + 1 + 1 + 1 + 1)))) (Ok (undecided (At w (text ++ (a ++ b ++ c)) (n + 4))))
 all_said w text a b c n =
     let work : n + 1 + 1 + 1 + 1 ≡ n + 4 = omega arith in
     rw (work, append_assoc text a b, append_assoc text (a ++ b) c) refl
@@ -102,7 +105,8 @@ carried_out : (k : PlainStory) (inner : Inner) (w : World) (text : List ℕ) (n 
 unfolding consult
 carried_out k inner w text n most =
     let g = game_of_plain k in
-    let said = contents_in k inner w ((text ++ heading k w) ++ body_text k w) (n + 1 + 1) (has_light k.setting w) (on_view k.setting w) refl (view_said k w) (lt-ltb (n + 1 + 1) 10000 (omega arith)) in
+    let said = contents_in k inner w ((text ++ heading k w) ++ body_text k w) (n + 1 + 1) (has_light k.setting w) (on_view k.setting w) refl
+    (view_said k w) (lt-ltb (n + 1 + 1) 10000 (omega arith)) in
     ap (λ rules. first_decision (map (ask g inner 3 look_round) rules) (At w text n)) (looking_book k)
     ∙ (asked_first g inner 3 look_round 0 (1 ∷ 2 ∷ 3 ∷ 4 ∷ others) _ _ (heading_in k inner w text n (has_light k.setting w) refl (lt-ltb n 10000 (omega arith)))
     ∙ (asked_first g inner 3 look_round 1 (2 ∷ 3 ∷ 4 ∷ others) _ _ (body_in k inner w (text ++ heading k w) (n + 1) (has_light k.setting w) refl (lt-ltb (n + 1) 10000 (omega arith)))

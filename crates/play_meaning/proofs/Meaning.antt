@@ -63,13 +63,15 @@ module _ (f : Frame) (c : List Instruction) (string : List ℕ → ℕ) where
     abbrev piece_said : Attempt (List ℕ) → Progress → Attempt Done
     piece_said piece p = next piece (λ bytes. Ok (goes_on (say bytes p)))
 
-    said_behind : (piece more : Attempt (List ℕ)) (p : Progress) → then_do (piece_said piece p) (λ p'. next more (λ bytes. Ok (goes_on (say bytes p')))) ≡ piece_said (then_said piece more) p
+    said_behind : (piece more : Attempt (List ℕ)) (p : Progress)
+        → then_do (piece_said piece p) (λ p'. next more (λ bytes. Ok (goes_on (say bytes p')))) ≡ piece_said (then_said piece more) p
     said_behind (Err reason) more p = refl
     said_behind (Ok bytes) (Err reason) p = refl
     said_behind (Ok bytes) (Ok others) p = ap (λ t. Ok (goes_on (record p { text = t }))) (append_assoc p.text bytes others)
 
     -- a piece of a text, and then the rest of it
-    piece_then : (q r s : ℕ) (p : Progress) (piece : Attempt (List ℕ)) (more : Text) → Comes f c turning q p (piece_said piece p) r → ((p' : Progress) → Comes f c turning r p' (said more p') s)
+    piece_then : (q r s : ℕ) (p : Progress) (piece : Attempt (List ℕ)) (more : Text) → Comes f c turning q p (piece_said piece p) r
+        → ((p' : Progress) → Comes f c turning r p' (said more p') s)
         → Comes f c turning q p (piece_said (then_said piece (said_in f.telling (scope_in f turning) p.world more)) p) s
     piece_then q r s p (Err reason) more first second = λ n. first 0
     piece_then q r s p (Ok bytes) more first second =
@@ -78,11 +80,13 @@ module _ (f : Frame) (c : List Instruction) (string : List ℕ → ℕ) where
 
     -- what the code of a text comes to, wherever it stands
     abbrev TextComes : Text → Type 0
-    TextComes text = (t q : ℕ) (p : Progress) → TextIsWithin k text → AllStand (strings_of_text text) → HasTests f t (text_part string k text t q).tests → HasAt c q (text_part string k text t q).code
+    TextComes text = (t q : ℕ) (p : Progress) → TextIsWithin k text → AllStand (strings_of_text text)
+        → HasTests f t (text_part string k text t q).tests → HasAt c q (text_part string k text t q).code
         → Comes f c turning q p (said text p) (q + sizes (text_part string k text t q).code)
 
     -- values, and an instruction that says a piece by them
-    value_said : {A : Type 0} (q : ℕ) (is : List Instruction) (i : Instruction) (p : Progress) (shown : A → List ℤ) (a : Attempt A) (piece : A → Attempt (List ℕ)) → HasAt c (q + sizes is) (i ∷ [])
+    value_said : {A : Type 0} (q : ℕ) (is : List Instruction) (i : Instruction) (p : Progress) (shown : A → List ℤ) (a : Attempt A) (piece : A → Attempt (List ℕ))
+        → HasAt c (q + sizes is) (i ∷ [])
         → Gives f c turning p q is [] (next a (λ v. Ok (shown v)))
         → ((r : ℕ) (v : A) → does f (St r (shown v) (open_loops turning) p) i ≡ unless_abandoned (piece v) (λ bytes. Goes (St (r + size_of i) [] (open_loops turning) (say bytes p))))
         → Comes f c turning q p (piece_said (next a piece) p) (q + sizes (is ++ i ∷ []))
@@ -117,7 +121,8 @@ module _ (f : Frame) (c : List Instruction) (string : List ℕ → ℕ) where
     -- a condition, and one of two parts
     pub either_comes : (condition : Condition) (a b : Part) (done other : Attempt Done) (t q : ℕ) (p : Progress) → ConditionIsWithin k condition
         → HasTests f t (choice (condition_part k condition) a b t q).tests → HasAt c q (choice (condition_part k condition) a b t q).code → PartComes a p done → PartComes b p other
-        → Comes f c turning q p (next (truth_in f.telling.setting (scope_in f turning) p.world condition) (λ x. chosen x done other)) (q + sizes (choice (condition_part k condition) a b t q).code)
+        → Comes f c turning q p (next (truth_in f.telling.setting (scope_in f turning) p.world condition) (λ x. chosen x done other))
+        (q + sizes (choice (condition_part k condition) a b t q).code)
     unfolding choice
     either_comes condition a b done other t q p within tests has a_comes b_comes =
         let asked = condition_part k condition t q in
@@ -131,7 +136,8 @@ module _ (f : Frame) (c : List Instruction) (string : List ℕ → ℕ) where
         let test = has_back c q asked.code (code.IfZero q2 ∷ later) has in
         let jump = has_back c q1 first.code (code.Jump end ∷ second.code) test.1 in
         let behind = tests_back f t asked.tests (first.tests ++ second.tests) tests in
-        let place : end ≡ q + sizes (asked.code ++ code.IfZero q2 ∷ later) = omega (arith, sizes-append asked.code (code.IfZero q2 ∷ later), sizes-append first.code (code.Jump end ∷ second.code)) in
+        let place : end ≡ q + sizes (asked.code ++ code.IfZero q2 ∷ later) = omega
+        (arith, sizes-append asked.code (code.IfZero q2 ∷ later), sizes-append first.code (code.Jump end ∷ second.code)) in
         let way = alike_comes f c turning q1 p _ done end end (then_nothing done) refl
         (then_comes f c turning q1 (q1 + sizes first.code) end p done (λ p'. Ok (goes_on p')) (a_comes t1 q1 (tests_front f t1 first.tests second.tests behind) (has_front c q1 first.code (code.Jump end ∷ second.code) test.1))
         (λ p'. jumps f c turning (q1 + sizes first.code) end p' (jump.0, tt))) in
@@ -140,17 +146,21 @@ module _ (f : Frame) (c : List Instruction) (string : List ℕ → ℕ) where
         (choice_comes f c turning q asked.code q2 end p (truth_in f.telling.setting (scope_in f turning) p.world condition) done other (test.0, tt)
         (condition_gives f c turning p condition t q [] within (tests_front f t asked.tests (first.tests ++ second.tests) tests) (has_front c q asked.code (code.IfZero q2 ∷ later) has)) way other_way)
 
-    chosen_said : (p : Progress) (truth : Attempt Bool) (a b : Attempt (List ℕ)) → next truth (λ x. chosen x (piece_said a p) (piece_said b p)) ≡ piece_said (next truth (λ x. chosen x a b)) p
+    chosen_said : (p : Progress) (truth : Attempt Bool) (a b : Attempt (List ℕ))
+        → next truth (λ x. chosen x (piece_said a p) (piece_said b p)) ≡ piece_said (next truth (λ x. chosen x a b)) p
     chosen_said p (Ok true) a b = refl
     chosen_said p (Ok false) a b = refl
     chosen_said p (Err reason) a b = refl
 
-    figure_comes : (number : tree.Number) (t q : ℕ) (p : Progress) → NumberIsWithin k number → HasTests f t (seq (number_part k number) (one code.Figure) t q).tests → HasAt c q (seq (number_part k number) (one code.Figure) t q).code
-        → Comes f c turning q p (piece_said (next (number_in f.telling.setting (scope_in f turning) p.world number) (λ n. Ok (signed_decimal n))) p) (q + sizes (seq (number_part k number) (one code.Figure) t q).code)
+    figure_comes : (number : tree.Number) (t q : ℕ) (p : Progress) → NumberIsWithin k number
+        → HasTests f t (seq (number_part k number) (one code.Figure) t q).tests → HasAt c q (seq (number_part k number) (one code.Figure) t q).code
+        → Comes f c turning q p (piece_said (next (number_in f.telling.setting (scope_in f turning) p.world number) (λ n. Ok (signed_decimal n))) p)
+        (q + sizes (seq (number_part k number) (one code.Figure) t q).code)
     unfolding seq does
     figure_comes number t q p within tests has =
         let cn = (number_part k number t q).code in
-        value_said q cn code.Figure p (λ n. n ∷ []) (number_in f.telling.setting (scope_in f turning) p.world number) (λ n. Ok (signed_decimal n)) (has_back c q cn (code.Figure ∷ []) has)
+        value_said q cn code.Figure p (λ n. n ∷ []) (number_in f.telling.setting (scope_in f turning) p.world number) (λ n. Ok (signed_decimal n))
+        (has_back c q cn (code.Figure ∷ []) has)
         (number_gives f c turning p number t q [] within (tests_front f t (number_part k number t q).tests [] tests) (has_front c q cn (code.Figure ∷ []) has)) (λ r n. refl)
 
     -- a part that says a piece, and then the rest of a text
@@ -179,14 +189,16 @@ module _ (f : Frame) (c : List Instruction) (string : List ℕ → ℕ) where
     pub text_comes : (text : Text) → TextComes text
     unfolding text_part said_in does
     text_comes tree.Silence t q p within strings tests has =
-        alike_comes f c turning q p (Ok (goes_on p)) _ q (q + 0) (ap (λ text. Ok (goes_on (record p { text = text }))) (sym (append-nil p.text))) (omega arith) (stays f c turning q q p refl)
+        alike_comes f c turning q p (Ok (goes_on p)) _ q (q + 0) (ap (λ text. Ok (goes_on (record p { text = text }))) (sym (append-nil p.text)))
+        (omega arith) (stays f c turning q q p refl)
     text_comes (tree.Bytes bytes more) t q p within strings tests has =
         text_behind (one (code.Say (string bytes))) (λ p. Ok bytes) more (text_comes more) t q p within strings.1 tests has
         (one_says q (code.Say (string bytes)) p (Ok bytes) (front_of (one (code.Say (string bytes))) (text_part string k more) t q has)
         (λ r. ap (λ b. Goes (St (r + 3) [] (open_loops turning) (say b p))) strings.0))
     text_comes (tree.Figure number more) t q p within strings tests has =
         let figure = seq (number_part k number) (one code.Figure) in
-        text_behind figure (λ p. next (number_in f.telling.setting (scope_in f turning) p.world number) (λ n. Ok (signed_decimal n))) more (text_comes more) t q p within.1 strings tests has
+        text_behind figure (λ p. next (number_in f.telling.setting (scope_in f turning) p.world number) (λ n. Ok (signed_decimal n))) more
+        (text_comes more) t q p within.1 strings tests has
         (figure_comes number t q p within.0 (first_tests figure (text_part string k more) t q tests) (front_of figure (text_part string k more) t q has))
     text_comes (tree.Name naming o more) t q p within strings tests has =
         let name = these (object_code o ++ code.Name naming ∷ []) in
@@ -197,7 +209,8 @@ module _ (f : Frame) (c : List Instruction) (string : List ℕ → ℕ) where
         (λ r v. ap (λ n. Goes (St (r + 2) [] (open_loops turning) (say (name_in f.telling.setting naming n) p))) (object_back (object_here f turning p o))))
     text_comes (tree.Listing naming d more) t q p within strings tests has =
         let listing = testing (code.Names naming k) (test_code k d) in
-        text_behind listing (λ p. Ok (listed f.telling.setting naming (those f.telling.setting (scope_in f turning) p.world d))) more (text_comes more) t q p within.1 strings tests has
+        text_behind listing (λ p. Ok (listed f.telling.setting naming (those f.telling.setting (scope_in f turning) p.world d))) more
+        (text_comes more) t q p within.1 strings tests has
         (one_says q (code.Names naming k t) p (Ok (listed f.telling.setting naming (those f.telling.setting (scope_in f turning) p.world d))) (front_of listing (text_part string k more) t q has)
         (λ r. ap (λ objects. unless_abandoned objects (λ os. Goes (St (r + 5) [] (open_loops turning) (say (listed f.telling.setting naming os) p))))
         (those_pass f t d turning r [] p within.0 (first_tests listing (text_part string k more) t q tests).0)))
@@ -225,10 +238,14 @@ module _ (f : Frame) (c : List Instruction) (string : List ℕ → ℕ) where
 
     -- an instruction alone
     pub one_done : (q : ℕ) (i : Instruction) (p : Progress) (h : Attempt Progress) → HasAt c q (i ∷ [])
-        → ((r : ℕ) → does f (St r [] (open_loops turning) p) i ≡ unless_abandoned h (λ p'. Goes (St (r + size_of i) [] (open_loops turning) p'))) → Comes f c turning q p (now_done h) (q + sizes (i ∷ []))
-    one_done q i p h has is = taken f c {A = ℕ} turning q [] i p (λ v. []) (Ok 0) (λ v. h) (subst (λ n. HasAt c n (i ∷ [])) (omega arith) has) (none_gives f c turning p q []) (λ r v. is r ∙ stepped r h)
+        → ((r : ℕ) → does f (St r [] (open_loops turning) p) i ≡ unless_abandoned h (λ p'. Goes (St (r + size_of i) [] (open_loops turning) p')))
+        → Comes f c turning q p (now_done h) (q + sizes (i ∷ []))
+    one_done q i p h has is = taken f c {A = ℕ} turning q [] i p (λ v. []) (Ok 0) (λ v. h) (subst (λ n. HasAt c n (i ∷ [])) (omega arith) has)
+        (none_gives f c turning p q []) (λ r v. is r ∙ stepped r h)
       where
-        stepped : (r : ℕ) (h : Attempt Progress) → unless_abandoned h (λ p'. Goes (St (r + size_of i) [] (open_loops turning) p')) ≡ step_of (next h (λ p'. Ok (St (r + size_of i) [] (open_loops turning) p')))
+        stepped : (r : ℕ) (h : Attempt Progress)
+            → unless_abandoned h (λ p'. Goes (St (r + size_of i) [] (open_loops turning) p'))
+            ≡ step_of (next h (λ p'. Ok (St (r + size_of i) [] (open_loops turning) p')))
         stepped r (Ok p') = refl
         stepped r (Err reason) = refl
 
@@ -237,7 +254,8 @@ module _ (f : Frame) (c : List Instruction) (string : List ℕ → ℕ) where
         → ((r : ℕ) (n : ℤ) → does f (St r (n ∷ []) (open_loops turning) p) i ≡ Goes (St (r + size_of i) [] (open_loops turning) (h (object_at n))))
         → Comes f c turning q p (Ok (goes_on (h (object_here f turning p o)))) (q + sizes (object_code o ++ i ∷ []))
     object_done o q i p h has is =
-        taken f c {A = ℕ} turning q (object_code o) i p (λ v. object_number (object_here f turning p o) ∷ []) (Ok 0) (λ v. Ok (h (object_here f turning p o))) (has_back c q (object_code o) (i ∷ []) has)
+        taken f c {A = ℕ} turning q (object_code o) i p (λ v. object_number (object_here f turning p o) ∷ []) (Ok 0)
+        (λ v. Ok (h (object_here f turning p o))) (has_back c q (object_code o) (i ∷ []) has)
         (object_gives f c turning p o q [] (has_front c q (object_code o) (i ∷ []) has))
         (λ r v. is r (object_number (object_here f turning p o)) ∙ ap (λ n. Goes (St (r + size_of i) [] (open_loops turning) (h n))) (object_back (object_here f turning p o)))
 
@@ -245,21 +263,28 @@ module _ (f : Frame) (c : List Instruction) (string : List ℕ → ℕ) where
     objects_give : (a b : tree.Object) (q : ℕ) (p : Progress) → HasAt c q (object_code a ++ object_code b)
         → Gives f c turning p q (object_code a ++ object_code b) [] (Ok (object_number (object_here f turning p b) ∷ object_number (object_here f turning p a) ∷ []))
     objects_give a b q p has =
-        then_also f c (open_loops turning) p q (object_code a) (object_code b) [] (object_number (object_here f turning p a) ∷ []) (Ok (object_number (object_here f turning p b) ∷ object_number (object_here f turning p a) ∷ []))
-        (object_gives f c turning p a q [] (has_front c q (object_code a) (object_code b) has)) (object_gives f c turning p b (q + sizes (object_code a)) (object_number (object_here f turning p a) ∷ []) (has_back c q (object_code a) (object_code b) has))
+        then_also f c (open_loops turning) p q (object_code a) (object_code b) [] (object_number (object_here f turning p a) ∷ [])
+        (Ok (object_number (object_here f turning p b) ∷ object_number (object_here f turning p a) ∷ []))
+        (object_gives f c turning p a q [] (has_front c q (object_code a) (object_code b) has))
+        (object_gives f c turning p b (q + sizes (object_code a)) (object_number (object_here f turning p a) ∷ []) (has_back c q (object_code a) (object_code b) has))
 
-    pub objects_done : (a b : tree.Object) (q : ℕ) (i : Instruction) (p : Progress) (h : Option ℕ → Option ℕ → Attempt Progress) → HasAt c q (object_code a ++ object_code b ++ i ∷ [])
+    pub objects_done : (a b : tree.Object) (q : ℕ) (i : Instruction) (p : Progress) (h : Option ℕ → Option ℕ → Attempt Progress)
+        → HasAt c q (object_code a ++ object_code b ++ i ∷ [])
         → ((r : ℕ) (m n : ℤ) → does f (St r (n ∷ m ∷ []) (open_loops turning) p) i ≡ unless_abandoned (h (object_at m) (object_at n)) (λ p'. Goes (St (r + size_of i) [] (open_loops turning) p')))
         → Comes f c turning q p (now_done (h (object_here f turning p a) (object_here f turning p b))) (q + sizes (object_code a ++ object_code b ++ i ∷ []))
     objects_done a b q i p h has is =
-        taken f c {A = ℕ} turning q (object_code a ++ object_code b) i p (λ v. object_number (object_here f turning p b) ∷ object_number (object_here f turning p a) ∷ []) (Ok 0) (λ v. h (object_here f turning p a) (object_here f turning p b))
+        taken f c {A = ℕ} turning q (object_code a ++ object_code b) i p
+        (λ v. object_number (object_here f turning p b) ∷ object_number (object_here f turning p a) ∷ []) (Ok 0)
+        (λ v. h (object_here f turning p a) (object_here f turning p b))
         (has_back c q (object_code a ++ object_code b) (i ∷ []) has) (objects_give a b q p (has_front c q (object_code a ++ object_code b) (i ∷ []) has))
         (λ r v. is r (object_number (object_here f turning p a)) (object_number (object_here f turning p b))
         ∙ (ap (λ m. unless_abandoned (h m (object_at (object_number (object_here f turning p b)))) (λ p'. Goes (St (r + size_of i) [] (open_loops turning) p'))) (object_back (object_here f turning p a))
         ∙ (ap (λ n. unless_abandoned (h (object_here f turning p a) n) (λ p'. Goes (St (r + size_of i) [] (open_loops turning) p'))) (object_back (object_here f turning p b))
         ∙ stepped r (h (object_here f turning p a) (object_here f turning p b)))))
       where
-        stepped : (r : ℕ) (h : Attempt Progress) → unless_abandoned h (λ p'. Goes (St (r + size_of i) [] (open_loops turning) p')) ≡ step_of (next h (λ p'. Ok (St (r + size_of i) [] (open_loops turning) p')))
+        stepped : (r : ℕ) (h : Attempt Progress)
+            → unless_abandoned h (λ p'. Goes (St (r + size_of i) [] (open_loops turning) p'))
+            ≡ step_of (next h (λ p'. Ok (St (r + size_of i) [] (open_loops turning) p')))
         stepped r (Ok p') = refl
         stepped r (Err reason) = refl
 
@@ -273,14 +298,17 @@ module _ (f : Frame) (c : List Instruction) (string : List ℕ → ℕ) where
 
   -- what the code of a phrase, of a body comes to, wherever it stands, inside so many loops
   abbrev PhraseComes : List ℕ → ℕ → Phrase → Type 0
-  PhraseComes turning n phrase = (t q : ℕ) (p : Progress) → PhraseIsWithin n phrase → AllStand (strings_of_phrase phrase) → HasTests f t (phrase_part string n phrase t q).tests → HasAt c q (phrase_part string n phrase t q).code
+  PhraseComes turning n phrase = (t q : ℕ) (p : Progress) → PhraseIsWithin n phrase → AllStand (strings_of_phrase phrase)
+      → HasTests f t (phrase_part string n phrase t q).tests → HasAt c q (phrase_part string n phrase t q).code
       → Comes f c turning q p (done_of turning phrase p) (q + sizes (phrase_part string n phrase t q).code)
 
   abbrev BodyComes : List ℕ → ℕ → Body → Type 0
-  BodyComes turning n body = (t q : ℕ) (p : Progress) → BodyIsWithin n body → AllStand (strings_of_body body) → HasTests f t (body_part string n body t q).tests → HasAt c q (body_part string n body t q).code
+  BodyComes turning n body = (t q : ℕ) (p : Progress) → BodyIsWithin n body → AllStand (strings_of_body body)
+      → HasTests f t (body_part string n body t q).tests → HasAt c q (body_part string n body t q).code
       → Comes f c turning q p (body_done_of turning body p) (q + sizes (body_part string n body t q).code)
 
-  leave_comes : (turning : List ℕ) (flow : Flow) (t q : ℕ) (p : Progress) → HasAt c q (leave_part flow t q).code → Comes f c turning q p (leaves flow p) (q + sizes (leave_part flow t q).code)
+  leave_comes : (turning : List ℕ) (flow : Flow) (t q : ℕ) (p : Progress) → HasAt c q (leave_part flow t q).code
+      → Comes f c turning q p (leaves flow p) (q + sizes (leave_part flow t q).code)
   unfolding does
   leave_comes turning GoesOn t q p has = stays f c turning q (q + 0) p (omega arith)
   leave_comes turning NoDecision t q p has = λ n. (1, stops_at f c (St q [] (open_loops turning) p) code.NoDecision NoDecision p 0 has.0 refl)
@@ -288,17 +316,21 @@ module _ (f : Frame) (c : List Instruction) (string : List ℕ → ℕ) where
   leave_comes turning (Decides Failure) t q p has = λ n. (1, stops_at f c (St q [] (open_loops turning) p) code.Failure (Decides Failure) p 0 has.0 refl)
 
   -- a number, and an instruction that takes it and what lies below
-  number_done : (turning : List ℕ) (n : tree.Number) (v t q : ℕ) (p : Progress) → NumberIsWithin (length turning) n → HasTests f t (seq (number_part (length turning) n) (one (code.SetVar v)) t q).tests
+  number_done : (turning : List ℕ) (n : tree.Number) (v t q : ℕ) (p : Progress) → NumberIsWithin (length turning) n
+      → HasTests f t (seq (number_part (length turning) n) (one (code.SetVar v)) t q).tests
       → HasAt c q (seq (number_part (length turning) n) (one (code.SetVar v)) t q).code
-      → Comes f c turning q p (next (number_in f.telling.setting (scope_in f turning) p.world n) (λ m. changed (set_variable v m) p)) (q + sizes (seq (number_part (length turning) n) (one (code.SetVar v)) t q).code)
+      → Comes f c turning q p (next (number_in f.telling.setting (scope_in f turning) p.world n) (λ m. changed (set_variable v m) p))
+      (q + sizes (seq (number_part (length turning) n) (one (code.SetVar v)) t q).code)
   unfolding seq does
   number_done turning n v t q p within tests has =
       let cn = (number_part (length turning) n t q).code in
-      taken f c turning q cn (code.SetVar v) p (λ m. m ∷ []) (number_in f.telling.setting (scope_in f turning) p.world n) (λ m. Ok (change (set_variable v m) p)) (has_back c q cn (code.SetVar v ∷ []) has)
+      taken f c turning q cn (code.SetVar v) p (λ m. m ∷ []) (number_in f.telling.setting (scope_in f turning) p.world n)
+      (λ m. Ok (change (set_variable v m) p)) (has_back c q cn (code.SetVar v ∷ []) has)
       (number_gives f c turning p n t q [] within (tests_front f t (number_part (length turning) n t q).tests [] tests) (has_front c q cn (code.SetVar v ∷ []) has)) (λ r m. refl)
 
   property_done : (turning : List ℕ) (o : tree.Object) (n : tree.Number) (m t q : ℕ) (p : Progress) → NumberIsWithin (length turning) n
-      → HasTests f t (seq (seq (these (object_code o)) (number_part (length turning) n)) (one (code.SetProp m)) t q).tests → HasAt c q (seq (seq (these (object_code o)) (number_part (length turning) n)) (one (code.SetProp m)) t q).code
+      → HasTests f t (seq (seq (these (object_code o)) (number_part (length turning) n)) (one (code.SetProp m)) t q).tests
+      → HasAt c q (seq (seq (these (object_code o)) (number_part (length turning) n)) (one (code.SetProp m)) t q).code
       → Comes f c turning q p (next (number_in f.telling.setting (scope_in f turning) p.world n) (λ v. changed (make_number f.telling.setting (object_here f turning p o) m v) p))
       (q + sizes (seq (seq (these (object_code o)) (number_part (length turning) n)) (one (code.SetProp m)) t q).code)
   unfolding seq does
@@ -307,7 +339,8 @@ module _ (f : Frame) (c : List Instruction) (string : List ℕ → ℕ) where
       let number = number_part (length turning) n (t + length {A = List Instruction} []) (q + sizes co) in
       let both = has_front c q (co ++ number.code) (code.SetProp m ∷ []) has in
       let own = tests_back f t [] number.tests (tests_front f t number.tests [] tests) in
-      taken f c turning q (co ++ number.code) (code.SetProp m) p (λ v. v ∷ object_number (object_here f turning p o) ∷ []) (number_in f.telling.setting (scope_in f turning) p.world n)
+      taken f c turning q (co ++ number.code) (code.SetProp m) p (λ v. v ∷ object_number (object_here f turning p o) ∷ [])
+      (number_in f.telling.setting (scope_in f turning) p.world n)
       (λ v. Ok (change (make_number f.telling.setting (object_here f turning p o) m v) p)) (has_back c q (co ++ number.code) (code.SetProp m ∷ []) has)
       (then_also f c (open_loops turning) p q co number.code [] (object_number (object_here f turning p o) ∷ []) _ (object_gives f c turning p o q [] (has_front c q co number.code both))
       (number_gives f c turning p n (t + length {A = List Instruction} []) (q + sizes co) (object_number (object_here f turning p o) ∷ []) within own (has_back c q co number.code both)))
@@ -322,7 +355,8 @@ module _ (f : Frame) (c : List Instruction) (string : List ℕ → ℕ) where
       → HasTests f t (loop (length turning) (test_code (length turning) d) (body_part string (length turning + 1) body) t q).tests
       → HasAt c q (loop (length turning) (test_code (length turning) d) (body_part string (length turning + 1) body) t q).code
       → ((o : ℕ) (p' : Progress) → Comes f c (turning ++ o ∷ []) (q + 8) p' (body_done_of (turning ++ o ∷ []) body p') (q + 8 + sizes (body_part string (length turning + 1) body (t + 1) (q + 8)).code))
-      → Comes f c turning q p (repeat (λ o w. is_one f.telling.setting (scope_in f turning) w d o) (λ o p'. body_done_of (turning ++ o ∷ []) body p') (objects_of f.telling.setting) p)
+      → Comes f c turning q p
+      (repeat (λ o w. is_one f.telling.setting (scope_in f turning) w d o) (λ o p'. body_done_of (turning ++ o ∷ []) body p') (objects_of f.telling.setting) p)
       (q + sizes (loop (length turning) (test_code (length turning) d) (body_part string (length turning + 1) body) t q).code)
   unfolding loop
   repeat_comes turning d body t q p within tests has bodies =
@@ -340,7 +374,8 @@ module _ (f : Frame) (c : List Instruction) (string : List ℕ → ℕ) where
   one_deeper turning o = omega (arith, length-append turning (o ∷ []))
 
   -- two parts one behind the other
-  seq_comes : (turning : List ℕ) (a b : Part) (done : Attempt Done) (more : Progress → Attempt Done) (t q : ℕ) (p : Progress) → HasTests f t (seq a b t q).tests → HasAt c q (seq a b t q).code
+  seq_comes : (turning : List ℕ) (a b : Part) (done : Attempt Done) (more : Progress → Attempt Done) (t q : ℕ) (p : Progress)
+      → HasTests f t (seq a b t q).tests → HasAt c q (seq a b t q).code
       → (HasTests f t (a t q).tests → HasAt c q (a t q).code → Comes f c turning q p done (q + sizes (a t q).code))
       → ((t' q' : ℕ) (p' : Progress) → HasTests f t' (b t' q').tests → HasAt c q' (b t' q').code → Comes f c turning q' p' (more p') (q' + sizes (b t' q').code))
       → Comes f c turning q p (then_do done more) (q + sizes (seq a b t q).code)
@@ -357,12 +392,14 @@ module _ (f : Frame) (c : List Instruction) (string : List ℕ → ℕ) where
   inner_body : (body : Body) (turning : List ℕ) (o : ℕ) → BodyComes (turning ++ o ∷ []) (length (turning ++ o ∷ [])) body → BodyComes (turning ++ o ∷ []) (length turning + 1) body
   inner_body body turning o comes = subst (λ n. BodyComes (turning ++ o ∷ []) n body) (one_deeper turning o) comes
 
-  loop_tests : (turning : List ℕ) (d : tree.Description) (body : Body) (t q : ℕ) → HasTests f t (loop (length turning) (test_code (length turning) d) (body_part string (length turning + 1) body) t q).tests
+  loop_tests : (turning : List ℕ) (d : tree.Description) (body : Body) (t q : ℕ)
+      → HasTests f t (loop (length turning) (test_code (length turning) d) (body_part string (length turning + 1) body) t q).tests
       → HasTests f (t + 1) (body_part string (length turning + 1) body (t + 1) (q + 8)).tests
   unfolding loop
   loop_tests turning d body t q tests = tests.1
 
-  loop_body : (turning : List ℕ) (d : tree.Description) (body : Body) (t q : ℕ) → HasAt c q (loop (length turning) (test_code (length turning) d) (body_part string (length turning + 1) body) t q).code
+  loop_body : (turning : List ℕ) (d : tree.Description) (body : Body) (t q : ℕ)
+      → HasAt c q (loop (length turning) (test_code (length turning) d) (body_part string (length turning + 1) body) t q).code
       → HasAt c (q + 8) (body_part string (length turning + 1) body (t + 1) (q + 8)).code
   unfolding loop
   loop_body turning d body t q has =
@@ -386,17 +423,21 @@ module _ (f : Frame) (c : List Instruction) (string : List ℕ → ℕ) where
     phrase_comes (tree.NowNumber n o number) turning t q p within strings tests has = property_done turning o number n t q p within.1 tests has
     phrase_comes (tree.NowVariable v number) turning t q p within strings tests has = number_done turning number v t q p within tests has
     phrase_comes (tree.Try silent action noun second) turning t q p within strings tests has =
-        objects_done turning noun second q (code.Try silent action) p (λ a b. f.inner.tries (record { action = action; noun = a; second = b; silent = silent }) p) has (λ s a b. refl)
+        objects_done turning noun second q (code.Try silent action) p
+        (λ a b. f.inner.tries (record { action = action; noun = a; second = b; silent = silent }) p) has (λ s a b. refl)
     phrase_comes (tree.Follow book) turning t q p within strings tests has = one_done turning q (code.Follow book) p (f.inner.follows book f.now p) has (λ r. refl)
     phrase_comes (tree.Leave flow) turning t q p within strings tests has = leave_comes turning flow t q p has
     phrase_comes (tree.EndStory text) turning t q p within strings tests has =
-        one_done turning q (code.EndStory (string text)) p (Ok (change (end_with text) p)) has (λ r. ap (λ b. Goes (St (r + 3) [] (open_loops turning) (change (end_with b) p))) strings.0)
+        one_done turning q (code.EndStory (string text)) p (Ok (change (end_with text) p)) has
+        (λ r. ap (λ b. Goes (St (r + 3) [] (open_loops turning) (change (end_with b) p))) strings.0)
     phrase_comes (tree.If condition a b) turning t q p within strings tests has =
-        either_comes turning condition (body_part string (length turning) a) (body_part string (length turning) b) (body_done_of turning a p) (body_done_of turning b p) t q p within.0 tests has
+        either_comes turning condition (body_part string (length turning) a) (body_part string (length turning) b) (body_done_of turning a p)
+        (body_done_of turning b p) t q p within.0 tests has
         (λ t' q' ts h. body_comes a turning t' q' p within.1.0 (stand_front (strings_of_body a) (strings_of_body b) strings) ts h)
         (λ t' q' ts h. body_comes b turning t' q' p within.1.1 (stand_back (strings_of_body a) (strings_of_body b) strings) ts h)
     phrase_comes (tree.Repeat d body) turning t q p within strings tests has =
-        repeat_comes turning d body t q p within.0 tests has (λ o p'. inner_body body turning o (body_comes body (turning ++ o ∷ [])) (t + 1) (q + 8) p' within.1 strings (loop_tests turning d body t q tests) (loop_body turning d body t q has))
+        repeat_comes turning d body t q p within.0 tests has
+        (λ o p'. inner_body body turning o (body_comes body (turning ++ o ∷ [])) (t + 1) (q + 8) p' within.1 strings (loop_tests turning d body t q tests) (loop_body turning d body t q has))
     phrase_comes (tree.Instead phrase) turning t q p within strings tests has =
         seq_comes turning (phrase_part string (length turning) phrase) (one code.Failure) (done_of turning phrase p) (leaves (Decides Failure)) t q p tests has
         (λ ts h. phrase_comes phrase turning t q p within strings ts h) (λ t' q' p' ts h. then_ends turning q' (q' + 1) p' h)
@@ -404,6 +445,7 @@ module _ (f : Frame) (c : List Instruction) (string : List ℕ → ℕ) where
     pub body_comes : (body : Body) (turning : List ℕ) → BodyComes turning (length turning) body
     body_comes tree.End turning t q p within strings tests has = stays f c turning q (q + 0) p (omega arith)
     body_comes (tree.Then phrase body) turning t q p within strings tests has =
-        seq_comes turning (phrase_part string (length turning) phrase) (body_part string (length turning) body) (done_of turning phrase p) (body_done_of turning body) t q p tests has
+        seq_comes turning (phrase_part string (length turning) phrase) (body_part string (length turning) body) (done_of turning phrase p)
+        (body_done_of turning body) t q p tests has
         (λ ts h. phrase_comes phrase turning t q p within.0 (stand_front (strings_of_phrase phrase) (strings_of_body body) strings) ts h)
         (λ t' q' p' ts h. body_comes body turning t' q' p' within.1 (stand_back (strings_of_phrase phrase) (strings_of_body body) strings) ts h)

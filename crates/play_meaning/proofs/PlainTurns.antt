@@ -41,11 +41,14 @@ unfolding consult book_of game_of script_of_plain rules_of_looking rules_of_exam
 no_rules_outside k p = (refl, refl)
 
 -- a part that leaves the story going, and then the others
-part_done : (part : Progress → Attempt Progress) (more : List (Progress → Attempt Progress)) (p q : Progress) → p.world.ended ≡ None → part p ≡ Ok q → parts (part ∷ more) p ≡ parts more q
+part_done : (part : Progress → Attempt Progress) (more : List (Progress → Attempt Progress)) (p q : Progress) → p.world.ended ≡ None → part p ≡ Ok q
+    → parts (part ∷ more) p ≡ parts more q
 part_done part more p q going done = ap (λ ended. next (unless_over ended part p) (parts more)) going ∙ ap (λ attempt. next attempt (parts more)) done
 
-counted : (k : PlainStory) (q : Progress) (counted : Attempt Progress) → q.world.ended ≡ None → count_turn q ≡ counted → parts (count_turn ∷ pass (game_of_plain k) ∷ []) q ≡ counted
-counted k q (Err reason) going is = ap (λ ended. next (unless_over ended count_turn q) (parts (pass (game_of_plain k) ∷ []))) going ∙ ap (λ attempt. next attempt (parts (pass (game_of_plain k) ∷ []))) is
+counted : (k : PlainStory) (q : Progress) (counted : Attempt Progress) → q.world.ended ≡ None → count_turn q ≡ counted
+    → parts (count_turn ∷ pass (game_of_plain k) ∷ []) q ≡ counted
+counted k q (Err reason) going is = ap (λ ended. next (unless_over ended count_turn q) (parts (pass (game_of_plain k) ∷ []))) going
+    ∙ ap (λ attempt. next attempt (parts (pass (game_of_plain k) ∷ []))) is
 counted k q (Ok r) going is = part_done count_turn (pass (game_of_plain k) ∷ []) q r going is ∙ last r r.world.ended refl
   where
     last : (r : Progress) (ended : Option (List ℕ)) → r.world.ended ≡ ended → parts (pass (game_of_plain k) ∷ []) r ≡ Ok r
@@ -102,12 +105,15 @@ arrive_ended k p (Some room) = look_ended k (record p { world = put k.setting (S
 go_ended : (k : PlainStory) (d : ℕ) (p : Progress) → (go k d p).world.ended ≡ p.world.ended
 go_ended k d p = by_door (is_closed k.setting p.world (beyond k.setting.door_beyond (Some d) (location_of p.world)))
   where
-    by_door : (closed : Bool) → (if closed then record p { text = p.text ++ closed_text k.setting (beyond k.setting.door_beyond (Some d) (location_of p.world)); work = p.work + 1 } else arrive k p (beyond k.setting.room_beyond (Some d) (location_of p.world))).world.ended ≡ p.world.ended
+    by_door : (closed : Bool)
+        → (if closed then record p { text = p.text ++ closed_text k.setting (beyond k.setting.door_beyond (Some d) (location_of p.world)); work = p.work + 1 } else arrive k p (beyond k.setting.room_beyond (Some d) (location_of p.world))).world.ended
+        ≡ p.world.ended
     by_door true = refl
     by_door false = arrive_ended k p (beyond k.setting.room_beyond (Some d) (location_of p.world))
 
 pub look_turn : (k : PlainStory) (w : World) → w.ended ≡ None → turn (game_of_plain k) look_round (fresh w) ≡ count_turn (look k (fresh w))
 look_turn k w going = turn_counted k look_round (fresh w) (look k (fresh w)) going (look_performed k w) (look_ended k (fresh w) ∙ going)
 
-pub go_turn : (k : PlainStory) (d : ℕ) (w : World) → root_of k.setting d ≡ Some direction → w.ended ≡ None → turn (game_of_plain k) (going_to d) (fresh w) ≡ count_turn (go k d (fresh w))
+pub go_turn : (k : PlainStory) (d : ℕ) (w : World) → root_of k.setting d ≡ Some direction → w.ended ≡ None
+    → turn (game_of_plain k) (going_to d) (fresh w) ≡ count_turn (go k d (fresh w))
 go_turn k d w is_direction going = turn_counted k (going_to d) (fresh w) (go k d (fresh w)) going (go_performed k d w is_direction) (go_ended k d (fresh w) ∙ going)

@@ -61,7 +61,9 @@ module _ (f : Frame) (c : List Instruction) (turning : List ℕ) (p : Progress) 
       (λ x. gb (t + length ta) (q + sizes ca) (x ∷ xs) within.1 (tests_front f (t + length ta) tb [] (tests_back f t ta (tb ++ []) tests)) (has_front c (q + sizes ca) cb (i ∷ []) behind))
       (λ r x y. is r x y xs ∙ stepped r (h x y))
     where
-      stepped : (r : ℕ) (v : Attempt B) → unless_abandoned v (λ n. Goes (St (r + size_of i) (shows n ∷ xs) (open_loops turning) p)) ≡ step_of (next (next v (λ n. Ok (shows n ∷ xs))) (λ ys. Ok (St (r + size_of i) ys (open_loops turning) p)))
+      stepped : (r : ℕ) (v : Attempt B)
+          → unless_abandoned v (λ n. Goes (St (r + size_of i) (shows n ∷ xs) (open_loops turning) p))
+          ≡ step_of (next (next v (λ n. Ok (shows n ∷ xs))) (λ ys. Ok (St (r + size_of i) ys (open_loops turning) p)))
       stepped r (Ok n) = refl
       stepped r (Err reason) = refl
 
@@ -70,15 +72,19 @@ module _ (f : Frame) (c : List Instruction) (turning : List ℕ) (p : Progress) 
   number_gives (tree.Literal n) t q xs within tests has = one_gives f c turning p q (code.Num n) xs (n ∷ xs) has refl
   number_gives (tree.Variable v) t q xs within tests has = one_gives f c turning p q (code.Var v) xs (variable_of p.world v ∷ xs) has refl
   number_gives (tree.PropertyOf n o) t q xs within tests has =
-      one_object f c turning p (object_code o) (code.Prop n) (object_here f turning p o) (number_at f.telling.setting p.world n (object_here f turning p o)) (object_gives f c turning p o)
+      one_object f c turning p (object_code o) (code.Prop n) (object_here f turning p o)
+      (number_at f.telling.setting p.world n (object_here f turning p o)) (object_gives f c turning p o)
       (λ r ys. ap (λ v. Goes (St (r + 2) (number_at f.telling.setting p.world n v ∷ ys) (open_loops turning) p)) (object_back (object_here f turning p o))) q xs has
   number_gives (tree.CountOf d) t q xs within tests has =
       one_gives f c turning p q (code.Count k t) xs (pos (length (those f.telling.setting (scope_in f turning) p.world d)) ∷ xs) has
       (ap (λ objects. unless_abandoned objects (λ os. Goes (St (q + 4) (pos (length os) ∷ xs) (open_loops turning) p))) (those_pass f t d turning q xs p within tests.0))
   number_gives tree.TurnCount t q xs within tests has = one_gives f c turning p q code.Turns xs (pos p.world.turns ∷ xs) has refl
-  number_gives (tree.Plus a b) t q xs within tests has = two_numbers same code.Add (λ x y. in_range (x +ℤ y)) a b (number_gives a) (number_gives b) (λ r x y rest. refl) t q xs within tests has
-  number_gives (tree.Minus a b) t q xs within tests has = two_numbers same code.Sub (λ x y. in_range (x -ℤ y)) a b (number_gives a) (number_gives b) (λ r x y rest. refl) t q xs within tests has
-  number_gives (tree.Times a b) t q xs within tests has = two_numbers same code.Mul (λ x y. in_range (x *ℤ y)) a b (number_gives a) (number_gives b) (λ r x y rest. refl) t q xs within tests has
+  number_gives (tree.Plus a b) t q xs within tests has = two_numbers same code.Add (λ x y. in_range (x +ℤ y)) a b (number_gives a) (number_gives b)
+      (λ r x y rest. refl) t q xs within tests has
+  number_gives (tree.Minus a b) t q xs within tests has = two_numbers same code.Sub (λ x y. in_range (x -ℤ y)) a b (number_gives a) (number_gives b)
+      (λ r x y rest. refl) t q xs within tests has
+  number_gives (tree.Times a b) t q xs within tests has = two_numbers same code.Mul (λ x y. in_range (x *ℤ y)) a b (number_gives a) (number_gives b)
+      (λ r x y rest. refl) t q xs within tests has
 
   -- ---- conditions
 
@@ -86,7 +92,8 @@ module _ (f : Frame) (c : List Instruction) (turning : List ℕ) (p : Progress) 
   truth_here condition = truth_in f.telling.setting (scope_in f turning) p.world condition
 
   abbrev ConditionGives : Condition → Type 0
-  ConditionGives condition = (t q : ℕ) (xs : List ℤ) → ConditionIsWithin k condition → HasTests f t (condition_part k condition t q).tests → HasAt c q (condition_part k condition t q).code
+  ConditionGives condition = (t q : ℕ) (xs : List ℤ) → ConditionIsWithin k condition → HasTests f t (condition_part k condition t q).tests
+      → HasAt c q (condition_part k condition t q).code
       → Gives f c turning p q (condition_part k condition t q).code xs (on_top truth_number xs (truth_here condition))
 
   same_objects : (a b : Option ℕ) → int_eq (object_number a) (object_number b) ≡ is_same a b
@@ -107,7 +114,8 @@ module _ (f : Frame) (c : List Instruction) (turning : List ℕ) (p : Progress) 
   held_by_those None r d = refl
   held_by_those (Some o) r d = held_at f.telling.setting r (is_one f.telling.setting (scope_in f turning) p.world d) (place_of p.world o)
 
-  holder_gives : (ca : List Instruction) (r : Rel) (v : Option ℕ) → GivesObject f c turning p ca v → GivesObject f c turning p (ca ++ code.Holder r ∷ []) (holder_by f.telling.setting p.world r v)
+  holder_gives : (ca : List Instruction) (r : Rel) (v : Option ℕ) → GivesObject f c turning p ca v
+      → GivesObject f c turning p (ca ++ code.Holder r ∷ []) (holder_by f.telling.setting p.world r v)
   unfolding does
   holder_gives ca r v gives =
       one_object f c turning p ca (code.Holder r) v (object_number (holder_by f.telling.setting p.world r v)) gives
@@ -132,7 +140,8 @@ module _ (f : Frame) (c : List Instruction) (turning : List ℕ) (p : Progress) 
       → ((x y : Bool) (r : ℕ) (rest : List ℤ) → does f (St r (truth_number y ∷ truth_number x ∷ rest) (open_loops turning) p) i ≡ Goes (St (r + size_of i) (truth_number (join x y) ∷ rest) (open_loops turning) p))
       → (t q : ℕ) (xs : List ℤ) → ConditionIsWithin k a × ConditionIsWithin k b → HasTests f t (seq (condition_part k a) (seq (condition_part k b) (one i)) t q).tests
       → HasAt c q (seq (condition_part k a) (seq (condition_part k b) (one i)) t q).code
-      → Gives f c turning p q (seq (condition_part k a) (seq (condition_part k b) (one i)) t q).code xs (on_top truth_number xs (next (truth_here a) (λ x. next (truth_here b) (λ y. Ok (join x y)))))
+      → Gives f c turning p q (seq (condition_part k a) (seq (condition_part k b) (one i)) t q).code xs
+      (on_top truth_number xs (next (truth_here a) (λ x. next (truth_here b) (λ y. Ok (join x y)))))
   unfolding seq
   both_conditions i join a b ga gb is t q xs within tests has =
       let ca = (condition_part k a t q).code in
@@ -147,13 +156,17 @@ module _ (f : Frame) (c : List Instruction) (turning : List ℕ) (p : Progress) 
 
   pub condition_gives : (condition : Condition) → ConditionGives condition
   unfolding condition_part truth_in does
-  condition_gives (tree.IsSo o adjective) t q xs within tests has = adjective_gives f c turning p adjective (object_code o) (object_here f turning p o) (object_gives f c turning p o) q xs has
+  condition_gives (tree.IsSo o adjective) t q xs within tests has = adjective_gives f c turning p adjective (object_code o)
+      (object_here f turning p o) (object_gives f c turning p o) q xs has
   condition_gives (tree.IsOne o d) t q xs within tests has = description_gives f c turning p d (object_code o) (object_here f turning p o) (object_gives f c turning p o) q xs has
   condition_gives (tree.IsSame a b) t q xs within tests has =
-      two_objects f c turning p (object_code a) (object_code b) code.Eq (object_here f turning p a) (object_here f turning p b) (truth_number (is_same (object_here f turning p a) (object_here f turning p b)))
-      (object_gives f c turning p a) (object_gives f c turning p b) (λ r ys. ap (λ v. Goes (St (r + 1) (truth_number v ∷ ys) (open_loops turning) p)) (same_objects (object_here f turning p a) (object_here f turning p b))) q xs has
+      two_objects f c turning p (object_code a) (object_code b) code.Eq (object_here f turning p a) (object_here f turning p b)
+      (truth_number (is_same (object_here f turning p a) (object_here f turning p b)))
+      (object_gives f c turning p a) (object_gives f c turning p b)
+      (λ r ys. ap (λ v. Goes (St (r + 1) (truth_number v ∷ ys) (open_loops turning) p)) (same_objects (object_here f turning p a) (object_here f turning p b))) q xs has
   condition_gives (tree.IsHeld o r holder) t q xs within tests has =
-      held_gives f c turning p r (object_code o) (object_code holder) (object_here f turning p o) (object_here f turning p holder) (object_gives f c turning p o) (object_gives f c turning p holder) q xs has
+      held_gives f c turning p r (object_code o) (object_code holder) (object_here f turning p o) (object_here f turning p holder)
+      (object_gives f c turning p o) (object_gives f c turning p holder) q xs has
   condition_gives (tree.IsHeldByOne o r d) t q xs within tests has =
       alike_truth f c turning p (description_code (object_code o ++ code.Holder r ∷ []) d) _ _ (held_by_those (object_here f turning p o) r d)
       (description_gives f c turning p d (object_code o ++ code.Holder r ∷ []) (holder_by f.telling.setting p.world r (object_here f turning p o)) (holder_gives (object_code o) r (object_here f turning p o) (object_gives f c turning p o))) q xs has
@@ -164,17 +177,25 @@ module _ (f : Frame) (c : List Instruction) (turning : List ℕ) (p : Progress) 
       (held_gives f c turning p Worn (object_code o) (object_code holder) (object_here f turning p o) (object_here f turning p holder) (object_gives f c turning p o) (object_gives f c turning p holder))
       (one_is f c turning p _ _)) q xs has
   condition_gives (tree.Encloses holder o) t q xs within tests has =
-      two_objects f c turning p (object_code holder) (object_code o) code.Encloses (object_here f turning p holder) (object_here f turning p o) (truth_number (of_both (object_here f turning p holder) (object_here f turning p o) (encloses p.world)))
+      two_objects f c turning p (object_code holder) (object_code o) code.Encloses (object_here f turning p holder) (object_here f turning p o)
+      (truth_number (of_both (object_here f turning p holder) (object_here f turning p o) (encloses p.world)))
       (object_gives f c turning p holder) (object_gives f c turning p o)
       (λ r ys. ap (λ v. Goes (St (r + 1) (truth_number (of_both v (object_at (object_number (object_here f turning p o))) (encloses p.world)) ∷ ys) (open_loops turning) p)) (object_back (object_here f turning p holder))
-      ∙ ap (λ v. Goes (St (r + 1) (truth_number (of_both (object_here f turning p holder) v (encloses p.world)) ∷ ys) (open_loops turning) p)) (object_back (object_here f turning p o))) q xs has
+      ∙ ap (λ v. Goes (St (r + 1) (truth_number (of_both (object_here f turning p holder) v (encloses p.world)) ∷ ys) (open_loops turning) p))
+      (object_back (object_here f turning p o))) q xs has
   condition_gives (tree.HasDescription o) t q xs within tests has =
-      asks_object f c turning p (object_code o) code.HasDescription (object_here f turning p o) f.telling.setting.has_description (object_gives f c turning p o) (λ r ys n. refl) q xs has
-  condition_gives (tree.Equals a b) t q xs within tests has = two_numbers truth_number code.Eq (λ x y. Ok (int_eq x y)) a b (number_gives a) (number_gives b) (λ r x y rest. refl) t q xs within tests has
-  condition_gives (tree.IsLess a b) t q xs within tests has = two_numbers truth_number code.Less (λ x y. Ok (int_lt x y)) a b (number_gives a) (number_gives b) (λ r x y rest. refl) t q xs within tests has
-  condition_gives (tree.IsAtMost a b) t q xs within tests has = two_numbers truth_number code.AtMost (λ x y. Ok (int_le x y)) a b (number_gives a) (number_gives b) (λ r x y rest. refl) t q xs within tests has
+      asks_object f c turning p (object_code o) code.HasDescription (object_here f turning p o) f.telling.setting.has_description
+      (object_gives f c turning p o) (λ r ys n. refl) q xs has
+  condition_gives (tree.Equals a b) t q xs within tests has = two_numbers truth_number code.Eq (λ x y. Ok (int_eq x y)) a b (number_gives a)
+      (number_gives b) (λ r x y rest. refl) t q xs within tests has
+  condition_gives (tree.IsLess a b) t q xs within tests has = two_numbers truth_number code.Less (λ x y. Ok (int_lt x y)) a b (number_gives a)
+      (number_gives b) (λ r x y rest. refl) t q xs within tests has
+  condition_gives (tree.IsAtMost a b) t q xs within tests has = two_numbers truth_number code.AtMost (λ x y. Ok (int_le x y)) a b (number_gives a)
+      (number_gives b) (λ r x y rest. refl) t q xs within tests has
   condition_gives (tree.Happens scene) t q xs within tests has = one_gives f c turning p q (code.Happens scene) xs _ has refl
   condition_gives tree.InDarkness t q xs within tests has = one_gives f c turning p q code.Dark xs _ has refl
   condition_gives (tree.Not a) t q xs within tests has = negated a (condition_gives a) t q xs within tests has
-  condition_gives (tree.And a b) t q xs within tests has = both_conditions code.And (λ x y. x && y) a b (condition_gives a) (condition_gives b) (λ x y r rest. both_are f c turning p x y r rest) t q xs within tests has
-  condition_gives (tree.Or a b) t q xs within tests has = both_conditions code.Or (λ x y. x || y) a b (condition_gives a) (condition_gives b) (λ x y r rest. one_is f c turning p x y r rest) t q xs within tests has
+  condition_gives (tree.And a b) t q xs within tests has = both_conditions code.And (λ x y. x && y) a b (condition_gives a) (condition_gives b)
+      (λ x y r rest. both_are f c turning p x y r rest) t q xs within tests has
+  condition_gives (tree.Or a b) t q xs within tests has = both_conditions code.Or (λ x y. x || y) a b (condition_gives a) (condition_gives b)
+      (λ x y r rest. one_is f c turning p x y r rest) t q xs within tests has

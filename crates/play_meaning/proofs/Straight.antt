@@ -55,7 +55,8 @@ module _ (f : Frame) (c : List Instruction) where
     one_leads_on : (q r : ℕ) (a : Attempt (List ℤ)) → q ≡ r → (k : ℕ) → from k (next a (λ ys. Ok (St q ys ls p))) ≡ from k (next a (λ ys. Ok (St r ys ls p)))
     one_leads_on q r a e k = ap (λ n. from k (next a (λ ys. Ok (St n ys ls p)))) e
 
-    pub one_leads : (q : ℕ) (i : Instruction) (xs : List ℤ) (a : Attempt (List ℤ)) → HasAt c q (i ∷ []) → does f (St q xs ls p) i ≡ step_of (next a (λ ys. Ok (St (q + size_of i) ys ls p))) → Leads q (i ∷ []) xs a
+    pub one_leads : (q : ℕ) (i : Instruction) (xs : List ℤ) (a : Attempt (List ℤ)) → HasAt c q (i ∷ [])
+        → does f (St q xs ls p) i ≡ step_of (next a (λ ys. Ok (St (q + size_of i) ys ls p))) → Leads q (i ∷ []) xs a
     one_leads q i xs a has is k =
         let count : length (i ∷ []) + k ≡ suc k = omega arith in
         ap (λ n. run f c n (St q xs ls p)) count ∙ (next_is (St q xs ls p) i (next a (λ ys. Ok (St (q + size_of i) ys ls p))) k has.0 is
@@ -66,7 +67,8 @@ module _ (f : Frame) (c : List Instruction) where
     behind_leads q is js (Ok ys) g leads k = leads ys k
     behind_leads q is js (Err reason) g leads k = refl
 
-    pub then_leads : (q : ℕ) (is js : List Instruction) (xs : List ℤ) (a : Attempt (List ℤ)) (g : List ℤ → Attempt (List ℤ)) → Leads q is xs a → ((ys : List ℤ) → Leads (q + sizes is) js ys (g ys)) → Leads q (is ++ js) xs (next a g)
+    pub then_leads : (q : ℕ) (is js : List Instruction) (xs : List ℤ) (a : Attempt (List ℤ)) (g : List ℤ → Attempt (List ℤ)) → Leads q is xs a
+        → ((ys : List ℤ) → Leads (q + sizes is) js ys (g ys)) → Leads q (is ++ js) xs (next a g)
     then_leads q is js xs a g first second k =
         let count : length (is ++ js) + k ≡ length is + (length js + k) = omega (arith, length-append is js) in
         ap (λ n. run f c n (St q xs ls p)) count ∙ (first (length js + k) ∙ (behind_leads q is js a g second k
@@ -76,7 +78,8 @@ module _ (f : Frame) (c : List Instruction) where
     pub then_also : (q : ℕ) (is js : List Instruction) (xs ys : List ℤ) (b : Attempt (List ℤ)) → Leads q is xs (Ok ys) → Leads (q + sizes is) js ys b → Leads q (is ++ js) xs b
     then_also q is js xs ys b first second k =
         let count : length (is ++ js) + k ≡ length is + (length js + k) = omega (arith, length-append is js) in
-        ap (λ n. run f c n (St q xs ls p)) count ∙ (first (length js + k) ∙ (second k ∙ one_leads_on (q + sizes is + sizes js) (q + sizes (is ++ js)) b (omega (arith, sizes-append is js)) k))
+        ap (λ n. run f c n (St q xs ls p)) count
+        ∙ (first (length js + k) ∙ (second k ∙ one_leads_on (q + sizes is + sizes js) (q + sizes (is ++ js)) b (omega (arith, sizes-append is js)) k))
 
 -- ---- objects
 
@@ -110,7 +113,8 @@ module _ (f : Frame) (c : List Instruction) (turning : List ℕ) (p : Progress) 
   abbrev pub GivesTruth : List Instruction → Bool → Type 0
   GivesTruth is b = (q : ℕ) (xs : List ℤ) → HasAt c q is → Gives q is xs (Ok (truth_number b ∷ xs))
 
-  pub one_gives : (q : ℕ) (i : Instruction) (xs ys : List ℤ) → HasAt c q (i ∷ []) → does f (St q xs (open_loops turning) p) i ≡ Goes (St (q + size_of i) ys (open_loops turning) p) → Gives q (i ∷ []) xs (Ok ys)
+  pub one_gives : (q : ℕ) (i : Instruction) (xs ys : List ℤ) → HasAt c q (i ∷ [])
+      → does f (St q xs (open_loops turning) p) i ≡ Goes (St (q + size_of i) ys (open_loops turning) p) → Gives q (i ∷ []) xs (Ok ys)
   one_gives q i xs ys has is = one_leads f c (open_loops turning) p q i xs (Ok ys) has is
 
   -- no instruction at all
@@ -146,15 +150,18 @@ module _ (f : Frame) (c : List Instruction) (turning : List ℕ) (p : Progress) 
   object_gives tree.Location q xs has = one_gives q code.Location xs (object_number (location_of p.world) ∷ xs) has refl
   object_gives tree.Nothing q xs has = one_gives q (code.Num (negsuc 0)) xs (negsuc 0 ∷ xs) has refl
   object_gives (tree.Turning k) q xs has =
-      one_gives q (code.Loop k) xs (object_number (slice_get turning k) ∷ xs) has (ap (λ o. Goes (St (q + 2) (object_number o ∷ xs) (open_loops turning) p)) (loop_object turning k))
+      one_gives q (code.Loop k) xs (object_number (slice_get turning k) ∷ xs) has
+      (ap (λ o. Goes (St (q + 2) (object_number o ∷ xs) (open_loops turning) p)) (loop_object turning k))
   object_gives (tree.RoomFrom d room) q xs has =
       two_objects (object_code d) (object_code room) code.Room (object_here f turning p d) (object_here f turning p room) _ (object_gives d) (object_gives room)
       (λ q xs. ap (λ o. Goes (St (q + 1) (object_number (beyond f.telling.setting.room_beyond o (object_at (object_number (object_here f turning p room)))) ∷ xs) (open_loops turning) p)) (object_back (object_here f turning p d))
-      ∙ ap (λ o. Goes (St (q + 1) (object_number (beyond f.telling.setting.room_beyond (object_here f turning p d) o) ∷ xs) (open_loops turning) p)) (object_back (object_here f turning p room))) q xs has
+      ∙ ap (λ o. Goes (St (q + 1) (object_number (beyond f.telling.setting.room_beyond (object_here f turning p d) o) ∷ xs) (open_loops turning) p))
+      (object_back (object_here f turning p room))) q xs has
   object_gives (tree.DoorFrom d room) q xs has =
       two_objects (object_code d) (object_code room) code.Door (object_here f turning p d) (object_here f turning p room) _ (object_gives d) (object_gives room)
       (λ q xs. ap (λ o. Goes (St (q + 1) (object_number (beyond f.telling.setting.door_beyond o (object_at (object_number (object_here f turning p room)))) ∷ xs) (open_loops turning) p)) (object_back (object_here f turning p d))
-      ∙ ap (λ o. Goes (St (q + 1) (object_number (beyond f.telling.setting.door_beyond (object_here f turning p d) o) ∷ xs) (open_loops turning) p)) (object_back (object_here f turning p room))) q xs has
+      ∙ ap (λ o. Goes (St (q + 1) (object_number (beyond f.telling.setting.door_beyond (object_here f turning p d) o) ∷ xs) (open_loops turning) p))
+      (object_back (object_here f turning p room))) q xs has
 
   -- ---- truths
 
@@ -178,11 +185,15 @@ module _ (f : Frame) (c : List Instruction) (turning : List ℕ) (p : Progress) 
       (then_also f c (open_loops turning) p q ca cb xs (truth_number a ∷ xs) (Ok (truth_number b ∷ truth_number a ∷ xs)) (ga q xs (has_front c q ca cb both)) (gb (q + sizes ca) (truth_number a ∷ xs) (has_back c q ca cb both)))
       (one_gives (q + sizes (ca ++ cb)) i (truth_number b ∷ truth_number a ∷ xs) (truth_number n ∷ xs) (has_back c q (ca ++ cb) (i ∷ []) has) (is (q + sizes (ca ++ cb)) xs))
 
-  pub both_are : (a b : Bool) (q : ℕ) (xs : List ℤ) → does f (St q (truth_number b ∷ truth_number a ∷ xs) (open_loops turning) p) code.And ≡ Goes (St (q + 1) (truth_number (a && b) ∷ xs) (open_loops turning) p)
+  pub both_are : (a b : Bool) (q : ℕ) (xs : List ℤ)
+      → does f (St q (truth_number b ∷ truth_number a ∷ xs) (open_loops turning) p) code.And
+      ≡ Goes (St (q + 1) (truth_number (a && b) ∷ xs) (open_loops turning) p)
   unfolding does
   both_are a b q xs = rw (truth_back a, truth_back b) refl
 
-  pub one_is : (a b : Bool) (q : ℕ) (xs : List ℤ) → does f (St q (truth_number b ∷ truth_number a ∷ xs) (open_loops turning) p) code.Or ≡ Goes (St (q + 1) (truth_number (a || b) ∷ xs) (open_loops turning) p)
+  pub one_is : (a b : Bool) (q : ℕ) (xs : List ℤ)
+      → does f (St q (truth_number b ∷ truth_number a ∷ xs) (open_loops turning) p) code.Or
+      ≡ Goes (St (q + 1) (truth_number (a || b) ∷ xs) (open_loops turning) p)
   unfolding does
   one_is a b q xs = rw (truth_back a, truth_back b) refl
 
@@ -209,15 +220,19 @@ module _ (f : Frame) (c : List Instruction) (turning : List ℕ) (p : Progress) 
       let r = q + sizes ca in
       let nothing = one_gives r (code.Num (negsuc 0)) (object_number v ∷ xs) (negsuc 0 ∷ object_number v ∷ xs) (behind.0, tt) refl in
       let same = one_gives (r + 5) code.Eq (negsuc 0 ∷ object_number v ∷ xs) (truth_number (int_eq (object_number v) (negsuc 0)) ∷ xs) (behind.1.0, tt) refl in
-      let other = one_gives (r + 5 + 1) code.Not (truth_number (int_eq (object_number v) (negsuc 0)) ∷ xs) (truth_number (is_object v) ∷ xs) (behind.1.1.0, tt) (ap (λ n. Goes (St (r + 5 + 1 + 1) (n ∷ xs) (open_loops turning) p)) (there_is v)) in
-      let tested = then_also f c (open_loops turning) p (r + 5) (code.Eq ∷ []) (code.Not ∷ []) (negsuc 0 ∷ object_number v ∷ xs) (truth_number (int_eq (object_number v) (negsuc 0)) ∷ xs) (Ok (truth_number (is_object v) ∷ xs)) same other in
-      then_also f c (open_loops turning) p q ca (code.Num (negsuc 0) ∷ code.Eq ∷ code.Not ∷ []) xs (object_number v ∷ xs) (Ok (truth_number (is_object v) ∷ xs)) (gives q xs (has_front c q ca (code.Num (negsuc 0) ∷ code.Eq ∷ code.Not ∷ []) has))
+      let other = one_gives (r + 5 + 1) code.Not (truth_number (int_eq (object_number v) (negsuc 0)) ∷ xs) (truth_number (is_object v) ∷ xs)
+      (behind.1.1.0, tt) (ap (λ n. Goes (St (r + 5 + 1 + 1) (n ∷ xs) (open_loops turning) p)) (there_is v)) in
+      let tested = then_also f c (open_loops turning) p (r + 5) (code.Eq ∷ []) (code.Not ∷ []) (negsuc 0 ∷ object_number v ∷ xs)
+      (truth_number (int_eq (object_number v) (negsuc 0)) ∷ xs) (Ok (truth_number (is_object v) ∷ xs)) same other in
+      then_also f c (open_loops turning) p q ca (code.Num (negsuc 0) ∷ code.Eq ∷ code.Not ∷ []) xs (object_number v ∷ xs)
+      (Ok (truth_number (is_object v) ∷ xs)) (gives q xs (has_front c q ca (code.Num (negsuc 0) ∷ code.Eq ∷ code.Not ∷ []) has))
       (then_also f c (open_loops turning) p r (code.Num (negsuc 0) ∷ []) (code.Eq ∷ code.Not ∷ []) (object_number v ∷ xs) (negsuc 0 ∷ object_number v ∷ xs) (Ok (truth_number (is_object v) ∷ xs)) nothing tested)
 
   -- ---- descriptions
 
   pub alike_truth : (ca : List Instruction) (a b : Bool) → a ≡ b → GivesTruth ca a → GivesTruth ca b
-  alike_truth ca a b e gives q xs has = alike f c (open_loops turning) p q ca xs (Ok (truth_number a ∷ xs)) (Ok (truth_number b ∷ xs)) (ap (λ t. Ok (truth_number t ∷ xs)) e) (gives q xs has)
+  alike_truth ca a b e gives q xs has = alike f c (open_loops turning) p q ca xs (Ok (truth_number a ∷ xs)) (Ok (truth_number b ∷ xs))
+      (ap (λ t. Ok (truth_number t ∷ xs)) e) (gives q xs has)
 
   not_so : (v : Option ℕ) (holds : ℕ → Bool) → (is_object v && not (of_some v holds)) ≡ of_some v (λ o. not (holds o))
   unfolding is_object
@@ -230,7 +245,8 @@ module _ (f : Frame) (c : List Instruction) (turning : List ℕ) (p : Progress) 
   quality_gives ca v n First gives = asks_object ca (code.Flag n code.IsFirst) v (is_so f.telling.setting p.world (Quality n First)) gives (λ q xs o. refl)
   quality_gives ca v n Second gives = asks_object ca (code.Flag n code.IsSecond) v (is_so f.telling.setting p.world (Quality n Second)) gives (λ q xs o. refl)
 
-  pub adjective_gives : (adjective : Adjective) (ca : List Instruction) (v : Option ℕ) → GivesObject ca v → GivesTruth (adjective_code ca adjective) (of_some v (is_so f.telling.setting p.world adjective))
+  pub adjective_gives : (adjective : Adjective) (ca : List Instruction) (v : Option ℕ) → GivesObject ca v
+      → GivesTruth (adjective_code ca adjective) (of_some v (is_so f.telling.setting p.world adjective))
   unfolding adjective_code does
   adjective_gives (Quality n side) ca v gives = quality_gives ca v n side gives
   adjective_gives Visible ca v gives = asks_object ca code.Visible v (is_so f.telling.setting p.world Visible) gives (λ q xs o. refl)
@@ -241,7 +257,8 @@ module _ (f : Frame) (c : List Instruction) (turning : List ℕ) (p : Progress) 
       (one_truth (adjective_code ca adjective) (of_some v (is_so f.telling.setting p.world adjective)) (adjective_gives adjective ca v gives)))
 
   all_so : (v : Option ℕ) (adjective : Adjective) (adjectives : List Adjective)
-      → (of_some v (is_so f.telling.setting p.world adjective) && of_some v (λ o. list_all (λ a. is_so f.telling.setting p.world a o) adjectives)) ≡ of_some v (λ o. list_all (λ a. is_so f.telling.setting p.world a o) (adjective ∷ adjectives))
+      → (of_some v (is_so f.telling.setting p.world adjective) && of_some v (λ o. list_all (λ a. is_so f.telling.setting p.world a o) adjectives))
+      ≡ of_some v (λ o. list_all (λ a. is_so f.telling.setting p.world a o) (adjective ∷ adjectives))
   all_so None adjective adjectives = refl
   all_so (Some o) adjective adjectives = refl
 
@@ -262,10 +279,12 @@ module _ (f : Frame) (c : List Instruction) (turning : List ℕ) (p : Progress) 
   unfolding does
   among_gives adjectives None ca v gives = adjectives_give adjectives ca v gives
   among_gives adjectives (Some kind) ca v gives =
-      alike_truth (kind_code ca (Some kind) (adjectives_code ca adjectives)) _ _ (both_some v (λ o. f.telling.setting.is_of o kind) (λ o. list_all (λ a. is_so f.telling.setting p.world a o) adjectives))
+      alike_truth (kind_code ca (Some kind) (adjectives_code ca adjectives)) _ _
+      (both_some v (λ o. f.telling.setting.is_of o kind) (λ o. list_all (λ a. is_so f.telling.setting p.world a o) adjectives))
       (and_gives (ca ++ code.Kind kind ∷ []) (adjectives_code ca adjectives) _ _ (asks_object ca (code.Kind kind) v (λ o. f.telling.setting.is_of o kind) gives (λ q xs o. refl)) (adjectives_give adjectives ca v gives))
 
-  pub held_gives : (r : Rel) (ca cb : List Instruction) (v holder : Option ℕ) → GivesObject ca v → GivesObject cb holder → GivesTruth (ca ++ cb ++ code.Held r ∷ []) (of_some v (is_held p.world r holder))
+  pub held_gives : (r : Rel) (ca cb : List Instruction) (v holder : Option ℕ) → GivesObject ca v → GivesObject cb holder
+      → GivesTruth (ca ++ cb ++ code.Held r ∷ []) (of_some v (is_held p.world r holder))
   unfolding does
   held_gives r ca cb v holder gives holds =
       two_objects ca cb (code.Held r) v holder (truth_number (of_some v (is_held p.world r holder))) gives holds
@@ -273,11 +292,13 @@ module _ (f : Frame) (c : List Instruction) (turning : List ℕ) (p : Progress) 
       ∙ ap (λ h. Goes (St (q + 2) (truth_number (of_some v (is_held p.world r h)) ∷ xs) (open_loops turning) p)) (object_back holder))
 
   -- the object that a code gives is one of those that a description means
-  pub description_gives : (d : Description) (ca : List Instruction) (v : Option ℕ) → GivesObject ca v → GivesTruth (description_code ca d) (of_some v (is_one f.telling.setting (scope_in f turning) p.world d))
+  pub description_gives : (d : Description) (ca : List Instruction) (v : Option ℕ) → GivesObject ca v
+      → GivesTruth (description_code ca d) (of_some v (is_one f.telling.setting (scope_in f turning) p.world d))
   unfolding description_code is_one
   description_gives (tree.Those adjectives kind) ca v gives = among_gives adjectives kind ca v gives
   description_gives (tree.ThoseHeld adjectives kind r holder) ca v gives =
-      alike_truth (description_code ca (tree.ThoseHeld adjectives kind r holder)) _ _ (both_some v (is_among f.telling.setting p.world adjectives kind) (is_held p.world r (object_here f turning p holder)))
+      alike_truth (description_code ca (tree.ThoseHeld adjectives kind r holder)) _ _
+      (both_some v (is_among f.telling.setting p.world adjectives kind) (is_held p.world r (object_here f turning p holder)))
       (and_gives (kind_code ca kind (adjectives_code ca adjectives)) (ca ++ object_code holder ++ code.Held r ∷ []) _ _ (among_gives adjectives kind ca v gives)
       (held_gives r ca (object_code holder) v (object_here f turning p holder) gives (object_gives holder)))
 
@@ -293,7 +314,8 @@ turning_before (t ∷ ts) o zero less = refl
 turning_before (t ∷ ts) o (suc n) less = turning_before ts o n (omega (arith, less))
 
 -- an object that names open loops alone is the same inside one more
-object_before : (f : Frame) (turning : List ℕ) (new : ℕ) (p : Progress) (o : Object) → ObjectIsWithin (length turning) o → object_here f (turning ++ new ∷ []) p o ≡ object_here f turning p o
+object_before : (f : Frame) (turning : List ℕ) (new : ℕ) (p : Progress) (o : Object) → ObjectIsWithin (length turning) o
+    → object_here f (turning ++ new ∷ []) p o ≡ object_here f turning p o
 unfolding object_in
 object_before f turning new p (tree.The o) within = refl
 object_before f turning new p tree.Noun within = refl
@@ -310,13 +332,15 @@ unfolding is_one
 one_before f turning new p (tree.Those adjectives kind) o within = refl
 one_before f turning new p (tree.ThoseHeld adjectives kind r holder) o within = rw (object_before f turning new p holder within) refl
 
-answer_is : (f : Frame) (c : List Instruction) (q m : ℕ) (b : Bool) (ls : List (Option ℕ)) (p : Progress) → at_place c q ≡ Some code.Answer → run f c (suc m) (St q (truth_number b ∷ []) ls p) ≡ Answers b
+answer_is : (f : Frame) (c : List Instruction) (q m : ℕ) (b : Bool) (ls : List (Option ℕ)) (p : Progress) → at_place c q ≡ Some code.Answer
+    → run f c (suc m) (St q (truth_number b ∷ []) ls p) ≡ Answers b
 unfolding run does
 answer_is f c q m b ls p at = ap (λ i. goes_further (run f c m) (does_at f (St q (truth_number b ∷ []) ls p) i)) at ∙ ap Answers (truth_back b)
 
 last_given : (f : Frame) (c : List Instruction) (turning : List ℕ) (o : ℕ) (p : Progress) → GivesObject f c (turning ++ o ∷ []) p (code.Loop (length turning) ∷ []) (Some o)
 unfolding object_in
-last_given f c turning o p = subst (λ v. GivesObject f c (turning ++ o ∷ []) p (code.Loop (length turning) ∷ []) v) (turning_last turning o) (object_gives f c (turning ++ o ∷ []) p (tree.Turning (length turning)))
+last_given f c turning o p = subst (λ v. GivesObject f c (turning ++ o ∷ []) p (code.Loop (length turning) ∷ []) v) (turning_last turning o)
+    (object_gives f c (turning ++ o ∷ []) p (tree.Turning (length turning)))
 
 -- the test of a description, asked of an object
 pub test_answers : (f : Frame) (d : Description) (turning : List ℕ) (o : ℕ) (w : World) → DescriptionIsWithin (length turning) d
@@ -329,6 +353,7 @@ test_answers f d turning o w within =
     let count : sizes c ≡ length dc + suc m = omega (arith, sizes-append dc (code.Answer ∷ []), length-sizes dc) in
     let has = has_all c in
     let is = is_one f.telling.setting (scope_in f (turning ++ o ∷ [])) w d o in
-    let gives = description_gives f c (turning ++ o ∷ []) (fresh w) d (code.Loop (length turning) ∷ []) (Some o) (last_given f c turning o (fresh w)) 0 [] (has_front c 0 dc (code.Answer ∷ []) has) (suc m) in
+    let gives = description_gives f c (turning ++ o ∷ []) (fresh w) d (code.Loop (length turning) ∷ []) (Some o)
+    (last_given f c turning o (fresh w)) 0 [] (has_front c 0 dc (code.Answer ∷ []) has) (suc m) in
     let ends = answer_is f c (0 + sizes dc) m is (open_loops (turning ++ o ∷ [])) (fresh w) (has_back c 0 dc (code.Answer ∷ []) has).0 in
     ap (λ n. answered (run f c n (start_at (open_loops (turning ++ o ∷ [])) (fresh w)))) count ∙ (ap answered (gives ∙ ends) ∙ ap Ok (one_before f turning o (fresh w) d o within))

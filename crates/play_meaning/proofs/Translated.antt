@@ -35,15 +35,18 @@ found_at bytes first more false is later =
     let next : 1 + position_or_len (bytes_eq bytes) more ≡ suc (position_or_len (bytes_eq bytes) more) = omega arith in
     ap (λ n. slice_index_or (first ∷ more) n []) next ∙ later
 
-found : (front : List (List ℕ)) (bytes : List ℕ) (back : List (List ℕ)) → slice_index_or (front ++ bytes ∷ back) (position_or_len (bytes_eq bytes) (front ++ bytes ∷ back)) [] ≡ bytes
+found : (front : List (List ℕ)) (bytes : List ℕ) (back : List (List ℕ))
+    → slice_index_or (front ++ bytes ∷ back) (position_or_len (bytes_eq bytes) (front ++ bytes ∷ back)) [] ≡ bytes
 found [] bytes back = ap (λ b. slice_index_or (bytes ∷ back) (if not b then 1 + position_or_len (bytes_eq bytes) back else 0) []) ((bytes_eq-Decides bytes bytes).1 refl)
 found (first ∷ front) bytes back = found_at bytes first (front ++ bytes ∷ back) (bytes_eq bytes first) refl (found front bytes back)
 
 -- each string of a list stands where it is looked up
-all_found : (f : Frame) (c : List Instruction) (front back all : List (List ℕ)) → all ≡ front ++ back → ((n : ℕ) → f.strings n ≡ slice_index_or all n []) → AllStand f c (λ bytes. position_or_len (bytes_eq bytes) all) back
+all_found : (f : Frame) (c : List Instruction) (front back all : List (List ℕ)) → all ≡ front ++ back
+    → ((n : ℕ) → f.strings n ≡ slice_index_or all n []) → AllStand f c (λ bytes. position_or_len (bytes_eq bytes) all) back
 all_found f c front [] all parts strings = tt
 all_found f c front (bytes ∷ back) all parts strings =
-    let here : slice_index_or all (position_or_len (bytes_eq bytes) all) [] ≡ bytes = subst (λ l. slice_index_or l (position_or_len (bytes_eq bytes) l) [] ≡ bytes) (sym parts) (found front bytes back) in
+    let here : slice_index_or all (position_or_len (bytes_eq bytes) all) []
+    ≡ bytes = subst (λ l. slice_index_or l (position_or_len (bytes_eq bytes) l) [] ≡ bytes) (sym parts) (found front bytes back) in
     (strings (position_or_len (bytes_eq bytes) all) ∙ here, all_found f c (front ++ bytes ∷ []) back all (parts ∙ sym (append_assoc front (bytes ∷ []) back)) strings)
 
 -- ---- tests by their numbers
@@ -80,12 +83,14 @@ module _ (f : Frame) (c : List Instruction) where
   ended q p (Err reason) has comes = comes 0
   ended q p (Ok done) has comes = by_flow done.flow done.progress comes
     where
-      by_flow : (flow : Flow) (p' : Progress) → Comes f c [] 0 p (Ok (record { progress = p'; flow = flow })) q → (n : ℕ) × (run f c n (St 0 [] [] p) ≡ leaves_so (Ok (record { progress = p'; flow = flow })))
+      by_flow : (flow : Flow) (p' : Progress) → Comes f c [] 0 p (Ok (record { progress = p'; flow = flow })) q
+          → (n : ℕ) × (run f c n (St 0 [] [] p) ≡ leaves_so (Ok (record { progress = p'; flow = flow })))
       by_flow GoesOn p' comes = let r = comes 1 in (r.0, r.1 ∙ stops_at f c (St q [] [] p') code.Done GoesOn p' 0 has.0 refl)
       by_flow NoDecision p' comes = comes 0
       by_flow (Decides outcome) p' comes = comes 0
 
-pub body_means : (body : Body) (t : Telling) (inner : Inner) (now : ActionNow) (p : Progress) → BodyIsWithin 0 body → RunsTo (translated body) t inner 0 now p (do_body t inner body (scope_of now) p)
+pub body_means : (body : Body) (t : Telling) (inner : Inner) (now : ActionNow) (p : Progress) → BodyIsWithin 0 body
+    → RunsTo (translated body) t inner 0 now p (do_body t inner body (scope_of now) p)
 unfolding translated seq
 body_means body t inner now p within =
     let string : List ℕ → ℕ = λ bytes. position_or_len (bytes_eq bytes) (strings_of_body body) in
@@ -94,5 +99,6 @@ body_means body t inner now p within =
     let f = frame_of (translated body) t inner (test_of (translated body) t now) now in
     let has = has_all c in
     let tests : HasTests f 1 (part.tests ++ []) = all_tests (translated body) t inner now (length (part.tests ++ [])) (c ∷ []) (part.tests ++ []) refl refl in
-    let comes = body_comes f c string body [] 1 0 p within (all_found f c [] (strings_of_body body) (strings_of_body body) refl (λ n. refl)) (tests_front f 1 part.tests [] tests) (has_front c 0 part.code (code.Done ∷ []) has) in
+    let comes = body_comes f c string body [] 1 0 p within (all_found f c [] (strings_of_body body) (strings_of_body body) refl (λ n. refl))
+    (tests_front f 1 part.tests [] tests) (has_front c 0 part.code (code.Done ∷ []) has) in
     ended f c (0 + sizes part.code) p (do_body t inner body (scope_of now) p) (has_back c 0 part.code (code.Done ∷ []) has) comes
