@@ -27,10 +27,10 @@ use Rattle.play_meaning.specs.declared.outcome.Outcome.TheVariants.{Failure}
 use Rattle.play_meaning.proofs.Looking.{At, after_asked, asked_first, before_asked, instead_asked}
 
 abbrev door_of : PlainStory → ℕ → World → Option ℕ
-door_of k d w = beyond k.setting.door_beyond (Some d) (location_of w)
+door_of k d w = beyond k.setting k.setting.door_beyond (Some d) (location_of w)
 
 abbrev room_of : PlainStory → ℕ → World → Option ℕ
-room_of k d w = beyond k.setting.room_beyond (Some d) (location_of w)
+room_of k d w = beyond k.setting k.setting.room_beyond (Some d) (location_of w)
 
 -- ---- the four rules
 

@@ -103,13 +103,13 @@ arrive_ended k p None = refl
 arrive_ended k p (Some room) = look_ended k (record p { world = put k.setting (Some 0) In (Some room) p.world; work = p.work + 4 }) ∙ put_ended k.setting room p.world
 
 go_ended : (k : PlainStory) (d : ℕ) (p : Progress) → (go k d p).world.ended ≡ p.world.ended
-go_ended k d p = by_door (is_closed k.setting p.world (beyond k.setting.door_beyond (Some d) (location_of p.world)))
+go_ended k d p = by_door (is_closed k.setting p.world (beyond k.setting k.setting.door_beyond (Some d) (location_of p.world)))
   where
     by_door : (closed : Bool)
-        → (if closed then record p { text = p.text ++ closed_text k.setting (beyond k.setting.door_beyond (Some d) (location_of p.world)); work = p.work + 1 } else arrive k p (beyond k.setting.room_beyond (Some d) (location_of p.world))).world.ended
+        → (if closed then record p { text = p.text ++ closed_text k.setting (beyond k.setting k.setting.door_beyond (Some d) (location_of p.world)); work = p.work + 1 } else arrive k p (beyond k.setting k.setting.room_beyond (Some d) (location_of p.world))).world.ended
         ≡ p.world.ended
     by_door true = refl
-    by_door false = arrive_ended k p (beyond k.setting.room_beyond (Some d) (location_of p.world))
+    by_door false = arrive_ended k p (beyond k.setting k.setting.room_beyond (Some d) (location_of p.world))
 
 pub look_turn : (k : PlainStory) (w : World) → w.ended ≡ None → turn (game_of_plain k) look_round (fresh w) ≡ count_turn (look k (fresh w))
 look_turn k w going = turn_counted k look_round (fresh w) (look k (fresh w)) going (look_performed k w) (look_ended k (fresh w) ∙ going)

@@ -154,13 +154,13 @@ module _ (f : Frame) (c : List Instruction) (turning : List ℕ) (p : Progress) 
       (ap (λ o. Goes (St (q + 2) (object_number o ∷ xs) (open_loops turning) p)) (loop_object turning k))
   object_gives (tree.RoomFrom d room) q xs has =
       two_objects (object_code d) (object_code room) code.Room (object_here f turning p d) (object_here f turning p room) _ (object_gives d) (object_gives room)
-      (λ q xs. ap (λ o. Goes (St (q + 1) (object_number (beyond f.telling.setting.room_beyond o (object_at (object_number (object_here f turning p room)))) ∷ xs) (open_loops turning) p)) (object_back (object_here f turning p d))
-      ∙ ap (λ o. Goes (St (q + 1) (object_number (beyond f.telling.setting.room_beyond (object_here f turning p d) o) ∷ xs) (open_loops turning) p))
+      (λ q xs. ap (λ o. Goes (St (q + 1) (object_number (beyond f.telling.setting f.telling.setting.room_beyond o (object_at (object_number (object_here f turning p room)))) ∷ xs) (open_loops turning) p)) (object_back (object_here f turning p d))
+      ∙ ap (λ o. Goes (St (q + 1) (object_number (beyond f.telling.setting f.telling.setting.room_beyond (object_here f turning p d) o) ∷ xs) (open_loops turning) p))
       (object_back (object_here f turning p room))) q xs has
   object_gives (tree.DoorFrom d room) q xs has =
       two_objects (object_code d) (object_code room) code.Door (object_here f turning p d) (object_here f turning p room) _ (object_gives d) (object_gives room)
-      (λ q xs. ap (λ o. Goes (St (q + 1) (object_number (beyond f.telling.setting.door_beyond o (object_at (object_number (object_here f turning p room)))) ∷ xs) (open_loops turning) p)) (object_back (object_here f turning p d))
-      ∙ ap (λ o. Goes (St (q + 1) (object_number (beyond f.telling.setting.door_beyond (object_here f turning p d) o) ∷ xs) (open_loops turning) p))
+      (λ q xs. ap (λ o. Goes (St (q + 1) (object_number (beyond f.telling.setting f.telling.setting.door_beyond o (object_at (object_number (object_here f turning p room)))) ∷ xs) (open_loops turning) p)) (object_back (object_here f turning p d))
+      ∙ ap (λ o. Goes (St (q + 1) (object_number (beyond f.telling.setting f.telling.setting.door_beyond (object_here f turning p d) o) ∷ xs) (open_loops turning) p))
       (object_back (object_here f turning p room))) q xs has
 
   -- ---- truths

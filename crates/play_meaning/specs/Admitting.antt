@@ -1,12 +1,12 @@
--- Which rules an index may pass over: a rule admits an action, a noun and a room if nothing of these three alone tells
--- that it doesn't apply.
+-- Which rules an index may pass over: a rule admits an action, a noun and a room if it names them, or a kind of the noun's
+-- or the room's, or none.
 use Rattle.std.specs.Prelude.{ℕ, Bool, true, ◌&&◌, Option}
 use Rattle.play_meaning.specs.Rules.{Anything, Aspect, Exactly, OfKind, Rule, is_action}
 use Rattle.play_meaning.specs.Seeing.{is_number}
 use Rattle.play_meaning.specs.Settings.{Setting}
 use Rattle.play_meaning.specs.Truth.{of_some}
 
--- adjectives are left out, since they change with the world
+-- adjectives aren't looked at
 abbrev pub may_be_met : Setting → Aspect → Option ℕ → Bool
 may_be_met s Anything o = true
 may_be_met s (Exactly n) o = is_number o n

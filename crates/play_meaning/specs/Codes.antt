@@ -30,7 +30,7 @@ frame_of c t inner tests now = record { telling = t; strings = λ n. slice_index
 
 -- ---- tests
 
--- a sound test comes to its answer
+-- what a test that comes to no answer answers is of no use: sound ones do
 abbrev pub answered : Step → Attempt Bool
 answered (Answers truth) = Ok truth
 answered (Abandons reason) = Err reason
@@ -56,7 +56,7 @@ left_off (Goes s) p = Ok (goes_on p)
 left_off (Answers truth) p = Ok (goes_on p)
 left_off Stuck p = Ok (goes_on p)
 
--- a body goes back only for a turn, and each turn is work
+-- between two turns of loops no place is come to twice but a loop's own, and each turn is work
 abbrev pub most_steps : List Instruction → ℕ
 most_steps code = sizes code * (most_work + 1)
 

@@ -1,4 +1,4 @@
--- What looking and going come to in a story without rules of its own.
+-- What looking and going come to in a plain story.
 use Rattle.std.specs.Prelude.{ℕ, ◌+◌, true, false, Bool, ◌&&◌, List, [], ◌∷◌, ◌++◌, filter, Option, None, Some, codes, if◌then◌else◌}
 use Rattle.world_meaning.specs.Texts.{said}
 use Rattle.world_meaning.specs.declared.place.Rel.TheVariants.{In}
@@ -18,7 +18,7 @@ use Rattle.play_meaning.specs.declared.action.ActionNow.{ActionNow}
 
 -- ---- looking
 
--- in light the room's name
+-- the room's name, or that it is dark
 abbrev pub heading : PlainStory → World → List ℕ
 heading k w = if has_light k.setting w then name_in k.setting Plain (location_of w) ++ 10 ∷ [] else said (codes "Darkness")
 
@@ -31,7 +31,7 @@ abbrev pub description_text : PlainStory → Option ℕ → List ℕ
 description_text k None = []
 description_text k (Some o) = if k.setting.has_description o then text_in (k.descriptions o) ++ 10 ∷ [] else []
 
--- in light the room's description
+-- the room's description, or that nothing is seen
 abbrev pub body_text : PlainStory → World → List ℕ
 body_text k w = if has_light k.setting w then description_text k (location_of w) else dark_text
 
@@ -91,4 +91,4 @@ go_by k door room p =
 -- a closed door on the way, no way, or the room beyond
 abbrev pub go : PlainStory → ℕ → Progress → Progress
 go k direction p =
-    go_by k (beyond k.setting.door_beyond (Some direction) (location_of p.world)) (beyond k.setting.room_beyond (Some direction) (location_of p.world)) p
+    go_by k (beyond k.setting k.setting.door_beyond (Some direction) (location_of p.world)) (beyond k.setting k.setting.room_beyond (Some direction) (location_of p.world)) p

@@ -78,6 +78,62 @@ pub data Instruction : Type 0 where
   Failure : Instruction
   Answer : Instruction
 
+-- the first byte of an instruction
+abbrev pub opcode : Instruction → ℕ
+opcode (Num a) = 0x01
+opcode (Var a) = 0x02
+opcode (Prop a) = 0x03
+opcode Turns = 0x04
+opcode Add = 0x05
+opcode Sub = 0x06
+opcode Mul = 0x07
+opcode Eq = 0x08
+opcode Less = 0x09
+opcode AtMost = 0x0A
+opcode Not = 0x0B
+opcode And = 0x0C
+opcode Or = 0x0D
+opcode Noun = 0x0E
+opcode Second = 0x0F
+opcode Location = 0x10
+opcode (Loop a) = 0x11
+opcode (Flag a b) = 0x12
+opcode (Kind a) = 0x13
+opcode (Held a) = 0x14
+opcode (Holder a) = 0x15
+opcode Encloses = 0x16
+opcode Visible = 0x17
+opcode Touchable = 0x18
+opcode Dark = 0x19
+opcode (Happens a) = 0x1A
+opcode HasDescription = 0x1B
+opcode Room = 0x1C
+opcode Door = 0x1D
+opcode (Count a b) = 0x20
+opcode (Names a b c) = 0x21
+opcode (Say a) = 0x22
+opcode (Name a) = 0x23
+opcode Figure = 0x24
+opcode Description = 0x25
+opcode (SetFlag a b) = 0x26
+opcode (SetProp a) = 0x27
+opcode (SetVar a) = 0x28
+opcode (PutAt a) = 0x29
+opcode Move = 0x2A
+opcode Away = 0x2B
+opcode (Try a b) = 0x30
+opcode (Follow a) = 0x31
+opcode (IfZero a) = 0x32
+opcode (Jump a) = 0x33
+opcode (Begin a) = 0x34
+opcode (Next a b c) = 0x35
+opcode (EndStory a) = 0x36
+opcode Done = 0x37
+opcode NoDecision = 0x38
+opcode Success = 0x39
+opcode Failure = 0x3A
+opcode Answer = 0x3B
+
 -- how many bytes an instruction takes
 abbrev pub size_of : Instruction → ℕ
 size_of (Num n) = 5

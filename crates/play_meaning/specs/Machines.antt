@@ -46,7 +46,7 @@ pub data Step : Type 0 where
   Leaves : Flow → Progress → Step
   Answers : Bool → Step
   Abandons : Abandon → Step
-  -- there is no instruction, or an operand lacks: never in a sound code
+  -- there is no instruction, or an operand lacks, which soundness is to exclude
   Stuck : Step
 
 -- ---- operands
@@ -121,7 +121,7 @@ is_asked s w p IsSecond o = is_so s w (Quality p SecondName) o
 is_asked s w p IsNotFirst o = is_so s w (NotSo (Quality p First)) o
 is_asked s w p IsNotSecond o = is_so s w (NotSo (Quality p SecondName)) o
 
--- a holder of this relation, if it is an object of the story
+-- a holder of this relation; one that is no object of the story, which stands in no world of a story, is none
 abbrev pub holder_at : Setting → Rel → Option Place → Option ℕ
 holder_at s r None = None
 holder_at s r (Some place) = if (relation_number place.relation == relation_number r) && nat_lt place.holder s.count then Some place.holder else None
@@ -208,8 +208,8 @@ does f s Touchable = of_object Touchable s (is_touchable f.telling.setting s.pro
 does f s Dark = pushes Dark s s.operands (truth_number (not (has_light f.telling.setting s.progress.world)))
 does f s (Happens scene) = pushes (Happens scene) s s.operands (truth_number (scene_of s.progress.world scene).happens)
 does f s HasDescription = of_object HasDescription s f.telling.setting.has_description
-does f s Room = of_two Room s (λ d room. object_number (beyond f.telling.setting.room_beyond (object_at d) (object_at room)))
-does f s Door = of_two Door s (λ d room. object_number (beyond f.telling.setting.door_beyond (object_at d) (object_at room)))
+does f s Room = of_two Room s (λ d room. object_number (beyond f.telling.setting f.telling.setting.room_beyond (object_at d) (object_at room)))
+does f s Door = of_two Door s (λ d room. object_number (beyond f.telling.setting f.telling.setting.door_beyond (object_at d) (object_at room)))
 does f s (Count k test) = unless_abandoned (passing_in f s k test) (λ objects. pushes (Count k test) s s.operands (pos (length objects)))
 does f s (Names naming k test) = unless_abandoned (passing_in f s k test) (λ objects. says (Names naming k test) s s.operands (listed f.telling.setting naming objects))
 does f s (Say string) = says (Say string) s s.operands (f.strings string)

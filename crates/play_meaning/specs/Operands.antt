@@ -1,6 +1,6 @@
 -- What instructions take and give, what their arguments name, and in which codes they may stand.
-use Rattle.std.specs.Prelude.{ℕ, ◌+◌, ℤ, pos, negsuc, int_le, int_lt, nat_lt, ◌==◌, Bool, true, false, not, ◌&&◌, ◌||◌, List, [], ◌∷◌, length, Option, None, Some, if◌then◌else◌}
-use Rattle.play_meaning.specs.Instructions.{Add, And, Answer, AtMost, Away, Begin, Count, Description, Done, Door, Encloses, EndStory, Eq, Figure, Flag, Follow, Happens, HasDescription, Held, Holder, IfZero, Instruction, Jump, Kind, Less, Loop, Move, Mul, Name, Names, Next, NoDecision, Not, Num, Or, Prop, PutAt, Room, Say, SetFlag, SetProp, SetVar, Sub, Success, Failure, Touchable, Try, Turns, Var, Visible, Dark, Location, Noun, Second}
+use Rattle.std.specs.Prelude.{ℕ, ◌+◌, ℤ, pos, negsuc, int_le, int_lt, nat_le, nat_lt, ◌==◌, Bool, true, false, ◌&&◌, ◌||◌, List, [], ◌∷◌, length, Option, None, Some, if◌then◌else◌}
+use Rattle.play_meaning.specs.Instructions.{Add, And, Answer, AtMost, Away, Begin, Count, Description, Done, Door, Encloses, EndStory, Eq, Figure, Flag, Follow, Happens, HasDescription, Held, Holder, IfZero, Instruction, Jump, Kind, Less, Loop, Move, Mul, Name, Names, Next, NoDecision, Not, Num, Or, Prop, PutAt, Room, Say, SetFlag, SetProp, SetVar, Sub, Success, Failure, Touchable, Try, Turns, Var, Visible, Dark, Location, Noun, Second, opcode}
 
 -- what a code is for
 pub data Use : Type 0 where
@@ -143,9 +143,9 @@ operands_behind z i sorts = with_given (gives z i) (below (takes i) sorts)
 abbrev pub is_test : Counts → ℕ → Bool
 is_test z n = nat_lt z.own n && nat_lt n z.codes
 
--- a loop's number is the count of those that are open around it, and no more than eight are open
+-- a loop's number is the count of those that are open around it, eight at most
 abbrev pub may_open : ℕ → ℕ → Bool
-may_open depth k = (k == depth) && nat_lt depth 8
+may_open depth k = (k == depth) && nat_lt depth 9
 
 -- each argument names something that is there, inside so many loops
 unfoldable pub names_what_is_there : Counts → ℕ → Instruction → Bool
@@ -170,48 +170,11 @@ names_what_is_there z depth i = true
 
 -- ---- what a code is for
 
--- asks, and changes and says nothing
-abbrev pub asks_only : Instruction → Bool
-asks_only (Names naming k test) = false
-asks_only (Say string) = false
-asks_only (Name naming) = false
-asks_only Figure = false
-asks_only Description = false
-asks_only (SetFlag p value) = false
-asks_only (SetProp p) = false
-asks_only (SetVar v) = false
-asks_only (PutAt r) = false
-asks_only Move = false
-asks_only Away = false
-asks_only (Try silent action) = false
-asks_only (Follow book) = false
-asks_only (IfZero place) = false
-asks_only (Jump place) = false
-asks_only (Begin k) = false
-asks_only (Next k test exit) = false
-asks_only (EndStory string) = false
-asks_only Done = false
-asks_only NoDecision = false
-asks_only Success = false
-asks_only Failure = false
-asks_only Answer = false
-asks_only _ = true
+abbrev pub is_from_to : ℕ → ℕ → Instruction → Bool
+is_from_to first last i = nat_le first (opcode i) && nat_le (opcode i) last
 
-abbrev pub only_says : Instruction → Bool
-only_says (Names naming k test) = true
-only_says (Say string) = true
-only_says (Name naming) = true
-only_says Figure = true
-only_says (IfZero place) = true
-only_says (Jump place) = true
-only_says Done = true
-only_says _ = false
-
-abbrev pub is_answer : Instruction → Bool
-is_answer Answer = true
-is_answer _ = false
-
+-- a test asks, and answers; a description asks and says, and has ways forward; a body does all but answer
 unfoldable pub may_hold : Use → Instruction → Bool
-may_hold (Test loops) i = asks_only i || is_answer i
-may_hold Describing i = asks_only i || only_says i
-may_hold Body i = not (is_answer i)
+may_hold (Test loops) i = is_from_to 0x01 0x20 i || is_from_to 0x3B 0x3B i
+may_hold Describing i = is_from_to 0x01 0x24 i || is_from_to 0x32 0x33 i || is_from_to 0x37 0x37 i
+may_hold Body i = is_from_to 0x01 0x3A i

@@ -1,4 +1,5 @@
--- A story without rules or scenes of its own: what its objects are, what is said of them, and how its commands are read.
+-- A story without rules, listings, scenes or actions of its own, whose descriptions are bytes: what its objects are, what
+-- is said of them, and how its commands are read.
 use Rattle.std.specs.Prelude.{ℕ, Bool, List, [], Option, slice_index_or}
 use Rattle.std.specs.Option.{option_map}
 use Rattle.play_meaning.specs.Games.{Game, Question, Reading}

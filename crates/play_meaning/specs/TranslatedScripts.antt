@@ -1,5 +1,6 @@
 -- The codes of a tale: those of descriptions by object, of conditions and bodies by rule, of beginnings and ends by
--- scene; behind these the tests that they name.
+-- scene; behind these the tests that they name. Strings stand as they are said, one as often as it is; a story file numbers
+-- them anew.
 use Rattle.std.specs.Prelude.{ℕ, ◌+◌, max, nat_lt, Bool, List, [], ◌∷◌, ◌++◌, length, map, fold, Option, None, Some, if◌then◌else◌}
 use Rattle.std.specs.List.{flat_map, position_or_len, range_with_len}
 use Rattle.std.specs.Option.{option_map}

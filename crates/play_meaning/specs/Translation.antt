@@ -5,7 +5,7 @@ use Rattle.std.specs.Str.{bytes_eq}
 use Rattle.world_meaning.specs.declared.place.Rel.{Rel}
 use Rattle.world_meaning.specs.declared.place.Rel.TheVariants.{Carried, Worn}
 use Rattle.play_meaning.specs.Codes.{Codes}
-use Rattle.play_meaning.specs.Instructions.{Asked, Instruction, IsFirst, IsNotFirst, IsNotSecond, IsSecond, sizes}
+use Rattle.play_meaning.specs.Instructions.{Asked, Instruction, IsFirst, IsSecond, sizes}
 use Rattle.play_meaning.specs.Instructions as code
 use Rattle.play_meaning.specs.Trees as tree
 use Rattle.play_meaning.specs.Trees.{Adjective, Body, Condition, Description, First, NotSo, Number, Object, Phrase, Quality, Second, Side, Text, Touchable, Visible}

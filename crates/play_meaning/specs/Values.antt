@@ -7,7 +7,7 @@ use Rattle.world_meaning.specs.declared.place.Rel.TheVariants.{In, On, Carried, 
 use Rattle.world_meaning.specs.declared.session.Abandon.TheVariants.{NumberOutOfRange}
 use Rattle.world_meaning.specs.Progress.{Attempt, next}
 use Rattle.play_meaning.specs.Seeing.{is_touchable, is_visible}
-use Rattle.play_meaning.specs.Settings.{Setting, objects_of}
+use Rattle.play_meaning.specs.Settings.{Setting, direction_kind, objects_of, room_kind}
 use Rattle.play_meaning.specs.Trees.{Adjective, Description, DoorFrom, First, Literal, Location, Minus, NotSo, Noun, Nothing, Number, Object, Plus, PropertyOf, Quality, RoomFrom, Second, SecondNoun, Side, The, Those, ThoseHeld, Times, Touchable, TurnCount, Turning, Variable, Visible, CountOf}
 use Rattle.play_meaning.specs.Worlds.{World, is_true_of, location_of, number_of, place_of, variable_of}
 use Rattle.play_meaning.specs.declared.action.ActionNow.{ActionNow}
@@ -19,10 +19,11 @@ pub record Scope : Type 0 where
 
 -- ---- objects
 
-abbrev pub beyond : (ℕ → ℕ → Option ℕ) → Option ℕ → Option ℕ → Option ℕ
-beyond leads None room = None
-beyond leads (Some direction) None = None
-beyond leads (Some direction) (Some room) = leads room direction
+-- what lies in a direction from a room; nothing where either isn't so
+abbrev pub beyond : Setting → (ℕ → ℕ → Option ℕ) → Option ℕ → Option ℕ → Option ℕ
+beyond s leads None room = None
+beyond s leads (Some direction) None = None
+beyond s leads (Some direction) (Some room) = if s.is_of direction direction_kind && s.is_of room room_kind then leads room direction else None
 
 -- which object is meant; nothing where there is none
 unfoldable pub object_in : Setting → Scope → World → Object → Option ℕ
@@ -32,8 +33,8 @@ object_in s scope w SecondNoun = scope.now.second
 object_in s scope w Location = location_of w
 object_in s scope w Nothing = None
 object_in s scope w (Turning n) = slice_get scope.turning n
-object_in s scope w (RoomFrom direction room) = beyond s.room_beyond (object_in s scope w direction) (object_in s scope w room)
-object_in s scope w (DoorFrom direction room) = beyond s.door_beyond (object_in s scope w direction) (object_in s scope w room)
+object_in s scope w (RoomFrom direction room) = beyond s s.room_beyond (object_in s scope w direction) (object_in s scope w room)
+object_in s scope w (DoorFrom direction room) = beyond s s.door_beyond (object_in s scope w direction) (object_in s scope w room)
 
 -- ---- descriptions
 

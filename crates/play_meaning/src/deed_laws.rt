@@ -1,5 +1,5 @@
-//! What looking and going come to in a story without rules of its own: consulting the standard rules, rule by rule,
-//! makes of each of them one deed.
+//! What looking and going come to in a plain story, one without rules, listings, scenes or actions of its own whose
+//! descriptions are bytes: consulting the standard rules, rule by rule, makes of each of them one deed.
 ghost use Rattle.std.specs.Prelude.{◌≡◌, ℕ, None, Ok, Some};
 ghost use Rattle.play_meaning.specs.Deeds.{go, going_to, look};
 ghost use Rattle.play_meaning.specs.PlainStories.{PlainStory, game_of_plain};
@@ -9,12 +9,14 @@ ghost use Rattle.play_meaning.specs.Turns.{count_turn, look_round, opening, perf
 ghost use Rattle.play_meaning.specs.Worlds.{World};
 ghost use Rattle.world_meaning.specs.Sight.{direction};
 
-/// Looking says the room's heading, its description and what can be seen there, and marks it visited.
+/// Looking says in light the room's name, its description and what can be seen there, and marks it visited; else that it
+/// is dark.
 pub fn looking_is_one_deed()
     ensures { (k : PlainStory) (w : World) → perform (game_of_plain k) look_round (fresh w) ≡ Ok (look k (fresh w)) }
 {}
 
-/// Going in a direction finds a closed door or no way, or takes the player to the room beyond, to look round there.
+/// Going in a direction finds a closed door or no way, or takes the player to the room beyond, where the rules of placing
+/// allow it, to look round.
 pub fn going_is_one_deed()
     ensures { (k : PlainStory) (way : ℕ) (w : World) → root_of k.setting way ≡ Some direction
         → perform (game_of_plain k) (going_to way) (fresh w) ≡ Ok (go k way (fresh w)) }

@@ -13,8 +13,7 @@ pub fn rulebooks_are_in_order()
     ensures rising { (s : Setting) (rules : List Rule) (book : ℕ) → Rises (is_before s rules) (book_of s rules book) }
 {}
 
-/// A rule that doesn't admit the action, its noun and the player's room isn't about what is there: its condition is
-/// never looked at.
+/// A rule that doesn't admit the action, its noun and the player's room isn't about what is there.
 pub fn rules_passed_over_are_false()
     ensures { (s : Setting) (w : World) (now : ActionNow) (rule : Rule) → is_about s w now rule ≡ true
         → admits s rule now.action now.noun (location_of w) ≡ true }
