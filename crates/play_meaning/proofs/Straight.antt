@@ -332,7 +332,7 @@ unfolding is_one
 one_before f turning new p (tree.Those adjectives kind) o within = refl
 one_before f turning new p (tree.ThoseHeld adjectives kind r holder) o within = rw (object_before f turning new p holder within) refl
 
-answer_is : (f : Frame) (c : List Instruction) (q m : ℕ) (b : Bool) (ls : List (Option ℕ)) (p : Progress) → at_place c q ≡ Some code.Answer
+pub answer_is : (f : Frame) (c : List Instruction) (q m : ℕ) (b : Bool) (ls : List (Option ℕ)) (p : Progress) → at_place c q ≡ Some code.Answer
     → run f c (suc m) (St q (truth_number b ∷ []) ls p) ≡ Answers b
 unfolding run does
 answer_is f c q m b ls p at = ap (λ i. goes_further (run f c m) (does_at f (St q (truth_number b ∷ []) ls p) i)) at ∙ ap Answers (truth_back b)

@@ -207,6 +207,12 @@ same = asked
     ∷ IsSame Noun SecondNoun ∷ IsSame Location the_hall ∷ Not (IsSame Location the_hall) ∷ IsSame the_player the_player ∷ IsSame the_player Noun
     ∷ IsSame bob_himself Nothing ∷ Not (IsSame bob_himself Nothing) ∷ [])
 
+-- what lies beyond is asked of a direction and a room alone
+unfoldable pub no_direction : Body
+no_direction = asked
+    (IsSame (RoomFrom the_player the_hall) Nothing ∷ IsSame (RoomFrom to_the_north the_box) Nothing ∷ IsSame (RoomFrom to_the_north the_hall) Nothing
+    ∷ IsSame (RoomFrom Nothing the_hall) Nothing ∷ [])
+
 unfoldable pub has : Body
 has = asked
     (IsHeld the_coin Carried bob_himself ∷ IsHeld the_hat Worn bob_himself ∷ IsHeld the_hat Carried bob_himself ∷ Has bob_himself the_hat

@@ -219,3 +219,8 @@ translated body = record {
   strings = strings_of_body body;
   codes = body_codes (λ string. position_or_len (bytes_eq string) (strings_of_body body)) 0 body;
 }
+
+-- a condition by itself: its code and its tests
+unfoldable pub translated_condition : Condition → Codes
+translated_condition condition =
+    let emitted = seq (condition_part 0 condition) (one code.Answer) 1 0 in record { strings = []; codes = emitted.code ∷ emitted.tests }

@@ -15,7 +15,7 @@ mod sight_laws;
 mod work_laws;
 
 pub use action::{ActNo, ActionNow, Needs, Slot};
-pub use code_laws::codes_mean_their_trees;
+pub use code_laws::{bodies_run_as_they_mean, tests_mean_their_conditions};
 pub use deed_laws::{going_is_one_deed, looking_is_one_deed, plain_turns_are_deeds};
 pub use game_laws::{
     abandoned_lines_change_nothing, agreeing_games_are_one, decisions_end_consultations,

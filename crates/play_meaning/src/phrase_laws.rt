@@ -1,5 +1,5 @@
 //! The definitions of phrases, computed: each clause says what a body says and how it leaves off.
-ghost use Rattle.play_meaning.specs.PhraseRows.{does, furnished_hall, pantry, seen_and_touched, counted, silently, at_the_bounds, either_and_both, cannot_hold, carries_and_wears, compared, descriptions, descriptions_said, encloses, fails, has, held_by_one, in_itself, instead, instead_behind_end, lists, moved, moved_to_player, names, names_with_an, no_decision, not_held, nothing_held, nowhere, of_nothing, player_in_rooms, repeat_and_move, repeat_in_repeat, repeated, same, succeeds, sums, weights};
+ghost use Rattle.play_meaning.specs.PhraseRows.{does, furnished_hall, pantry, seen_and_touched, counted, silently, at_the_bounds, either_and_both, cannot_hold, carries_and_wears, compared, descriptions, descriptions_said, encloses, fails, has, held_by_one, in_itself, instead, instead_behind_end, lists, moved, moved_to_player, names, names_with_an, no_decision, no_direction, not_held, nothing_held, nowhere, of_nothing, player_in_rooms, repeat_and_move, repeat_in_repeat, repeated, same, succeeds, sums, weights};
 ghost use Rattle.play_meaning.specs.declared.outcome.Flow.TheVariants.{GoesOn, NoDecision, Decides};
 ghost use Rattle.play_meaning.specs.declared.outcome.Outcome.TheVariants.{Failure, Success};
 ghost use Rattle.std.specs.Prelude.{[], codes};
@@ -11,6 +11,7 @@ pub fn conditions_hold()
     ensures not_held { does not_held (codes "n y n y y") GoesOn furnished_hall }
     ensures held_by_one { does held_by_one (codes "y n y n y y y n y y n n") GoesOn furnished_hall }
     ensures same { does same (codes "y n y y y y y n y n n y") GoesOn furnished_hall }
+    ensures no_direction { does no_direction (codes "y y n y") GoesOn furnished_hall }
     ensures has { does has (codes "y y n y y n y n n n n n") GoesOn furnished_hall }
     ensures encloses { does encloses (codes "y y y y y n n n y y n n n") GoesOn furnished_hall }
     ensures either_and_both { does either_and_both (codes "y n n") GoesOn furnished_hall }
