@@ -9,6 +9,7 @@ use Rattle.i7_lexer.specs.declared.token.Token.{Token}
 use Rattle.i7_sentences.specs.Sources.{HasSentences, IsRefused as IsUnread}
 use Rattle.i7_sentences.specs.declared.sentence.Sentence.{Sentence}
 use Rattle.story_format.specs.Carrying.{Carries}
+use Rattle.story_format.specs.Making.{tables_of}
 use Rattle.story_format.specs.Spells.{Spells}
 use Rattle.story_format.specs.declared.tables.Tables.{Tables}
 use Rattle.i7_kinds.specs.Tales.{tale_said}
@@ -25,12 +26,13 @@ pub record Means (source : List ℕ) (tale : Tale) : Type 0 where
   pub says : Says source sentences
   pub meant : tale_said sentences ≡ Ok tale
 
--- A source has this story file: it spells a story's tables that carry the tale that the source's
--- sentences mean.
+-- A source has this story file: it spells the tables of the tale that the source's sentences mean, and these carry the
+-- tale.
 pub record IsCompiled (source bytes : List ℕ) : Type 0 where
   pub tale : Tale
   pub means : Means source tale
   pub tables : Tables
+  pub tables_are : tables ≡ tables_of tale
   pub carries : Carries tables tale
   pub spells : Spells bytes tables
 

@@ -15,6 +15,7 @@ returns-in-Ok c =
       tale = c.in_ok-tale.tale;
       means = m;
       tables = tables_of c.in_ok-tale.tale;
+      tables_are = refl;
       carries = tale_carried c.in_ok-tale.tale (tale_held m.sentences c.in_ok-tale.tale m.meant);
       spells = c.in-Ok.ensures;
     }
