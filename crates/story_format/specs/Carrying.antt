@@ -1,4 +1,4 @@
--- Tables that carry a tale: they say of each object what the tale says.
+-- Tables that carry a tale: they say of each object's name, description and ways, and of the start, what the tale says.
 use Rattle.std.specs.Prelude.{◌≡◌, ℕ, length}
 use Rattle.world_meaning.specs.Tale.{description_of as told_description, name_of as told_name, start_of as told_start, way_of as told_way}
 use Rattle.world_meaning.specs.declared.tale.Tale.{Tale}

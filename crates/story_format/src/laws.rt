@@ -46,7 +46,7 @@ pub fn tales_are_stories()
     ensures { (tale : Tale) → IsHeld tale → IsStory (tables_of tale) }
 {}
 
-/// They say of each object what the tale says.
+/// They say of each object's name, description and ways, and of the start, what the tale says.
 pub fn story_carries_tale()
     ensures { (tale : Tale) → IsHeld tale → Carries (tables_of tale) tale }
 {}
