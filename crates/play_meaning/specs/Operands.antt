@@ -1,6 +1,6 @@
 -- What instructions take and give, what their arguments name, and in which codes they may stand.
 use Rattle.std.specs.Prelude.{ℕ, ◌+◌, ℤ, pos, negsuc, int_le, int_lt, nat_le, nat_lt, ◌==◌, Bool, true, false, ◌&&◌, ◌||◌, List, [], ◌∷◌, length, Option, None, Some, if◌then◌else◌}
-use Rattle.play_meaning.specs.Instructions.{Add, And, Answer, AtMost, Away, Begin, Count, Description, Done, Door, Encloses, EndStory, Eq, Figure, Flag, Follow, Happens, HasDescription, Held, Holder, IfZero, Instruction, Jump, Kind, Less, Loop, Move, Mul, Name, Names, Next, NoDecision, Not, Num, Or, Prop, PutAt, Room, Say, SetFlag, SetProp, SetVar, Sub, Success, Failure, Touchable, Try, Turns, Var, Visible, Dark, Location, Noun, Second, opcode}
+use Rattle.play_meaning.specs.Instructions.{Add, And, Answer, AtMost, Away, Begin, Count, Description, Door, Encloses, EndStory, Eq, Figure, Flag, Follow, Happens, HasDescription, Held, Holder, IfZero, Instruction, Kind, Less, Loop, Move, Mul, Name, Names, Next, Not, Num, Or, Prop, PutAt, Room, Say, SetFlag, SetProp, SetVar, Sub, Touchable, Try, Turns, Var, Visible, Dark, Location, Noun, Second, opcode}
 
 -- what a code is for
 pub data Use : Type 0 where
