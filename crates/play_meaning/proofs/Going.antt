@@ -3,12 +3,13 @@ use Rattle.std.proofs.Common.{◌≡◌, ◌∙◌, ℕ, ◌+◌, Bool, true, fa
 use Rattle.std.specs.Prelude.{Option, None, Some, map}
 use Rattle.std.proofs.lemmas.Bool.{lt-ltb}
 use Rattle.world_meaning.specs.Progress.{Attempt}
+use Rattle.world_meaning.specs.Texts.{no_way_text}
 use Rattle.world_meaning.specs.Sight.{direction}
 use Rattle.world_meaning.specs.declared.place.Rel.TheVariants.{In}
 use Rattle.play_meaning.specs.Acting.{access, act, carrying, progress_of, stages, visibility}
 use Rattle.play_meaning.specs.Changes.{put}
 use Rattle.play_meaning.specs.Consulting.{applies, ask, consult}
-use Rattle.play_meaning.specs.Deeds.{closed_text, go, going_to, is_closed, look, no_way_text}
+use Rattle.play_meaning.specs.Deeds.{closed_text, go, going_to, is_closed, look}
 use Rattle.play_meaning.specs.Doing.{Inner, do_body, do_phrase}
 use Rattle.play_meaning.specs.Order.{book_of}
 use Rattle.play_meaning.specs.PlainStories.{PlainStory, game_of_plain, script_of_plain}

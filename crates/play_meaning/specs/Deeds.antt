@@ -1,6 +1,6 @@
 -- What looking and going come to in a plain story.
 use Rattle.std.specs.Prelude.{ℕ, ◌+◌, true, false, Bool, ◌&&◌, List, [], ◌∷◌, ◌++◌, filter, Option, None, Some, codes, if◌then◌else◌}
-use Rattle.world_meaning.specs.Texts.{said}
+use Rattle.world_meaning.specs.Texts.{no_way_text, said}
 use Rattle.world_meaning.specs.declared.place.Rel.TheVariants.{In}
 use Rattle.play_meaning.specs.Acting.{dark_text}
 use Rattle.play_meaning.specs.Changes.{make_so, put}
@@ -75,9 +75,6 @@ is_closed s w door = of_some door (has_quality s w open_flag Second)
 
 abbrev pub closed_text : Setting → Option ℕ → List ℕ
 closed_text s door = name_in s CapitalDefinite door ++ said (codes " is closed.")
-
-abbrev pub no_way_text : List ℕ
-no_way_text = said (codes "You can't go that way.")
 
 -- the player comes to a room and looks round
 abbrev pub arrive : PlainStory → Progress → Option ℕ → Progress
