@@ -1,7 +1,7 @@
 -- A decision ends a consultation.
 use Rattle.std.proofs.Common.{◌≡◌, ◌∙◌, ap, ℕ, List, [], ◌∷◌, ◌++◌, refl, Ok, Err, map}
 use Rattle.std.specs.Prelude.{Option, None, Some}
-use Rattle.world_meaning.specs.Progress.{Attempt, next}
+use Rattle.play_meaning.specs.Attempts.{Attempt, next}
 use Rattle.play_meaning.specs.Consulting.{ask, consult, with_nouns}
 use Rattle.play_meaning.specs.Doing.{Inner}
 use Rattle.play_meaning.specs.Games.{Game}

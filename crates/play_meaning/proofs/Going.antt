@@ -2,7 +2,7 @@
 use Rattle.std.proofs.Common.{◌≡◌, ◌∙◌, ℕ, ◌+◌, Bool, true, false, List, [], ◌∷◌, ◌++◌, ◌<◌, ◌≤◌, refl, Ok, nat_lt, arith}
 use Rattle.std.specs.Prelude.{Option, None, Some, map}
 use Rattle.std.proofs.lemmas.Bool.{lt-ltb}
-use Rattle.world_meaning.specs.Progress.{Attempt}
+use Rattle.play_meaning.specs.Attempts.{Attempt}
 use Rattle.world_meaning.specs.Texts.{no_way_text}
 use Rattle.world_meaning.specs.Sight.{direction}
 use Rattle.world_meaning.specs.declared.place.Rel.TheVariants.{In}

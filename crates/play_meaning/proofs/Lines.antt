@@ -1,8 +1,7 @@
 -- What lines keep: an abandoned one the world, and a kept one the world before it.
 use Rattle.std.proofs.Common.{◌≡◌, ◌∙◌, ap, ℕ, Bool, true, false, List, [], ◌∷◌, refl, take, Ok, Err}
 use Rattle.std.specs.Prelude.{Option, None, Some, if◌then◌else◌}
-use Rattle.world_meaning.specs.Progress.{Attempt}
-use Rattle.world_meaning.specs.Session.{refuses}
+use Rattle.play_meaning.specs.Attempts.{Attempt}
 use Rattle.world_meaning.specs.declared.session.Abandon.{Abandon}
 use Rattle.world_meaning.specs.declared.session.Abandon.TheVariants.{Memory}
 use Rattle.world_meaning.specs.declared.session.Ending.{Ending}
@@ -11,7 +10,7 @@ use Rattle.world_meaning.specs.declared.session.ReplyKind.TheVariants.{Abandoned
 use Rattle.play_meaning.specs.Games.{Acts, Asks, Game, Question, Quit, Reading, Says, Undo}
 use Rattle.play_meaning.specs.Progress.{Progress, fresh}
 use Rattle.play_meaning.specs.Seeing.{is_visible}
-use Rattle.play_meaning.specs.Sessions.{Answer, MeansUndo, State, abandoned, acted, answer_of, closed, free, keep, played, read_answer, undone, unless_ended}
+use Rattle.play_meaning.specs.Sessions.{Answer, MeansUndo, State, abandoned, acted, answer_of, closed, free, keep, played, read_answer, refuses, undone, unless_ended}
 use Rattle.play_meaning.specs.Turns.{perform, turn}
 use Rattle.play_meaning.specs.Worlds.{World}
 use Rattle.play_meaning.specs.declared.action.ActionNow.{ActionNow}
@@ -65,7 +64,6 @@ ended_leaves None s a leaves reason is = leaves reason is
 ended_leaves (Some ending) s a leaves reason is = absurd cc
 
 pub answer_leaves : (g : Game) (refused : Option ℕ) (s : State) (line : List ℕ) → LeavesAll s (answer_of g refused s line)
-unfolding answer_of
 answer_leaves g refused s line reason is = ended_leaves s.ending s (read_answer g refused s (g.reads s.question (is_visible g.telling.setting s.world) line)) (read_leaves g refused s (g.reads s.question (is_visible g.telling.setting s.world) line)) reason is
 
 -- ---- kept turns
@@ -108,7 +106,6 @@ ended_keeps None s a keeps = keeps
 ended_keeps (Some ending) s a keeps = record { kept = λ is. absurd cc; going = λ is. absurd cc }
 
 answer_keeps : (g : Game) (refused : Option ℕ) (s : State) (line : List ℕ) → KeepsBefore s (answer_of g refused s line)
-unfolding answer_of
 answer_keeps g refused s line = ended_keeps s.ending s (read_answer g refused s (g.reads s.question (is_visible g.telling.setting s.world) line)) (read_keeps g refused s (g.reads s.question (is_visible g.telling.setting s.world) line))
 
 -- ---- undo
@@ -116,7 +113,6 @@ answer_keeps g refused s line = ended_keeps s.ending s (read_answer g refused s 
 -- where a world is kept, undo puts the latest back
 undo_restores : (g : Game) (refused : Option ℕ) (s : State) (line : List ℕ) (w : World) (kept : List World) → s.ending ≡ None → s.kept ≡ w ∷ kept
     → MeansUndo g s line → (answer_of g refused s line).state ≡ record s { world = w; kept = kept; question = None }
-unfolding answer_of
 undo_restores g refused s line w kept going same undo =
     ap (λ ending. (unless_ended ending s (read_answer g refused s (g.reads s.question (is_visible g.telling.setting s.world) line))).state) going
     ∙ ap (λ reading. (read_answer g refused s reading).state) undo

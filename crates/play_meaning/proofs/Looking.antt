@@ -3,7 +3,7 @@ use Rattle.std.proofs.Common.{◌≡◌, ◌∙◌, ap, sym, ℕ, ◌+◌, Bool,
 use Rattle.std.specs.Prelude.{Option, None, Some, map, int_le, pos, if◌then◌else◌}
 use Rattle.std.proofs.lemmas.Bool.{le-leb, lt-ltb}
 use Rattle.std.proofs.lemmas.List.{append-nil}
-use Rattle.world_meaning.specs.Progress.{Attempt}
+use Rattle.play_meaning.specs.Attempts.{Attempt}
 use Rattle.play_meaning.specs.Acting.{access, act, carrying, stages, visibility}
 use Rattle.play_meaning.specs.Consulting.{applies, ask, consult}
 use Rattle.play_meaning.specs.Deeds.{body_text, contents_text, description_text, heading, look, on_view, view_text, visit}

@@ -1,7 +1,7 @@
 -- Turns and the opening of a story without rules of its own.
 use Rattle.std.proofs.Common.{◌≡◌, ◌∙◌, ap, ℕ, Bool, true, false, List, [], ◌∷◌, ◌++◌, ◌+◌, refl, Ok, Err, arith}
 use Rattle.std.specs.Prelude.{Option, None, Some, slice_set, slice_index_or, if◌then◌else◌}
-use Rattle.world_meaning.specs.Progress.{Attempt, next}
+use Rattle.play_meaning.specs.Attempts.{Attempt, next}
 use Rattle.world_meaning.specs.Sight.{direction}
 use Rattle.world_meaning.specs.declared.place.Rel.TheVariants.{In}
 use Rattle.play_meaning.specs.Acting.{inner_of}

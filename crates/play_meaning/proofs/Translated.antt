@@ -4,7 +4,7 @@ use Rattle.std.specs.Prelude.{slice_index_or, if◌then◌else◌}
 use Rattle.std.specs.List.{position_or_len}
 use Rattle.std.specs.Str.{bytes_eq}
 use Rattle.std.proofs.lemmas.Slice.Eq.{bytes_eq-Decides}
-use Rattle.world_meaning.specs.Progress.{Attempt, next}
+use Rattle.play_meaning.specs.Attempts.{Attempt, next}
 use Rattle.play_meaning.specs.Codes.{Codes, RunsTo, answered, code_of, frame_of, leaves_so, no_inner, start_at, test_of, test_within}
 use Rattle.play_meaning.specs.Doing.{Inner, do_body}
 use Rattle.play_meaning.specs.Instructions as code

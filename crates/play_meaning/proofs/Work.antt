@@ -1,8 +1,8 @@
 -- No step of a tale's game goes past the most work.
 use Rattle.std.proofs.Common.{◌≡◌, ℕ, zero, suc, ◌+◌, ◌≤◌, nat_lt, Bool, true, false, List, [], ◌∷◌, refl, Ok, Err, arith, ltb-true, map, subst}
 use Rattle.std.specs.Prelude.{not, ◌||◌, ⊤, Option, None, Some, slice_get, if◌then◌else◌}
-use Rattle.world_meaning.specs.Progress.{Attempt, next}
-use Rattle.world_meaning.specs.Turns.{most_turns}
+use Rattle.play_meaning.specs.Attempts.{Attempt, next}
+use Rattle.play_meaning.specs.Turns.{most_turns}
 use Rattle.world_meaning.specs.declared.session.Abandon.TheVariants.{NumberOutOfRange, TooMuchWork}
 use Rattle.world_meaning.specs.Texts.{not_seen_text}
 use Rattle.play_meaning.specs.Changes.{make_number}

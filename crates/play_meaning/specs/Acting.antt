@@ -1,6 +1,6 @@
 -- An action in its nine stages, and actions that are tried within it (*Writing with Inform*, chapter 12).
 use Rattle.std.specs.Prelude.{ℕ, zero, suc, Bool, true, false, not, ◌||◌, List, [], ◌∷◌, ◌++◌, Option, None, Some, Ok, Err, codes, if◌then◌else◌}
-use Rattle.world_meaning.specs.Progress.{Attempt, next}
+use Rattle.play_meaning.specs.Attempts.{Attempt, next}
 use Rattle.world_meaning.specs.Texts.{not_seen_text, said}
 use Rattle.world_meaning.specs.declared.session.Abandon.TheVariants.{NestedTooDeep}
 use Rattle.play_meaning.specs.Consulting.{consult, after_book, before_book, carry_out_book, check_book, instead_book, report_book}

@@ -1,6 +1,6 @@
 -- The game of a story file: its rules, scenes and descriptions are codes, and its rulebooks are stored in their order.
 use Rattle.std.specs.Prelude.{ℕ, ◌-◌, Bool, true, false, List, [], map, Option, None, Some, Ok, slice_get, slice_index_or}
-use Rattle.world_meaning.specs.Progress.{Attempt}
+use Rattle.play_meaning.specs.Attempts.{Attempt}
 use Rattle.play_meaning.specs.Codes.{Codes, body_done, description_said, test_of}
 use Rattle.play_meaning.specs.Doing.{Inner}
 use Rattle.play_meaning.specs.Games.{Game, Question, Reading}

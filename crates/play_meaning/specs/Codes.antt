@@ -1,6 +1,6 @@
 -- What the codes of a story mean: what a test answers, what a description says, what a body does.
 use Rattle.std.specs.Prelude.{◌≡◌, ℕ, zero, suc, ◌+◌, ◌*◌, Bool, false, List, [], length, Option, Ok, Err, slice_index_or}
-use Rattle.world_meaning.specs.Progress.{Attempt}
+use Rattle.play_meaning.specs.Attempts.{Attempt}
 use Rattle.world_meaning.specs.declared.session.Abandon.TheVariants.{NestedTooDeep}
 use Rattle.play_meaning.specs.Doing.{Inner}
 use Rattle.play_meaning.specs.Instructions.{Instruction, sizes}

@@ -1,7 +1,7 @@
 -- The consultation of a rulebook: its rules in order, each asked in the world of that moment, up to the first
 -- decision (*Writing with Inform*, chapter 19).
 use Rattle.std.specs.Prelude.{ℕ, Bool, true, false, Option, None, Some, Ok, map, ◌==◌, if◌then◌else◌}
-use Rattle.world_meaning.specs.Progress.{Attempt, next}
+use Rattle.play_meaning.specs.Attempts.{Attempt, next}
 use Rattle.play_meaning.specs.Doing.{Inner}
 use Rattle.play_meaning.specs.Games.{Game}
 use Rattle.play_meaning.specs.Progress.{Asked, Done, Progress, first_decision, spend, undecided}

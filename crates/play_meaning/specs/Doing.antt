@@ -1,7 +1,7 @@
 -- What phrases do: each of them takes play from where it has come to, and ends the body or lets the next one follow
 -- (*Writing with Inform*, chapters 8 and 11).
 use Rattle.std.specs.Prelude.{ℕ, Bool, true, false, List, [], ◌∷◌, ◌++◌, Ok}
-use Rattle.world_meaning.specs.Progress.{Attempt, next}
+use Rattle.play_meaning.specs.Attempts.{Attempt, next}
 use Rattle.play_meaning.specs.Changes.{make_number, make_so, move, put, take_away}
 use Rattle.play_meaning.specs.Progress.{Done, Progress, change, goes_on, leaves, say, spend, then_do}
 use Rattle.play_meaning.specs.Saying.{Telling, chosen, said_in}

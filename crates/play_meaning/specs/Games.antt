@@ -1,6 +1,6 @@
 -- A game: what a story gives to play, whether it is told by a tale's sentences or by the tables of a story file.
 use Rattle.std.specs.Prelude.{ℕ, Bool, List, Option}
-use Rattle.world_meaning.specs.Progress.{Attempt}
+use Rattle.play_meaning.specs.Attempts.{Attempt}
 use Rattle.play_meaning.specs.Doing.{Inner}
 use Rattle.play_meaning.specs.Progress.{Done, Progress}
 use Rattle.play_meaning.specs.Saying.{Telling}

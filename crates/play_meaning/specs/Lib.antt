@@ -2,6 +2,7 @@ pub mod Acting
 pub mod ActionRows
 pub mod Admitting
 pub mod Agreement
+pub mod Attempts
 pub mod Changes
 pub mod CodedStories
 pub mod Codes
@@ -16,7 +17,9 @@ pub mod Machines
 pub mod Operands
 pub mod Order
 pub mod PhraseRows
+pub mod PlainReading
 pub mod PlainStories
+pub mod PlainTales
 pub mod Progress
 pub mod Rows
 pub mod RuleRows

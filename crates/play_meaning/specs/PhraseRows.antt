@@ -1,6 +1,6 @@
 -- What phrases do in a furnished hall and in a pantry.
 use Rattle.std.specs.Prelude.{List, None, Ok, Some, [], codes, false, neg_ℤ, pos, true, ℕ, ◌∷◌, ◌≡◌}
-use Rattle.world_meaning.specs.Progress.{Attempt, next}
+use Rattle.play_meaning.specs.Attempts.{Attempt, next}
 use Rattle.world_meaning.specs.declared.article.Article.TheVariants as article
 use Rattle.world_meaning.specs.declared.place.Rel.{Rel}
 use Rattle.world_meaning.specs.declared.place.Rel.TheVariants.{In, On, Carried, Worn, Part}

@@ -3,7 +3,7 @@ use Rattle.std.specs.Prelude.{ℕ, Bool, true, false, List, [], ◌∷◌, ◌++
 use Rattle.std.specs.Fmt.{signed_decimal}
 use Rattle.world_meaning.specs.declared.article.Article.{Article}
 use Rattle.world_meaning.specs.declared.article.Article.TheVariants as article
-use Rattle.world_meaning.specs.Progress.{Attempt, next}
+use Rattle.play_meaning.specs.Attempts.{Attempt, next}
 use Rattle.play_meaning.specs.Settings.{Setting}
 use Rattle.play_meaning.specs.Trees.{Bytes, CapitalDefinite, CapitalIndefinite, Definite, DescriptionOf, Figure, IfSaid, Indefinite, Listing, Name, Naming, Plain, Silence, Text}
 use Rattle.play_meaning.specs.Truth.{truth_in}

@@ -1,6 +1,6 @@
 -- The game of a tale: its rules, scenes and descriptions are trees, and each rulebook stands in its order.
 use Rattle.std.specs.Prelude.{ℕ, Bool, true, false, List, [], map, Option, None, Some, Ok, slice_get}
-use Rattle.world_meaning.specs.Progress.{Attempt}
+use Rattle.play_meaning.specs.Attempts.{Attempt}
 use Rattle.play_meaning.specs.Doing.{Inner, do_body}
 use Rattle.play_meaning.specs.Games.{Game, Question, Reading}
 use Rattle.play_meaning.specs.Order.{book_of}

@@ -1,10 +1,9 @@
 -- A line and what it gives, and a session: the opening, and the answers to lines one behind the other.
 use Rattle.std.specs.Prelude.{◌≡◌, ℕ, ◌==◌, Bool, true, false, List, [], ◌∷◌, ◌++◌, take, Option, None, Some, Ok, Err, codes, if◌then◌else◌}
-use Rattle.world_meaning.specs.Progress.{Attempt}
-use Rattle.world_meaning.specs.Session.{abandon_text, refuses}
-use Rattle.world_meaning.specs.Texts.{closing_text, said}
+use Rattle.play_meaning.specs.Attempts.{Attempt}
+use Rattle.world_meaning.specs.Texts.{closing_text, memory_text, out_of_range_text, said, too_deep_text, too_much_work_text}
 use Rattle.world_meaning.specs.declared.session.Abandon.{Abandon}
-use Rattle.world_meaning.specs.declared.session.Abandon.TheVariants.{Memory}
+use Rattle.world_meaning.specs.declared.session.Abandon.TheVariants.{Memory, NestedTooDeep, NumberOutOfRange, TooMuchWork}
 use Rattle.world_meaning.specs.declared.session.Ending.{Ending}
 use Rattle.world_meaning.specs.declared.session.Ending.TheVariants.{Quit as Quitting, Story}
 use Rattle.world_meaning.specs.declared.session.ReplyKind.{ReplyKind}
@@ -37,6 +36,12 @@ keep w kept = take 8 (w ∷ kept)
 -- the line cost no turn; the question that it asks is open now, and no other
 abbrev pub free : List ℕ → Option Question → State → Answer
 free text question s = record { text = text; kind = Free; state = record s { question = question } }
+
+abbrev pub abandon_text : Abandon → List ℕ
+abandon_text NestedTooDeep = too_deep_text
+abandon_text Memory = memory_text
+abandon_text TooMuchWork = too_much_work_text
+abandon_text NumberOutOfRange = out_of_range_text
 
 -- play that is abandoned gives one line, and the world is as it was
 abbrev pub abandoned : Abandon → State → Answer
@@ -71,7 +76,13 @@ abbrev pub undone : List World → State → Answer
 undone [] s = free (said (codes "You can't undo any further.")) None s
 undone (w ∷ kept) s = free (said (codes "Previous turn undone.")) None (record s { world = w; kept = kept })
 
--- memory may have been refused in a line: by the place of the command that was refused, the first being 0
+-- Where memory was refused in a line, if it was: by the place of the command that was refused, the first being 0. A
+-- line of this language has one command.
+abbrev pub refuses : Option ℕ → ℕ → Bool
+refuses None place = false
+refuses (Some refused) place = refused == place
+
+-- what a reading gives; memory may have been refused
 abbrev pub read_answer : Game → Option ℕ → State → Reading → Answer
 read_answer g refused s (Says text) = free text None s
 read_answer g refused s (Asks question text) = if refuses refused 0 then abandoned Memory s else free text (Some question) s
@@ -84,9 +95,13 @@ abbrev pub unless_ended : Option Ending → State → Answer → Answer
 unless_ended None s answer = answer
 unless_ended (Some ending) s answer = record { text = []; kind = Over; state = s }
 
+-- what a line gives by its reading
+abbrev pub answer_to : Game → Option ℕ → State → Reading → Answer
+answer_to g refused s reading = unless_ended s.ending s (read_answer g refused s reading)
+
 -- what a line gives
-unfoldable pub answer_of : Game → Option ℕ → State → List ℕ → Answer
-answer_of g refused s line = unless_ended s.ending s (read_answer g refused s (g.reads s.question (is_visible g.telling.setting s.world) line))
+abbrev pub answer_of : Game → Option ℕ → State → List ℕ → Answer
+answer_of g refused s line = answer_to g refused s (g.reads s.question (is_visible g.telling.setting s.world) line)
 
 -- in a state a line means that a turn is to be undone
 abbrev pub MeansUndo : Game → State → List ℕ → Type 0

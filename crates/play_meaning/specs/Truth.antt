@@ -4,7 +4,7 @@ use Rattle.std.specs.Prelude.{ℕ, ℤ, int_le, int_lt, Bool, false, not, ◌&&�
 use Rattle.std.specs.List.{list_any}
 use Rattle.std.specs.Ordering.{int_eq}
 use Rattle.world_meaning.specs.declared.place.Rel.TheVariants.{Carried, Worn}
-use Rattle.world_meaning.specs.Progress.{Attempt, next}
+use Rattle.play_meaning.specs.Attempts.{Attempt, next}
 use Rattle.play_meaning.specs.Seeing.{encloses, has_light, is_same}
 use Rattle.play_meaning.specs.Settings.{Setting}
 use Rattle.play_meaning.specs.Trees.{And, Condition, Encloses, Equals, Happens, Has, HasDescription, InDarkness, IsAtMost, IsHeld, IsHeldByOne, IsLess, IsOne, IsSame, IsSo, Not, Or}

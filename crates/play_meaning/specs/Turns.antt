@@ -1,7 +1,6 @@
 -- A scene pass, a turn and the opening: their parts in order (*Writing with Inform*, chapters 9 and 10).
 use Rattle.std.specs.Prelude.{ℕ, ◌+◌, ◌*◌, nat_lt, Bool, true, false, not, ◌&&◌, ◌||◌, List, [], ◌∷◌, Option, None, Some, Ok, Err, if◌then◌else◌}
-use Rattle.world_meaning.specs.Progress.{Attempt, next}
-use Rattle.world_meaning.specs.Turns.{most_turns}
+use Rattle.play_meaning.specs.Attempts.{Attempt, next}
 use Rattle.world_meaning.specs.declared.session.Abandon.TheVariants.{NumberOutOfRange}
 use Rattle.play_meaning.specs.Acting.{act, progress_of, top}
 use Rattle.play_meaning.specs.Consulting.{consult, every_turn_book, play_begins_book}
@@ -77,6 +76,10 @@ unless_over (Some ending) part p = Ok p
 abbrev pub parts : List (Progress → Attempt Progress) → Progress → Attempt Progress
 parts [] p = Ok p
 parts (part ∷ more) p = next (unless_over p.world.ended part p) (parts more)
+
+-- the highest turn count
+abbrev pub most_turns : ℕ
+most_turns = 2147483647
 
 abbrev pub count_turn : Progress → Attempt Progress
 count_turn p = if nat_lt p.world.turns most_turns then Ok (change next_turn p) else Err NumberOutOfRange

@@ -5,7 +5,7 @@ use Rattle.world_meaning.specs.declared.place.Place.{Place}
 use Rattle.world_meaning.specs.declared.place.Rel.{Rel}
 use Rattle.world_meaning.specs.declared.place.Rel.TheVariants.{In, On, Carried, Worn, Part}
 use Rattle.world_meaning.specs.declared.session.Abandon.TheVariants.{NumberOutOfRange}
-use Rattle.world_meaning.specs.Progress.{Attempt, next}
+use Rattle.play_meaning.specs.Attempts.{Attempt, next}
 use Rattle.play_meaning.specs.Seeing.{is_touchable, is_visible}
 use Rattle.play_meaning.specs.Settings.{Setting, direction_kind, objects_of, room_kind}
 use Rattle.play_meaning.specs.Trees.{Adjective, Description, DoorFrom, First, Literal, Location, Minus, NotSo, Noun, Nothing, Number, Object, Plus, PropertyOf, Quality, RoomFrom, Second, SecondNoun, Side, The, Those, ThoseHeld, Times, Touchable, TurnCount, Turning, Variable, Visible, CountOf}

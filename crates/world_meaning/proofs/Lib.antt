@@ -1,4 +1,3 @@
-pub mod Agreement
 pub mod Bools
 pub mod Chains
 pub mod Climbs

@@ -1,4 +1,4 @@
--- What a typed line means: the grammar `look`, `l`, DIRECTION, `go` DIRECTION, and `quit`, `q`.
+-- What a typed line means: the grammar `look`, `l`, DIRECTION, `go` DIRECTION, and `undo`, `quit`, `q`.
 use Rattle.std.specs.Prelude.{ℕ, Bool, false, not, ◌&&◌, ◌||◌, ◌==◌, nat_lt, List, [], ◌∷◌, length, filter, find, Option, None, Some, codes, if◌then◌else◌}
 use Rattle.std.specs.List.{list_all, slice_split}
 use Rattle.world_meaning.specs.Spelling.{is_spelled}
@@ -6,7 +6,7 @@ use Rattle.world_meaning.specs.Directions.{direction_name, short_word, all_direc
 use Rattle.world_meaning.specs.declared.direction.Direction.{Direction}
 use Rattle.world_meaning.specs.declared.reading.Action.TheVariants.{Looking, Going}
 use Rattle.world_meaning.specs.declared.reading.Reading.{Reading}
-use Rattle.world_meaning.specs.declared.reading.Reading.TheVariants.{Act, Quit, Empty, TooLong, NoVerb, NotSeen, NotUnderstood}
+use Rattle.world_meaning.specs.declared.reading.Reading.TheVariants.{Act, Undo, Quit, Empty, TooLong, NoVerb, NotSeen, NotUnderstood}
 
 abbrev pub is_blank : ℕ → Bool
 is_blank b = (b == 32) || (b == 9)
@@ -49,6 +49,9 @@ is_look word = is_spelled word (codes "look") || is_spelled word (codes "l")
 abbrev pub is_go : List ℕ → Bool
 is_go word = is_spelled word (codes "go")
 
+abbrev pub is_undo : List ℕ → Bool
+is_undo word = is_spelled word (codes "undo")
+
 abbrev pub is_quit : List ℕ → Bool
 is_quit word = is_spelled word (codes "quit") || is_spelled word (codes "q")
 
@@ -70,6 +73,7 @@ abbrev pub verb_reading : List ℕ → List (List ℕ) → Reading
 verb_reading verb phrase =
     if is_go verb then go_reading phrase
     else if is_look verb then look_reading phrase
+    else if is_undo verb && (length phrase == 0) then Undo
     else if is_quit verb && (length phrase == 0) then Quit
     else other_reading (verb ∷ phrase)
 
@@ -78,12 +82,8 @@ words_reading [] = Empty
 words_reading (verb ∷ words) = verb_reading verb words
 
 -- What a line means: no word, over 255 bytes or 32 words, else what its words do.
-abbrev pub line_reading : (List (List ℕ) → Reading) → List ℕ → Reading
-line_reading reads line =
+abbrev pub reading_of : List ℕ → Reading
+reading_of line =
     if length (words_of line) == 0 then Empty
     else if nat_lt 255 (length line) || nat_lt 32 (length (words_of line)) then TooLong
-    else reads (words_of line)
-
--- what a line means by this grammar
-abbrev pub reading_of : List ℕ → Reading
-reading_of line = line_reading words_reading line
+    else words_reading (words_of line)

@@ -1,6 +1,5 @@
 -- What a tale says of an object, by the object's number; nothing of a number that no object has.
-use Rattle.std.specs.Prelude.{ℕ, ◌-◌, List, [], length, Option, None, Some, slice_get}
-use Rattle.world_meaning.specs.Facts.{Facts}
+use Rattle.std.specs.Prelude.{ℕ, ◌-◌, List, [], Option, None, Some, slice_get}
 use Rattle.world_meaning.specs.declared.exits.Way.{Way}
 use Rattle.world_meaning.specs.declared.place.Place.{Place}
 use Rattle.world_meaning.specs.declared.tale.Object.{Object}
@@ -47,12 +46,3 @@ place_in (Some object) = holder_in object.place
 -- the room in which the player begins
 abbrev pub start_of : Tale → ℕ
 start_of tale = place_in (object_at tale 0)
-
-abbrev pub facts_of_tale : Tale → Facts
-facts_of_tale tale = record {
-  count = length tale.objects;
-  name = name_of tale;
-  description = description_of tale;
-  way = way_of tale;
-  start = start_of tale;
-}

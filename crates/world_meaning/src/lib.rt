@@ -1,4 +1,4 @@
-//! What a source, a world and a session mean: the numbers, the tale and the definitions that every
+//! What a source tells and what a typed line means: the numbers, the tale and the definitions that every
 //! other crate's contracts speak of.
 #![tactic(auto)]
 
@@ -11,7 +11,6 @@ mod fault;
 mod holders;
 mod kind_laws;
 mod kinds;
-mod laws;
 mod listed;
 mod numbers;
 mod place;
@@ -36,7 +35,6 @@ pub use kind_laws::steps_tell_kinds;
 pub use kinds::{
     KINDS, KindNo, KindRow, PROPERTIES, PropertyRow, ROOTS, built_in_parents, is_under,
 };
-pub use laws::agreeing_facts_have_one_game;
 pub use listed::Listed;
 pub use numbers::ObjNo;
 pub use place::{Place, Rel};

@@ -8,10 +8,11 @@ pub enum Action {
     Going(Direction),
 }
 
-/// A typed line: an action, the end of the session, or something that isn't understood.
+/// A typed line: an action, taking back a turn, the end of the session, or something that isn't understood.
 #[derive(Clone, Copy, Debug, PartialEq, Eq)]
 pub enum Reading {
     Act(Action),
+    Undo,
     Quit,
     /// No word at all.
     Empty,

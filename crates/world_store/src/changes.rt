@@ -5,7 +5,7 @@ ghost use Rattle.play_meaning.specs.Settings.{kinds_of};
 ghost use Rattle.play_meaning.specs.Worlds.{chain, end_with, next_turn, place_of, set_scene, set_variable};
 ghost use Rattle.world_meaning.specs.Chains.{IsChain};
 ghost use Rattle.world_meaning.specs.Placing.{can_be_held, can_hold, keeps_player, may_be_taken};
-ghost use Rattle.world_meaning.specs.Turns.{most_turns};
+ghost use Rattle.play_meaning.specs.Turns.{most_turns};
 ghost use Rattle.world_store.specs.StorySettings.{setting_of};
 ghost use Rattle.world_store.specs.StoryWorlds.{in_world};
 
