@@ -84,7 +84,7 @@ make_so_ended s (Some o) property value w = by_flag (s.has_flag o property)
     by_flag true = refl
     by_flag false = refl
 
-look_ended : (k : PlainStory) (p : Progress) → (look k p).world.ended ≡ p.world.ended
+pub look_ended : (k : PlainStory) (p : Progress) → (look k p).world.ended ≡ p.world.ended
 look_ended k p = by_light (has_light k.setting p.world)
   where
     by_light : (light : Bool) → (if light then make_so k.setting (location_of p.world) 10 true p.world else p.world).ended ≡ p.world.ended
@@ -102,7 +102,7 @@ arrive_ended : (k : PlainStory) (p : Progress) (room : Option ℕ) → (arrive k
 arrive_ended k p None = refl
 arrive_ended k p (Some room) = look_ended k (record p { world = put k.setting (Some 0) In (Some room) p.world; work = p.work + 4 }) ∙ put_ended k.setting room p.world
 
-go_ended : (k : PlainStory) (d : ℕ) (p : Progress) → (go k d p).world.ended ≡ p.world.ended
+pub go_ended : (k : PlainStory) (d : ℕ) (p : Progress) → (go k d p).world.ended ≡ p.world.ended
 go_ended k d p = by_door (is_closed k.setting p.world (beyond k.setting k.setting.door_beyond (Some d) (location_of p.world)))
   where
     by_door : (closed : Bool)
@@ -110,6 +110,44 @@ go_ended k d p = by_door (is_closed k.setting p.world (beyond k.setting k.settin
         ≡ p.world.ended
     by_door true = refl
     by_door false = arrive_ended k p (beyond k.setting k.setting.room_beyond (Some d) (location_of p.world))
+
+-- ---- nor do they count a turn
+
+make_so_turns : (s : Setting) (o : Option ℕ) (property : ℕ) (value : Bool) (w : World) → (make_so s o property value w).turns ≡ w.turns
+unfolding set_flag
+make_so_turns s None property value w = refl
+make_so_turns s (Some o) property value w = by_flag (s.has_flag o property)
+  where
+    by_flag : (has : Bool) → (if has then record w { flags = slice_set w.flags property (slice_set (slice_index_or w.flags property []) o value) } else w).turns ≡ w.turns
+    by_flag true = refl
+    by_flag false = refl
+
+pub look_turns : (k : PlainStory) (p : Progress) → (look k p).world.turns ≡ p.world.turns
+look_turns k p = by_light (has_light k.setting p.world)
+  where
+    by_light : (light : Bool) → (if light then make_so k.setting (location_of p.world) 10 true p.world else p.world).turns ≡ p.world.turns
+    by_light true = make_so_turns k.setting (location_of p.world) 10 true p.world
+    by_light false = refl
+
+put_turns : (s : Setting) (room : ℕ) (w : World) → (put s (Some 0) In (Some room) w).turns ≡ w.turns
+put_turns s room w = by_rule (may_be_put s w 0 (record { relation = In; holder = room }))
+  where
+    by_rule : (may : Bool) → (if may then set_place 0 (Some (record { relation = In; holder = room })) w else w).turns ≡ w.turns
+    by_rule true = refl
+    by_rule false = refl
+
+arrive_turns : (k : PlainStory) (p : Progress) (room : Option ℕ) → (arrive k p room).world.turns ≡ p.world.turns
+arrive_turns k p None = refl
+arrive_turns k p (Some room) = look_turns k (record p { world = put k.setting (Some 0) In (Some room) p.world; work = p.work + 4 }) ∙ put_turns k.setting room p.world
+
+pub go_turns : (k : PlainStory) (d : ℕ) (p : Progress) → (go k d p).world.turns ≡ p.world.turns
+go_turns k d p = by_door (is_closed k.setting p.world (beyond k.setting k.setting.door_beyond (Some d) (location_of p.world)))
+  where
+    by_door : (closed : Bool)
+        → (if closed then record p { text = p.text ++ closed_text k.setting (beyond k.setting k.setting.door_beyond (Some d) (location_of p.world)); work = p.work + 1 } else arrive k p (beyond k.setting k.setting.room_beyond (Some d) (location_of p.world))).world.turns
+        ≡ p.world.turns
+    by_door true = refl
+    by_door false = arrive_turns k p (beyond k.setting k.setting.room_beyond (Some d) (location_of p.world))
 
 pub look_turn : (k : PlainStory) (w : World) → w.ended ≡ None → turn (game_of_plain k) look_round (fresh w) ≡ count_turn (look k (fresh w))
 look_turn k w going = turn_counted k look_round (fresh w) (look k (fresh w)) going (look_performed k w) (look_ended k (fresh w) ∙ going)

@@ -39,11 +39,15 @@ abbrev pub name_in : Setting → Naming → Option ℕ → List ℕ
 name_in s naming None = nothing_text
 name_in s naming (Some o) = named s naming o
 
+-- what joins a thing of a list to those in front of it, by those behind it
+abbrev pub joint : List ℕ → List ℕ
+joint [] = codes " and "
+joint (next ∷ more) = codes ", "
+
 -- behind the first of a list
 abbrev pub listed_on : Setting → Naming → List ℕ → List ℕ
 listed_on s naming [] = []
-listed_on s naming (o ∷ []) = codes " and " ++ named s naming o
-listed_on s naming (o ∷ next ∷ more) = codes ", " ++ named s naming o ++ listed_on s naming (next ∷ more)
+listed_on s naming (o ∷ more) = joint more ++ named s naming o ++ listed_on s naming more
 
 -- `x, y and z`
 abbrev pub listed : Setting → Naming → List ℕ → List ℕ

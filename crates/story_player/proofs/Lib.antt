@@ -1,4 +1,3 @@
-pub mod Deeds
 pub mod Fronts
 pub mod LineLemmas
 pub mod PlayedLines
@@ -9,3 +8,5 @@ pub mod Transcripts
 pub mod TypedLines
 pub mod Words
 pub mod Writes
+pub mod Turning
+pub mod Keepings

@@ -1,12 +1,17 @@
 -- What a typed line means, where only a part of it is kept.
 use Rattle.std.proofs.Common.{◌≡◌, ℕ, ◌<◌, Bool, true, false, List, [], ◌∷◌, ◌++◌, length, refl, ap, sym, ◌∙◌, subst, arith}
-use Rattle.std.specs.Prelude.{◌||◌, not, nat_lt, if◌then◌else◌}
+use Rattle.std.specs.Prelude.{Option, ◌||◌, not, nat_lt, if◌then◌else◌}
 use Rattle.std.specs.List.{position_or_len}
 use Rattle.std.proofs.lemmas.Grind.{common_steps}
 use Rattle.std.proofs.lemmas.Bool.{lt-ltb, ne_eqb}
 use Rattle.std.proofs.lemmas.List.{length-append}
-use Rattle.world_meaning.specs.Games.{Game}
-use Rattle.world_meaning.specs.Reading.{is_blank, line_reading, words_of}
+use Rattle.play_meaning.specs.Games.{Game, Question}
+use Rattle.play_meaning.specs.PlainReading.{meant, reads_plainly}
+use Rattle.play_meaning.specs.PlainStories.{script_of_plain}
+use Rattle.play_meaning.specs.Scripts.{game_of}
+use Rattle.story_format.specs.declared.tables.Tables.{Tables}
+use Rattle.world_store.specs.StoryGames.{game_of_story, plain_story}
+use Rattle.world_meaning.specs.Reading.{is_blank, reading_of, words_of}
 use Rattle.world_meaning.specs.declared.reading.Reading.TheVariants.{Empty, TooLong}
 use Rattle.story_player.specs.Typed.{IsGone, gone_with, gone_reading, has_word, is_word_byte, long_reading}
 use Rattle.story_player.specs.declared.typed.Gone.{Gone}
@@ -53,24 +58,24 @@ pub long_is_long : (bytes : List ℕ) → 255 < length bytes → nat_lt 255 (len
 long_is_long bytes long = lt-ltb 255 (length bytes) long
 
 -- over 255 bytes with a word
-pub reading-too_long : (g : Game) (bytes : List ℕ) → 255 < length bytes → has_word bytes ≡ true → line_reading g.reads bytes ≡ TooLong
-reading-too_long g bytes long word =
+pub reading-too_long : (bytes : List ℕ) → 255 < length bytes → has_word bytes ≡ true → reading_of bytes ≡ TooLong
+reading-too_long bytes long word =
     rw (ne_eqb (length (words_of bytes)) 0 (λ none. omega (arith, none, words_of-some bytes word))) (rw (long_is_long bytes long) refl)
 
 -- blanks alone
-pub reading-empty : (g : Game) (bytes : List ℕ) → has_word bytes ≡ false → line_reading g.reads bytes ≡ Empty
-reading-empty g bytes blank = rw (words_of-blanks bytes blank) refl
+pub reading-empty : (bytes : List ℕ) → has_word bytes ≡ false → reading_of bytes ≡ Empty
+reading-empty bytes blank = rw (words_of-blanks bytes blank) refl
 
 -- what is known of the bytes that were let go is enough
-pub reading_typed : (g : Game) (gone : Gone) (front kept : List ℕ) → IsGone gone front → gone_reading g gone kept ≡ line_reading g.reads (front ++ kept)
-reading_typed g Nothing front kept is = ap (λ bs. line_reading g.reads (bs ++ kept)) (sym is)
-reading_typed g Words front kept is =
-    sym (reading-too_long g (front ++ kept) (omega (arith, is.0, length-append front kept)) (has_word-append front kept ∙ rw is.1 refl))
-reading_typed g Blanks front kept is =
-    let Goal : Bool → Type 0 = λ v. has_word kept ≡ v → long_reading (has_word kept) ≡ line_reading g.reads (front ++ kept) in
+pub reading_typed : (gone : Gone) (front kept : List ℕ) → IsGone gone front → gone_reading gone kept ≡ reading_of (front ++ kept)
+reading_typed Nothing front kept is = ap (λ bs. reading_of (bs ++ kept)) (sym is)
+reading_typed Words front kept is =
+    sym (reading-too_long (front ++ kept) (omega (arith, is.0, length-append front kept)) (has_word-append front kept ∙ rw is.1 refl))
+reading_typed Blanks front kept is =
+    let Goal : Bool → Type 0 = λ v. has_word kept ≡ v → long_reading (has_word kept) ≡ reading_of (front ++ kept) in
     elim (has_word kept) as Goal [
-      | true ↦ λ word. ap long_reading word ∙ sym (reading-too_long g (front ++ kept) (omega (arith, is.0, length-append front kept)) (has_word-append front kept ∙ rw (is.1, word) refl))
-      | false ↦ λ blank. ap long_reading blank ∙ sym (reading-empty g (front ++ kept) (has_word-append front kept ∙ rw (is.1, blank) refl))
+      | true ↦ λ word. ap long_reading word ∙ sym (reading-too_long (front ++ kept) (omega (arith, is.0, length-append front kept)) (has_word-append front kept ∙ rw (is.1, word) refl))
+      | false ↦ λ blank. ap long_reading blank ∙ sym (reading-empty (front ++ kept) (has_word-append front kept ∙ rw (is.1, blank) refl))
     ] refl
 
 -- bytes that are let go behind others
@@ -89,3 +94,11 @@ gone-more Nothing front kept long is =
       | true ↦ λ word. rw word (long, word)
       | false ↦ λ blank. rw blank (long, blank)
     ] refl)
+
+-- a game reads lines as this language does
+abbrev pub ReadsPlainly : Game → Type 0
+ReadsPlainly g = (question : Option Question) (sees : ℕ → Bool) (line : List ℕ) → g.reads question sees line ≡ meant (reading_of line)
+
+pub reads_so : (t : Tables) → ReadsPlainly (game_of_story t)
+unfolding game_of script_of_plain plain_story reads_plainly
+reads_so t question sees line = refl

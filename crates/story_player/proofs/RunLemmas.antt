@@ -4,11 +4,11 @@ use Rattle.std.specs.Prelude.{Option, Some, None, is_none, is_some, not}
 use Rattle.std.specs.Io.KnownBytes.{Appends, Consumes, IsAtEnd}
 use Rattle.std.specs.Str.Lines.{lines, strip_carriage_return}
 use Rattle.std.proofs.lemmas.List.{length-append, append-nil}
-use Rattle.world_meaning.specs.Session.{State, opened}
+use Rattle.play_meaning.specs.Sessions.{State, opened}
 use Rattle.world_meaning.specs.Texts.{prompt}
-use Rattle.world_meaning.specs.Transcript.{behind, behind_lines, ended_at_end, exchanges, played, told, told_out, while_going}
+use Rattle.play_meaning.specs.Transcripts.{behind, behind_lines, ended_at_end, exchanges, played, told, told_out, while_going}
 use Rattle.world_meaning.specs.declared.session.Ending.{Ending}
-use Rattle.world_meaning.specs.Games.{Game}
+use Rattle.play_meaning.specs.Games.{Game}
 use Rattle.story_player.specs.Runs.{AreAnswered, AreKnown, AreWholeLines, BrokeOff, IsFront, Played, Streams, streams_of, most_input}
 use Rattle.story_player.specs.Steps.{PlayedLast, PlayedLine, WroteFront}
 use Rattle.story_player.specs.declared.fault.RunFault.{RunFault}
@@ -196,9 +196,9 @@ commands_of (Some xs) None read reads = absurd reads
 commands_of (Some xs) (Some ys) read reads = record { ahead = ys; known = reads; none_at_end = λ ends. ends }
 
 -- the input has ended, and its last line is answered
-pub run_ends : (g : Game) (echo : Bool) (mid left : ℕ) (unread a rest held b now : Option (List ℕ)) (from state to last : State) → RunSoFar g echo (opened g).spoken.text most_input mid (streams_of unread held) (streams_of a b) from state → PlayedLast g echo mid left (streams_of a b) (streams_of rest now) state to → last ≡ ended_at_end to → Played g echo (streams_of unread held) (streams_of rest now) from last
+pub run_ends : (g : Game) (echo : Bool) (mid left : ℕ) (unread a rest held b now : Option (List ℕ)) (from state to last : State) → RunSoFar g echo (opened g).text most_input mid (streams_of unread held) (streams_of a b) from state → PlayedLast g echo mid left (streams_of a b) (streams_of rest now) state to → last ≡ ended_at_end to → Played g echo (streams_of unread held) (streams_of rest now) from last
 run_ends g echo mid left unread a rest held b now from state to last sofar line ended =
-    let opening = (opened g).spoken.text in
+    let opening = (opened g).text in
     let before = told echo (exchanges g sofar.refusals from sofar.answered) in
     let refusals = sofar.refusals ++ line.refusals in
     let read = sofar.read ++ line.line in
@@ -235,9 +235,9 @@ run_ends g echo mid left unread a rest held b now from state to last sofar line 
     }
 
 -- the session is over
-pub run_is_over : (g : Game) (echo : Bool) (left : ℕ) (unread rest held now : Option (List ℕ)) (from to last : State) (ending : Ending) → RunSoFar g echo (opened g).spoken.text most_input left (streams_of unread held) (streams_of rest now) from to → to.ending ≡ Some ending → last ≡ ended_at_end to → Played g echo (streams_of unread held) (streams_of rest now) from last
+pub run_is_over : (g : Game) (echo : Bool) (left : ℕ) (unread rest held now : Option (List ℕ)) (from to last : State) (ending : Ending) → RunSoFar g echo (opened g).text most_input left (streams_of unread held) (streams_of rest now) from to → to.ending ≡ Some ending → last ≡ ended_at_end to → Played g echo (streams_of unread held) (streams_of rest now) from last
 run_is_over g echo left unread rest held now from to last ending sofar over ended =
-    let opening = (opened g).spoken.text in
+    let opening = (opened g).text in
     let answered = exchanges g sofar.refusals from sofar.answered in
     let before = told echo answered in
     let commands = commands_of unread rest sofar.read sofar.reads in

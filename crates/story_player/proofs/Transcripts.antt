@@ -2,10 +2,10 @@
 use Rattle.std.proofs.Common.{◌≡◌, ℕ, Bool, true, false, List, [], ◌∷◌, ◌++◌, length, Some, None, refl, ap, sym, ◌∙◌, subst, append_assoc}
 use Rattle.std.specs.Prelude.{Option}
 use Rattle.std.proofs.lemmas.List.{append-nil}
-use Rattle.world_meaning.specs.Games.{Game}
-use Rattle.world_meaning.specs.Session.{State, answer_of}
+use Rattle.play_meaning.specs.Games.{Game}
+use Rattle.play_meaning.specs.Sessions.{State, answer_of}
 use Rattle.world_meaning.specs.Texts.{prompt}
-use Rattle.world_meaning.specs.Transcript.{Exchange, behind, behind_lines, echoed, exchanges, first_refusal, later_refusals, played, told, told_out, while_going}
+use Rattle.play_meaning.specs.Transcripts.{Exchange, behind, behind_lines, echoed, exchanges, first_refusal, later_refusals, played, told, told_out, while_going}
 use Rattle.world_meaning.specs.declared.session.Ending.{Ending}
 use Rattle.story_player.specs.Runs.{IsFront}
 use Rattle.story_player.specs.Steps.{shown}
@@ -17,7 +17,7 @@ exchange g refused state line = record { line = line; answer = answer_of g refus
 
 -- what is written for a line behind the prompt
 abbrev pub line_part : Game → Bool → Option ℕ → State → List ℕ → List ℕ
-line_part g echo refused state line = echoed echo line ++ (answer_of g refused state line).spoken.text
+line_part g echo refused state line = echoed echo line ++ (answer_of g refused state line).text
 
 -- while nothing has ended the next line is answered, and after the end none is
 pub exchanges-going : (g : Game) (refusals : List (Option ℕ)) (state : State) (line : List ℕ) (lines : List (List ℕ)) → state.ending ≡ None → exchanges g refusals state (line ∷ lines) ≡ exchange g (first_refusal refusals) state line ∷ exchanges g (later_refusals refusals) (answer_of g (first_refusal refusals) state line).state lines
@@ -32,7 +32,7 @@ exchanges-over g refusals state (line ∷ lines) ending over =
 pub told-append : (echo : Bool) (xs ys : List Exchange) → told echo (xs ++ ys) ≡ told echo xs ++ told echo ys
 told-append echo [] ys = refl
 told-append echo (x ∷ xs) ys =
-    let here = prompt ++ echoed echo x.line ++ x.answer.spoken.text in
+    let here = prompt ++ echoed echo x.line ++ x.answer.text in
     ap (λ text. here ++ text) (told-append echo xs ys) ∙ sym (append_assoc here (told echo xs) (told echo ys))
 
 pub behind-append : (state : State) (xs ys : List Exchange) → behind state (xs ++ ys) ≡ behind (behind state xs) ys
@@ -106,7 +106,7 @@ shown_in_echo false front line begins = front_nothing []
 pub front_shown : (g : Game) (echo : Bool) (refusals : List (Option ℕ)) (state : State) (front line : List ℕ) (lines : List (List ℕ)) → state.ending ≡ None → IsFront front line → IsFront (prompt ++ shown echo front) (played g echo refusals state (line ∷ lines))
 front_shown g echo refusals state front line lines going begins =
     let refused = first_refusal refusals in
-    let text = (answer_of g refused state line).spoken.text in
+    let text = (answer_of g refused state line).text in
     let others = exchanges g (later_refusals refusals) (answer_of g refused state line).state lines in
     let showing = prompt ++ shown echo front in
     subst (λ xs. IsFront showing (told_out echo state xs)) (sym (exchanges-going g refusals state line lines going))

@@ -5,10 +5,10 @@ use Rattle.std.specs.Io.KnownBytes.{Appends, Consumes}
 use Rattle.std.specs.Str.Lines.{lines, strip_carriage_return}
 use Rattle.std.proofs.lemmas.Bool.{eqb-true, ne_eqb}
 use Rattle.std.proofs.lemmas.List.{length-append, append-nil}
-use Rattle.world_meaning.specs.Session.{State}
+use Rattle.play_meaning.specs.Sessions.{State}
 use Rattle.world_meaning.specs.Texts.{prompt}
-use Rattle.world_meaning.specs.Transcript.{played}
-use Rattle.world_meaning.specs.Games.{Game}
+use Rattle.play_meaning.specs.Transcripts.{played}
+use Rattle.play_meaning.specs.Games.{Game}
 use Rattle.story_player.specs.Runs.{IsFront, has_break, streams_of}
 use Rattle.story_player.specs.Steps.{BrokeTyping, IsTyping, WroteFront, shown}
 use Rattle.story_player.specs.Typed.{Typing, flushed, gone_with, is_full, typed_with}

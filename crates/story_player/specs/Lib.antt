@@ -1,11 +1,11 @@
 pub mod Breaks
-pub mod Deeds
 pub mod FaultTexts
+pub mod KeptWorlds
 pub mod ReplyTexts
 pub mod Runs
 pub mod Sessions
+pub mod Spoken
 pub mod Steps
-pub mod StoryGames
+pub mod Turns
 pub mod Typed
 pub mod Watches
-pub mod Worlds

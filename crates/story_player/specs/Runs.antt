@@ -3,9 +3,9 @@ use Rattle.std.specs.Prelude.{◌≡◌, ◌≢◌, ◌⊎◌, ◌==◌, ℕ, �
 use Rattle.std.specs.List.{list_any}
 use Rattle.std.specs.Io.KnownBytes.{Appends, Consumes, IsAtEnd}
 use Rattle.std.specs.Str.Lines.{lines}
-use Rattle.world_meaning.specs.Games.{Game}
-use Rattle.world_meaning.specs.Session.{State}
-use Rattle.world_meaning.specs.Transcript.{IsPlay, behind_lines, exchanges, played}
+use Rattle.play_meaning.specs.Games.{Game}
+use Rattle.play_meaning.specs.Sessions.{State}
+use Rattle.play_meaning.specs.Transcripts.{IsPlay, behind_lines, exchanges, played}
 use Rattle.story_player.specs.Watches.{watched_inner}
 use Rattle.story_player.specs.declared.fault.RunFault.{RunFault}
 use Rattle.story_player.specs.declared.fault.RunFault.TheVariants.{Write, InputTooLong}

@@ -1,20 +1,25 @@
 -- What contracts see of a session: its story's game, and its state.
-use Rattle.std.specs.Prelude.{ℕ, Bool, true, false, Option, None, Some, if◌then◌else◌}
-use Rattle.world_meaning.specs.Games.{Game}
-use Rattle.world_meaning.specs.Session.{State}
+use Rattle.std.specs.Prelude.{ℕ, Bool, true, false, Option, None, Some, map, if◌then◌else◌}
+use Rattle.play_meaning.specs.Games.{Game}
+use Rattle.play_meaning.specs.Sessions.{Answer, State}
 use Rattle.world_meaning.specs.declared.session.Abandon.{Abandon}
 use Rattle.world_meaning.specs.declared.session.Abandon.TheVariants.{Memory, NestedTooDeep, TooMuchWork, NumberOutOfRange}
 use Rattle.world_meaning.specs.declared.session.ReplyKind.{ReplyKind}
 use Rattle.world_meaning.specs.declared.session.ReplyKind.TheVariants.{Kept, Free, Abandoned, Ended, Over}
-use Rattle.story_player.specs.StoryGames.{game_of_story}
-use Rattle.story_player.specs.Worlds.{world_of}
+use Rattle.world_store.specs.StoryGames.{game_of_story}
+use Rattle.story_player.specs.Spoken.{Spoken}
 use Rattle.story_player.specs.declared.session.Session.{Session}
 
 abbrev pub game_of : Session → Game
-game_of session = game_of_story session.story
+game_of session = game_of_story session.world.tables
 
+-- no line of this language leaves a question open
 abbrev pub state_of : Session → State
-state_of session = record { world = world_of session.world; ending = session.ending }
+state_of session = record { world = session.world.world; kept = map (λ before. before.world) session.kept.items; question = None; ending = session.ending }
+
+-- a reply, and the state in which a session is behind it
+abbrev pub answer_with : Spoken → State → Answer
+answer_with reply state = record { text = reply.text; kind = reply.kind; state = state }
 
 abbrev pub is_memory : Abandon → Bool
 is_memory Memory = true

@@ -2,10 +2,11 @@
 use Rattle.std.specs.Prelude.{◌≡◌, ◌≢◌, ℕ, ◌+◌, ◌<◌, ◌≤◌, suc, Bool, true, false, List, [], ◌∷◌, ◌++◌, length, Option, Some, None, if◌then◌else◌}
 use Rattle.std.specs.Io.KnownBytes.{Appends, Consumes, IsAtEnd}
 use Rattle.std.specs.Str.Lines.{lines, strip_carriage_return}
-use Rattle.world_meaning.specs.Session.{State, answer_of, answer_to}
+use Rattle.play_meaning.specs.Sessions.{State, answer_of, answer_to}
 use Rattle.world_meaning.specs.Texts.{prompt}
-use Rattle.world_meaning.specs.Transcript.{behind_lines, echoed, played, while_going}
-use Rattle.world_meaning.specs.Games.{Game}
+use Rattle.play_meaning.specs.Transcripts.{behind_lines, echoed, played, while_going}
+use Rattle.play_meaning.specs.Games.{Game}
+use Rattle.play_meaning.specs.PlainReading.{meant}
 use Rattle.story_player.specs.Runs.{AreAnswered, IsFront, Streams, has_break}
 use Rattle.story_player.specs.Typed.{IsGone, Typing, is_untyped, typed_reading}
 use Rattle.story_player.specs.declared.fault.RunFault.{RunFault}
@@ -53,15 +54,15 @@ pub record BrokeTyping (fault : RunFault) (echo : Bool) (limit : ℕ) (before af
 
 -- the part of the transcript that is written for a typed line behind what was shown of it
 abbrev pub typed_part : Game → Bool → Option ℕ → State → Typing → List ℕ
-typed_part g echo refused state t = shown echo (t.kept ++ 10 ∷ []) ++ (answer_to g refused state (typed_reading g t)).spoken.text
+typed_part g echo refused state t = shown echo (t.kept ++ 10 ∷ []) ++ (answer_to g refused state (meant (typed_reading t))).text
 
 -- that part and the prompt behind it, where the input has ended; no byte is no line
 abbrev pub last_part : Game → Bool → Option ℕ → State → Typing → List ℕ
 last_part g echo refused state t =
-    if is_untyped t then [] else typed_part g echo refused state t ++ while_going (answer_to g refused state (typed_reading g t)).state.ending prompt
+    if is_untyped t then [] else typed_part g echo refused state t ++ while_going (answer_to g refused state (meant (typed_reading t))).state.ending prompt
 
 abbrev pub last_state : Game → Option ℕ → State → Typing → State
-last_state g refused state t = if is_untyped t then state else (answer_to g refused state (typed_reading g t)).state
+last_state g refused state t = if is_untyped t then state else (answer_to g refused state (meant (typed_reading t))).state
 
 -- A line was answered: these bytes were written, and the session is in the state behind the line.
 pub record Answered (part : Option ℕ → List ℕ) (state : Option ℕ → State) (held now : Option (List ℕ)) (to : State) : Type 0 where
@@ -88,7 +89,7 @@ pub record PlayedLine (g : Game) (echo : Bool) (limit left : ℕ) (before after 
   pub unbroken : has_break line ≡ false
   pub reads : Consumes before.unread after.unread (line ++ 10 ∷ [])
   pub refused : Option ℕ
-  pub writes : Appends before.held after.held (prompt ++ echoed echo (strip_carriage_return line) ++ (answer_of g refused from (strip_carriage_return line)).spoken.text)
+  pub writes : Appends before.held after.held (prompt ++ echoed echo (strip_carriage_return line) ++ (answer_of g refused from (strip_carriage_return line)).text)
   pub behind : to ≡ (answer_of g refused from (strip_carriage_return line)).state
   pub counts : length (line ++ 10 ∷ []) + left ≡ limit
 

@@ -1,8 +1,7 @@
 -- A line that is being typed: the bytes that are kept, and what is known of those in front of them.
 use Rattle.std.specs.Prelude.{◌≡◌, ℕ, ◌<◌, ◌==◌, Bool, true, false, not, List, [], ◌∷◌, ◌++◌, length, if◌then◌else◌}
 use Rattle.std.specs.List.{list_any}
-use Rattle.world_meaning.specs.Games.{Game}
-use Rattle.world_meaning.specs.Reading.{is_blank, line_reading}
+use Rattle.world_meaning.specs.Reading.{is_blank, reading_of}
 use Rattle.world_meaning.specs.declared.reading.Reading.{Reading}
 use Rattle.world_meaning.specs.declared.reading.Reading.TheVariants.{Empty, TooLong}
 use Rattle.story_player.specs.declared.typed.Gone.{Gone}
@@ -61,16 +60,16 @@ typed_with t byte =
 abbrev pub long_reading : Bool → Reading
 long_reading has_word = if has_word then TooLong else Empty
 
-abbrev pub gone_reading : Game → Gone → List ℕ → Reading
-gone_reading g Nothing kept = line_reading g.reads kept
-gone_reading g Blanks kept = long_reading (has_word kept)
-gone_reading g Words kept = TooLong
+abbrev pub gone_reading : Gone → List ℕ → Reading
+gone_reading Nothing kept = reading_of kept
+gone_reading Blanks kept = long_reading (has_word kept)
+gone_reading Words kept = TooLong
 
 -- what the line means
-abbrev pub typed_reading : Game → Typing → Reading
-typed_reading g t = gone_reading g t.gone t.kept
+abbrev pub typed_reading : Typing → Reading
+typed_reading t = gone_reading t.gone t.kept
 
 -- what a line means as it was typed
-abbrev pub reading_typed : Game → Typed → Reading
-reading_typed g (Whole bytes) = line_reading g.reads bytes.now
-reading_typed g (Overlong has_word) = long_reading has_word
+abbrev pub reading_typed : Typed → Reading
+reading_typed (Whole bytes) = reading_of bytes.now
+reading_typed (Overlong has_word) = long_reading has_word

@@ -1,4 +1,4 @@
-//! The player of a story: it reads typed lines, changes the world and prints the transcript.
+//! The player of a story: it reads typed lines, changes the world, takes turns back and prints the transcript.
 #![tactic(auto)]
 
 mod fault;
@@ -6,10 +6,11 @@ mod playing;
 mod reading;
 mod reply;
 mod session;
+mod telling;
 mod texts;
+mod turns;
 mod typed;
 mod watched;
-mod world;
 
 pub use fault::RunFault;
 pub use playing::run;
@@ -17,4 +18,3 @@ pub use reading::read_line;
 pub use reply::Reply;
 pub use session::{Session, StartFault};
 pub use watched::Watched;
-pub use world::World;

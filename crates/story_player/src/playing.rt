@@ -1,9 +1,10 @@
 //! Playing a session over a reader and a writer.
 ghost use Rattle.std.specs.Prelude.{◌≡◌, ◌++◌, ◌∷◌, [], ℕ, List, Bool, false, true, None, Ok, Some, IfErr, IfOk, OnErr, OnOk};
 ghost use Rattle.std.specs.Io.KnownBytes.{Appends, Consumes, IsAtEnd};
-ghost use Rattle.world_meaning.specs.Session.{answer_to, opened};
+ghost use Rattle.play_meaning.specs.Sessions.{answer_to, opened};
 ghost use Rattle.world_meaning.specs.Texts.{prompt};
-ghost use Rattle.world_meaning.specs.Transcript.{while_going};
+ghost use Rattle.play_meaning.specs.PlainReading.{meant};
+ghost use Rattle.play_meaning.specs.Transcripts.{while_going};
 ghost use Rattle.story_player.specs.Breaks.{Blames};
 ghost use Rattle.story_player.specs.Runs.{BrokeOff, Played, most_input, streams};
 ghost use Rattle.story_player.specs.Sessions.{state_of, game_of};
@@ -181,11 +182,11 @@ fn answer<W: Write>(
     ensures game { game_of session.new ≡ game_of session.old }
     ensures answered { OnOk result (Answered
         (λ refused. typed_part (game_of session.old) echo refused (state_of session.old) line.now)
-        (λ refused. (answer_to (game_of session.old) refused (state_of session.old) (typed_reading (game_of session.old) line.now)).state)
+        (λ refused. (answer_to (game_of session.old) refused (state_of session.old) (meant (typed_reading line.now))).state)
         (W.contents (watched_inner writer.old)) (W.contents (watched_inner writer.new)) (state_of session.new)) }
     ensures front { OnErr result (BrokeAnswer
         (λ refused. typed_part (game_of session.old) echo refused (state_of session.old) line.now)
-        (λ refused. (answer_to (game_of session.old) refused (state_of session.old) (typed_reading (game_of session.old) line.now)).state)
+        (λ refused. (answer_to (game_of session.old) refused (state_of session.old) (meant (typed_reading line.now))).state)
         (W.contents (watched_inner writer.old)) (W.contents (watched_inner writer.new)) (state_of session.new)) }
 {
     let reply = session.typed(line.typed());
@@ -291,7 +292,7 @@ pub fn run<R: Read, W: Write>(
     ensures ended { IfOk result (λ ending. (state_of session.new).ending ≡ Some ending) }
 
     // A run that breaks off has written a front of it.
-    ensures cut { IfErr result (λ fault. BrokeOff fault (game_of session.old) echo (opened (game_of session.old)).spoken.text most_input
+    ensures cut { IfErr result (λ fault. BrokeOff fault (game_of session.old) echo (opened (game_of session.old)).text most_input
         (streams R.remaining W.contents reader.old writer.old)
         (streams R.remaining W.contents reader.new writer.new)
         (state_of session.old) (state_of session.new)) }

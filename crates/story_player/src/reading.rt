@@ -1,7 +1,7 @@
 //! Reading a typed line.
 ghost use Rattle.std.specs.Prelude.{◌≡◌, ◌<◌, ◌≤◌, [], ◌∷◌, find, length, map, MatchOption};
 ghost use Rattle.std.specs.List.{list_all, position_or_len};
-ghost use Rattle.world_meaning.specs.Reading.{direction_meant, go_reading, going, is_article, is_blank, is_go, is_look, is_noun_for, is_quit, is_word_for, look_reading, noun_of, reading_of, verb_reading, words_of, words_reading};
+ghost use Rattle.world_meaning.specs.Reading.{direction_meant, go_reading, going, is_article, is_blank, is_go, is_look, is_noun_for, is_quit, is_undo, is_word_for, look_reading, noun_of, reading_of, verb_reading, words_of, words_reading};
 
 use arrayvec::ArrayVec;
 use world_meaning::{Action, Direction, Reading, is_spelled};
@@ -151,6 +151,13 @@ fn is_go(word: &[u8]) -> bool
     is_spelled(word, b"go")
 }
 
+/// Whether the word is `undo`.
+fn is_undo(word: &[u8]) -> bool
+    ensures { result ≡ is_undo word.now }
+{
+    is_spelled(word, b"undo")
+}
+
 /// Whether the word is `quit` or `q`.
 fn is_quit(word: &[u8]) -> bool
     ensures { result ≡ is_quit word.now }
@@ -188,6 +195,9 @@ fn verb_reading(words: &[&[u8]], verb: &[u8], phrase: &[&[u8]]) -> Reading
     }
     if is_look(verb) {
         return look_reading(phrase);
+    }
+    if is_undo(verb) && phrase.is_empty() {
+        return Reading::Undo;
     }
     if is_quit(verb) && phrase.is_empty() {
         return Reading::Quit;

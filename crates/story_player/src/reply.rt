@@ -19,7 +19,7 @@ pub struct Reply {
 }
 
 impl Model for Reply {
-    ghost use Rattle.world_meaning.specs.Session.{Spoken};
+    ghost use Rattle.story_player.specs.Spoken.{Spoken};
 
     ghost Value = { Spoken };
 

@@ -10,6 +10,10 @@ pub const NOT_SEEN: &[u8] = b"You can't see any such thing.\n";
 
 pub const NOT_UNDERSTOOD: &[u8] = b"I didn't understand that sentence.\n";
 
+pub const UNDONE: &[u8] = b"Previous turn undone.\n";
+
+pub const NOTHING_TO_UNDO: &[u8] = b"You can't undo any further.\n";
+
 pub const NO_WAY: &[u8] = b"You can't go that way.\n";
 
 pub const OUT_OF_MEMORY: &[u8] = b"[The turn was abandoned: out of memory.]\n";

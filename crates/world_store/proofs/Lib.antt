@@ -4,3 +4,5 @@ pub mod LawLemmas
 pub mod Lights
 pub mod Putting
 pub mod Tops
+pub mod Views
+pub mod Directing

@@ -1,9 +1,12 @@
 //! What holds of every world of a story in play, of its changes, and of the dark.
-ghost use Rattle.std.specs.Prelude.{◌≡◌, ◌≢◌, ◌⊎◌, ℕ, ℤ, Bool, true, false, Option};
-ghost use Rattle.play_meaning.specs.Seeing.{encloses, has_light, is_visible};
+ghost use Rattle.std.specs.Prelude.{◌≡◌, ◌≢◌, ◌⊎◌, ℕ, ℤ, Bool, true, false, Option, Some};
+ghost use Rattle.play_meaning.specs.Seeing.{encloses, has_light, is_visible, root_of};
 ghost use Rattle.play_meaning.specs.Settings.{Setting, thing_kind};
 ghost use Rattle.play_meaning.specs.StoryWorlds.{IsWorldOf};
 ghost use Rattle.play_meaning.specs.Worlds.{World as PlayWorld, is_true_of, number_of, place_of, set_flag, set_number, set_place};
+ghost use Rattle.world_meaning.specs.Directions.{direction_number};
+ghost use Rattle.world_meaning.specs.Sight.{direction};
+ghost use Rattle.world_meaning.specs.declared.direction.Direction.{Direction};
 ghost use Rattle.world_meaning.specs.declared.place.Place.{Place};
 ghost use Rattle.world_store.specs.StorySettings.{setting_of};
 
@@ -16,6 +19,13 @@ pub fn worlds_are_of_their_stories(world: &World)
     ensures { IsWorldOf (setting_of world.now.tables) world.now.world }
 {
     let _ = world.chain(ObjNo::new(0));
+    let _ = &world.tree;
+}
+
+/// The objects of the directions' numbers are directions, and no things or rooms.
+pub fn directions_are_directions(world: &World)
+    ensures { (d : Direction) → root_of (setting_of world.now.tables) (direction_number d) ≡ Some direction }
+{
     let _ = &world.tree;
 }
 

@@ -7,8 +7,11 @@ mod columns;
 mod fault;
 mod laws;
 mod sight;
+mod view;
 mod world;
 
 pub use fault::WorldFault;
-pub use laws::{changes_leave_others, the_dark_hides, worlds_are_of_their_stories};
+pub use laws::{
+    changes_leave_others, directions_are_directions, the_dark_hides, worlds_are_of_their_stories,
+};
 pub use world::World;

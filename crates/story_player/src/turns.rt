@@ -1,0 +1,101 @@
+//! Turns: what looking and going do to the world, and what they say.
+ghost use Rattle.std.specs.Prelude.{◌≡◌, false, Some, IfOk, MatchOption, OnOk};
+ghost use Rattle.play_meaning.specs.Deeds.{arrive, go, is_closed, look_text, visit};
+ghost use Rattle.play_meaning.specs.Progress.{fresh};
+ghost use Rattle.play_meaning.specs.Sessions.{completed};
+ghost use Rattle.world_meaning.specs.Directions.{direction_number};
+ghost use Rattle.world_store.specs.StoryGames.{plain_story};
+ghost use Rattle.world_store.specs.StorySettings.{setting_of};
+ghost use Rattle.world_store.specs.StoryWorlds.{in_world};
+ghost use Rattle.story_player.specs.Turns.{IsClosedOn, deed, door_from};
+
+use crate::telling::{closed_text, completed, look_text};
+use crate::texts;
+use std::alloc::{AllocError, Global};
+use world_meaning::{Action, Direction, ObjNo, Rel, TextBytes};
+use world_store::World;
+
+/// The property that a door is open.
+const OPEN: u8 = 0;
+
+/// The property that the player has looked round in a room.
+const VISITED: u8 = 10;
+
+/// Looks round: a lit room is then visited.
+fn look(alloc: Global, world: &mut World) -> Result<Vec<u8>, AllocError>
+    ensures text { IfOk result (λ text. text.items ≡ look_text (plain_story world.old.tables) world.old.world) }
+    ensures world { OnOk result (world.new ≡ in_world world.old (visit (setting_of world.old.tables) world.old.world)) }
+    ensures story { world.new.tables ≡ world.old.tables }
+{
+    let text = look_text(alloc, world)?;
+    if world.lit_here() {
+        let room = world.location();
+        let _ = world.set_flag(room, VISITED, true);
+    }
+    Ok(text)
+}
+
+/// Whether a door is closed.
+fn is_closed(world: &World, door: ObjNo) -> bool
+    ensures { result ≡ is_closed (setting_of world.now.tables) world.now.world (Some door) }
+{
+    world.has_flag(door, OPEN) && !world.flag(door, OPEN)
+}
+
+/// The closed door on the way in a direction, if there is one.
+fn closed_door(world: &World, direction: Direction) -> Option<ObjNo>
+    ensures { MatchOption result
+        (is_closed (setting_of world.now.tables) world.now.world (door_from (setting_of world.now.tables) world.now.world (direction_number direction)) ≡ false)
+        (λ door. IsClosedOn (setting_of world.now.tables) world.now.world (direction_number direction) door) }
+{
+    let door = world.door_on_way(direction)?;
+    if is_closed(world, door) { Some(door) } else { None }
+}
+
+/// The player comes to a room and looks round.
+fn arrive(alloc: Global, world: &mut World, room: ObjNo) -> Result<Vec<u8>, AllocError>
+    ensures text { IfOk result (λ text. text.items ≡ (arrive (plain_story world.old.tables) (fresh world.old.world) (Some room)).text) }
+    ensures world { OnOk result (world.new ≡ in_world world.old (arrive (plain_story world.old.tables) (fresh world.old.world) (Some room)).world) }
+    ensures story { world.new.tables ≡ world.old.tables }
+{
+    let _ = world.put(ObjNo::new(0), Rel::In, room);
+    look(alloc, world)
+}
+
+/// Goes in a direction: to the room beyond, unless a door on the way is closed or there is no way.
+fn go(alloc: Global, world: &mut World, direction: Direction) -> Result<Vec<u8>, AllocError>
+    ensures text { IfOk result (λ text. text.items ≡ (go (plain_story world.old.tables) (direction_number direction) (fresh world.old.world)).text) }
+    ensures world { OnOk result (world.new ≡ in_world world.old (go (plain_story world.old.tables) (direction_number direction) (fresh world.old.world)).world) }
+    ensures story { world.new.tables ≡ world.old.tables }
+{
+    if let Some(door) = closed_door(world, direction) {
+        return closed_text(alloc, world.story(), door);
+    }
+    match world.way(direction) {
+        None => Vec::from_slice(alloc, texts::NO_WAY),
+        Some(room) => arrive(alloc, world, room),
+    }
+}
+
+/// Does what the player means to do.
+#[tactic(auto, unfolding(world_store::specs::StoryGames::plain_story))]
+fn deed(alloc: Global, world: &mut World, action: Action) -> Result<Vec<u8>, AllocError>
+    ensures text { IfOk result (λ text. text.items ≡ (deed (plain_story world.old.tables) world.old.world action).text) }
+    ensures world { OnOk result (world.new ≡ in_world world.old (deed (plain_story world.old.tables) world.old.world action).world) }
+    ensures story { world.new.tables ≡ world.old.tables }
+{
+    match action {
+        Action::Looking => look(alloc, world),
+        Action::Going(direction) => go(alloc, world, direction),
+    }
+}
+
+/// Does what the player means to do; its text is complete. Where memory is refused the world may be any of the story.
+pub(crate) fn done(alloc: Global, world: &mut World, action: Action) -> Result<TextBytes, AllocError>
+    ensures text { IfOk result (λ text. text ≡ completed (deed (plain_story world.old.tables) world.old.world action).text) }
+    ensures world { OnOk result (world.new ≡ in_world world.old (deed (plain_story world.old.tables) world.old.world action).world) }
+    ensures story { world.new.tables ≡ world.old.tables }
+{
+    let text = deed(alloc, world, action)?;
+    Ok(completed(text)?)
+}
