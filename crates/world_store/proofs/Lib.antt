@@ -3,4 +3,5 @@ pub mod Keeping
 pub mod LawLemmas
 pub mod Lights
 pub mod Putting
+pub mod TaleGames
 pub mod Tops

@@ -1,3 +1,4 @@
 pub mod StorySettings
 pub mod StartWorlds
 pub mod StoryWorlds
+pub mod StoryGames

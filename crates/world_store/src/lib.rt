@@ -10,5 +10,7 @@ mod sight;
 mod world;
 
 pub use fault::WorldFault;
-pub use laws::{changes_leave_others, the_dark_hides, worlds_are_of_their_stories};
+pub use laws::{
+    changes_leave_others, tables_give_their_tales_game, the_dark_hides, worlds_are_of_their_stories,
+};
 pub use world::World;

@@ -1,0 +1,14 @@
+-- The game of a story that was loaded: it is told by what the tables say of the objects.
+use Rattle.play_meaning.specs.Games.{Game}
+use Rattle.play_meaning.specs.PlainReading.{reads_plainly}
+use Rattle.play_meaning.specs.PlainStories.{PlainStory, game_of_plain}
+use Rattle.story_format.specs.Facts.{description_of}
+use Rattle.story_format.specs.declared.tables.Tables.{Tables}
+use Rattle.world_store.specs.StartWorlds.{start_world}
+use Rattle.world_store.specs.StorySettings.{setting_of}
+
+unfoldable pub plain_story : Tables → PlainStory
+plain_story t = record { setting = setting_of t; start = start_world t; descriptions = description_of t; reads = reads_plainly }
+
+abbrev pub game_of_story : Tables → Game
+game_of_story t = game_of_plain (plain_story t)
