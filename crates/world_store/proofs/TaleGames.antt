@@ -1,5 +1,5 @@
 -- The tables of a tale that a story file holds give the tale's own game.
-use Rattle.std.proofs.Common.{◌≡◌, ℕ, zero, suc, ◌+◌, ◌-◌, ◌<◌, Bool, true, false, cond, List, [], ◌∷◌, length, map, Option, Some, None, refl, sym, ap, ◌∙◌, inl, inr}
+use Rattle.std.proofs.Common.{◌≡◌, ℕ, zero, suc, ◌+◌, ◌-◌, Bool, true, false, List, [], ◌∷◌, length, map, Option, Some, None, refl, sym, ap, ◌∙◌, inl, inr}
 use Rattle.std.specs.Prelude.{FitsSigned, is_none, is_some, slice_get, slice_index_or, ℤ, pos, negsuc}
 use Rattle.std.specs.Int.{w32, cast_signed, cast_unsigned}
 use Rattle.std.specs.List.{flat_map, list_all, range_with_len}
@@ -13,7 +13,6 @@ use Rattle.world_meaning.specs.declared.article.Article.{Article}
 use Rattle.world_meaning.specs.declared.article.Article.TheVariants as articles
 use Rattle.world_meaning.specs.declared.declared.Declared.{Declared}
 use Rattle.world_meaning.specs.declared.exits.Way.{Way}
-use Rattle.world_meaning.specs.declared.place.Place.{Place}
 use Rattle.world_meaning.specs.declared.sorts.Sorts.{Sorts}
 use Rattle.world_meaning.specs.declared.tale.Object.{Object}
 use Rattle.world_meaning.specs.declared.tale.Tale.{Tale}
@@ -27,7 +26,7 @@ use Rattle.story_format.specs.Holding.{IsHeld}
 use Rattle.story_format.specs.InPlay.{article_in, article_numbered, door_in, has_in, is_of_in, number_from, start_number, start_numbers, start_flags, start_variable, starts_true}
 use Rattle.story_format.specs.Making.{Worded, article_number, code_strings, entries_of, entry_of, numbers_of, strings_of, tables_of, tables_with, variable_of, ways_of, worded, worded_at, worded_from, world_of}
 use Rattle.story_format.specs.declared.tables.Entry.{Entry}
-use Rattle.story_format.proofs.Carried.{exits_found, object_found, room_exits, tale_carried}
+use Rattle.story_format.proofs.Carried.{exits_found, object_found, tale_carried}
 use Rattle.story_format.proofs.DeclaredLemmas.{declared_parts}
 use Rattle.story_format.proofs.EntryLemmas.{objects_back, objects_in, places_back}
 use Rattle.story_format.proofs.StoryLemmas.{all_at}
