@@ -1,4 +1,4 @@
 pub mod StorySettings
 pub mod StartWorlds
-pub mod StoryWorlds
 pub mod StoryGames
+pub mod StoryWorlds
