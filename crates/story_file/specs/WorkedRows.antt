@@ -1,14 +1,12 @@
 -- The definitions computed on the two-room source.
-use Rattle.std.specs.Prelude.{◌≡◌, ℕ, true, false, List, [], ◌∷◌, ◌++◌, codes, None, Result, Ok, Err}
-use Rattle.std.specs.Str.Lines.{lines}
-use Rattle.world_meaning.specs.Games.{Game}
-use Rattle.world_meaning.specs.Session.{opened}
-use Rattle.world_meaning.specs.StandardGame.{game_of_tale}
-use Rattle.world_meaning.specs.Transcript.{played}
+use Rattle.std.specs.Prelude.{◌≡◌, ℕ, true, false, List, [], ◌∷◌, codes, None, Result, Ok, Err}
 use Rattle.world_meaning.specs.declared.direction.Direction.TheVariants.{North}
 use Rattle.world_meaning.specs.declared.fault.Fault.{Fault}
 use Rattle.world_meaning.specs.declared.fault.FaultCode.TheVariants.{NoRoom}
 use Rattle.world_meaning.specs.declared.tale.Tale.{Tale}
+use Rattle.play_meaning.specs.PlainTales.{game_of_tale}
+use Rattle.play_meaning.specs.Rows.{blank, on_lines, typed}
+use Rattle.play_meaning.specs.Transcripts.{transcript}
 use Rattle.i7_sentences.specs.declared.name.Name.{Name}
 use Rattle.i7_sentences.specs.declared.name.NameArticle.TheVariants.{Plain}
 use Rattle.i7_sentences.specs.declared.sentence.Assertion.TheVariants.{Description, Way, Are}
@@ -26,30 +24,21 @@ two_rooms =
     ∷ record { said = Way (record { subject = plain (codes "Garden"); direction = North; room = plain (codes "Hall"); is_room_first = false }); line = 3 }
     ∷ []
 
-abbrev pub transcript_of : Game → List ℕ → List ℕ
-transcript_of g commands = (opened g).spoken.text ++ played g true [] (opened g).state (lines commands)
+-- what is written while a tale is played over these lines, each being echoed
+abbrev pub transcript_by : Result Tale Fault → List (List ℕ) → List ℕ
+transcript_by (Err fault) lines = []
+transcript_by (Ok tale) lines = transcript (game_of_tale tale) true [] lines
 
-abbrev pub transcript_by : Result Tale Fault → List ℕ → List ℕ
-transcript_by (Err fault) commands = []
-transcript_by (Ok tale) commands = transcript_of (game_of_tale tale) commands
-
-abbrev pub break : List ℕ
-break = 10 ∷ []
-
-abbrev pub commands : List ℕ
-commands = codes "n" ++ break ++ codes "look" ++ break ++ codes "s" ++ break
-
-abbrev pub transcript : List ℕ
-transcript =
-    codes "Hall" ++ break ++ codes "A bare hall." ++ break ++ break
-    ++ codes ">n" ++ break ++ codes "Garden" ++ break ++ break
-    ++ codes ">look" ++ break ++ codes "Garden" ++ break ++ break
-    ++ codes ">s" ++ break ++ codes "Hall" ++ break ++ codes "A bare hall." ++ break ++ break
-    ++ codes ">"
+abbrev pub two_rooms_shown : List (List ℕ)
+two_rooms_shown =
+    codes "Hall" ∷ codes "A bare hall." ∷ blank
+    ∷ codes ">n" ∷ codes "Garden" ∷ blank
+    ∷ codes ">look" ∷ codes "Garden" ∷ blank
+    ∷ codes ">s" ∷ codes "Hall" ∷ codes "A bare hall." ∷ blank ∷ codes ">" ∷ []
 
 -- The two-room source gives its transcript.
 abbrev pub GivesTranscript : Type 0
-GivesTranscript = transcript_by (tale_said two_rooms) commands ≡ transcript
+GivesTranscript = transcript_by (tale_said two_rooms) (typed two_rooms_shown) ≡ on_lines two_rooms_shown
 
 -- The empty source has no room, at line 1.
 abbrev pub IsRefusedEmpty : Type 0

@@ -11,6 +11,7 @@ use Rattle.world_meaning.specs.Tale.{description_in as told_description, name_in
 use Rattle.world_meaning.specs.Kinds.{is_under}
 use Rattle.world_meaning.specs.WellMade.{are_closed, begin_rightly, has_right_exits, is_closed, sorts_in, stands_in_room}
 use Rattle.world_meaning.specs.declared.sorts.Sorts.{Sorts}
+use Rattle.world_meaning.specs.declared.exits.Exits.{Exits}
 use Rattle.world_meaning.specs.declared.exits.Way.{Way}
 use Rattle.world_meaning.specs.declared.place.Place.{Place}
 use Rattle.world_meaning.specs.declared.tale.Object.{Object}
@@ -121,20 +122,33 @@ ways_there parents strings (x ∷ ws) next (suc o) w e room =
       | inr isnt ↦ rw (isnt, counted_same (is_room_entry parents) (entry_of strings next x) (take o (entries_of strings after ws)) (entry_room parents strings next x ∙ isnt)) later
     ]
 
+-- the ways that stand for an object: a room has its own, and nothing else has any
+abbrev pub room_exits : List (Option ℕ) → Option Worded → Option Exits
+room_exits parents None = None
+room_exits parents (Some w) = cond (is_under parents w.object.kind 1) (Some w.object.exits) None
+
+pub exits_found : (parents : List (Option ℕ)) (strings : List (List ℕ)) (ws : List Worded) (o : ℕ) (found : Option Worded) → slice_get ws o ≡ found → exits_at parents (entries_of strings 0 ws) (flat_map (ways_of parents) ws) o ≡ room_exits parents found
+exits_found parents strings ws o None e = rw (room_same parents strings ws 0 o ∙ ap (is_room_of parents) e) refl
+exits_found parents strings ws o (Some w) e =
+    let room : is_room_in parents (slice_get (entries_of strings 0 ws) o) ≡ is_under parents w.object.kind 1 = room_same parents strings ws 0 o ∙ ap (is_room_of parents) e in
+    elim (either (is_under parents w.object.kind 1)) [
+      | inl is ↦ rw (room, is, ways_there parents strings ws 0 o w e is) refl
+      | inr isnt ↦ rw (room, isnt) refl
+    ]
+
+pub object_found : (ws : List Worded) (o : ℕ) (found : Option Worded) → slice_get ws o ≡ found → slice_get (objects_in ws) o ≡ option_map (λ w. w.object) found
+object_found ws o found e = slice_get-map (λ (w : Worded). w.object) ws o ∙ ap (λ (found : Option Worded). option_map (λ w. w.object) found) e
+
 ways_found : (parents : List (Option ℕ)) (sorts : Sorts) (strings : List (List ℕ)) (ws : List Worded) (o direction : ℕ) (found : Option Worded) → slice_get ws o ≡ found → list_all (has_right_exits parents sorts) (objects_in ws) ≡ true
     → way_in (exits_at parents (entries_of strings 0 ws) (flat_map (ways_of parents) ws) o) direction ≡ told_way (slice_get (objects_in ws) o) direction
 unfolding has_right_exits
-ways_found parents sorts strings ws o direction None e h =
-    let room : is_room_in parents (slice_get (entries_of strings 0 ws) o) ≡ false = room_same parents strings ws 0 o ∙ ap (is_room_of parents) e in
-    let object : slice_get (objects_in ws) o ≡ None = slice_get-map (λ (w : Worded). w.object) ws o ∙ ap (λ (found : Option Worded). option_map (λ w. w.object) found) e in
-    rw (room, object) refl
+ways_found parents sorts strings ws o direction None e h = rw (exits_found parents strings ws o None e, object_found ws o None e) refl
 ways_found parents sorts strings ws o direction (Some w) e h =
-    let room : is_room_in parents (slice_get (entries_of strings 0 ws) o) ≡ is_under parents w.object.kind 1 = room_same parents strings ws 0 o ∙ ap (is_room_of parents) e in
-    let object : slice_get (objects_in ws) o ≡ Some w.object = slice_get-map (λ (w : Worded). w.object) ws o ∙ ap (λ (found : Option Worded). option_map (λ w. w.object) found) e in
+    let object : slice_get (objects_in ws) o ≡ Some w.object = object_found ws o (Some w) e in
     let right : has_right_exits parents sorts w.object ≡ true = all_at (has_right_exits parents sorts) (objects_in ws) o w.object h object in
     elim (either (is_under parents w.object.kind 1)) [
-      | inl is ↦ rw (room, is, ways_there parents strings ws 0 o w e is, object) refl
-      | inr isnt ↦ let closed : are_closed w.object.exits ≡ true = rw isnt at right in rw (room, isnt, object) (sym (closed_way w.object direction closed))
+      | inl is ↦ rw (exits_found parents strings ws o (Some w) e, is, object) refl
+      | inr isnt ↦ let closed : are_closed w.object.exits ≡ true = rw isnt at right in rw (exits_found parents strings ws o (Some w) e, isnt, object) (sym (closed_way w.object direction closed))
     ]
 
 -- ---- the start

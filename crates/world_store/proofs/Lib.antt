@@ -3,6 +3,7 @@ pub mod Keeping
 pub mod LawLemmas
 pub mod Lights
 pub mod Putting
+pub mod TaleGames
 pub mod Tops
 pub mod Views
 pub mod Directing

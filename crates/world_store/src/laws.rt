@@ -1,13 +1,18 @@
-//! What holds of every world of a story in play, of its changes, and of the dark.
+//! What holds of every story in play, of its worlds and their changes, and of the dark.
 ghost use Rattle.std.specs.Prelude.{◌≡◌, ◌≢◌, ◌⊎◌, ℕ, ℤ, Bool, true, false, Option, Some};
+ghost use Rattle.play_meaning.specs.PlainTales.{story_of_tale};
 ghost use Rattle.play_meaning.specs.Seeing.{encloses, has_light, is_visible, root_of};
 ghost use Rattle.play_meaning.specs.Settings.{Setting, thing_kind};
 ghost use Rattle.play_meaning.specs.StoryWorlds.{IsWorldOf};
 ghost use Rattle.play_meaning.specs.Worlds.{World as PlayWorld, is_true_of, number_of, place_of, set_flag, set_number, set_place};
+ghost use Rattle.story_format.specs.Holding.{IsHeld};
+ghost use Rattle.story_format.specs.Making.{tables_of};
 ghost use Rattle.world_meaning.specs.Directions.{direction_number};
 ghost use Rattle.world_meaning.specs.Sight.{direction};
 ghost use Rattle.world_meaning.specs.declared.direction.Direction.{Direction};
 ghost use Rattle.world_meaning.specs.declared.place.Place.{Place};
+ghost use Rattle.world_meaning.specs.declared.tale.Tale.{Tale};
+ghost use Rattle.world_store.specs.StoryGames.{plain_story};
 ghost use Rattle.world_store.specs.StorySettings.{setting_of};
 
 use crate::World;
@@ -28,6 +33,12 @@ pub fn directions_are_directions(world: &World)
 {
     let _ = &world.tree;
 }
+
+/// The tables of a tale that a story file holds give the tale's own game: the same setting, start, descriptions and
+/// reading of lines.
+pub fn tables_give_their_tales_game()
+    ensures { (t : Tale) → IsHeld t → plain_story (tables_of t) ≡ story_of_tale t }
+{}
 
 /// A change of one thing leaves the others.
 pub fn changes_leave_others()

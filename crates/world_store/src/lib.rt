@@ -12,6 +12,7 @@ mod world;
 
 pub use fault::WorldFault;
 pub use laws::{
-    changes_leave_others, directions_are_directions, the_dark_hides, worlds_are_of_their_stories,
+    changes_leave_others, directions_are_directions, tables_give_their_tales_game, the_dark_hides,
+    worlds_are_of_their_stories,
 };
 pub use world::World;

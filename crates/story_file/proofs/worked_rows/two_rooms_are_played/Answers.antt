@@ -1,6 +1,30 @@
 use Rattle.std.proofs.Common.{refl}
 use Rattle.object_words.specs.Words.{more_words, words_for}
+use Rattle.world_meaning.specs.Declarations.{built_in_declared, count_of_numbers}
 use Rattle.world_meaning.specs.Kinds.{built_in_parents, is_under}
+use Rattle.world_meaning.specs.Properties.{built_in_properties, start_properties}
+use Rattle.play_meaning.specs.Acting.{access, act, carrying, inner_of, stages, visibility}
+use Rattle.play_meaning.specs.Changes.{may_be_put}
+use Rattle.play_meaning.specs.Consulting.{applies, ask, consult}
+use Rattle.play_meaning.specs.Doing.{do_body, do_phrase}
+use Rattle.play_meaning.specs.Order.{book_of}
+use Rattle.play_meaning.specs.PlainReading.{reads_plainly}
+use Rattle.play_meaning.specs.PlainStories.{script_of_plain}
+use Rattle.play_meaning.specs.PlainTales.{story_of_tale}
+use Rattle.play_meaning.specs.Progress.{spend}
+use Rattle.play_meaning.specs.Rules.{is_about}
+use Rattle.play_meaning.specs.Saying.{said_in}
+use Rattle.play_meaning.specs.Scripts.{game_of}
+use Rattle.play_meaning.specs.Seeing.{encloses, has_light, is_in_view, is_touchable, is_visible, is_visible_thing}
+use Rattle.play_meaning.specs.Sessions.{opened}
+use Rattle.play_meaning.specs.StandardActions.{standard_needs}
+use Rattle.play_meaning.specs.StandardRules.{rules_of_closing, rules_of_dropping, rules_of_examining, rules_of_going, rules_of_inserting, rules_of_inventory, rules_of_looking, rules_of_opening, rules_of_putting, rules_of_switching, rules_of_taking, rules_of_wearing, standard_rules}
+use Rattle.play_meaning.specs.Tales.{depth_of, setting_of, start_of}
+use Rattle.play_meaning.specs.Truth.{truth_in}
+use Rattle.play_meaning.specs.Turns.{beginning_of, ending_of, opening, pass, turn}
+use Rattle.play_meaning.specs.Values.{is_one, number_in, object_in, those}
+use Rattle.play_meaning.specs.Worlds.{chain, is_true_of, number_of, set_flag, set_number}
+use Rattle.i7_kinds.specs.Grants.{built_in_bases}
 use Rattle.i7_kinds.specs.NameScans.{built_in_standings}
 use Rattle.i7_kinds.specs.Sorts.{built_in_either_ors, built_in_kinds}
 use Rattle.i7_kinds.specs.Standings.{built_in_namings}
@@ -8,5 +32,5 @@ use Rattle.i7_kinds.specs.Tales.{entries_of, exits_of, frame_refusal, limit_refu
 use Rattle.story_file.proofs.worked_rows.two_rooms_are_played.Goals as goal
 
 pub returns : goal.returns
-unfolding built_in_either_ors built_in_kinds built_in_namings built_in_parents built_in_standings entries_of exits_of frame_refusal is_under limit_refusal more_words object_as words_for
+unfolding built_in_bases built_in_declared count_of_numbers start_properties built_in_either_ors built_in_kinds built_in_namings built_in_parents built_in_properties built_in_standings entries_of exits_of frame_refusal is_under limit_refusal more_words object_as words_for script_of_plain story_of_tale reads_plainly visibility access carrying stages act inner_of may_be_put applies ask consult do_phrase do_body book_of spend is_about said_in game_of encloses is_in_view has_light is_visible_thing is_visible is_touchable opened standard_needs rules_of_looking rules_of_examining rules_of_taking rules_of_dropping rules_of_putting rules_of_inserting rules_of_opening rules_of_closing rules_of_going rules_of_wearing rules_of_inventory rules_of_switching standard_rules depth_of setting_of start_of truth_in ending_of beginning_of pass turn opening object_in is_one those number_in chain is_true_of number_of set_flag set_number
 returns c = refl

@@ -1,0 +1,177 @@
+-- The tables of a tale that a story file holds give the tale's own game.
+use Rattle.std.proofs.Common.{◌≡◌, ℕ, zero, suc, ◌+◌, ◌-◌, Bool, true, false, List, [], ◌∷◌, length, map, Option, Some, None, refl, sym, ap, ◌∙◌, inl, inr}
+use Rattle.std.specs.Prelude.{FitsSigned, is_none, is_some, slice_get, slice_index_or, ℤ, pos, negsuc}
+use Rattle.std.specs.Int.{w32, cast_signed, cast_unsigned}
+use Rattle.std.specs.List.{flat_map, list_all, range_with_len}
+use Rattle.std.proofs.lemmas.Bool.{ltb-true}
+use Rattle.std.proofs.lemmas.Int.{to_z-of_z}
+use Rattle.world_meaning.proofs.Bools.{both_are, either}
+use Rattle.world_meaning.specs.Declarations.{has_property, is_number, suits_kind}
+use Rattle.world_meaning.specs.Kinds.{is_under}
+use Rattle.world_meaning.specs.WellMade.{are_closed, has_right_exits, is_closed, sorts_in}
+use Rattle.world_meaning.specs.declared.article.Article.{Article}
+use Rattle.world_meaning.specs.declared.article.Article.TheVariants as articles
+use Rattle.world_meaning.specs.declared.declared.Declared.{Declared}
+use Rattle.world_meaning.specs.declared.exits.Way.{Way}
+use Rattle.world_meaning.specs.declared.sorts.Sorts.{Sorts}
+use Rattle.world_meaning.specs.declared.tale.Object.{Object}
+use Rattle.world_meaning.specs.declared.tale.Tale.{Tale}
+use Rattle.play_meaning.proofs.Agreement.{one_setting}
+use Rattle.play_meaning.specs.Agreement.{SettingsAgree}
+use Rattle.play_meaning.specs.PlainReading.{reads_plainly}
+use Rattle.play_meaning.specs.PlainTales.{story_of_tale}
+use Rattle.play_meaning.specs.Tales.{door_in as told_door, door_on as told_door_on, in_object, is_true_at_start, number_at_start, place_of_number, setting_of as told_setting, start_of}
+use Rattle.story_format.specs.Facts.{exits_at}
+use Rattle.story_format.specs.Holding.{IsHeld}
+use Rattle.story_format.specs.InPlay.{article_in, article_numbered, door_in, has_in, is_of_in, number_from, start_number, start_numbers, start_flags, start_variable, starts_true}
+use Rattle.story_format.specs.Making.{Worded, article_number, code_strings, entries_of, entry_of, numbers_of, strings_of, tables_of, tables_with, variable_of, ways_of, worded, worded_at, worded_from, world_of}
+use Rattle.story_format.specs.declared.tables.Entry.{Entry}
+use Rattle.story_format.proofs.Carried.{exits_found, object_found, tale_carried}
+use Rattle.story_format.proofs.DeclaredLemmas.{declared_parts}
+use Rattle.story_format.proofs.EntryLemmas.{objects_back, objects_in, places_back}
+use Rattle.story_format.proofs.StoryLemmas.{all_at}
+use Rattle.world_store.specs.StartWorlds.{start_world}
+use Rattle.world_store.specs.StoryGames.{plain_story}
+use Rattle.world_store.specs.StorySettings.{setting_of}
+
+-- ---- numbers fit their words
+
+number_fits : (z : ℤ) → is_number z ≡ true → FitsSigned w32 z
+number_fits (pos n) h = record { sfits = ltb-true _ _ h }
+number_fits (negsuc n) h = record { sfits = ltb-true _ _ h }
+
+number_back : (z : ℤ) → is_number z ≡ true → cast_signed w32 (cast_unsigned w32 z) ≡ z
+number_back z h = to_z-of_z w32 z (number_fits z h)
+
+numbers_back : (zs : List ℤ) (i : ℕ) → list_all is_number zs ≡ true → number_from (slice_get (numbers_of zs) i) ≡ slice_index_or zs i (pos 0)
+numbers_back [] i h = refl
+numbers_back (z ∷ zs) zero h = number_back z (both_are (is_number z) (list_all is_number zs) h).0
+numbers_back (z ∷ zs) (suc i) h = numbers_back zs i (both_are (is_number z) (list_all is_number zs) h).1
+
+variables_back : (zs : List ℤ) → list_all is_number zs ≡ true → map start_variable (map variable_of zs) ≡ zs
+variables_back [] h = refl
+variables_back (z ∷ zs) h =
+    let t = both_are (is_number z) (list_all is_number zs) h in
+    λ i. number_back z t.0 i ∷ variables_back zs t.1 i
+
+-- ---- an entry says what its object says
+
+article_back : (a : Article) → article_numbered (article_number a) ≡ a
+article_back articles.None = refl
+article_back articles.A = refl
+article_back articles.An = refl
+article_back articles.Some = refl
+
+module _ {A : Type 0} (otherwise : A) (told : Option Entry → A) (said : Object → A) (nobody : told None ≡ otherwise)
+    (same : (strings : List (List ℕ)) (next : ℕ) (w : Worded) → told (Some (entry_of strings next w)) ≡ said w.object) where
+  -- by the object's number
+  said_at : (strings : List (List ℕ)) (next from : ℕ) (objects : List Object) (o : ℕ) → told (slice_get (entries_of strings next (worded_from from objects)) o) ≡ in_object otherwise said (slice_get objects o)
+  unfolding entries_of
+  said_at strings next from [] o = nobody
+  said_at strings next from (object ∷ objects) zero = same strings next (worded_at from object)
+  said_at strings next from (object ∷ objects) (suc o) = said_at strings (next + length (code_strings (worded_at from object))) (from + 1) objects o
+
+module _ {A : Type 0} (right : Object → Bool) (told : Entry → A) (said : Object → A)
+    (same : (strings : List (List ℕ)) (next : ℕ) (w : Worded) → right w.object ≡ true → told (entry_of strings next w) ≡ said w.object) where
+  -- of all objects
+  said_of_all : (strings : List (List ℕ)) (next from : ℕ) (objects : List Object) → list_all right objects ≡ true → map told (entries_of strings next (worded_from from objects)) ≡ map said objects
+  unfolding entries_of
+  said_of_all strings next from [] h = refl
+  said_of_all strings next from (object ∷ objects) h =
+      let t = both_are (right object) (list_all right objects) h in
+      λ i. same strings next (worded_at from object) t.0 i ∷ said_of_all strings (next + length (code_strings (worded_at from object))) (from + 1) objects t.1 i
+
+-- ---- doors
+
+none_is : {A : Type 0} (o : Option A) → is_none o ≡ true → o ≡ None
+none_is None e = refl
+none_is (Some x) e = absurd cc
+
+closed_door : (ways : List Way) (i : ℕ) → list_all is_closed ways ≡ true → told_door_on (slice_get ways i) ≡ None
+closed_door [] i h = refl
+closed_door (way ∷ ways) zero h = none_is way.door (both_are (is_none way.room) (is_none way.door) (both_are (is_closed way) (list_all is_closed ways) h).0).1
+closed_door (way ∷ ways) (suc i) h = closed_door ways i (both_are (is_closed way) (list_all is_closed ways) h).1
+
+doors_found : (parents : List (Option ℕ)) (sorts : Sorts) (strings : List (List ℕ)) (ws : List Worded) (o direction : ℕ) (found : Option Worded) → slice_get ws o ≡ found → list_all (has_right_exits parents sorts) (objects_in ws) ≡ true
+    → door_in (exits_at parents (entries_of strings 0 ws) (flat_map (ways_of parents) ws) o) direction ≡ in_object None (told_door direction) (slice_get (objects_in ws) o)
+unfolding has_right_exits
+doors_found parents sorts strings ws o direction None e h = rw (exits_found parents strings ws o None e, object_found ws o None e) refl
+doors_found parents sorts strings ws o direction (Some w) e h =
+    let object : slice_get (objects_in ws) o ≡ Some w.object = object_found ws o (Some w) e in
+    let right : has_right_exits parents sorts w.object ≡ true = all_at (has_right_exits parents sorts) (objects_in ws) o w.object h object in
+    elim (either (is_under parents w.object.kind 1)) [
+      | inl is ↦ rw (exits_found parents strings ws o (Some w) e, is, object) refl
+      | inr isnt ↦ let closed : are_closed w.object.exits ≡ true = rw isnt at right in rw (exits_found parents strings ws o (Some w) e, isnt, object) (sym (closed_door w.object.exits.ways (direction - 1) closed))
+    ]
+
+-- ---- what never changes
+
+settings_agree : (t : Tale) → IsHeld t → SettingsAgree (setting_of (tables_of t)) (told_setting t)
+unfolding setting_of told_setting tables_with world_of entry_of
+settings_agree t held =
+    let carries = tale_carried t held in
+    let ws = worded t.objects in
+    let strings = strings_of ws in
+    let parents = t.declared.kinds in
+    let back : objects_in ws ≡ t.objects = objects_back 0 t.objects in
+    let exits : list_all (has_right_exits parents (sorts_in t)) (objects_in ws) ≡ true = ap (list_all (has_right_exits parents (sorts_in t))) back ∙ held.made.exits in
+    record {
+      count = carries.count;
+      name = carries.names;
+      article = said_at articles.None article_in (λ object. object.article) refl (λ strings next w. article_back w.object.article) strings 0 0 t.objects;
+      is_of = λ o kind. said_at false (is_of_in parents kind) (λ object. is_under parents object.kind kind) refl (λ strings next w. refl) strings 0 0 t.objects o;
+      depth = λ kind. refl;
+      has_flag = λ o property. said_at false (has_in parents t.declared.flags property) (λ object. has_property parents t.declared.flags object.kind property) refl (λ strings next w. refl) strings 0 0 t.objects o;
+      has_number = λ o property. said_at false (has_in parents t.declared.numbers property) (λ object. has_property parents t.declared.numbers object.kind property) refl (λ strings next w. refl) strings 0 0 t.objects o;
+      room_beyond = carries.ways;
+      door_beyond = λ room direction. doors_found parents (sorts_in t) strings ws room direction (slice_get ws room) refl exits ∙ ap (λ (objects : List Object). in_object None (told_door direction) (slice_get objects room)) back;
+      has_description = λ o. ap is_some (carries.descriptions o);
+    }
+
+-- ---- the start
+
+-- an object's numbers fit their words
+numbers_right : (d : Declared) (object : Object) → suits_kind d object ≡ true → list_all is_number object.numbers ≡ true
+unfolding suits_kind
+numbers_right d object h = (both_are _ (list_all is_number object.numbers) h).1
+
+number_started : (d : Declared) (property : ℕ) (strings : List (List ℕ)) (next : ℕ) (w : Worded) → suits_kind d w.object ≡ true → start_number (world_of d) property (entry_of strings next w) ≡ number_at_start d property w.object
+unfolding world_of entry_of
+number_started d property strings next w h =
+    elim (either (has_property d.kinds d.numbers w.object.kind property)) [
+      | inl is ↦ rw is (numbers_back w.object.numbers (place_of_number d property w.object) (numbers_right d w.object h))
+      | inr isnt ↦ rw isnt refl
+    ]
+
+flags_started : (t : Tale) → IsHeld t → (property : ℕ) → start_flags (tables_of t) property ≡ map (is_true_at_start property) t.objects
+unfolding tables_with entry_of
+flags_started t held property = said_of_all (suits_kind t.declared) (starts_true property) (is_true_at_start property) (λ strings next w h. refl) (strings_of (worded t.objects)) 0 0 t.objects held.made.suited
+
+numbers_started : (t : Tale) → IsHeld t → (property : ℕ) → start_numbers (tables_of t) property ≡ map (number_at_start t.declared property) t.objects
+unfolding tables_with
+numbers_started t held property = said_of_all (suits_kind t.declared) (start_number (world_of t.declared) property) (number_at_start t.declared property) (number_started t.declared property) (strings_of (worded t.objects)) 0 0 t.objects held.made.suited
+
+one_start : (t : Tale) → IsHeld t → start_world (tables_of t) ≡ start_of t
+unfolding start_world start_of tables_with world_of
+one_start t held =
+    let places = places_back (strings_of (worded t.objects)) 0 (worded t.objects) ∙ ap (λ (objects : List Object). map (λ object. object.place) objects) (objects_back 0 t.objects) in
+    let variables = variables_back t.declared.variables (declared_parts t.declared held.made.declared).variables in
+    λ i. record {
+      places = places i;
+      flags = map (λ property. flags_started t held property i) (range_with_len 0 (length t.declared.flags));
+      numbers = map (λ property. numbers_started t held property i) (range_with_len 0 (length t.declared.numbers));
+      variables = variables i;
+      scenes = [];
+      turns = 1;
+      ended = None;
+    }
+
+-- ---- all of it
+
+pub tables_game : (t : Tale) → IsHeld t → plain_story (tables_of t) ≡ story_of_tale t
+unfolding plain_story story_of_tale
+tables_game t held =
+    let setting = one_setting (setting_of (tables_of t)) (told_setting t) (settings_agree t held) in
+    let start = one_start t held in
+    let carries = tale_carried t held in
+    λ i. record { setting = setting i; start = start i; descriptions = λ o. carries.descriptions o i; reads = reads_plainly }
