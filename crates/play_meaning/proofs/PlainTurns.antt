@@ -3,6 +3,7 @@ use Rattle.std.proofs.Common.{◌≡◌, ◌∙◌, ap, ℕ, Bool, true, false, 
 use Rattle.std.specs.Prelude.{Option, None, Some, slice_set, slice_index_or, if◌then◌else◌}
 use Rattle.play_meaning.specs.Attempts.{Attempt, next}
 use Rattle.world_meaning.specs.Sight.{direction}
+use Rattle.world_meaning.specs.declared.place.Place.{Place}
 use Rattle.world_meaning.specs.declared.place.Rel.TheVariants.{In}
 use Rattle.play_meaning.specs.Acting.{inner_of}
 use Rattle.play_meaning.specs.Changes.{make_so, may_be_put, put}
@@ -73,81 +74,68 @@ opened_by_looking k going =
     ∙ (part_done (follow g 7) (perform g look_round ∷ []) (fresh k.start) (fresh k.start) going (no_rules_outside k (fresh k.start)).1
     ∙ part_done (perform g look_round) [] (fresh k.start) (look k (fresh k.start)) going (look_performed k k.start))
 
--- ---- looking and going end no story
+-- ---- looking and going change flags and places alone
 
-make_so_ended : (s : Setting) (o : Option ℕ) (property : ℕ) (value : Bool) (w : World) → (make_so s o property value w).ended ≡ w.ended
+-- what of a world neither flags nor places decide
+record IsApart {X : Type 0} (f : World → X) : Type 0 where
+  flags : (w : World) (flags : List (List Bool)) → f (record w { flags = flags }) ≡ f w
+  places : (w : World) (places : List (Option Place)) → f (record w { places = places }) ≡ f w
+
+make_so_leaves : {X : Type 0} (f : World → X) → IsApart f → (s : Setting) (o : Option ℕ) (property : ℕ) (value : Bool) (w : World) → f (make_so s o property value w) ≡ f w
 unfolding set_flag
-make_so_ended s None property value w = refl
-make_so_ended s (Some o) property value w = by_flag (s.has_flag o property)
+make_so_leaves f apart s None property value w = refl
+make_so_leaves f apart s (Some o) property value w = by_flag (s.has_flag o property)
   where
-    by_flag : (has : Bool) → (if has then record w { flags = slice_set w.flags property (slice_set (slice_index_or w.flags property []) o value) } else w).ended ≡ w.ended
-    by_flag true = refl
+    by_flag : (has : Bool) → f (if has then record w { flags = slice_set w.flags property (slice_set (slice_index_or w.flags property []) o value) } else w) ≡ f w
+    by_flag true = apart.flags w (slice_set w.flags property (slice_set (slice_index_or w.flags property []) o value))
     by_flag false = refl
+
+look_leaves : {X : Type 0} (f : World → X) → IsApart f → (k : PlainStory) (p : Progress) → f (look k p).world ≡ f p.world
+look_leaves f apart k p = by_light (has_light k.setting p.world)
+  where
+    by_light : (light : Bool) → f (if light then make_so k.setting (location_of p.world) 10 true p.world else p.world) ≡ f p.world
+    by_light true = make_so_leaves f apart k.setting (location_of p.world) 10 true p.world
+    by_light false = refl
+
+put_leaves : {X : Type 0} (f : World → X) → IsApart f → (s : Setting) (room : ℕ) (w : World) → f (put s (Some 0) In (Some room) w) ≡ f w
+put_leaves f apart s room w = by_rule (may_be_put s w 0 (record { relation = In; holder = room }))
+  where
+    by_rule : (may : Bool) → f (if may then set_place 0 (Some (record { relation = In; holder = room })) w else w) ≡ f w
+    by_rule true = apart.places w (slice_set w.places 0 (Some (record { relation = In; holder = room })))
+    by_rule false = refl
+
+arrive_leaves : {X : Type 0} (f : World → X) → IsApart f → (k : PlainStory) (p : Progress) (room : Option ℕ) → f (arrive k p room).world ≡ f p.world
+arrive_leaves f apart k p None = refl
+arrive_leaves f apart k p (Some room) =
+    look_leaves f apart k (record p { world = put k.setting (Some 0) In (Some room) p.world; work = p.work + 4 }) ∙ put_leaves f apart k.setting room p.world
+
+go_leaves : {X : Type 0} (f : World → X) → IsApart f → (k : PlainStory) (d : ℕ) (p : Progress) → f (go k d p).world ≡ f p.world
+go_leaves f apart k d p = by_door (is_closed k.setting p.world (beyond k.setting k.setting.door_beyond (Some d) (location_of p.world)))
+  where
+    by_door : (closed : Bool)
+        → f (if closed then record p { text = p.text ++ closed_text k.setting (beyond k.setting k.setting.door_beyond (Some d) (location_of p.world)); work = p.work + 1 } else arrive k p (beyond k.setting k.setting.room_beyond (Some d) (location_of p.world))).world
+        ≡ f p.world
+    by_door true = refl
+    by_door false = arrive_leaves f apart k p (beyond k.setting k.setting.room_beyond (Some d) (location_of p.world))
+
+-- they end no story and count no turn
+ended_apart : IsApart (λ w. w.ended)
+ended_apart = record { flags = λ w flags. refl; places = λ w places. refl }
+
+turns_apart : IsApart (λ w. w.turns)
+turns_apart = record { flags = λ w flags. refl; places = λ w places. refl }
 
 pub look_ended : (k : PlainStory) (p : Progress) → (look k p).world.ended ≡ p.world.ended
-look_ended k p = by_light (has_light k.setting p.world)
-  where
-    by_light : (light : Bool) → (if light then make_so k.setting (location_of p.world) 10 true p.world else p.world).ended ≡ p.world.ended
-    by_light true = make_so_ended k.setting (location_of p.world) 10 true p.world
-    by_light false = refl
-
-put_ended : (s : Setting) (room : ℕ) (w : World) → (put s (Some 0) In (Some room) w).ended ≡ w.ended
-put_ended s room w = by_rule (may_be_put s w 0 (record { relation = In; holder = room }))
-  where
-    by_rule : (may : Bool) → (if may then set_place 0 (Some (record { relation = In; holder = room })) w else w).ended ≡ w.ended
-    by_rule true = refl
-    by_rule false = refl
-
-arrive_ended : (k : PlainStory) (p : Progress) (room : Option ℕ) → (arrive k p room).world.ended ≡ p.world.ended
-arrive_ended k p None = refl
-arrive_ended k p (Some room) = look_ended k (record p { world = put k.setting (Some 0) In (Some room) p.world; work = p.work + 4 }) ∙ put_ended k.setting room p.world
+look_ended = look_leaves (λ w. w.ended) ended_apart
 
 pub go_ended : (k : PlainStory) (d : ℕ) (p : Progress) → (go k d p).world.ended ≡ p.world.ended
-go_ended k d p = by_door (is_closed k.setting p.world (beyond k.setting k.setting.door_beyond (Some d) (location_of p.world)))
-  where
-    by_door : (closed : Bool)
-        → (if closed then record p { text = p.text ++ closed_text k.setting (beyond k.setting k.setting.door_beyond (Some d) (location_of p.world)); work = p.work + 1 } else arrive k p (beyond k.setting k.setting.room_beyond (Some d) (location_of p.world))).world.ended
-        ≡ p.world.ended
-    by_door true = refl
-    by_door false = arrive_ended k p (beyond k.setting k.setting.room_beyond (Some d) (location_of p.world))
-
--- ---- nor do they count a turn
-
-make_so_turns : (s : Setting) (o : Option ℕ) (property : ℕ) (value : Bool) (w : World) → (make_so s o property value w).turns ≡ w.turns
-unfolding set_flag
-make_so_turns s None property value w = refl
-make_so_turns s (Some o) property value w = by_flag (s.has_flag o property)
-  where
-    by_flag : (has : Bool) → (if has then record w { flags = slice_set w.flags property (slice_set (slice_index_or w.flags property []) o value) } else w).turns ≡ w.turns
-    by_flag true = refl
-    by_flag false = refl
+go_ended = go_leaves (λ w. w.ended) ended_apart
 
 pub look_turns : (k : PlainStory) (p : Progress) → (look k p).world.turns ≡ p.world.turns
-look_turns k p = by_light (has_light k.setting p.world)
-  where
-    by_light : (light : Bool) → (if light then make_so k.setting (location_of p.world) 10 true p.world else p.world).turns ≡ p.world.turns
-    by_light true = make_so_turns k.setting (location_of p.world) 10 true p.world
-    by_light false = refl
-
-put_turns : (s : Setting) (room : ℕ) (w : World) → (put s (Some 0) In (Some room) w).turns ≡ w.turns
-put_turns s room w = by_rule (may_be_put s w 0 (record { relation = In; holder = room }))
-  where
-    by_rule : (may : Bool) → (if may then set_place 0 (Some (record { relation = In; holder = room })) w else w).turns ≡ w.turns
-    by_rule true = refl
-    by_rule false = refl
-
-arrive_turns : (k : PlainStory) (p : Progress) (room : Option ℕ) → (arrive k p room).world.turns ≡ p.world.turns
-arrive_turns k p None = refl
-arrive_turns k p (Some room) = look_turns k (record p { world = put k.setting (Some 0) In (Some room) p.world; work = p.work + 4 }) ∙ put_turns k.setting room p.world
+look_turns = look_leaves (λ w. w.turns) turns_apart
 
 pub go_turns : (k : PlainStory) (d : ℕ) (p : Progress) → (go k d p).world.turns ≡ p.world.turns
-go_turns k d p = by_door (is_closed k.setting p.world (beyond k.setting k.setting.door_beyond (Some d) (location_of p.world)))
-  where
-    by_door : (closed : Bool)
-        → (if closed then record p { text = p.text ++ closed_text k.setting (beyond k.setting k.setting.door_beyond (Some d) (location_of p.world)); work = p.work + 1 } else arrive k p (beyond k.setting k.setting.room_beyond (Some d) (location_of p.world))).world.turns
-        ≡ p.world.turns
-    by_door true = refl
-    by_door false = arrive_turns k p (beyond k.setting k.setting.room_beyond (Some d) (location_of p.world))
+go_turns = go_leaves (λ w. w.turns) turns_apart
 
 pub look_turn : (k : PlainStory) (w : World) → w.ended ≡ None → turn (game_of_plain k) look_round (fresh w) ≡ count_turn (look k (fresh w))
 look_turn k w going = turn_counted k look_round (fresh w) (look k (fresh w)) going (look_performed k w) (look_ended k (fresh w) ∙ going)

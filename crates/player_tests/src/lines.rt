@@ -5,6 +5,9 @@ use std::test::Fail;
 use story_player::Session;
 use world_meaning::{Ending, ObjNo, ReplyKind};
 
+/// The property that the player has looked round in a room.
+const VISITED: u8 = 10;
+
 /// A line, its text and kind, and the player's room and the turn count behind it.
 type Row = (&'static [u8], &'static [u8], ReplyKind, u16, u32);
 
@@ -32,6 +35,8 @@ const FREE: &[(&[u8], &[u8])] = &[
     (b"go lamp", b"You can't see any such thing.\n"),
     (b"go", b"I didn't understand that sentence.\n"),
     (b"look foo", b"I didn't understand that sentence.\n"),
+    (b"undo", b"You can't undo any further.\n"),
+    (b"undo it", b"I don't know that verb.\n"),
 ];
 
 fn free() -> &'static [(&'static [u8], &'static [u8])] {
@@ -70,10 +75,30 @@ fn other_lines_are_free(rt: HostRuntime) -> Result<(), Fail> {
 fn rooms_are_visited(rt: HostRuntime) -> Result<(), Fail> {
     let mut session = two_rooms(rt.alloc())?;
     assert_eq!(rt; session.opening(), b"Hall\nA bare hall.\n".as_slice());
-    assert!(rt; session.world().visited(ObjNo::new(13)));
-    assert!(rt; !session.world().visited(ObjNo::new(14)));
+    assert!(rt; session.world().flag(ObjNo::new(13), VISITED));
+    assert!(rt; !session.world().flag(ObjNo::new(14), VISITED));
     let _ = session.line(b"north");
-    assert!(rt; session.world().visited(ObjNo::new(14)));
+    assert!(rt; session.world().flag(ObjNo::new(14), VISITED));
+    let _ = session.line(b"undo");
+    assert!(rt; !session.world().flag(ObjNo::new(14), VISITED));
+    Ok(())
+}
+
+#[test]
+fn the_last_eight_turns_are_undone(rt: HostRuntime) -> Result<(), Fail> {
+    let mut session = two_rooms(rt.alloc())?;
+    for count in 2..11 {
+        let way = if count % 2 == 0 { b"n" } else { b"s" };
+        let _ = session.line(way);
+        assert_eq!(rt; session.world().turns(), count);
+    }
+    for count in 0..8 {
+        let room = if count % 2 == 0 { 13 } else { 14 };
+        let row: Row = (b"undo", b"Previous turn undone.\n", ReplyKind::Free, room, 9 - count);
+        assert!(rt; is_answered(&mut session, &row), "{}", count);
+    }
+    let row: Row = (b"undo", b"You can't undo any further.\n", ReplyKind::Free, 14, 2);
+    assert!(rt; is_answered(&mut session, &row));
     Ok(())
 }
 

@@ -148,8 +148,8 @@ impl Session {
     {
         match self.kept.pop_front() {
             None => Reply::fixed(texts::NOTHING_TO_UNDO, ReplyKind::Free),
-            Some(before) => {
-                self.world = before;
+            Some(kept) => {
+                self.world = kept;
                 Reply::fixed(texts::UNDONE, ReplyKind::Free)
             }
         }

@@ -8,7 +8,7 @@ use Rattle.story_player.proofs.session.Session.undo.Goals as goal
 pub invariant_of-self-in-Some : goal.invariant_of-self-in-Some
 invariant_of-self-in-Some c =
     let session = c.args.self.now in
-    let before = c.in-Some.before in
+    let before = c.in-Some.kept in
     let first : slice_get session.kept.items 0 ≡ Some before = sym c.in-Some.ensures.value in
     let same = session.kept_story 0 before first in
     let popped = ap (λ ring. ring.items) c.in-Some.ensures.items in
