@@ -103,7 +103,8 @@ impl Session {
 
     /// The world as it is now.
     pub fn world(&self) -> &World
-        ensures { result.now.world ≡ (state_of self.now).world }
+        ensures world { result.now.world ≡ (state_of self.now).world }
+        ensures story { game_of_story result.now.tables ≡ game_of self.now }
     {
         &self.world
     }
