@@ -1,44 +1,34 @@
 -- Playing the story that a source is compiled to is playing the source.
 use Rattle.std.proofs.Common.{◌≡◌, ℕ, Bool, List, Ok, Err, Option, ap, subst, ◌∙◌}
 use Rattle.std.specs.Prelude.{Result, IfErr, IfOk}
-use Rattle.world_meaning.specs.Games.{Game}
-use Rattle.world_meaning.specs.Session.{State, opened}
 use Rattle.story_player.specs.Runs.{BrokeOff, streams_of, most_input}
 use Rattle.story_player.specs.declared.fault.RunFault.{RunFault}
-use Rattle.world_meaning.proofs.Agreement.{one_facts}
-use Rattle.world_meaning.specs.Facts.{Agree}
-use Rattle.world_meaning.specs.StandardGame.{game_of, game_of_tale}
-use Rattle.world_meaning.specs.Tale.{facts_of_tale}
 use Rattle.world_meaning.specs.declared.session.Ending.{Ending}
-use Rattle.world_meaning.specs.declared.tale.Tale.{Tale}
+use Rattle.play_meaning.specs.Games.{Game}
+use Rattle.play_meaning.specs.PlainStories.{game_of_plain}
+use Rattle.play_meaning.specs.PlainTales.{game_of_tale}
+use Rattle.play_meaning.specs.Sessions.{State, opened}
 use Rattle.story_format.proofs.ReadingLemmas.{not_refused, same_story}
 use Rattle.story_format.specs.Refusals.{IsRefused as IsNoStory}
 use Rattle.story_format.specs.declared.fault.LoadFault.{LoadFault}
 use Rattle.story_format.specs.declared.fault.LoadFault.TheVariants.{Memory}
-use Rattle.story_format.specs.Carrying.{Carries}
+use Rattle.story_format.specs.Making.{tables_of}
 use Rattle.story_format.specs.Spells.{Spells}
 use Rattle.story_format.specs.declared.tables.Tables.{Tables}
 use Rattle.story_file.specs.Compilations.{IsCompiled}
-use Rattle.story_player.specs.StoryGames.{facts_of_story, game_of_story}
+use Rattle.story_file.proofs.Held.{tale_held}
+use Rattle.world_store.proofs.TaleGames.{tables_game}
+use Rattle.world_store.specs.StoryGames.{game_of_story}
 use Rattle.source_player.specs.SourceRuns.{BrokeOffGame, LeavesSource, LeavesStory, PlayedGame, PlayedSource, PlayedStory}
 use Rattle.source_player.specs.declared.source_run.SourceRunFault.{SourceRunFault}
 use Rattle.source_player.specs.declared.source_run.SourceRunFault.TheVariants.{Source, Story, Start, Run}
 
--- tables that carry a tale have its facts
-pub carried : (story : Tables) (tale : Tale) → Carries story tale → Agree (facts_of_story story) (facts_of_tale tale)
-carried story tale carries = record {
-  count = carries.count;
-  name = carries.names;
-  description = carries.descriptions;
-  way = carries.ways;
-  start = carries.start;
-}
-
 -- the story's game is the tale's
 pub same_game : (source bytes : List ℕ) (compiled : IsCompiled source bytes) (story : Tables) → Spells bytes story → game_of_story story ≡ game_of_tale compiled.tale
 same_game source bytes compiled story spells =
-    ap game_of_story (same_story bytes story compiled.tables spells compiled.spells)
-    ∙ ap game_of (one_facts (facts_of_story compiled.tables) (facts_of_tale compiled.tale) (carried compiled.tables compiled.tale compiled.carries))
+    let same : story ≡ tables_of compiled.tale = same_story bytes story compiled.tables spells compiled.spells ∙ compiled.tables_are in
+    let held = tale_held compiled.means.sentences compiled.tale compiled.means.meant in
+    ap game_of_story same ∙ ap game_of_plain (tables_game compiled.tale held)
 
 pub played_source : (source bytes : List ℕ) (echo : Bool) (unread rest held now : Option (List ℕ)) (result : Result Ending SourceRunFault) → IsCompiled source bytes → IfOk result (PlayedStory bytes echo (streams_of unread held) (streams_of rest now)) → IfOk result (PlayedSource source echo (streams_of unread held) (streams_of rest now))
 played_source source bytes echo unread rest held now (Err fault) compiled played = tt
@@ -64,9 +54,9 @@ left_source source bytes echo unread rest held now (Err (Run fault)) compiled le
 }
 
 -- the run of a story that was begun broke off
-pub broke_game : (fault : RunFault) (g h : Game) (echo : Bool) (unread rest held now : Option (List ℕ)) (from to : State) → g ≡ h → from ≡ (opened h).state → BrokeOff fault g echo (opened g).spoken.text most_input (streams_of unread held) (streams_of rest now) from to → BrokeOffGame fault h echo (streams_of unread held) (streams_of rest now)
+pub broke_game : (fault : RunFault) (g h : Game) (echo : Bool) (unread rest held now : Option (List ℕ)) (from to : State) → g ≡ h → from ≡ (opened h).state → BrokeOff fault g echo (opened g).text most_input (streams_of unread held) (streams_of rest now) from to → BrokeOffGame fault h echo (streams_of unread held) (streams_of rest now)
 broke_game fault g h echo unread rest held now from to same begun broke = record {
   last = to;
-  broke = subst (λ x. BrokeOff fault x echo (opened x).spoken.text most_input (streams_of unread held) (streams_of rest now) (opened h).state to) same
-      (subst (λ state. BrokeOff fault g echo (opened g).spoken.text most_input (streams_of unread held) (streams_of rest now) state to) begun broke);
+  broke = subst (λ x. BrokeOff fault x echo (opened x).text most_input (streams_of unread held) (streams_of rest now) (opened h).state to) same
+      (subst (λ state. BrokeOff fault g echo (opened g).text most_input (streams_of unread held) (streams_of rest now) state to) begun broke);
 }

@@ -1,11 +1,11 @@
 -- What playing a source or a story file does to its reader and its writer.
 use Rattle.std.specs.Prelude.{◌≡◌, ℕ, Bool, true, false, List, [], Some}
-use Rattle.world_meaning.specs.Games.{Game}
-use Rattle.world_meaning.specs.Session.{State, opened}
-use Rattle.world_meaning.specs.StandardGame.{game_of_tale}
-use Rattle.world_meaning.specs.Transcript.{IsPlay}
 use Rattle.world_meaning.specs.declared.session.Ending.{Ending}
 use Rattle.world_meaning.specs.declared.tale.Tale.{Tale}
+use Rattle.play_meaning.specs.Games.{Game}
+use Rattle.play_meaning.specs.PlainTales.{game_of_tale}
+use Rattle.play_meaning.specs.Sessions.{State, opened}
+use Rattle.play_meaning.specs.Transcripts.{IsPlay}
 use Rattle.story_format.specs.Refusals.{IsRefused as IsNoStory}
 use Rattle.story_format.specs.Spells.{Spells}
 use Rattle.story_format.specs.declared.tables.Tables.{Tables}
@@ -13,7 +13,7 @@ use Rattle.story_format.specs.declared.fault.LoadFault.TheVariants as load
 use Rattle.story_file.specs.Compilations.{IsRefused, Means}
 use Rattle.story_player.specs.Breaks.{Blames}
 use Rattle.story_player.specs.Runs.{BrokeOff, Played, Streams, streams_of, most_input}
-use Rattle.story_player.specs.StoryGames.{game_of_story}
+use Rattle.world_store.specs.StoryGames.{game_of_story}
 use Rattle.story_player.specs.declared.fault.RunFault.{RunFault}
 use Rattle.story_player.specs.declared.session.StartFault.TheVariants as start
 use Rattle.source_player.specs.declared.source_run.SourceRunFault.{SourceRunFault}
@@ -29,7 +29,7 @@ pub record PlayedGame (g : Game) (echo : Bool) (before after : Streams) (ending 
 -- The play of a game from its beginning broke off.
 pub record BrokeOffGame (fault : RunFault) (g : Game) (echo : Bool) (before after : Streams) : Type 0 where
   pub last : State
-  pub broke : BrokeOff fault g echo (opened g).spoken.text most_input before after (opened g).state last
+  pub broke : BrokeOff fault g echo (opened g).text most_input before after (opened g).state last
 
 -- Bytes that spell a story were played: its own game.
 pub record PlayedStory (bytes : List ℕ) (echo : Bool) (before after : Streams) (ending : Ending) : Type 0 where

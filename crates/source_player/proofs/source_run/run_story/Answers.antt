@@ -1,5 +1,5 @@
 use Rattle.story_player.specs.Sessions.{game_of, state_of}
-use Rattle.story_player.specs.StoryGames.{game_of_story}
+use Rattle.world_store.specs.StoryGames.{game_of_story}
 use Rattle.story_player.specs.Watches.{watched_inner}
 use Rattle.source_player.proofs.Plays.{broke_game}
 use Rattle.source_player.proofs.source_run.run_story.Goals as goal
