@@ -15,6 +15,7 @@ pub mod Fines
 pub mod Setting
 pub mod Placed
 pub mod PlaceScans
+pub mod ValueScans
 pub mod Readiness
 pub mod FewWords
 mod Quoting

@@ -3,21 +3,25 @@ use Rattle.std.proofs.Common.{◌≡◌, ℕ, suc, ◌+◌, ◌≤◌, List, [],
 use Rattle.std.specs.Prelude.{None}
 use Rattle.i7_kinds.specs.Bounds.{AreSmallKnowns, AreSmallPlaces, AreWithin, LeadWithin}
 use Rattle.i7_kinds.specs.Demands.{descriptions_of, wrong_kind}
-use Rattle.i7_kinds.specs.KindClaims.{AreSmallKinds, kind_names, kind_too_many, parents_of, unknown_kind}
+use Rattle.i7_kinds.specs.KindClaims.{AreSmallKinds, declared_by, givens_by, kind_names, kind_too_many, parents_of, unknown_kind}
 use Rattle.i7_kinds.specs.Knowns.{Scope, kind_of, known_at, knowns_of, off_path}
 use Rattle.i7_kinds.specs.Places.{places_by}
 use Rattle.i7_kinds.specs.Scans.{earlier}
-use Rattle.i7_kinds.specs.Sorts.{name_too_many}
+use Rattle.i7_kinds.specs.Sorts.{name_too_many, names_as, too_many_as}
+use Rattle.i7_kinds.specs.Grants.{built_in_bases, givens_of}
+use Rattle.i7_kinds.specs.declared.grants.Given.{Given}
+use Rattle.i7_kinds.specs.declared.sorts.Sort.TheVariants as sort
+use Rattle.i7_kinds.proofs.Granting.{flags_counted}
 use Rattle.i7_sentences.specs.declared.sentence.Sentence.{Sentence}
 use Rattle.i7_kinds.specs.Statements.{NameAt, Named, named_by, statement_in}
 use Rattle.i7_kinds.specs.Suits.{first_room, unsuited, with_player}
-use Rattle.i7_kinds.specs.Tales.{faults_of, frame_refusal, limit_refusal, judged, refusal_of, said_by, said_in, scope_of, unless_unmeant, unmeant}
+use Rattle.i7_kinds.specs.Tales.{faults_of, frame_refusal, limit_refusal, judged, refusal_of, said_by, said_in, scope_of, scope_with, unless_unmeant, unmeant}
 use Rattle.i7_kinds.specs.declared.claim.Claim.{Claim}
 use Rattle.i7_kinds.specs.declared.knowns.Known.{Known}
 use Rattle.i7_kinds.specs.declared.statements.NumberedSentence.{NumberedSentence}
 use Rattle.i7_kinds.proofs.Bounds.{counted-source, earlier_none, first_none_both, frame_parts, lead-within, source-within}
 use Rattle.i7_kinds.proofs.Fines.{AreFine, base, kind_few, knowns_counted, knowns_fine}
-use Rattle.i7_kinds.proofs.KindScans.{kind_names_counted, kinds_small, parents_are_kinds, parents_few}
+use Rattle.i7_kinds.proofs.KindScans.{either_ors_few, kind_names_counted, kinds_small, parents_are_kinds, parents_few}
 use Rattle.i7_kinds.proofs.Placed.{places_small}
 use Rattle.i7_kinds.proofs.Rooted.{counts_grow, number_there}
 
@@ -38,12 +42,20 @@ kinds_are_small : (parents : List (Option ℕ)) (knowns : List Known) → 10 ≤
 kinds_are_small parents knowns many few fine =
     small_kinds knowns (λ o. let lt = kind_few parents (length parents) (base o) (known_at knowns o).demanded (known_at knowns o).holds many (fine o) in omega (arith, lt, few))
 
+-- where no either-or property is one too many
+flags_few : (claims : List Claim) → name_too_many claims ≡ None → length (declared_by claims).flags ≤ 100
+flags_few claims many =
+    let sorts = earlier_none (too_many_as sort.EitherOr claims) _ many in
+    let counted = flags_counted (parents_of (kind_names claims) claims) (kinds_many claims) (givens_by claims) 0 built_in_bases (names_as sort.EitherOr claims) in
+    omega (arith, counted, either_ors_few claims sorts.0)
+
 -- what no refusal says of the objects
 pub record Ready (s : Scope) (knowns : List Known) (claims : List Claim) (statements : List NumberedSentence) : Type 0 where
   pub within : LeadWithin statements
   pub few_kinds : AreSmallKinds s.parents
   pub few_declared : AreSmallKinds (parents_of s.kinds claims)
   pub short : length (parents_of s.kinds claims) ≤ 100
+  pub few_flags : length (declared_by claims).flags ≤ 100
   pub small_kinds : AreSmallKnowns knowns
   pub small_places : AreSmallPlaces (with_player (places_by s.objects claims) (first_room s.parents knowns))
 
@@ -65,6 +77,7 @@ ready claims keys statements mentions within counted none =
       few_kinds = kinds_small claims many.0;
       few_declared = kinds_small claims many.0;
       short = parents_few claims many.0;
+      few_flags = flags_few claims many.1;
       small_kinds = kinds_are_small s.parents knowns (kinds_many claims) (parents_few claims many.0) (fine_of claims keys fine.unknown off.0);
       small_places = places_small keys claims s.parents knowns few (omega (arith, known)) (omega (arith, known, fine.few));
     }
@@ -91,14 +104,25 @@ named_counted sentences named same = subst (λ (n : Named). length n.keys ≡ 13
 
 -- ---- from the code's names to the sentences'
 
-abbrev pub scope_with : List (List ℕ) → List (Option ℕ) → List (List ℕ) → Scope
-scope_with kinds parents objects = record { objects = objects; kinds = kinds; parents = parents }
+pub scope_same : (s : Scope) (kinds : List (List ℕ)) (parents : List (Option ℕ)) (claims : List Claim) (objects keys properties : List (List ℕ)) (givens : List Given)
+    → s ≡ record { objects = objects; kinds = kinds; parents = parents; properties = properties; givens = givens } → objects ≡ keys → properties ≡ names_as sort.EitherOr claims → givens ≡ givens_of properties kinds claims
+    → s ≡ scope_with kinds parents claims keys
+scope_same s kinds parents claims objects keys properties givens h o p g =
+    let given = g ∙ ap (λ (ps : List (List ℕ)). givens_of ps kinds claims) p in
+    h ∙ (λ i. record { objects = o i; kinds = kinds; parents = parents; properties = p i; givens = given i })
+
+pub scope_meant : (s : Scope) (kinds : List (List ℕ)) (parents : List (Option ℕ)) (claims : List Claim) (keys : List (List ℕ)) → s ≡ scope_with kinds parents claims keys → kinds ≡ kind_names claims → parents ≡ parents_of kinds claims → s ≡ scope_of claims s.objects
+scope_meant s kinds parents claims keys h named above =
+    h
+    ∙ ap (scope_with kinds parents claims) (sym (ap (λ (x : Scope). x.objects) h))
+    ∙ ap (λ (ps : List (Option ℕ)). scope_with kinds ps claims s.objects) above
+    ∙ ap (λ (names : List (List ℕ)). scope_with names (parents_of names claims) claims s.objects) named
 
 pub said_same : (kinds : List (List ℕ)) (parents : List (Option ℕ)) (claims : List Claim) (sentences : List Sentence) (s : Scope) (statements : List NumberedSentence) (mentions : List NameAt) (line : Option ℕ) (named : Named)
-    → named ≡ named_by sentences → s ≡ scope_with kinds parents named.keys → statements ≡ map (statement_in named) sentences → mentions ≡ named.mentions → line ≡ unmeant kinds parents sentences → line ≡ None
+    → named ≡ named_by sentences → s ≡ scope_with kinds parents claims named.keys → statements ≡ map (statement_in named) sentences → mentions ≡ named.mentions → line ≡ unmeant kinds parents claims sentences → line ≡ None
     → judged s claims statements mentions ≡ said_in kinds parents claims sentences
 said_same kinds parents claims sentences s statements mentions line named same scope stated mentioned meant none =
-    let of_names = λ (n : Named). judged (scope_with kinds parents n.keys) claims (map (statement_in n) sentences) n.mentions in
+    let of_names = λ (n : Named). judged (scope_with kinds parents claims n.keys) claims (map (statement_in n) sentences) n.mentions in
     (λ i. judged (scope i) claims (stated i) (mentioned i))
     ∙ ap of_names same
     ∙ sym (ap (λ (l : Option ℕ). unless_unmeant l (of_names (named_by sentences))) (sym meant ∙ none))

@@ -1,5 +1,5 @@
 -- What sentences claim of names, in small letters: one clause a form.
-use Rattle.std.specs.Prelude.{ℕ, List, [], ◌∷◌, ◌++◌, flat_map, map, Option, Some, None, codes}
+use Rattle.std.specs.Prelude.{ℕ, List, [], ◌∷◌, ◌++◌, flat_map, fold, map, Bool, true, Option, Some, None, codes}
 use Rattle.world_meaning.specs.Spelling.{lowered}
 use Rattle.world_meaning.specs.declared.place.Rel.{Rel}
 use Rattle.world_meaning.specs.declared.place.Rel.TheVariants.{In, On, Carried, Worn, Part}
@@ -9,12 +9,16 @@ use Rattle.i7_sentences.specs.declared.sentence.Assertion.TheVariants as asserti
 use Rattle.i7_sentences.specs.declared.sentence.Being.{Being}
 use Rattle.i7_sentences.specs.declared.sentence.Holder.{Holder}
 use Rattle.i7_sentences.specs.declared.sentence.Sentence.{Sentence}
-use Rattle.i7_kinds.specs.Beings.{kind_said, names_said}
+use Rattle.i7_kinds.specs.Beings.{names_said}
+use Rattle.i7_kinds.specs.NameScans.{Standings, built_in_standings, with_claim}
 use Rattle.i7_kinds.specs.Statements.{key_of}
+use Rattle.i7_kinds.specs.Wording.{what_said}
+use Rattle.i7_kinds.specs.declared.wording.What.{What}
 use Rattle.i7_kinds.specs.declared.claim.Claim.{Claim}
 use Rattle.i7_kinds.specs.declared.claim.Fact.{Fact}
-use Rattle.i7_kinds.specs.declared.claim.Fact.TheVariants.{Stands, Rulebook, Lies, CanBe, HasNumber, Demands, Placed}
+use Rattle.i7_kinds.specs.declared.claim.Fact.TheVariants.{Stands, Rulebook, Lies, CanBe, HasNumber, Demands, Placed, Has}
 use Rattle.i7_kinds.specs.declared.claim.Grant.{Grant}
+use Rattle.i7_kinds.specs.declared.claim.Quality.{Quality}
 use Rattle.i7_kinds.specs.declared.claim.Standing.{Standing}
 use Rattle.i7_kinds.specs.declared.claim.Standing.TheVariants as stands
 
@@ -43,16 +47,47 @@ either_or kind first (Some second) line =
 abbrev pub demands : List ℕ → ℕ → Name → Claim
 demands kind line name = claimed (Demands (record { object = key_of name.text; kind = kind })) line
 
--- the kind that words name is demanded of the objects; no words demand nothing
-abbrev pub demands_said : List ℕ → List Name → ℕ → List Claim
-demands_said [] subjects line = []
-demands_said (b ∷ bytes) subjects line = map (demands (kind_said (b ∷ bytes)) line) subjects
+-- the kind that words name; words that say nothing name one that isn't there
+abbrev pub kind_said : Option What → List ℕ → Option (List ℕ)
+kind_said None words = Some (lowered words)
+kind_said (Some what) words = what.kind
+
+abbrev pub qualities_said : Option What → List Quality
+qualities_said None = []
+qualities_said (Some what) = what.qualities
+
+abbrev pub demands_said : Option (List ℕ) → List Name → ℕ → List Claim
+demands_said None subjects line = []
+demands_said (Some kind) subjects line = map (demands kind line) subjects
+
+-- an object has a quality
+abbrev pub has : ℕ → Name → List ℕ → Bool → Claim
+has line name property is_true = claimed (Has (record { object = key_of name.text; property = property; is_true = is_true })) line
+
+abbrev pub has_quality : ℕ → Name → Quality → Claim
+has_quality line name quality = has line name quality.property quality.is_true
+
+abbrev pub has_all : List Quality → ℕ → Name → List Claim
+has_all qualities line name = map (has_quality line name) qualities
+
+-- what the objects are said to be
+abbrev pub what_claims : Option What → List ℕ → List Name → ℕ → List Claim
+what_claims what words subjects line = demands_said (kind_said what words) subjects line ++ flat_map (has_all (qualities_said what) line) subjects
+
+-- what is worn is wearable
+abbrev pub worn_claims : Rel → ℕ → Name → List Claim
+worn_claims In line name = []
+worn_claims On line name = []
+worn_claims Carried line name = []
+worn_claims Worn line name = has line name (codes "wearable") true ∷ []
+worn_claims Part line name = []
 
 -- what is held is a thing
 abbrev pub placed : Holder → ℕ → Name → List Claim
 placed holder line name =
     demands (codes "thing") line name
-    ∷ claimed (Placed (record { thing = key_of name.text; relation = holder.relation; holder = key_of holder.name.text })) line ∷ []
+    ∷ claimed (Placed (record { thing = key_of name.text; relation = holder.relation; holder = key_of holder.name.text })) line
+    ∷ worn_claims holder.relation line name
 
 -- a holder is what can hold so; what something is in may be a room or a container
 abbrev pub holder_demands : Rel → Name → ℕ → List Claim
@@ -66,29 +101,41 @@ abbrev pub placings_said : Option Holder → List Name → ℕ → List Claim
 placings_said None subjects line = []
 placings_said (Some holder) subjects line = holder_demands holder.relation holder.name line ++ flat_map (placed holder line) subjects
 
-abbrev pub being_claims : Being → ℕ → List Claim
-being_claims being line = map (named stands.Object line) (names_said being) ++ demands_said being.what being.subjects line ++ placings_said being.place being.subjects line
+abbrev pub being_claims : Standings → Being → ℕ → List Claim
+being_claims known being line =
+    map (named stands.Object line) (names_said being) ++ what_claims (what_said known being.what) being.what being.subjects line ++ placings_said being.place being.subjects line
 
 -- a way leads between rooms
 abbrev pub way_claims : Name → Name → ℕ → List Claim
 way_claims subject room line =
     named stands.Object line subject ∷ named stands.Object line room ∷ demands (codes "room") line subject ∷ demands (codes "room") line room ∷ []
 
--- what a sentence claims
-abbrev pub claims_said : Assertion → ℕ → List Claim
-claims_said (assertion.Rulebook name) line = claimed (Rulebook (lowered name.text)) line ∷ []
-claims_said (assertion.Scene name is_recurring) line = named stands.Scene line name ∷ []
-claims_said (assertion.KindOfKind kind parent) line = named stands.Kind line kind ∷ lies kind parent line ∷ []
-claims_said (assertion.EitherOr kind first second) line = either_or kind first second line
-claims_said (assertion.NumberProperty kind property) line = named stands.Number line property ∷ claimed (HasNumber (grant_of kind property)) line ∷ []
-claims_said (assertion.Variable name) line = named stands.Variable line name ∷ []
-claims_said (assertion.Way way) line = way_claims way.subject way.room line
-claims_said (assertion.Are being) line = being_claims being line
-claims_said _ line = []
+-- what a sentence declares besides objects
+abbrev pub declares_said : Assertion → ℕ → List Claim
+declares_said (assertion.Rulebook name) line = claimed (Rulebook (lowered name.text)) line ∷ []
+declares_said (assertion.Scene name is_recurring) line = named stands.Scene line name ∷ []
+declares_said (assertion.KindOfKind kind parent) line = named stands.Kind line kind ∷ lies kind parent line ∷ []
+declares_said (assertion.EitherOr kind first second) line = either_or kind first second line
+declares_said (assertion.NumberProperty kind property) line = named stands.Number line property ∷ claimed (HasNumber (grant_of kind property)) line ∷ []
+declares_said (assertion.Variable name) line = named stands.Variable line name ∷ []
+declares_said _ line = []
 
-abbrev pub claims_in : Sentence → List Claim
-claims_in sentence = claims_said sentence.said sentence.line
+abbrev pub declares_in : Sentence → List Claim
+declares_in sentence = declares_said sentence.said sentence.line
+
+-- what a sentence claims, where each name stands for this
+abbrev pub claims_said : Standings → Assertion → ℕ → List Claim
+claims_said known (assertion.Way way) line = way_claims way.subject way.room line
+claims_said known (assertion.Are being) line = being_claims known being line
+claims_said known said line = declares_said said line
+
+abbrev pub claims_in : Standings → Sentence → List Claim
+claims_in known sentence = claims_said known sentence.said sentence.line
+
+-- what names stand for by the declarations, wherever they are
+abbrev pub known_by : List Sentence → Standings
+known_by sentences = fold with_claim built_in_standings (flat_map declares_in sentences)
 
 -- what a source claims
 abbrev pub claims_of : List Sentence → List Claim
-claims_of sentences = flat_map claims_in sentences
+claims_of sentences = flat_map (claims_in (known_by sentences)) sentences

@@ -13,13 +13,17 @@ use Rattle.i7_kinds.specs.declared.claim.Fact.TheVariants.{Demands, Placed}
 use Rattle.i7_kinds.specs.declared.claim.Placing.{Placing}
 use Rattle.i7_kinds.specs.declared.knowns.Demanded.{Demanded}
 use Rattle.i7_kinds.specs.declared.knowns.Demanded.TheVariants.{Nothing, Deepest, Parted}
+use Rattle.i7_kinds.specs.declared.grants.Given.{Given}
 use Rattle.i7_kinds.specs.declared.knowns.Known.{Known}
 
--- the names of objects and of kinds, by number, and of each kind the kind above it
+-- the names of objects, of kinds and of either-or properties, by number, of each kind the kind above it, and which kinds
+-- sentences give a property to
 pub record Scope : Type 0 where
   pub objects : List (List ℕ)
   pub kinds : List (List ℕ)
   pub parents : List (Option ℕ)
+  pub properties : List (List ℕ)
+  pub givens : List Given
 
 -- ---- what is known of an object by the claims so far
 

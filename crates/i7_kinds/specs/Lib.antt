@@ -19,4 +19,6 @@ pub mod StatedWays
 pub mod Statements
 pub mod Suits
 pub mod Tales
+pub mod Values
 pub mod Views
+pub mod Wording

@@ -8,7 +8,7 @@ use Rattle.i7_sentences.specs.declared.name.Name.{Name}
 use Rattle.i7_sentences.specs.declared.sentence.Assertion.{Assertion}
 use Rattle.i7_sentences.specs.declared.sentence.Assertion.TheVariants.{Aside, Description, Way, Are, EitherOr, KindOfKind, Rulebook, Scene, Variable}
 use Rattle.i7_sentences.specs.declared.sentence.Sentence.{Sentence}
-use Rattle.i7_kinds.specs.Beings.{is_being_meant, names_said}
+use Rattle.i7_kinds.specs.Beings.{names_said}
 pub use Rattle.i7_kinds.specs.Numbers.{number_in, place_or}
 use Rattle.i7_kinds.specs.Quotes.{printed}
 use Rattle.i7_kinds.specs.declared.statements.Numbered.{Numbered}
@@ -24,18 +24,18 @@ pub record NameAt : Type 0 where
   pub name : Name
   pub line : ℕ
 
--- what is said has a meaning so far, where the kinds have these names and these kinds above them
-abbrev pub is_meant : List (List ℕ) → List (Option ℕ) → Assertion → Bool
-is_meant kinds parents Aside = true
-is_meant kinds parents (Description text) = true
-is_meant kinds parents (Way way) = true
-is_meant kinds parents (Are being) = is_being_meant kinds parents being
-is_meant kinds parents (Rulebook name) = true
-is_meant kinds parents (Scene name is_recurring) = true
-is_meant kinds parents (KindOfKind kind parent) = true
-is_meant kinds parents (Variable name) = true
-is_meant kinds parents (EitherOr kind first second) = true
-is_meant kinds parents _ = false
+-- what is said has a meaning so far
+abbrev pub is_meant : Assertion → Bool
+is_meant Aside = true
+is_meant (Description text) = true
+is_meant (Way way) = true
+is_meant (Are being) = true
+is_meant (Rulebook name) = true
+is_meant (Scene name is_recurring) = true
+is_meant (KindOfKind kind parent) = true
+is_meant (Variable name) = true
+is_meant (EitherOr kind first second) = true
+is_meant _ = false
 
 -- the names that a sentence mentions, in the order of its words
 abbrev pub names_in : Assertion → List Name

@@ -1,26 +1,46 @@
 -- Which places the kinds of objects allow, and where the player begins.
-use Rattle.std.specs.Prelude.{ℕ, ◌+◌, Bool, false, not, ◌&&◌, ◌||◌, List, [], ◌∷◌, drop, Option, Some, None, if◌then◌else◌}
+use Rattle.std.specs.Prelude.{ℕ, ◌+◌, Bool, false, not, ◌&&◌, ◌||◌, ◌==◌, List, [], ◌∷◌, drop, slice_get, Option, Some, None, if◌then◌else◌}
+use Rattle.std.specs.List.{list_any}
 use Rattle.world_meaning.specs.Kinds.{is_under, room_kind}
 use Rattle.world_meaning.specs.Placing.{Kinds, can_be_held, can_hold, keeps_player}
 use Rattle.world_meaning.specs.declared.place.Place.{Place}
 use Rattle.world_meaning.specs.declared.place.Rel.TheVariants.{In}
-use Rattle.i7_kinds.specs.Knowns.{Scope, is_parted_at, kind_of, kinds_known}
+use Rattle.i7_kinds.specs.Grants.{built_in_bases}
+use Rattle.i7_kinds.specs.Knowns.{Scope, is_parted_at, kind_of, kinds_known, known_at}
+use Rattle.i7_kinds.specs.Numbers.{number_in}
 use Rattle.i7_kinds.specs.Places.{Places, place_of, put, thing_of}
 use Rattle.i7_kinds.specs.Scans.{lowest}
 use Rattle.i7_kinds.specs.declared.claim.Claim.{Claim}
 use Rattle.i7_kinds.specs.declared.claim.Fact.{Fact}
-use Rattle.i7_kinds.specs.declared.claim.Fact.TheVariants.{Placed}
+use Rattle.i7_kinds.specs.declared.claim.Fact.TheVariants.{Has, Placed}
+use Rattle.i7_kinds.specs.declared.claim.Having.{Having}
 use Rattle.i7_kinds.specs.declared.knowns.Known.{Known}
 
 -- the kinds allow the place: the player is directly in a room
 abbrev pub suits : Kinds → ℕ → Place → Bool
 suits kinds o place = can_be_held kinds o && can_hold kinds place.relation place.holder && keeps_player kinds o place
 
--- C8: a place that the kinds don't allow, where they are known
+abbrev pub kinds_in : Option (List ℕ) → List ℕ
+kinds_in None = []
+kinds_in (Some kinds) = kinds
+
+-- objects of a kind have a property that is built in so, or that sentences give to a kind above
+abbrev pub can_be : Scope → ℕ → ℕ → Bool
+can_be s kind property =
+    list_any (λ base. is_under s.parents kind base) (kinds_in (slice_get built_in_bases property))
+    || list_any (λ given. (given.property == property) && is_under s.parents kind given.kind) s.givens
+
+-- the kind of an object, where it is known, lacks a property
+abbrev pub is_lacking : Scope → List Known → Having → Bool
+is_lacking s knowns h =
+    not (is_parted_at knowns (number_in s.objects h.object)) && not (can_be s (kind_of (known_at knowns (number_in s.objects h.object))) (number_in s.properties h.property))
+
+-- C8: a place that the kinds don't allow, or a property that they lack, where they are known
 abbrev pub is_unsuited : Scope → List Known → Fact → Bool
 is_unsuited s knowns (Placed p) =
     not (is_parted_at knowns (thing_of s.objects p) || is_parted_at knowns (place_of s.objects p).holder)
     && not (suits (kinds_known s.parents knowns) (thing_of s.objects p) (place_of s.objects p))
+is_unsuited s knowns (Has h) = is_lacking s knowns h
 is_unsuited s knowns _ = false
 
 abbrev pub shows_unsuited : Scope → List Known → Claim → Bool

@@ -1,5 +1,5 @@
 -- The tale that a source's sentences mean, or the refusal that stands.
-use Rattle.std.specs.Prelude.{ℕ, ◌+◌, ◌-◌, Bool, not, ◌||◌, ◌==◌, nat_lt, List, [], ◌∷◌, ◌++◌, length, map, find, replicate, slice_get, slice_index_or, Option, Some, None, option_map, codes, Result, Ok, Err, if◌then◌else◌}
+use Rattle.std.specs.Prelude.{ℕ, ◌+◌, ◌-◌, Bool, false, not, ◌&&◌, ◌||◌, ◌==◌, nat_lt, List, [], ◌∷◌, ◌++◌, length, map, find, replicate, slice_get, slice_index_or, Option, Some, None, option_map, codes, Result, Ok, Err, if◌then◌else◌}
 use Rattle.std.specs.List.{list_any}
 use Rattle.world_meaning.specs.Directions.{all_directions, direction_name, direction_number}
 use Rattle.world_meaning.specs.declared.article.Article.{Article}
@@ -12,8 +12,11 @@ use Rattle.world_meaning.specs.declared.fault.FaultCode.{FaultCode}
 use Rattle.world_meaning.specs.declared.fault.FaultCode.TheVariants.{NotUnderstood, Twice, UnknownName, Cycle, WrongKind, TwoPlaces, TooMany, NoRoom}
 use Rattle.world_meaning.specs.declared.tale.Object.{Object}
 use Rattle.world_meaning.specs.declared.tale.Tale.{Tale}
-use Rattle.world_meaning.specs.Kinds.{is_under, room_kind}
-use Rattle.world_meaning.specs.Properties.{start_properties}
+use Rattle.world_meaning.specs.Declarations.{is_had}
+use Rattle.world_meaning.specs.Kinds.{is_under, is_under_one, room_kind}
+use Rattle.world_meaning.specs.declared.declared.Granted.{Granted}
+use Rattle.world_meaning.specs.Properties.{described}
+use Rattle.world_meaning.specs.declared.kinds.TheConstants.{PROPERTIES}
 use Rattle.world_meaning.specs.Standing.{place_at}
 use Rattle.i7_sentences.specs.declared.name.NameArticle.{NameArticle}
 use Rattle.i7_sentences.specs.declared.name.NameArticle.TheVariants as written
@@ -21,18 +24,24 @@ use Rattle.i7_sentences.specs.declared.sentence.Sentence.{Sentence}
 use Rattle.i7_kinds.specs.Demands.{wrong_kind, descriptions_of, description_of, second_description, second_target, target_of, first_of_author, line_at, line_of_description}
 use Rattle.object_words.specs.Words.{words_for}
 use Rattle.i7_kinds.specs.Claims.{claims_of}
+use Rattle.i7_kinds.specs.Grants.{first_base, givens_of, other_bases}
+use Rattle.i7_kinds.specs.Numbers.{has_name, number_in}
+use Rattle.i7_kinds.specs.declared.claim.Fact.{Fact}
+use Rattle.i7_kinds.specs.declared.claim.Fact.TheVariants.{Demands}
 use Rattle.i7_kinds.specs.Firsts.{first_of}
 use Rattle.i7_kinds.specs.KindClaims.{declared_by, kind_cycle, kind_names, kind_too_many, parents_of, unknown_kind}
 use Rattle.i7_kinds.specs.Knowns.{Scope, kinds_of, knowns_of, off_path}
 use Rattle.i7_kinds.specs.Places.{Places, holder_cycle, places_by, second_place}
+use Rattle.i7_kinds.specs.Values.{Values, value_twice, values_by}
 use Rattle.i7_kinds.specs.Suits.{first_room, unsuited, with_player}
 use Rattle.i7_kinds.specs.declared.knowns.Known.{Known}
 use Rattle.i7_kinds.specs.NameScans.{book_twice, name_twice}
 use Rattle.i7_kinds.specs.declared.claim.Claim.{Claim}
 use Rattle.i7_kinds.specs.declared.entries.Entry.{Entry}
 use Rattle.i7_kinds.specs.declared.faults.Faults.{Faults}
-use Rattle.i7_kinds.specs.Scans.{earlier}
-use Rattle.i7_kinds.specs.Sorts.{name_too_many}
+use Rattle.i7_kinds.specs.Scans.{earlier, lowest}
+use Rattle.i7_kinds.specs.Sorts.{name_too_many, names_as}
+use Rattle.i7_kinds.specs.declared.sorts.Sort.TheVariants as sort
 use Rattle.i7_kinds.specs.declared.descriptions.Description.{Description}
 use Rattle.i7_kinds.specs.declared.statements.NumberedSentence.{NumberedSentence}
 use Rattle.i7_kinds.specs.Statements.{NameAt, is_meant, named_by, stated_by}
@@ -82,11 +91,14 @@ exits_of statements room = record { ways = map (λ d. way_to (target_of statemen
 abbrev pub no_exits : Exits
 no_exits = record { ways = replicate 12 (way_to None) }
 
--- the objects' kinds and places, the texts that describe rooms, and what sentences state
+-- the objects' kinds and places, which kinds have which properties, what sentences say of those, the texts that describe
+-- rooms, and what sentences state
 pub record Made : Type 0 where
   pub parents : List (Option ℕ)
   pub kinds : List ℕ
   pub places : Places
+  pub flags : List Granted
+  pub values : Values
   pub descriptions : List Description
   pub statements : List NumberedSentence
 
@@ -110,6 +122,30 @@ entries_of mentions = player_entry ∷ map direction_entry all_directions ++ map
 abbrev pub exits_by : List (Option ℕ) → List NumberedSentence → ℕ → ℕ → Exits
 exits_by parents statements kind o = if is_under parents kind room_kind then exits_of statements o else no_exits
 
+-- by default a property is true of objects of these kinds, but that the player is undescribed
+abbrev pub begins_by_default : List (Option ℕ) → ℕ → ℕ → ℕ → List ℕ → Bool
+begins_by_default parents o kind n true_of = is_under_one parents true_of kind && not ((n == described) && (o == 0))
+
+abbrev pub value_or : Option Bool → Bool → Bool
+value_or None other = other
+value_or (Some value) other = value
+
+-- property n of object o is true as the story begins: where a sentence says so, and else by default
+abbrev pub begins : Made → ℕ → ℕ → ℕ → List ℕ → Bool
+begins m o kind n true_of = value_or (m.values o n) (begins_by_default m.parents o kind n true_of)
+
+-- those of these properties, counted from n, that an object of a kind has and begins with; the first are true of these
+-- kinds by default
+abbrev pub properties_from : Made → ℕ → ℕ → ℕ → List (List ℕ) → List Granted → List ℕ
+properties_from m o kind n true_of [] = []
+properties_from m o kind n true_of (flag ∷ flags) =
+    if begins m o kind n (first_base true_of) && is_had m.parents kind flag then n ∷ properties_from m o kind (n + 1) (other_bases true_of) flags
+    else properties_from m o kind (n + 1) (other_bases true_of) flags
+
+-- of each built-in property the kinds of whose objects it is true by default
+unfoldable pub built_in_truths : List (List ℕ)
+built_in_truths = map (λ property. property.3.now) PROPERTIES
+
 -- object o, of a kind
 unfoldable pub object_as : Made → ℕ → ℕ → Entry → Object
 object_as m kind o e = record {
@@ -119,7 +155,7 @@ object_as m kind o e = record {
   description = description_of m.descriptions o;
   place = place_at m.places o;
   exits = exits_by m.parents m.statements kind o;
-  properties = start_properties m.parents o kind;
+  properties = properties_from m o kind 0 built_in_truths m.flags;
   numbers = [];
 }
 
@@ -142,16 +178,26 @@ refusal_at code (Some line) = Some (record { code = code; line = line })
 
 -- ---- from the claims, the names of the objects, and what sentences state
 
+-- where the kinds have these names and these kinds above them
+abbrev pub scope_with : List (List ℕ) → List (Option ℕ) → List Claim → List (List ℕ) → Scope
+scope_with kinds parents claims keys = record {
+  objects = keys;
+  kinds = kinds;
+  parents = parents;
+  properties = names_as sort.EitherOr claims;
+  givens = givens_of (names_as sort.EitherOr claims) kinds claims;
+}
+
 abbrev pub scope_of : List Claim → List (List ℕ) → Scope
-scope_of claims keys = record { objects = keys; kinds = kind_names claims; parents = parents_of (kind_names claims) claims }
+scope_of claims keys = scope_with (kind_names claims) (parents_of (kind_names claims) claims) claims keys
 
 -- what sentences may not say together, by the lowest lines: C9 of a name that stands for two things, of a rulebook's that
--- is another's and of a second description; C7 of a kind that isn't there; C11 of a cycle of kinds or of holders; C8 of
+-- is another's, of a second description and of the other value of a property; C7 of a kind that isn't there; C11 of a cycle of kinds or of holders; C8 of
 -- demands off one path and of what the kinds don't allow; C10 of an exit's or an object's second place; C12 of a name
 -- that is one too many
 abbrev pub faults_of : Scope → List Known → List Claim → List NumberedSentence → Faults
 faults_of s knowns claims statements = record {
-  twice = earlier (name_twice claims) (earlier (book_twice claims) (second_description (descriptions_of s.parents knowns statements)));
+  twice = earlier (name_twice claims) (earlier (book_twice claims) (earlier (second_description (descriptions_of s.parents knowns statements)) (value_twice s claims)));
   unknown = unknown_kind s.kinds claims;
   cycle = earlier (kind_cycle s.kinds claims) (holder_cycle s.objects claims);
   wrong = earlier (off_path s claims) (earlier (unsuited s knowns claims) (wrong_kind s.parents knowns statements));
@@ -189,6 +235,8 @@ made_of s knowns claims statements = record {
   parents = s.parents;
   kinds = kinds_of knowns;
   places = with_player (places_by s.objects claims) (first_room s.parents knowns);
+  flags = (declared_by claims).flags;
+  values = values_by s claims;
   descriptions = descriptions_of s.parents knowns statements;
   statements = statements;
 }
@@ -202,15 +250,34 @@ judged_by s knowns claims statements mentions =
 abbrev pub judged : Scope → List Claim → List NumberedSentence → List NameAt → Result Tale Fault
 judged s claims statements mentions = judged_by s (knowns_of s claims) claims statements mentions
 
-abbrev pub is_unmeant : List (List ℕ) → List (Option ℕ) → Sentence → Bool
-is_unmeant kinds parents sentence = not (is_meant kinds parents sentence.said)
+abbrev pub is_unmeant : Sentence → Bool
+is_unmeant sentence = not (is_meant sentence.said)
 
 abbrev pub line_of_sentence : Sentence → ℕ
 line_of_sentence sentence = sentence.line
 
--- C5: the first sentence whose assertion has no meaning yet
-abbrev pub unmeant : List (List ℕ) → List (Option ℕ) → List Sentence → Option ℕ
-unmeant kinds parents sentences = option_map line_of_sentence (find (is_unmeant kinds parents) sentences)
+-- the first sentence whose assertion has no meaning yet
+abbrev pub unmeant_sentence : List Sentence → Option ℕ
+unmeant_sentence sentences = option_map line_of_sentence (find is_unmeant sentences)
+
+-- a door is demanded
+abbrev pub is_door_demanded : List (List ℕ) → List (Option ℕ) → Fact → Bool
+is_door_demanded kinds parents (Demands d) = has_name kinds d.kind && is_under parents (number_in kinds d.kind) 3
+is_door_demanded kinds parents _ = false
+
+abbrev pub shows_door : List (List ℕ) → List (Option ℕ) → Claim → Bool
+shows_door kinds parents c = is_door_demanded kinds parents c.fact
+
+abbrev pub same_parents : List (Option ℕ) → Claim → List (Option ℕ)
+same_parents parents c = parents
+
+-- doors have no meaning yet
+abbrev pub door_demanded : List (List ℕ) → List (Option ℕ) → List Claim → Option ℕ
+door_demanded kinds parents claims = lowest (shows_door kinds) same_parents parents claims None
+
+-- C5: the lowest line of what has no meaning yet
+abbrev pub unmeant : List (List ℕ) → List (Option ℕ) → List Claim → List Sentence → Option ℕ
+unmeant kinds parents claims sentences = earlier (unmeant_sentence sentences) (door_demanded kinds parents claims)
 
 abbrev pub unless_unmeant : Option ℕ → Result Tale Fault → Result Tale Fault
 unless_unmeant None said = said
@@ -219,8 +286,8 @@ unless_unmeant (Some line) said = Err (record { code = NotUnderstood; line = lin
 -- where the kinds have these names and these kinds above them
 abbrev pub said_in : List (List ℕ) → List (Option ℕ) → List Claim → List Sentence → Result Tale Fault
 said_in kinds parents claims sentences =
-    unless_unmeant (unmeant kinds parents sentences)
-    (judged (record { objects = (named_by sentences).keys; kinds = kinds; parents = parents }) claims (stated_by sentences) (named_by sentences).mentions)
+    unless_unmeant (unmeant kinds parents claims sentences)
+    (judged (scope_with kinds parents claims (named_by sentences).keys) claims (stated_by sentences) (named_by sentences).mentions)
 
 abbrev pub said_by : List Claim → List Sentence → Result Tale Fault
 said_by claims sentences = said_in (kind_names claims) (parents_of (kind_names claims) claims) claims sentences

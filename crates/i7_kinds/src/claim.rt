@@ -53,6 +53,21 @@ pub struct Placing {
     pub holder: TextBytes,
 }
 
+/// An either-or property, by its first name, is true or isn't.
+#[derive(Debug, Drop)]
+pub struct Quality {
+    pub property: TextBytes,
+    pub is_true: bool,
+}
+
+/// An object has a quality.
+#[derive(Debug, Drop)]
+pub struct Having {
+    pub object: TextBytes,
+    pub property: TextBytes,
+    pub is_true: bool,
+}
+
 /// What is claimed, names in small letters.
 #[derive(Debug, Drop)]
 pub enum Fact {
@@ -63,6 +78,7 @@ pub enum Fact {
     HasNumber(Grant),
     Demands(Demand),
     Placed(Placing),
+    Has(Having),
 }
 
 /// A claim and the line of its sentence.

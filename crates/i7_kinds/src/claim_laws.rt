@@ -4,8 +4,10 @@ ghost use Rattle.i7_kinds.specs.KindClaims.{IsCycle, IsKindTooMany, IsUnknown, k
 ghost use Rattle.i7_kinds.specs.NameScans.{book_twice, name_twice};
 ghost use Rattle.i7_kinds.specs.Places.{IsHolderCycle, IsSecond, holder_cycle, second_place};
 ghost use Rattle.i7_kinds.specs.Scans.{IsLowest, ShownBy};
+ghost use Rattle.i7_kinds.specs.Knowns.{Scope};
 ghost use Rattle.i7_kinds.specs.Sorts.{IsTooMany, too_many_as};
 ghost use Rattle.i7_kinds.specs.Standings.{IsBookTwice, IsTwice};
+ghost use Rattle.i7_kinds.specs.Values.{IsContrary, value_twice};
 ghost use Rattle.i7_kinds.specs.declared.claim.Claim.{Claim};
 ghost use Rattle.i7_kinds.specs.declared.sorts.Sort.{Sort};
 
@@ -47,4 +49,9 @@ pub fn second_places_are_found()
 /// A place that closes a cycle of holders is found at its lowest line.
 pub fn holder_cycles_are_found()
     ensures { (objects : List (List ℕ)) (claims : List Claim) → IsLowest (ShownBy (λ before c. IsHolderCycle objects before c.fact) claims) (holder_cycle objects claims) }
+{}
+
+/// The other value of an object's property is found at its lowest line.
+pub fn values_twice_are_found()
+    ensures { (scope : Scope) (claims : List Claim) → IsLowest (ShownBy (λ before c. IsContrary scope before c.fact) claims) (value_twice scope claims) }
 {}

@@ -1,15 +1,19 @@
 //! What the sentences of a source claim.
-ghost use Rattle.std.specs.Prelude.{◌≡◌, ◌++◌, ◌∷◌, [], map, IfOk, OnOk};
+ghost use Rattle.std.specs.Prelude.{◌≡◌, ◌++◌, ◌∷◌, [], flat_map, map, IfOk, OnOk};
 ghost use Rattle.world_meaning.specs.Spelling.{lowered as small};
 ghost use Rattle.i7_kinds.specs.Beings.{holders_in};
-ghost use Rattle.i7_kinds.specs.Claims.{being_claims, claimed, claims_in, claims_of, claims_said, either_or, grant_of, lies, named, way_claims};
+ghost use Rattle.i7_kinds.specs.Claims.{being_claims, claimed, claims_in, claims_of, claims_said, declares_in, declares_said, either_or, grant_of, known_by, lies, named, way_claims};
+ghost use Rattle.i7_kinds.specs.NameScans.{standing_at};
 ghost use Rattle.i7_kinds.specs.Statements.{key_of};
 ghost use Rattle.i7_kinds.specs.declared.claim.Fact.TheVariants.{CanBe, HasNumber, Rulebook};
 ghost use Rattle.i7_kinds.specs.declared.claim.Standing.TheVariants as stands;
 
+use crate::built_in::built_in_namings;
 use crate::claim::{Claim, Fact, Grant, Lying, Naming, Standing};
-use crate::demanding::{add_demand, add_demands, add_placings};
+use crate::demanding::{add_demand, add_placings, add_what};
 use crate::names::key_of;
+use crate::standings::{Known, known_after};
+use crate::wording::what_said;
 use i7_sentences::{Assertion, Being, Holder, Name, Sentence};
 use std::alloc::{AllocError, Global};
 use world_meaning::{TextBytes, lowered};
@@ -202,27 +206,30 @@ fn add_holder(
 /// Adds what is claimed of objects that are said to be something.
 fn add_being(
     alloc: Global,
+    known: &Known<'_>,
     claims: &mut Vec<Claim>,
     being: &Being,
     line: u32,
 ) -> Result<(), AllocError>
-    ensures { OnOk result (claims.new.items ≡ claims.old.items ++ being_claims being.now line) }
+    ensures { OnOk result (claims.new.items ≡ claims.old.items ++ being_claims (standing_at known.now) being.now line) }
 {
     let subjects = being.subjects.as_slice();
     add_objects(alloc, claims, subjects, line)?;
     add_holder(alloc, claims, &being.place, line)?;
-    add_demands(alloc, claims, being.what.as_slice(), subjects, line)?;
+    let words = being.what.as_slice();
+    let what = what_said(alloc, known, words)?;
+    add_what(alloc, claims, &what, words, subjects, line)?;
     add_placings(alloc, claims, &being.place, subjects, line)
 }
 
-/// Adds what a sentence claims.
-fn add_claims(
+/// Adds what a sentence declares besides objects.
+fn add_declares(
     alloc: Global,
     claims: &mut Vec<Claim>,
     said: &Assertion,
     line: u32,
 ) -> Result<(), AllocError>
-    ensures { OnOk result (claims.new.items ≡ claims.old.items ++ claims_said said.now line) }
+    ensures { OnOk result (claims.new.items ≡ claims.old.items ++ declares_said said.now line) }
 {
     match said {
         Assertion::Rulebook(name) => add_rulebook(alloc, claims, name, line),
@@ -237,21 +244,65 @@ fn add_claims(
             add_number(alloc, claims, kind, property, line)
         }
         Assertion::Variable(name) => add_naming(alloc, claims, name, Standing::Variable, line),
-        Assertion::Way(way) => add_way(alloc, claims, &way.subject, &way.room, line),
-        Assertion::Are(being) => add_being(alloc, claims, being, line),
         _ => Ok(()),
     }
 }
 
-/// What the sentences claim.
-pub fn claims_of(alloc: Global, sentences: &[Sentence]) -> Result<Vec<Claim>, AllocError>
-    ensures { IfOk result (λ claims. claims.items ≡ claims_of sentences.now) }
+/// What the sentences declare besides objects.
+fn declares_of(alloc: Global, sentences: &[Sentence]) -> Result<Vec<Claim>, AllocError>
+    ensures { IfOk result (λ claims. claims.items ≡ flat_map declares_in sentences.now) }
 {
     let mut claims = Vec::new(alloc);
     let mut rest = sentences;
     while let [sentence, after @ ..] = rest {
-        add_claims(alloc, &mut claims, &sentence.said, sentence.line)?;
+        add_declares(alloc, &mut claims, &sentence.said, sentence.line)?;
         rest = after;
     }
+    Ok(claims)
+}
+
+/// Adds what a sentence claims.
+fn add_claims(
+    alloc: Global,
+    known: &Known<'_>,
+    claims: &mut Vec<Claim>,
+    said: &Assertion,
+    line: u32,
+) -> Result<(), AllocError>
+    ensures { OnOk result (claims.new.items ≡ claims.old.items ++ claims_said (standing_at known.now) said.now line) }
+{
+    match said {
+        Assertion::Way(way) => add_way(alloc, claims, &way.subject, &way.room, line),
+        Assertion::Are(being) => add_being(alloc, known, claims, being, line),
+        _ => add_declares(alloc, claims, said, line),
+    }
+}
+
+/// What the sentences claim, where each name stands for this.
+fn claims_with(
+    alloc: Global,
+    known: &Known<'_>,
+    sentences: &[Sentence],
+) -> Result<Vec<Claim>, AllocError>
+    ensures { IfOk result (λ claims. claims.items ≡ flat_map (claims_in (standing_at known.now)) sentences.now) }
+{
+    let mut claims = Vec::new(alloc);
+    let mut rest = sentences;
+    while let [sentence, after @ ..] = rest {
+        add_claims(alloc, known, &mut claims, &sentence.said, sentence.line)?;
+        rest = after;
+    }
+    Ok(claims)
+}
+
+/// What the sentences claim.
+#[tactic(auto, unfolding(crate::specs::NameScans::built_in_standings))]
+pub fn claims_of(alloc: Global, sentences: &[Sentence]) -> Result<Vec<Claim>, AllocError>
+    ensures { IfOk result (λ claims. claims.items ≡ claims_of sentences.now) }
+{
+    let namings = built_in_namings(alloc)?;
+    let declares = declares_of(alloc, sentences)?;
+    let known = known_after(alloc, namings.as_slice(), declares.as_slice())?;
+    let claims = claims_with(alloc, &known, sentences)?;
     Ok(claims)
 }

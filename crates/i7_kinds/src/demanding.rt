@@ -1,14 +1,13 @@
 //! What sentences demand of objects' kinds, and where they place objects.
 ghost use Rattle.std.specs.Prelude.{◌≡◌, ◌++◌, ◌∷◌, [], flat_map, map, IfOk, OnOk};
-ghost use Rattle.i7_kinds.specs.Beings.{kind_said};
-ghost use Rattle.i7_kinds.specs.Claims.{demands, demands_said, holder_demands, placed, placings_said};
+ghost use Rattle.i7_kinds.specs.Claims.{demands, demands_said, has, has_all, has_quality, holder_demands, kind_said, placed, placings_said, qualities_said, what_claims, worn_claims};
 
-use crate::beings::kind_said;
-use crate::claim::{Claim, Demand, Fact, Placing};
+use crate::claim::{Claim, Demand, Fact, Having, Placing, Quality};
 use crate::claiming::key_text;
+use crate::wording::What;
 use i7_sentences::{Holder, Name};
 use std::alloc::{AllocError, Global};
-use world_meaning::{Rel, TextBytes};
+use world_meaning::{Rel, TextBytes, lowered};
 
 /// Adds that an object is demanded to be of a kind.
 pub fn add_demand(
@@ -47,22 +46,134 @@ fn add_each(
     Ok(())
 }
 
-/// Adds that objects are demanded to be of the kind that words name, if there are words.
-pub fn add_demands(
+/// Adds that objects are demanded to be of the kind that words name; words that say nothing name one that isn't there.
+fn add_demands(
     alloc: Global,
     claims: &mut Vec<Claim>,
-    what: &[u8],
+    what: &Option<What>,
+    words: &[u8],
     subjects: &[Name],
     line: u32,
 ) -> Result<(), AllocError>
-    ensures { OnOk result (claims.new.items ≡ claims.old.items ++ demands_said what.now subjects.now line) }
+    ensures { OnOk result (claims.new.items ≡ claims.old.items ++ demands_said (kind_said what.now words.now) subjects.now line) }
 {
     match what {
-        [] => Ok(()),
-        [_, ..] => {
-            let kind = kind_said(alloc, what)?;
+        None => {
+            let kind = lowered(alloc, words)?;
             add_each(alloc, claims, kind.as_slice(), subjects, line)
         }
+        Some(what) => match &what.kind {
+            None => Ok(()),
+            Some(kind) => add_each(alloc, claims, kind.as_slice(), subjects, line),
+        },
+    }
+}
+
+/// Adds that a property of an object is true, or that it isn't.
+fn add_having(
+    alloc: Global,
+    claims: &mut Vec<Claim>,
+    name: &Name,
+    property: &[u8],
+    is_true: bool,
+    line: u32,
+) -> Result<(), AllocError>
+    ensures { OnOk result (claims.new.items ≡ claims.old.items ++ has line name.now property.now is_true ∷ []) }
+{
+    let object = key_text(alloc, name)?;
+    let property = TextBytes::copied(alloc, property)?;
+    claims.push(Claim {
+        fact: Fact::Has(Having {
+            object,
+            property,
+            is_true,
+        }),
+        line,
+    })?;
+    Ok(())
+}
+
+/// Adds that an object has qualities.
+fn add_qualities(
+    alloc: Global,
+    claims: &mut Vec<Claim>,
+    name: &Name,
+    qualities: &[Quality],
+    line: u32,
+) -> Result<(), AllocError>
+    ensures { OnOk result (claims.new.items ≡ claims.old.items ++ has_all qualities.now line name.now) }
+{
+    let mut rest = qualities;
+    while let [quality, after @ ..] = rest {
+        let property = quality.property.as_slice();
+        add_having(alloc, claims, name, property, quality.is_true, line)?;
+        rest = after;
+    }
+    Ok(())
+}
+
+fn add_each_qualities(
+    alloc: Global,
+    claims: &mut Vec<Claim>,
+    qualities: &[Quality],
+    subjects: &[Name],
+    line: u32,
+) -> Result<(), AllocError>
+    ensures { OnOk result (claims.new.items ≡ claims.old.items ++ flat_map (has_all qualities.now line) subjects.now) }
+{
+    let mut rest = subjects;
+    while let [name, after @ ..] = rest {
+        add_qualities(alloc, claims, name, qualities, line)?;
+        rest = after;
+    }
+    Ok(())
+}
+
+fn add_all_qualities(
+    alloc: Global,
+    claims: &mut Vec<Claim>,
+    what: &Option<What>,
+    subjects: &[Name],
+    line: u32,
+) -> Result<(), AllocError>
+    ensures { OnOk result (claims.new.items ≡ claims.old.items ++ flat_map (has_all (qualities_said what.now) line) subjects.now) }
+{
+    match what {
+        None => add_each_qualities(alloc, claims, &[], subjects, line),
+        Some(what) => {
+            add_each_qualities(alloc, claims, what.qualities.as_slice(), subjects, line)
+        }
+    }
+}
+
+/// Adds what objects are said to be.
+pub fn add_what(
+    alloc: Global,
+    claims: &mut Vec<Claim>,
+    what: &Option<What>,
+    words: &[u8],
+    subjects: &[Name],
+    line: u32,
+) -> Result<(), AllocError>
+    ensures { OnOk result (claims.new.items ≡ claims.old.items ++ what_claims what.now words.now subjects.now line) }
+{
+    add_demands(alloc, claims, what, words, subjects, line)?;
+    add_all_qualities(alloc, claims, what, subjects, line)
+}
+
+/// Adds that what is worn is wearable.
+fn add_worn(
+    alloc: Global,
+    claims: &mut Vec<Claim>,
+    relation: Rel,
+    name: &Name,
+    line: u32,
+) -> Result<(), AllocError>
+    ensures { OnOk result (claims.new.items ≡ claims.old.items ++ worn_claims relation line name.now) }
+{
+    match relation {
+        Rel::In | Rel::On | Rel::Carried | Rel::Part => Ok(()),
+        Rel::Worn => add_having(alloc, claims, name, b"wearable", true, line),
     }
 }
 
@@ -86,7 +197,7 @@ fn add_placing(
         fact: Fact::Placed(placing),
         line,
     })?;
-    Ok(())
+    add_worn(alloc, claims, holder.relation, name, line)
 }
 
 fn add_each_placing(

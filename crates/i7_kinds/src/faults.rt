@@ -11,6 +11,7 @@ ghost use Rattle.i7_kinds.specs.Sorts.{name_too_many};
 ghost use Rattle.i7_kinds.specs.StatedWays.{stated};
 ghost use Rattle.i7_kinds.specs.Suits.{unsuited};
 ghost use Rattle.i7_kinds.specs.Tales.{faults_of};
+ghost use Rattle.i7_kinds.specs.Values.{value_twice};
 
 use crate::author_kinds::{kind_cycle, kind_too_many, unknown_kind};
 use crate::claim::Claim;
@@ -24,13 +25,14 @@ use crate::sorts::{Sort, too_many_as};
 use crate::standings::{book_twice, name_twice};
 use crate::statements::NumberedSentence;
 use crate::suits::unsuited;
+use crate::values::value_twice;
 use crate::ways::Ways;
 use std::alloc::{AllocError, Global};
 
 /// The lowest line of each fault.
 #[derive(Clone, Copy, Debug, PartialEq, Eq)]
 pub struct Faults {
-    /// A name or a description that is a second one.
+    /// A name, a description or a value that is a second one.
     pub twice: Option<u32>,
     /// A kind that isn't there.
     pub unknown: Option<u32>,
@@ -57,17 +59,20 @@ fn name_too_many(alloc: Global, claims: &[Claim]) -> Result<Option<u32>, AllocEr
     Ok(earlier(either_or, earlier(number, others)))
 }
 
-/// The lowest line of what is a second name or description.
+/// The lowest line of what is a second name, description or value.
 fn twice(
     alloc: Global,
+    scope: &Scope<'_>,
     claims: &[Claim],
     descriptions: &Descriptions<'_>,
 ) -> Result<Option<u32>, AllocError>
-    ensures { IfOk result (λ line. line ≡ earlier (name_twice claims.now) (earlier (book_twice claims.now) (second_description (descriptions_in descriptions.now)))) }
+    ensures { IfOk result (λ line. line ≡ earlier (name_twice claims.now) (earlier (book_twice claims.now) (earlier (second_description (descriptions_in descriptions.now)) (value_twice scope.now claims.now)))) }
 {
     let name = name_twice(alloc, claims)?;
     let book = book_twice(alloc, claims)?;
-    Ok(earlier(name, earlier(book, descriptions.second())))
+    let value = value_twice(alloc, scope, claims)?;
+    let said = earlier(descriptions.second(), value);
+    Ok(earlier(name, earlier(book, said)))
 }
 
 /// The lowest line of what closes a cycle.
@@ -108,7 +113,7 @@ pub fn faults_of(
     ensures { IfOk result (λ faults. faults ≡ faults_of scope.now knowns.now claims.now (stated ways.now)) }
 {
     Ok(Faults {
-        twice: twice(alloc, claims, descriptions)?,
+        twice: twice(alloc, scope, claims, descriptions)?,
         unknown: unknown_kind(scope.kinds(), claims),
         cycle: cycle(alloc, scope, claims)?,
         wrong: wrong(alloc, scope, knowns, claims, ways.statements())?,

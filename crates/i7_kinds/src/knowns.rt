@@ -55,7 +55,8 @@ fn first_knowns(alloc: Global, count: usize) -> Result<Vec<Known>, AllocError>
     Ok(knowns)
 }
 
-fn known_at(knowns: &[Known], object: usize) -> Known
+/// What is known of an object.
+pub fn known_at(knowns: &[Known], object: usize) -> Known
     ensures { result ≡ known_at knowns.now object }
 {
     match knowns.get(object) {

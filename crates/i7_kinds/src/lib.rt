@@ -3,7 +3,6 @@
 #![tactic(auto)]
 
 mod author_kinds;
-mod beings;
 mod built_in;
 mod claim;
 mod claim_laws;
@@ -23,6 +22,7 @@ mod meant;
 mod names;
 mod objects;
 mod places;
+mod properties;
 mod quotes;
 mod reserved_names;
 mod scans;
@@ -32,11 +32,13 @@ mod standings;
 mod statements;
 mod suits;
 mod tale;
+mod values;
 mod ways;
+mod wording;
 
 pub use claim_laws::{
     books_twice_are_found, cycles_are_found, holder_cycles_are_found, kinds_too_many_are_found,
     names_too_many_are_found, names_twice_are_found, second_places_are_found,
-    unknown_kinds_are_found,
+    unknown_kinds_are_found, values_twice_are_found,
 };
 pub use tale::tale_of;

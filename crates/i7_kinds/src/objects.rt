@@ -1,5 +1,5 @@
 //! The objects of a tale: the player, the directions, and the author's.
-ghost use Rattle.std.specs.Prelude.{◌≡◌, ◌++◌, ◌∷◌, [], IfOk, OnOk, option_copied};
+ghost use Rattle.std.specs.Prelude.{◌≡◌, ◌≤◌, ◌++◌, ◌∷◌, [], IfOk, OnOk, length, option_copied};
 ghost use Rattle.world_meaning.specs.Directions.{direction_number};
 ghost use Rattle.world_meaning.specs.Standing.{place_at};
 ghost use Rattle.i7_kinds.specs.Bounds.{LeadWithin};
@@ -12,19 +12,23 @@ ghost use Rattle.i7_kinds.specs.Views.{mentions_of};
 use crate::descriptions::Descriptions;
 use crate::entries::{Entry, entries_of};
 use crate::names::Mention;
+use crate::properties::properties_of;
+use crate::values::Values;
 use crate::ways::Ways;
 use std::alloc::{AllocError, Global};
 use world_meaning::{
-    Direction, Exits, KindNo, Listed, ObjNo, Object, Place, TextBytes, Way, is_under,
-    start_properties,
+    Direction, Exits, Granted, KindNo, Listed, ObjNo, Object, Place, TextBytes, Way, is_under,
 };
 
-/// What the objects of a tale are made from: their kinds and places, the texts that describe rooms, and ways.
+/// What the objects of a tale are made from: their kinds and places, which kinds have which properties, what sentences
+/// say of those, the texts that describe rooms, and ways.
 #[derive(Drop)]
 pub struct Makings<'a> {
     pub parents: &'a [Option<KindNo>],
     pub kinds: &'a [KindNo],
     pub places: &'a [Option<Place>],
+    pub flags: &'a [Granted],
+    pub values: &'a Values,
     pub descriptions: &'a Descriptions<'a>,
     pub ways: &'a Ways<'a>,
 }
@@ -123,7 +127,8 @@ fn object_as(
     number: usize,
     entry: &Entry<'_>,
 ) -> Result<Object, AllocError>
-    requires { LeadWithin (stated makings.now.ways.now) }
+    requires within { LeadWithin (stated makings.now.ways.now) }
+    requires few_flags { length makings.now.flags.now ≤ 100 }
     ensures { IfOk result (λ object. object ≡ object_as (made_of makings.now) kind number entry.now) }
 {
     Ok(Object {
@@ -133,7 +138,7 @@ fn object_as(
         description: copied(alloc, makings.descriptions.of(number))?,
         place: place_at(makings.places, number),
         exits: exits_by(makings, kind, number),
-        properties: Listed::new(start_properties(alloc, makings.parents, number, kind)?),
+        properties: Listed::new(properties_of(alloc, makings, number, kind)?),
         numbers: Listed::new(Vec::new(alloc)),
     })
 }
@@ -146,7 +151,8 @@ fn push_object(
     number: usize,
     entry: &Entry<'_>,
 ) -> Result<(), AllocError>
-    requires { LeadWithin (stated makings.now.ways.now) }
+    requires within { LeadWithin (stated makings.now.ways.now) }
+    requires few_flags { length makings.now.flags.now ≤ 100 }
     ensures { OnOk result (objects.new.items ≡ objects.old.items ++ object_of (made_of makings.now) number entry.now ∷ []) }
 {
     let kind = kind_at(makings.kinds, number);
@@ -161,7 +167,8 @@ fn objects_from(
     makings: &Makings<'_>,
     entries: &[Entry<'_>],
 ) -> Result<Vec<Object>, AllocError>
-    requires { LeadWithin (stated makings.now.ways.now) }
+    requires within { LeadWithin (stated makings.now.ways.now) }
+    requires few_flags { length makings.now.flags.now ≤ 100 }
     ensures { IfOk result (λ objects. objects.items ≡ objects_of (made_of makings.now) 0 entries.now) }
 {
     let mut objects = Vec::new(alloc);
@@ -181,7 +188,8 @@ pub fn objects_of(
     mentions: &[Mention<'_>],
     makings: &Makings<'_>,
 ) -> Result<Listed<Object>, AllocError>
-    requires { LeadWithin (stated makings.now.ways.now) }
+    requires within { LeadWithin (stated makings.now.ways.now) }
+    requires few_flags { length makings.now.flags.now ≤ 100 }
     ensures { IfOk result (λ objects. objects ≡ objects_of (made_of makings.now) 0 (entries_of (mentions_of mentions.now))) }
 {
     let entries = entries_of(alloc, mentions)?;

@@ -1,17 +1,22 @@
-//! The names of a source's objects and kinds, by number, and which kind lies under which.
+//! The names of a source's objects, kinds and either-or properties, by number, which kind lies under which, and which
+//! kinds sentences give a property to.
 ghost use Rattle.std.specs.Prelude.{◌≡◌};
 
 use crate::author_kinds::is_under;
+use crate::grants::Given;
 use crate::names::number_in;
 use object_words::Strings;
 use std::marker::Model;
 
-/// The names of objects and of kinds, and of each kind the kind above it.
+/// The names of objects, of kinds and of properties, of each kind the kind above it, and the kinds that properties are
+/// given to.
 #[derive(Drop)]
 pub struct Scope<'a> {
     objects: &'a Strings,
     kinds: &'a Strings,
     parents: &'a [Option<usize>],
+    properties: &'a Strings,
+    givens: &'a [Given],
 }
 
 impl<'a> Model for Scope<'a> {
@@ -19,7 +24,7 @@ impl<'a> Model for Scope<'a> {
 
     ghost Value = { Names };
 
-    ghost view = { λ s. record { objects = s.objects.now; kinds = s.kinds.now; parents = s.parents.now } };
+    ghost view = { λ s. record { objects = s.objects.now; kinds = s.kinds.now; parents = s.parents.now; properties = s.properties.now; givens = s.givens.now } };
 }
 
 impl<'a> Scope<'a> {
@@ -27,15 +32,37 @@ impl<'a> Scope<'a> {
     ghost use Rattle.world_meaning.specs.Kinds.{is_under};
     ghost use Rattle.i7_kinds.specs.Numbers.{number_in};
 
-    /// Objects of these names, and kinds of these.
-    pub fn new(objects: &'a Strings, kinds: &'a Strings, parents: &'a [Option<usize>]) -> Scope<'a>
-        ensures { result ≡ record { objects = objects.now; kinds = kinds.now; parents = parents.now } }
+    /// Objects of these names, kinds of these, and properties of these.
+    pub fn new(
+        objects: &'a Strings,
+        kinds: &'a Strings,
+        parents: &'a [Option<usize>],
+        properties: &'a Strings,
+        givens: &'a [Given],
+    ) -> Scope<'a>
+        ensures { result ≡ record { objects = objects.now; kinds = kinds.now; parents = parents.now; properties = properties.now; givens = givens.now } }
     {
         Scope {
             objects,
             kinds,
             parents,
+            properties,
+            givens,
         }
+    }
+
+    /// The number of the property of this first name.
+    pub fn property(&self, key: &[u8]) -> usize
+        ensures { result ≡ number_in self.now.properties key.now }
+    {
+        number_in(self.properties, key)
+    }
+
+    /// The kinds that sentences give properties to.
+    pub fn givens(&self) -> &'a [Given]
+        ensures { result.now ≡ self.now.givens }
+    {
+        self.givens
     }
 
     /// The number of the object of this name.

@@ -1,6 +1,6 @@
 //! What names stand for, and the names that stand for two things.
 ghost use Rattle.std.specs.Prelude.{◌≡◌, IfOk, OnOk, None, fold, option_copied};
-ghost use Rattle.i7_kinds.specs.NameScans.{book_twice, clashes, is_book_twice, is_twice, name_twice, shows_twice, standing_at, with_book, with_claim, with_fact, with_naming};
+ghost use Rattle.i7_kinds.specs.NameScans.{book_twice, clashes, is_book_twice, is_twice, name_twice, no_standings, shows_twice, standing_at, with_book, with_claim, with_fact, with_naming};
 ghost use Rattle.i7_kinds.specs.Scans.{lowest};
 ghost use Rattle.i7_kinds.specs.Standings.{is_second_of, suits, suits_first, suits_second};
 
@@ -13,7 +13,7 @@ use std::alloc::{AllocError, Global};
 use world_meaning::TextBytes;
 
 /// What each name stands for so far.
-type Known<'a> = IndexMap<&'a [u8], &'a Standing>;
+pub type Known<'a> = IndexMap<&'a [u8], &'a Standing>;
 
 /// Whether a property's second name may be said of one with these names.
 fn suits_second(known: &Option<TextBytes>, said: &Option<TextBytes>) -> bool
@@ -69,7 +69,7 @@ fn clashes(known: Option<&Standing>, said: &Standing) -> bool
 }
 
 /// What a name stands for so far.
-fn standing_of<'a>(known: &Known<'a>, name: &[u8]) -> Option<&'a Standing>
+pub fn standing_of<'a>(known: &Known<'a>, name: &[u8]) -> Option<&'a Standing>
     ensures { option_copied result ≡ standing_at known.now name.now }
 {
     known.get(name).copied()
@@ -116,6 +116,31 @@ fn keep_fact<'a>(known: &mut Known<'a>, fact: &'a Fact) -> Result<(), AllocError
         Fact::Stands(naming) => keep(known, naming),
         _ => Ok(()),
     }
+}
+
+fn keep_facts<'a>(known: &mut Known<'a>, claims: &'a [Claim]) -> Result<(), AllocError>
+    ensures { OnOk result (standing_at known.new ≡ fold with_claim (standing_at known.old) claims.now) }
+{
+    let mut rest = claims;
+    while let [claim, after @ ..] = rest {
+        keep_fact(known, &claim.fact)?;
+        rest = after;
+    }
+    Ok(())
+}
+
+/// What each name stands for by the namings, and then by the claims.
+pub fn known_after<'a>(
+    alloc: Global,
+    namings: &'a [Naming],
+    claims: &'a [Claim],
+) -> Result<Known<'a>, AllocError>
+    ensures { IfOk result (λ known. standing_at known ≡ fold with_claim (fold with_naming no_standings namings.now) claims.now) }
+{
+    let mut known = IndexMap::new(alloc);
+    keep_all(&mut known, namings)?;
+    keep_facts(&mut known, claims)?;
+    Ok(known)
 }
 
 /// The lowest line of a name that stands for something else, by what is known before the claims.

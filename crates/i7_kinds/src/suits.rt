@@ -1,17 +1,21 @@
 //! Which places the kinds of objects allow, and where the player begins.
-ghost use Rattle.std.specs.Prelude.{◌≡◌, drop, map};
+ghost use Rattle.std.specs.Prelude.{◌≡◌, ◌&&◌, ◌==◌, drop, map, slice_get};
+ghost use Rattle.std.specs.List.{list_any};
 ghost use Rattle.world_meaning.specs.Placing.{can_be_held, can_hold, keeps_player};
 ghost use Rattle.i7_kinds.specs.Knowns.{kinds_known};
-ghost use Rattle.i7_kinds.specs.Suits.{first_room, is_unsuited, room_from, suits, unsuited, with_player};
+ghost use Rattle.world_meaning.specs.Kinds.{is_under as lies_under};
+ghost use Rattle.i7_kinds.specs.Grants.{built_in_bases};
+ghost use Rattle.i7_kinds.specs.Suits.{can_be, first_room, kinds_in, is_lacking, is_unsuited, room_from, suits, unsuited, with_player};
 
 use crate::author_kinds::is_under;
-use crate::claim::{Claim, Fact};
-use crate::knowns::{Known, is_of, is_parted_at, kind_of};
+use crate::claim::{Claim, Fact, Having};
+use crate::grants::Given;
+use crate::knowns::{Known, is_of, is_parted_at, kind_of, known_at};
 use crate::names::FIRST_OF_AUTHOR;
 use crate::places::{Spot, place_of, put};
 use crate::scans::lower;
 use crate::scope::Scope;
-use world_meaning::{KindNo, Rel};
+use world_meaning::{KindNo, PROPERTIES, PropertyRow, Rel};
 
 fn can_hold(parents: &[Option<usize>], knowns: &[Known], place: Spot) -> bool
     ensures { result ≡ can_hold (kinds_known parents.now knowns.now) place.relation place.holder }
@@ -52,6 +56,47 @@ fn suits(parents: &[Option<usize>], knowns: &[Known], object: usize, place: Spot
         && keeps_player(parents, knowns, object, place)
 }
 
+/// The kinds that have a built-in property.
+fn base_of<'a>(rows: &[PropertyRow<'a>], property: usize) -> &'a [u8]
+    ensures { result.now ≡ kinds_in (slice_get (map (λ row. row.2.now) rows.now) property) }
+{
+    match rows.get(property) {
+        None => &[],
+        Some(row) => row.2,
+    }
+}
+
+fn is_under_base(parents: &[Option<usize>], kind: usize, base: &[u8]) -> bool
+    ensures { result ≡ list_any (λ other. lies_under parents.now kind other) base.now }
+{
+    base.iter()
+        .any(|other| is_under(parents, kind, *other as usize))
+}
+
+fn is_given(parents: &[Option<usize>], givens: &[Given], kind: usize, property: usize) -> bool
+    ensures { result ≡ list_any (λ given. (given.property == property) && lies_under parents.now kind given.kind) givens.now }
+{
+    givens.iter().any(|given| given.property == property && is_under(parents, kind, given.kind))
+}
+
+/// Whether objects of a kind have a property.
+#[tactic(auto, unfolding(crate::specs::Grants::built_in_bases))]
+fn can_be(scope: &Scope<'_>, kind: usize, property: usize) -> bool
+    ensures { result ≡ can_be scope.now kind property }
+{
+    is_under_base(scope.parents(), kind, base_of(&PROPERTIES, property))
+        || is_given(scope.parents(), scope.givens(), kind, property)
+}
+
+/// Whether the kind of an object, where it is known, lacks a property.
+fn is_lacking(scope: &Scope<'_>, knowns: &[Known], having: &Having) -> bool
+    ensures { result ≡ is_lacking scope.now knowns.now having.now }
+{
+    let object = scope.object(having.object.as_slice());
+    let property = scope.property(having.property.as_slice());
+    !is_parted_at(knowns, object) && !can_be(scope, kind_of(known_at(knowns, object)), property)
+}
+
 fn is_unsuited(scope: &Scope<'_>, knowns: &[Known], fact: &Fact) -> bool
     ensures { result ≡ is_unsuited scope.now knowns.now fact.now }
 {
@@ -62,11 +107,12 @@ fn is_unsuited(scope: &Scope<'_>, knowns: &[Known], fact: &Fact) -> bool
             let is_parted = is_parted_at(knowns, thing) || is_parted_at(knowns, place.holder);
             !is_parted && !suits(scope.parents(), knowns, thing, place)
         }
+        Fact::Has(having) => is_lacking(scope, knowns, having),
         _ => false,
     }
 }
 
-/// The lowest line of a place that the kinds don't allow.
+/// The lowest line of a place that the kinds don't allow, or of a property that they lack.
 pub fn unsuited(scope: &Scope<'_>, knowns: &[Known], claims: &[Claim]) -> Option<u32>
     ensures { result ≡ unsuited scope.now knowns.now claims.now }
 {

@@ -1,10 +1,10 @@
 //! The tale of a source's sentences, or the refusal that stands.
-ghost use Rattle.std.specs.Prelude.{◌≡◌, ◌⊎◌, ◌+◌, length, Ok, Err, IfErr, IfOk};
+ghost use Rattle.std.specs.Prelude.{◌≡◌, ◌⊎◌, ◌+◌, ◌≤◌, length, Ok, Err, IfErr, IfOk};
 ghost use Rattle.world_meaning.specs.Faults.{out_of_memory};
 ghost use Rattle.i7_kinds.specs.Bounds.{AreSmallKnowns, AreSmallPlaces, AreWithin, LeadWithin};
 ghost use Rattle.i7_kinds.specs.Demands.{descriptions_of};
 ghost use Rattle.i7_kinds.specs.Described.{descriptions_in};
-ghost use Rattle.i7_kinds.specs.KindClaims.{AreSmallKinds, kind_names, parents_of};
+ghost use Rattle.i7_kinds.specs.KindClaims.{AreSmallKinds, declared_by, kind_names, parents_of};
 ghost use Rattle.i7_kinds.specs.Knowns.{knowns_of};
 ghost use Rattle.i7_kinds.specs.Places.{places_by};
 ghost use Rattle.i7_kinds.specs.StatedWays.{stated};
@@ -18,6 +18,7 @@ use crate::claiming::claims_of;
 use crate::declaring::declared_by;
 use crate::descriptions::Descriptions;
 use crate::faults::{Faults, faults_of};
+use crate::grants::givens_of;
 use crate::knowns::{Known, knowns_of};
 use crate::limits::{name_too_long, object_too_many, text_too_long};
 use crate::making::{kinds_of, places_in};
@@ -27,13 +28,15 @@ use crate::objects::{Makings, objects_of};
 use crate::places::places_by;
 use crate::scans::earlier;
 use crate::scope::Scope;
+use crate::sorts::{Sort, names_as};
 use crate::statements::{NumberedSentence, statements_in};
 use crate::suits::{first_room, put_player};
+use crate::values::values_by;
 use crate::ways::Ways;
 use i7_sentences::Sentence;
 use object_words::Strings;
 use std::alloc::{AllocError, Global};
-use world_meaning::{Fault, FaultCode, Listed, Object, Tale};
+use world_meaning::{Declared, Fault, FaultCode, Listed, Object, Tale};
 
 /// The refusal at a line, if there is one.
 fn refusal_at(code: FaultCode, line: Option<u32>) -> Option<Fault>
@@ -127,11 +130,14 @@ fn objects_meant(
     mentions: &[Mention<'_>],
     descriptions: &Descriptions<'_>,
     ways: &Ways<'_>,
+    declared: &Declared,
 ) -> Result<Listed<Object>, AllocError>
     requires described { descriptions_in descriptions.now ≡ descriptions_of scope.now.parents knowns.now (stated ways.now) }
     requires within { LeadWithin (stated ways.now) }
     requires few_kinds { AreSmallKinds scope.now.parents }
     requires small_kinds { AreSmallKnowns knowns.now }
+    requires declared { declared.now ≡ declared_by claims.now }
+    requires few_flags { length (declared_by claims.now).flags ≤ 100 }
     requires small_places { AreSmallPlaces (with_player (places_by scope.now.objects claims.now) (first_room scope.now.parents knowns.now)) }
     ensures { IfOk result (λ objects. objects ≡ objects_of (made_of scope.now knowns.now claims.now (stated ways.now)) 0 (entries_of (mentions_of mentions.now))) }
 {
@@ -140,10 +146,13 @@ fn objects_meant(
     let mut spots = places_by(alloc, scope, claims)?;
     put_player(spots.as_mut_slice(), first_room(scope.parents(), knowns));
     let places = places_in(alloc, spots.as_slice())?;
+    let values = values_by(alloc, scope, claims)?;
     let makings = Makings {
         parents: parents.as_slice(),
         kinds: kinds.as_slice(),
         places: places.as_slice(),
+        flags: declared.flags.as_slice(),
+        values: &values,
         descriptions,
         ways,
     };
@@ -170,8 +179,17 @@ fn judged(
     if let Some(fault) = refusal_of(alloc, scope, known, claims, mentions, &descriptions, &ways)? {
         return Ok(Err(fault));
     }
-    let objects = objects_meant(alloc, scope, known, claims, mentions, &descriptions, &ways)?;
     let declared = declared_by(alloc, scope.kinds(), claims)?;
+    let objects = objects_meant(
+        alloc,
+        scope,
+        known,
+        claims,
+        mentions,
+        &descriptions,
+        &ways,
+        &declared,
+    )?;
     Ok(Ok(Tale { declared, objects }))
 }
 
@@ -187,7 +205,7 @@ fn said_in(
     requires above { parents.now ≡ parents_of kinds.now claims.now }
     ensures { IfOk result (λ said. said ≡ said_in kinds.now parents.now claims.now sentences.now) }
 {
-    if let Some(line) = unmeant(alloc, kinds, parents, sentences)? {
+    if let Some(line) = unmeant(kinds, parents, claims, sentences) {
         return Ok(Err(Fault {
             code: FaultCode::NotUnderstood,
             line,
@@ -195,7 +213,10 @@ fn said_in(
     }
     let names = names_of(alloc, sentences)?;
     let statements = statements_in(alloc, &names, sentences)?;
-    let scope = Scope::new(names.keys(), kinds, parents);
+    let properties = names_as(alloc, Sort::EitherOr, claims)?;
+    let givens = givens_of(alloc, &properties, kinds, claims)?;
+    let given = givens.as_slice();
+    let scope = Scope::new(names.keys(), kinds, parents, &properties, given);
     let mentions = names.mentions();
     let said = judged(alloc, &scope, mentions, claims, statements.as_slice())?;
     Ok(said)

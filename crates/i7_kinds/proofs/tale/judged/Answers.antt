@@ -29,3 +29,7 @@ pub declared_by-requires-clause-short : goal.declared_by-requires-clause-short
 declared_by-requires-clause-short c =
     let r = ready_at c.args.scope.now c.args.claims.now c.args.statements.now _ (mentions_of c.args.mentions.now) _ c.in_ok-ways.ensures (c.as_slice-known.ensures.value ∙ c.in_ok-knowns.ensures) c.requires.scope c.requires.within c.requires.counted (sym c.in_ok-fault.ensures ∙ c.in_default.is) in
     subst (λ (names : List (List ℕ)). length (parents_of names c.args.claims.now) ≤ 100) (sym c.kinds.ensures) r.short
+
+pub objects_meant-requires-clause-few_flags : goal.objects_meant-requires-clause-few_flags
+objects_meant-requires-clause-few_flags c =
+    (ready_at c.args.scope.now c.args.claims.now c.args.statements.now _ (mentions_of c.args.mentions.now) _ c.in_ok-ways.ensures (c.as_slice-known.ensures.value ∙ c.in_ok-knowns.ensures) c.requires.scope c.requires.within c.requires.counted (sym c.in_ok-fault.ensures ∙ c.in_default.is)).few_flags

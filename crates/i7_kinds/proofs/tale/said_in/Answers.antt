@@ -4,7 +4,7 @@ use Rattle.i7_kinds.specs.Knowns.{Scope}
 use Rattle.i7_kinds.specs.Statements.{NameAt}
 use Rattle.i7_kinds.specs.Views.{mentions_of, names_of}
 use Rattle.i7_kinds.specs.declared.statements.NumberedSentence.{NumberedSentence}
-use Rattle.i7_kinds.proofs.Readiness.{named_counted, named_within, said_same, scope_with}
+use Rattle.i7_kinds.proofs.Readiness.{named_counted, named_within, said_same, scope_meant, scope_same}
 use Rattle.i7_kinds.proofs.tale.said_in.Goals as goal
 
 pub judged-requires-clause-within : goal.judged-requires-clause-within
@@ -20,8 +20,18 @@ judged-requires-clause-counted c =
     ∙ named_counted c.args.sentences.now (names_of c.in_ok-names.names) c.in_ok-names.ensures
     ∙ ap (λ (ms : List NameAt). 13 + length ms) (sym c.mentions-mentions.ensures)
 
+pub judged-requires-clause-scope : goal.judged-requires-clause-scope
+judged-requires-clause-scope c =
+    scope_meant c.new-scope.result c.args.kinds.now c.args.parents.now c.args.claims.now (names_of c.in_ok-names.names).keys
+    (scope_same c.new-scope.result c.args.kinds.now c.args.parents.now c.args.claims.now c.keys.result.now (names_of c.in_ok-names.names).keys c.in_ok-properties.properties c.as_slice-given.result.now
+    c.new-scope.ensures c.keys.ensures c.in_ok-properties.ensures (c.as_slice-given.ensures.value ∙ c.in_ok-givens.ensures))
+    c.requires.named c.requires.above
+
 pub returns : goal.returns
 returns c =
     c.in_ok-said.ensures
-    ∙ said_same c.args.kinds.now c.args.parents.now c.args.claims.now c.args.sentences.now c.new-scope.result c.as_slice.result.now (mentions_of c.mentions-mentions.result.now) c.in_ok-line.field-0 (names_of c.in_ok-names.names)
-    c.in_ok-names.ensures (c.new-scope.ensures ∙ ap (scope_with c.args.kinds.now c.args.parents.now) c.keys.ensures) (c.as_slice.ensures.value ∙ c.in_ok-statements.ensures) c.mentions-mentions.ensures c.in_ok-line.ensures c.in_default.is
+    ∙ said_same c.args.kinds.now c.args.parents.now c.args.claims.now c.args.sentences.now c.new-scope.result c.as_slice.result.now (mentions_of c.mentions-mentions.result.now) c.unmeant.result (names_of c.in_ok-names.names)
+    c.in_ok-names.ensures
+    (scope_same c.new-scope.result c.args.kinds.now c.args.parents.now c.args.claims.now c.keys.result.now (names_of c.in_ok-names.names).keys c.in_ok-properties.properties c.as_slice-given.result.now
+    c.new-scope.ensures c.keys.ensures c.in_ok-properties.ensures (c.as_slice-given.ensures.value ∙ c.in_ok-givens.ensures))
+    (c.as_slice.ensures.value ∙ c.in_ok-statements.ensures) c.mentions-mentions.ensures c.unmeant.ensures c.in_default.is
