@@ -46,7 +46,7 @@ run compile source.i7 story </dev/null
 want "compiling" 0 ""
 
 # sources
-printf 'The Hall is a room.\nThe Hall is a teapot.\n' >bad.i7
+printf 'The Hall is a room.\nThe Hall frobnicates.\n' >bad.i7
 run run bad.i7 </dev/null
 want "a source that isn't understood" 1 "bad.i7:2: C5 NotUnderstood"
 head -c 262145 /dev/zero | tr '\0' ' ' >long.i7

@@ -1,17 +1,14 @@
 #!/usr/bin/env bash
-# Plays a row, as a source and as a compiled story, with each allocation of the run refused in turn. Each
+# Plays two rows, each as a source and as a compiled story, with each allocation of the run refused in turn. Each
 # run must end in one of two ways: with status 4, the one line `i7story: out of memory` and no transcript; or
 # with status 0 and the transcript in which at most one reply is that of the abandoned turn.
 # Use: tests/refused_memory.sh PROGRAM
 set -u
 program=$(realpath "$1")
-row=$(dirname "$0")/rows/two_rooms
-here=$(dirname "$0")
+here=$(realpath "$(dirname "$0")")
 scratch=$(mktemp -d)
 trap 'rm -rf "$scratch"' EXIT
 cc -shared -fPIC -O1 -o "$scratch/refuse.so" "$here/refuse.c" -ldl || exit 1
-
-"$program" compile "$row/source.i7" "$scratch/story" || exit 1
 
 # Plays the row in form $2 with allocation $1 refused (0: none); leaves out, err and count, answers the status.
 play() {
@@ -23,59 +20,82 @@ play() {
 
 # The transcripts that may be written: the whole one, and those in which one turn was abandoned.
 expected() {
+  rm -f "$scratch"/may*
   python3 - "$row" "$scratch" <<'PY'
+import pathlib
 import sys
-row, scratch = sys.argv[1:]
-line = "[The turn was abandoned: out of memory.]\n"
-looks = {"Hall": "Hall\nA bare hall.\n", "Garden": "Garden\n"}
+row, scratch = map(pathlib.Path, sys.argv[1:])
+dark = "Darkness\nIt is pitch dark, and you can't see a thing.\n"
+grotto = "Grotto\nWater drips from the roof.\nYou can see a brass lamp, a chest and some moss here.\n"
+mouth = "Cave Mouth\nDaylight ends here. The cave goes on to the north.\n"
+start, looks, ways = {
+    "two_rooms": (
+        "Hall",
+        {"Hall": "Hall\nA bare hall.\n", "Garden": "Garden\n"},
+        {("Hall", "n"): "Garden", ("Garden", "s"): "Hall"},
+    ),
+    "lamp_in_a_dark_room": (
+        "Mouth",
+        {"Mouth": mouth, "Cave": dark, "Grotto": grotto},
+        {("Mouth", "n"): "Cave", ("Cave", "e"): "Grotto", ("Cave", "s"): "Mouth", ("Grotto", "w"): "Cave"},
+    ),
+}[row.name]
+commands = (row / "commands").read_text().split()
+turns = [place for place, command in enumerate(commands) if command != "undo"]
+
+
 def transcript(refused):
-    room, text = "Hall", looks["Hall"]
-    for place, command in enumerate(["n", "look", "s"]):
-        text += "\n>" + command + "\n"
-        if place == refused:
-            text += line
-            continue
-        if (room, command) == ("Hall", "n"):
-            room, answer = "Garden", looks["Garden"]
-        elif (room, command) == ("Garden", "s"):
-            room, answer = "Hall", looks["Hall"]
-        elif command == "look":
-            answer = looks[room]
+    room, kept, text = start, [], looks[start]
+    for place, command in enumerate(commands):
+        text += f"\n>{command}\n"
+        if command == "undo":
+            text += "Previous turn undone.\n" if kept else "You can't undo any further.\n"
+            room = kept.pop() if kept else room
+        elif place == refused:
+            text += "[The turn was abandoned: out of memory.]\n"
         else:
-            answer = "You can't go that way.\n"
-        text += answer
+            kept.append(room)
+            beyond = room if command == "look" else ways.get((room, command))
+            text += looks[beyond] if beyond else "You can't go that way.\n"
+            room = beyond or room
     return text + "\n>"
-for refused in [None, 0, 1, 2]:
-    open(f"{scratch}/may{refused}", "w").write(transcript(refused))
+
+
+for refused in [None] + turns:
+    (scratch / f"may{refused}").write_text(transcript(refused))
 PY
 }
 
-expected || exit 1
-cmp -s "$row/transcript" "$scratch/mayNone" || { echo "refused memory: the row's transcript isn't the expected one"; exit 1; }
 passed=0
 failed=0
-for form in run play; do
-  play 0 $form || { echo "refused memory: the plain $form fails"; exit 1; }
-  cmp -s "$row/transcript" "$scratch/out" || { echo "refused memory: the transcript of the plain $form differs"; exit 1; }
-  count=$(cat "$scratch/count")
-  abandoned=0
-  for n in $(seq 1 "$count"); do
-    play "$n" $form
-    status=$?
-    good=1
-    if [ $status = 4 ]; then
-      [ ! -s "$scratch/out" ] && [ "$(cat "$scratch/err")" = "i7story: out of memory" ] && good=0
-    elif [ $status = 0 ]; then
-      for may in None 0 1 2; do
-        if cmp -s "$scratch/may$may" "$scratch/out"; then
-          good=0
-          [ $may != None ] && abandoned=$((abandoned + 1))
-        fi
-      done
-    fi
-    if [ $good = 0 ]; then passed=$((passed + 1)); else failed=$((failed + 1)); echo "refused memory: $form: allocation $n: status $status"; fi
+for name in two_rooms lamp_in_a_dark_room; do
+  row=$here/rows/$name
+  "$program" compile "$row/source.i7" "$scratch/story" || exit 1
+  expected || exit 1
+  cmp -s "$row/transcript" "$scratch/mayNone" || { echo "refused memory: $name: the row's transcript isn't the expected one"; exit 1; }
+  for form in run play; do
+    play 0 $form || { echo "refused memory: $name: the plain $form fails"; exit 1; }
+    cmp -s "$row/transcript" "$scratch/out" || { echo "refused memory: $name: the transcript of the plain $form differs"; exit 1; }
+    count=$(cat "$scratch/count")
+    abandoned=0
+    for n in $(seq 1 "$count"); do
+      play "$n" $form
+      status=$?
+      good=1
+      if [ $status = 4 ]; then
+        [ ! -s "$scratch/out" ] && [ "$(cat "$scratch/err")" = "i7story: out of memory" ] && good=0
+      elif [ $status = 0 ]; then
+        for may in "$scratch"/may*; do
+          if cmp -s "$may" "$scratch/out"; then
+            good=0
+            [ "$may" != "$scratch/mayNone" ] && abandoned=$((abandoned + 1))
+          fi
+        done
+      fi
+      if [ $good = 0 ]; then passed=$((passed + 1)); else failed=$((failed + 1)); echo "refused memory: $name: $form: allocation $n: status $status"; fi
+    done
+    [ $abandoned -ge 3 ] || { failed=$((failed + 1)); echo "refused memory: $name: $form: only $abandoned turns were abandoned"; }
   done
-  [ $abandoned -ge 3 ] || { failed=$((failed + 1)); echo "refused memory: $form: only $abandoned turns were abandoned"; }
 done
 echo "refused memory: $passed passed, $failed failed"
 [ $failed = 0 ]

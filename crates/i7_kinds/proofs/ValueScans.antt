@@ -1,5 +1,5 @@
 -- The scan for the other value of a property finds the lowest line of such a one.
-use Rattle.std.proofs.Common.{◌≡◌, ℕ, Bool, true, false, cond, not, List, Option, refl, sym}
+use Rattle.std.proofs.Common.{◌≡◌, ℕ, Bool, true, false, cond, not, List, Option, refl}
 use Rattle.std.specs.Prelude.{◌==◌, Some, None, Decides, is_some, option_copied}
 use Rattle.std.specs.Borrow.{Bor}
 use Rattle.std.proofs.lemmas.Bool.{eqb-true}

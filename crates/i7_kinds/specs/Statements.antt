@@ -1,6 +1,6 @@
 -- What the sentences of a source state, objects by their numbers: 0 the player, 1 to 12 the
 -- directions, then the author's by first mention.
-use Rattle.std.specs.Prelude.{ℕ, Bool, true, false, List, [], ◌∷◌, ◌++◌, map, fold, Option, codes, bytes_eq, if◌then◌else◌}
+use Rattle.std.specs.Prelude.{ℕ, Bool, true, false, List, [], ◌∷◌, ◌++◌, map, fold, codes, bytes_eq, if◌then◌else◌}
 use Rattle.std.specs.List.{list_any}
 use Rattle.world_meaning.specs.Spelling.{is_spelled, lowered}
 use Rattle.world_meaning.specs.Directions.{all_directions, direction_name}

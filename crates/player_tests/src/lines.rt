@@ -94,10 +94,22 @@ fn the_last_eight_turns_are_undone(rt: HostRuntime) -> Result<(), Fail> {
     }
     for count in 0..8 {
         let room = if count % 2 == 0 { 13 } else { 14 };
-        let row: Row = (b"undo", b"Previous turn undone.\n", ReplyKind::Free, room, 9 - count);
+        let row: Row = (
+            b"undo",
+            b"Previous turn undone.\n",
+            ReplyKind::Free,
+            room,
+            9 - count,
+        );
         assert!(rt; is_answered(&mut session, &row), "{}", count);
     }
-    let row: Row = (b"undo", b"You can't undo any further.\n", ReplyKind::Free, 14, 2);
+    let row: Row = (
+        b"undo",
+        b"You can't undo any further.\n",
+        ReplyKind::Free,
+        14,
+        2,
+    );
     assert!(rt; is_answered(&mut session, &row));
     Ok(())
 }

@@ -1,26 +1,24 @@
 -- What the tale that sentences mean declares is what a story may declare, and its objects have what their kinds have.
-use Rattle.std.proofs.Common.{◌≡◌, ℕ, suc, ◌+◌, ◌≤◌, Bool, true, false, ◌&&◌, ◌||◌, leb, List, [], ◌∷◌, ◌++◌, length, Option, refl, sym, ap, arith, ◌∙◌, inl, inr, ◌⊎◌}
+use Rattle.std.proofs.Common.{◌≡◌, ℕ, suc, ◌+◌, ◌≤◌, true, ◌&&◌, leb, List, [], ◌∷◌, ◌++◌, length, Option, refl, sym, ap, arith, ◌∙◌, inl, inr}
 use Rattle.std.specs.List.{list_all}
 use Rattle.std.specs.Prelude.{slice_get}
 use Rattle.std.proofs.lemmas.Bool.{le-leb}
 use Rattle.world_meaning.proofs.Bools.{both, both_are, either}
-use Rattle.world_meaning.proofs.Climbs.{climbs_decide}
-use Rattle.world_meaning.specs.Declarations.{is_among, is_below as is_kind_below, is_had, is_had_at, are_right_grants, are_right_kinds, are_rising, begin_with_kinds, built_in_declared, count_of_numbers, has_properties, has_property, is_number, is_rooted, is_well_declared, suits_kind}
+use Rattle.world_meaning.specs.Declarations.{is_had, is_had_at, are_right_grants, are_right_kinds, are_rising, begin_with_kinds, built_in_declared, count_of_numbers, has_properties, has_property, is_number, is_rooted, is_well_declared, suits_kind}
 use Rattle.world_meaning.specs.declared.declared.Declared.{Declared}
 use Rattle.world_meaning.specs.declared.declared.Granted.{Granted}
-use Rattle.world_meaning.specs.Kinds.{built_in_parents, is_under, is_under_one}
-use Rattle.world_meaning.specs.Properties.{Property, begins_true, begins_true_from, built_in_properties, start_properties}
+use Rattle.world_meaning.specs.Kinds.{built_in_parents}
 use Rattle.i7_kinds.specs.KindClaims.{declared_by, givens_by, kind_names, starts_of}
 use Rattle.i7_kinds.specs.Sorts.{built_in_either_ors, names_as}
 use Rattle.i7_kinds.specs.declared.sorts.Sort.TheVariants as sort
 use Rattle.i7_kinds.specs.declared.claim.Claim.{Claim}
-use Rattle.i7_kinds.proofs.Granting.{any_of, base_kept, begin_built_in, either_ors_behind, flags_counted, flags_right}
+use Rattle.i7_kinds.proofs.Granting.{begin_built_in, either_ors_behind, flags_counted, flags_right}
 use Rattle.i7_kinds.specs.Grants.{built_in_bases, first_base, flags_from, other_bases}
 use Rattle.i7_kinds.specs.declared.grants.Given.{Given}
 use Rattle.i7_kinds.proofs.Rooted.{authors, authors_behind}
 use Rattle.i7_kinds.specs.declared.entries.Entry.{Entry}
 use Rattle.i7_kinds.specs.Tales.{Made, begins, built_in_truths, kind_at, object_as, object_of, objects_of, properties_from}
-use Rattle.i7_kinds.proofs.UnderKinds.{trans, with_others}
+use Rattle.i7_kinds.proofs.UnderKinds.{with_others}
 
 -- what stands behind the built-in kinds and properties, and the variables
 pub record Behind : Type 0 where

@@ -39,7 +39,7 @@ pub record IsPart (g : Game) (echo : Bool) (refused : Option ℕ) (state : State
 pub is_part : (g : Game) (plain : ReadsPlainly g) (echo : Bool) (refused : Option ℕ) (state : State) (gone : Gone) (kept front : List ℕ) → IsGone gone front → IsPart g echo refused state (record { gone = gone; kept = kept }) front (front ++ kept)
 is_part g plain echo refused state gone kept front is =
     let read : meant (gone_reading gone kept) ≡ g.reads state.question (is_visible g.telling.setting state.world) (front ++ kept) =
-        ap meant (reading_typed gone front kept is) ∙ sym (plain state.question (is_visible g.telling.setting state.world) (front ++ kept)) in
+    ap meant (reading_typed gone front kept is) ∙ sym (plain state.question (is_visible g.telling.setting state.world) (front ++ kept)) in
     record {
       text = ap (λ r. shown echo front ++ (shown echo (kept ++ 10 ∷ []) ++ (answer_to g refused state r).text)) read
           ∙ sym (append_assoc (shown echo front) (shown echo (kept ++ 10 ∷ [])) (answer_of g refused state (front ++ kept)).text)

@@ -1,5 +1,5 @@
 -- Looking and going by their parts, and that a turn made of them is the turn of the story's game.
-use Rattle.std.proofs.Common.{◌≡◌, ◌∙◌, ap, sym, refl, subst, ℕ, suc, ◌-◌, Bool, true, false, List, [], ◌∷◌, ◌++◌, length, Ok, Err, arith}
+use Rattle.std.proofs.Common.{◌≡◌, ◌∙◌, ap, sym, refl, subst, ℕ, suc, ◌-◌, Bool, true, false, List, [], ◌∷◌, length, Ok, Err, arith}
 use Rattle.std.specs.Prelude.{Option, None, Some, OnOk, Result, nat_lt, not, ◌==◌, slice_index_or, if◌then◌else◌}
 use Rattle.std.proofs.lemmas.List.{append-nil}
 use Rattle.world_meaning.specs.Directions.{direction_number}
@@ -12,16 +12,16 @@ use Rattle.world_meaning.specs.Texts.{out_of_range_text, said}
 use Rattle.world_meaning.specs.declared.session.Abandon.TheVariants.{NumberOutOfRange}
 use Rattle.world_meaning.specs.declared.session.ReplyKind.TheVariants.{Abandoned, Kept, Free}
 use Rattle.play_meaning.specs.Changes.{put_at}
-use Rattle.play_meaning.specs.Deeds.{arrive, closed_text, go, going_to, is_closed, look, look_text, visit}
-use Rattle.play_meaning.specs.Games.{Acts, Game}
+use Rattle.play_meaning.specs.Deeds.{arrive, closed_text, go, is_closed, look, look_text}
+use Rattle.play_meaning.specs.Games.{Acts}
 use Rattle.play_meaning.specs.PlainReading.{done}
 use Rattle.play_meaning.specs.PlainStories.{PlainStory, game_of_plain, script_of_plain}
-use Rattle.play_meaning.specs.Progress.{Progress, change, fresh}
+use Rattle.play_meaning.specs.Progress.{change, fresh}
 use Rattle.play_meaning.specs.Scripts.{game_of}
 use Rattle.play_meaning.specs.Seeing.{has_light, root_of}
-use Rattle.play_meaning.specs.Sessions.{Answer, State, abandoned, closed, completed, ends_in_break, keep, opened, played, read_answer, refuses}
+use Rattle.play_meaning.specs.Sessions.{Answer, State, abandoned, closed, completed, ends_in_break, keep, opened, played, read_answer}
 use Rattle.play_meaning.specs.StandardActions.{standard_needs}
-use Rattle.play_meaning.specs.Turns.{count_turn, look_round, most_turns, opening, turn}
+use Rattle.play_meaning.specs.Turns.{count_turn, most_turns, opening, turn}
 use Rattle.play_meaning.specs.Values.{beyond}
 use Rattle.play_meaning.specs.Worlds.{World, location_of, next_turn}
 use Rattle.play_meaning.proofs.PlainTurns.{go_ended, go_turn, go_turns, look_ended, look_turn, look_turns, opened_by_looking}
@@ -119,7 +119,7 @@ pub over_answer : (k : PlainStory) (s : State) (action : Action) → nat_lt s.wo
     → abandoned NumberOutOfRange s ≡ turn_answer k None s action
 over_answer k s action over =
     sym (ap (λ (going : Bool). played Kept (keep s.world s.kept) s (if going then Ok (change next_turn (deed k s.world action)) else Err NumberOutOfRange))
-      (ap (λ n. nat_lt n most_turns) (deed_turns k s.world action) ∙ over))
+    (ap (λ n. nat_lt n most_turns) (deed_turns k s.world action) ∙ over))
 
 -- below it it is kept, and the story goes on
 pub kept_answer : (k : PlainStory) (s : State) (action : Action) → nat_lt s.world.turns most_turns ≡ true → s.world.ended ≡ None
@@ -127,7 +127,7 @@ pub kept_answer : (k : PlainStory) (s : State) (action : Action) → nat_lt s.wo
     ≡ turn_answer k None s action
 kept_answer k s action below going =
     sym (ap (λ (b : Bool). played Kept (keep s.world s.kept) s (if b then Ok (change next_turn (deed k s.world action)) else Err NumberOutOfRange))
-      (ap (λ n. nat_lt n most_turns) (deed_turns k s.world action) ∙ below)
+    (ap (λ n. nat_lt n most_turns) (deed_turns k s.world action) ∙ below)
     ∙ ap (closed Kept (keep s.world s.kept) (change next_turn (deed k s.world action))) (deed_ended k s.world action ∙ going))
 
 -- the opening is a look round

@@ -80,7 +80,12 @@ fn say_others(text: &mut Vec<u8>, story: &Story, things: &[ObjNo]) -> Result<(),
 }
 
 /// Adds a line that lists these things.
-fn say_list(text: &mut Vec<u8>, story: &Story, first: ObjNo, others: &[ObjNo]) -> Result<(), AllocError>
+fn say_list(
+    text: &mut Vec<u8>,
+    story: &Story,
+    first: ObjNo,
+    others: &[ObjNo],
+) -> Result<(), AllocError>
     ensures { OnOk result (text.new.items ≡ text.old.items ++ view_text (setting_of story.now) (first ∷ others.now)) }
 {
     text.extend_from_slice(b"You can see ")?;
@@ -112,7 +117,12 @@ fn say_description(text: &mut Vec<u8>, story: &Story, object: ObjNo) -> Result<(
 
 /// What a look says in a room in light where these things can be seen.
 #[tactic(auto, unfolding(world_store::specs::StorySettings::setting_of, world_store::specs::StoryGames::plain_story))]
-fn room_text(alloc: Global, story: &Story, room: ObjNo, things: &[ObjNo]) -> Result<Vec<u8>, AllocError>
+fn room_text(
+    alloc: Global,
+    story: &Story,
+    room: ObjNo,
+    things: &[ObjNo],
+) -> Result<Vec<u8>, AllocError>
     ensures { IfOk result (λ text. text.items ≡ room_text (plain_story story.now) (Some room) things.now) }
 {
     let mut text = Vec::new(alloc);

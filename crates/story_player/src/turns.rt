@@ -49,7 +49,11 @@ fn closed_door(world: &World, direction: Direction) -> Option<ObjNo>
         (λ door. IsClosedOn (setting_of world.now.tables) world.now.world (direction_number direction) door) }
 {
     let door = world.door_on_way(direction)?;
-    if is_closed(world, door) { Some(door) } else { None }
+    if is_closed(world, door) {
+        Some(door)
+    } else {
+        None
+    }
 }
 
 /// The player comes to a room and looks round.
@@ -91,7 +95,11 @@ fn deed(alloc: Global, world: &mut World, action: Action) -> Result<Vec<u8>, All
 }
 
 /// Does what the player means to do; its text is complete. Where memory is refused the world may be any of the story.
-pub(crate) fn done(alloc: Global, world: &mut World, action: Action) -> Result<TextBytes, AllocError>
+pub(crate) fn done(
+    alloc: Global,
+    world: &mut World,
+    action: Action,
+) -> Result<TextBytes, AllocError>
     ensures text { IfOk result (λ text. text ≡ completed (deed (plain_story world.old.tables) world.old.world action).text) }
     ensures world { OnOk result (world.new ≡ in_world world.old (deed (plain_story world.old.tables) world.old.world action).world) }
     ensures story { world.new.tables ≡ world.old.tables }

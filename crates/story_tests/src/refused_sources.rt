@@ -61,7 +61,7 @@ const REFUSED: &[(&str, FaultCode, u32)] = &[
         3,
     ),
     (
-        "The Hall is a room.\nThe hat is worn by Bob.",
+        "The Hall is a room.\nBob wears a hat.",
         FaultCode::NotUnderstood,
         2,
     ),

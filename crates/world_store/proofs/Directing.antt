@@ -49,7 +49,7 @@ kinds_right : (t : Tables) → IsStory t → are_right_kinds t.world.kinds ≡ t
 unfolding is_right_world
 kinds_right t story =
     (last_of_five (are_right_kinds t.world.kinds) (begin_with_properties t.world.flags built_in_properties) (are_right_grants (length t.world.kinds) t.world.flags)
-      (are_right_grants (length t.world.kinds) t.world.numbers) (leb (length t.world.variables) 100) (world_right t story)).0
+    (are_right_grants (length t.world.kinds) t.world.numbers) (leb (length t.world.variables) 100) (world_right t story)).0
 
 kinds_begin : (t : Tables) → IsStory t → begin_with_kinds t.world.kinds built_in_parents ≡ true
 unfolding are_right_kinds
@@ -77,9 +77,9 @@ one_root parents kind a b ra rb (above {parent = p} e u) (above {parent = q} f v
 other_root : (t : Tables) (kind a b : ℕ) → IsStory t → slice_get built_in_parents a ≡ Some None → slice_get built_in_parents b ≡ Some None → (a ≡ b → ⊥)
     → is_under t.world.kinds kind a ≡ true → is_under t.world.kinds kind b ≡ false
 other_root t kind a b story ra rb other is = elim (either (is_under t.world.kinds kind b)) [
-    | inl under ↦ absurd (other (one_root t.world.kinds kind a b (root_is t a story ra) (root_is t b story rb) (lies is) (lies under)))
-    | inr not ↦ not
-  ]
+  | inl under ↦ absurd (other (one_root t.world.kinds kind a b (root_is t a story ra) (root_is t b story rb) (lies is) (lies under)))
+  | inr not ↦ not
+]
   where
     lies : {o : ℕ} → is_under t.world.kinds kind o ≡ true → Under t.world.kinds kind o
     lies {o} under = (climbs_decide t.world.kinds kind o).0 under
@@ -91,9 +91,12 @@ entry_at : (strings : List (List ℕ)) (parents : List (Option ℕ)) (ds : List 
 unfolding are_direction_entries is_direction_entry
 entry_at strings parents [] es i d are is = absurd cc
 entry_at strings parents (x ∷ ds) [] i d are is = absurd cc
-entry_at strings parents (x ∷ ds) (e ∷ es) zero d are is =
-    (e, refl, (last_of_five (is_under parents e.kind direction_kind) (is_named strings e.name (direction_name x)) (eqb e.article 0) (eqb e.relation 255) (eqb e.holder 65535)
-      (both_are (is_direction_entry strings parents x e) (are_direction_entries strings parents ds es) are).0).0)
+entry_at strings parents (x ∷ ds) (e ∷ es) zero d are is = (
+  e,
+  refl,
+  (last_of_five (is_under parents e.kind direction_kind) (is_named strings e.name (direction_name x)) (eqb e.article 0) (eqb e.relation 255) (eqb e.holder 65535)
+      (both_are (is_direction_entry strings parents x e) (are_direction_entries strings parents ds es) are).0).0,
+)
 entry_at strings parents (x ∷ ds) (e ∷ es) (suc i) d are is =
     entry_at strings parents ds es i d (both_are (is_direction_entry strings parents x e) (are_direction_entries strings parents ds es) are).1 is
 
@@ -110,7 +113,7 @@ unfolding are_in_place
 behind_player strings parents rooms [] i d placed is = absurd cc
 behind_player strings parents rooms (player ∷ others) i d placed is =
     let found = entry_at strings parents all_directions (take 12 others) i d
-        (three (leb 12 (length others)) (is_player_entry strings parents rooms player) (are_direction_entries strings parents all_directions (take 12 others)) placed).2 is in
+    (three (leb 12 (length others)) (is_player_entry strings parents rooms player) (are_direction_entries strings parents all_directions (take 12 others)) placed).2 is in
     (found.0, taken_at 12 i others found.0 found.1, found.2)
 
 numbered : (t : Tables) (i : ℕ) (d : Direction) → IsStory t → slice_get all_directions i ≡ Some d

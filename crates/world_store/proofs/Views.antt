@@ -37,7 +37,7 @@ in_holder here (Some place) is = (both_are (relation_number place.relation == re
 viewed_in : (s : Setting) (w : World) (here o : ℕ) → location_of w ≡ Some here → is_on_view s w o ≡ true → is_holder here (holder_of w.places o) ≡ true
 viewed_in s w here o is view =
     let held : is_held w In (location_of w) o ≡ true =
-        (both_are (is_among s w (Quality described_flag First ∷ NotSo (Quality scenery_flag First) ∷ []) (Some thing_kind) o) (is_held w In (location_of w) o) view).1 in
+    (both_are (is_among s w (Quality described_flag First ∷ NotSo (Quality scenery_flag First) ∷ []) (Some thing_kind) o) (is_held w In (location_of w) o) view).1 in
     in_holder here (place_of w o) (ap (λ holder. is_held w In holder o) (sym is) ∙ held)
 
 pub view_within : (s : Setting) (w : World) (here : ℕ) → length w.places ≡ s.count → location_of w ≡ Some here

@@ -1,4 +1,4 @@
-use Rattle.std.proofs.Common.{◌∙◌, ap, sym, true}
+use Rattle.std.proofs.Common.{◌∙◌, ap, sym}
 use Rattle.play_meaning.specs.Worlds.{location_of}
 use Rattle.story_format.specs.InPlay.{door_in, exits_of}
 use Rattle.world_meaning.specs.Directions.{direction_number}
@@ -12,4 +12,4 @@ returns-then-is_of-2 c =
     let s = setting_of c.args.self.now.tables in
     c.door_in.ensures ∙ ap (λ e. door_in e (direction_number c.args.direction)) (c.exits.ensures ∙ ap (λ t. exits_of t c.location-here.result) c.story.ensures)
     ∙ beyond_here s s.door_beyond (direction_number c.args.direction) c.location-here.result (location_of c.args.self.now.world) c.location-here.ensures
-      (ap (λ d. s.is_of d 2) (sym c.number.ensures) ∙ sym c.if-is_of.ensures) (sym c.if-is_of-2.ensures)
+    (ap (λ d. s.is_of d 2) (sym c.number.ensures) ∙ sym c.if-is_of.ensures) (sym c.if-is_of-2.ensures)
