@@ -8,8 +8,10 @@ use Rattle.std.proofs.lemmas.List.{length-append}
 use Rattle.i7_sentences.specs.declared.name.Name.{Name}
 use Rattle.i7_sentences.specs.declared.sentence.Sentence.{Sentence}
 use Rattle.i7_sentences.specs.declared.sentence.Assertion.{Assertion}
-use Rattle.i7_sentences.specs.declared.sentence.Assertion.TheVariants.{Description, Way, Are}
+use Rattle.i7_sentences.specs.declared.sentence.Assertion.TheVariants.{Description, Way, Are, Holds}
 use Rattle.world_meaning.specs.Directions.{opposite_of}
+use Rattle.world_meaning.specs.declared.place.Rel.{Rel}
+use Rattle.world_meaning.specs.declared.place.Rel.TheVariants.{In, On, Carried, Worn, Part}
 use Rattle.world_meaning.specs.declared.fault.FaultCode.{FaultCode}
 use Rattle.world_meaning.specs.declared.fault.FaultCode.TheVariants.{Cycle, NoRoom, TooMany, Twice, TwoPlaces, UnknownName, WrongKind}
 use Rattle.i7_kinds.specs.Bounds.{AreWithin, IsSmall, IsWithin, LeadWithin}
@@ -21,7 +23,7 @@ use Rattle.i7_kinds.specs.Tales.{frame_refusal, no_room, object_too_many, refusa
 use Rattle.i7_kinds.specs.declared.statements.Numbered.{Numbered}
 use Rattle.i7_kinds.specs.declared.statements.Numbered.TheVariants as numbered
 use Rattle.i7_kinds.specs.declared.statements.NumberedSentence.{NumberedSentence}
-use Rattle.i7_kinds.specs.Statements.{NameAt, Named, built_in_keys, numbered_in, numbered_subject, has_key, key_of, named_by, names_at, number_in, place_or, stated_by, statement_in, with_name, with_names_of}
+use Rattle.i7_kinds.specs.Statements.{NameAt, Named, built_in_keys, numbered_holding, numbered_in, numbered_subject, has_key, key_of, named_by, names_at, number_in, place_or, stated_by, statement_in, with_name, with_names_of}
 
 -- as many keys as objects
 abbrev pub IsCounted : Named → Type 0
@@ -69,9 +71,17 @@ subject-within named [] = tt
 subject-within named (name ∷ []) = tt
 subject-within named (name ∷ other ∷ names) = tt
 
+holding-within : (named : Named) (relation : Rel) (holder : Name) (things : List Name) → IsWithin (length named.keys) (numbered_holding named relation holder things)
+holding-within named In holder things = subject-within named things
+holding-within named On holder things = subject-within named things
+holding-within named Carried holder things = tt
+holding-within named Worn holder things = tt
+holding-within named Part holder things = subject-within named things
+
 pub assertion-within : (named : Named) (said : Assertion) → IsWithin (length named.keys) (numbered_in named said)
 assertion-within named (Description text) = tt
 assertion-within named (Are being) = subject-within named being.subjects
+assertion-within named (Holds holder relation things) = holding-within named relation holder things
 assertion-within named (Way way) = (number-within named.keys (key_of way.subject.text), number-within named.keys (key_of way.room.text))
 assertion-within named _ = tt
 

@@ -16,7 +16,7 @@ use Rattle.i7_kinds.specs.Standings.{has_name}
 use Rattle.i7_kinds.specs.Statements.{number_in}
 use Rattle.i7_kinds.specs.declared.claim.Claim.{Claim}
 use Rattle.i7_kinds.specs.declared.claim.Fact.{Fact}
-use Rattle.i7_kinds.specs.declared.claim.Fact.TheVariants.{Lies, CanBe, HasNumber, Demands}
+use Rattle.i7_kinds.specs.declared.claim.Fact.TheVariants.{Lies, CanBe, HasNumber, Demands, Usually, Unread}
 use Rattle.i7_kinds.proofs.Bounds.{number-within}
 use Rattle.i7_kinds.proofs.Lowest.{lowest_is}
 use Rattle.i7_kinds.proofs.NameScans.{never}
@@ -30,6 +30,8 @@ unknown_decides names (Lies l) = not_decides (has_name names l.parent)
 unknown_decides names (CanBe g) = not_decides (has_name names g.kind)
 unknown_decides names (HasNumber g) = not_decides (has_name names g.kind)
 unknown_decides names (Demands d) = not_decides (has_name names d.kind)
+unknown_decides names (Usually u) = not_decides (has_name names u.kind)
+unknown_decides names (Unread words) = (λ h. tt, λ h. refl)
 unknown_decides names _ = never (λ h. h)
 
 same_fold : (claims : List Claim) (names : List (List ℕ)) → fold same_names names claims ≡ names

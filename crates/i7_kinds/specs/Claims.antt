@@ -12,11 +12,12 @@ use Rattle.i7_sentences.specs.declared.sentence.Sentence.{Sentence}
 use Rattle.i7_kinds.specs.Beings.{names_said}
 use Rattle.i7_kinds.specs.NameScans.{Standings, built_in_standings, with_claim}
 use Rattle.i7_kinds.specs.Statements.{key_of}
-use Rattle.i7_kinds.specs.Wording.{what_said}
+use Rattle.i7_kinds.specs.Plurals.{kind_named}
+use Rattle.i7_kinds.specs.Wording.{usual_said, what_said}
 use Rattle.i7_kinds.specs.declared.wording.What.{What}
 use Rattle.i7_kinds.specs.declared.claim.Claim.{Claim}
 use Rattle.i7_kinds.specs.declared.claim.Fact.{Fact}
-use Rattle.i7_kinds.specs.declared.claim.Fact.TheVariants.{Stands, Rulebook, Lies, CanBe, HasNumber, Demands, Placed, Has}
+use Rattle.i7_kinds.specs.declared.claim.Fact.TheVariants.{Stands, Rulebook, Lies, CanBe, HasNumber, Demands, Placed, Has, Usually, Unread}
 use Rattle.i7_kinds.specs.declared.claim.Grant.{Grant}
 use Rattle.i7_kinds.specs.declared.claim.Quality.{Quality}
 use Rattle.i7_kinds.specs.declared.claim.Standing.{Standing}
@@ -105,10 +106,30 @@ abbrev pub being_claims : Standings → Being → ℕ → List Claim
 being_claims known being line =
     map (named stands.Object line) (names_said being) ++ what_claims (what_said known being.what) being.what being.subjects line ++ placings_said being.place being.subjects line
 
+-- the kind that a name says, in the plural too
+abbrev pub kind_or : Option (List ℕ) → List ℕ → List ℕ
+kind_or None name = name
+kind_or (Some kind) name = kind
+
+abbrev pub usual : List ℕ → ℕ → Quality → Claim
+usual kind line quality = claimed (Usually (record { kind = kind; property = quality.property; is_true = quality.is_true })) line
+
+abbrev pub usual_claims : List ℕ → Option What → List ℕ → ℕ → List Claim
+usual_claims kind None words line = claimed (Unread words) line ∷ []
+usual_claims kind (Some what) words line = map (usual kind line) what.qualities
+
+-- objects of a kind are usually so
+abbrev pub usually_claims : Standings → Name → List ℕ → ℕ → List Claim
+usually_claims known kind words line = usual_claims (kind_or (kind_named known (key_of kind.text)) (key_of kind.text)) (usual_said known words) words line
+
 -- a way leads between rooms
 abbrev pub way_claims : Name → Name → ℕ → List Claim
 way_claims subject room line =
     named stands.Object line subject ∷ named stands.Object line room ∷ demands (codes "room") line subject ∷ demands (codes "room") line room ∷ []
+
+-- a holder holds things so
+abbrev pub holding_claims : Name → Rel → List Name → ℕ → List Claim
+holding_claims holder relation things line = map (named stands.Object line) (holder ∷ things) ++ placings_said (Some (record { relation = relation; name = holder })) things line
 
 -- what a sentence declares besides objects
 abbrev pub declares_said : Assertion → ℕ → List Claim
@@ -127,6 +148,8 @@ declares_in sentence = declares_said sentence.said sentence.line
 abbrev pub claims_said : Standings → Assertion → ℕ → List Claim
 claims_said known (assertion.Way way) line = way_claims way.subject way.room line
 claims_said known (assertion.Are being) line = being_claims known being line
+claims_said known (assertion.Holds holder relation things) line = holding_claims holder relation things line
+claims_said known (assertion.Usually kind adjectives) line = usually_claims known kind adjectives line
 claims_said known said line = declares_said said line
 
 abbrev pub claims_in : Standings → Sentence → List Claim

@@ -1,6 +1,6 @@
 -- The kinds of a source: the built-in ones, then the author's in the order of their sentences; and which kinds there
 -- may not be.
-use Rattle.std.specs.Prelude.{◌≡◌, ℕ, ◌+◌, ◌≤◌, Bool, false, not, nat_le, List, [], ◌∷◌, ◌++◌, length, fold, map, Option, Some, None, ⊤, ℤ, pos}
+use Rattle.std.specs.Prelude.{◌≡◌, ℕ, ◌+◌, ◌≤◌, Bool, true, false, not, nat_le, List, [], ◌∷◌, ◌++◌, length, fold, map, Option, Some, None, ⊤, ℤ, pos}
 use Rattle.world_meaning.specs.Declarations.{built_in_declared}
 use Rattle.world_meaning.specs.Kinds.{Under, built_in_parents, is_under}
 use Rattle.world_meaning.specs.declared.declared.Declared.{Declared}
@@ -14,7 +14,7 @@ use Rattle.i7_kinds.specs.Standings.{has_name}
 use Rattle.i7_kinds.specs.Statements.{number_in}
 use Rattle.i7_kinds.specs.declared.claim.Claim.{Claim}
 use Rattle.i7_kinds.specs.declared.claim.Fact.{Fact}
-use Rattle.i7_kinds.specs.declared.claim.Fact.TheVariants.{Lies, CanBe, HasNumber, Demands}
+use Rattle.i7_kinds.specs.declared.claim.Fact.TheVariants.{Lies, CanBe, HasNumber, Demands, Usually, Unread}
 
 abbrev pub with_kind : List (List ℕ) → Fact → List (List ℕ)
 with_kind names (Lies l) = mention names l.kind
@@ -67,12 +67,14 @@ declared_by claims = record built_in_declared {
 
 -- ---- refusals
 
--- a kind is named that none of these is
+-- a kind is named that none of these is, or words name nothing
 abbrev pub IsUnknown : List (List ℕ) → Fact → Type 0
 IsUnknown names (Lies l) = has_name names l.parent ≡ false
 IsUnknown names (CanBe g) = has_name names g.kind ≡ false
 IsUnknown names (HasNumber g) = has_name names g.kind ≡ false
 IsUnknown names (Demands d) = has_name names d.kind ≡ false
+IsUnknown names (Usually u) = has_name names u.kind ≡ false
+IsUnknown names (Unread words) = ⊤
 IsUnknown names _ = ⊥
 
 -- a kind, which takes the next number, closes a cycle with those before it
@@ -92,6 +94,8 @@ is_unknown names (Lies l) = not (has_name names l.parent)
 is_unknown names (CanBe g) = not (has_name names g.kind)
 is_unknown names (HasNumber g) = not (has_name names g.kind)
 is_unknown names (Demands d) = not (has_name names d.kind)
+is_unknown names (Usually u) = not (has_name names u.kind)
+is_unknown names (Unread words) = true
 is_unknown names _ = false
 
 abbrev pub shows_unknown : List (List ℕ) → Claim → Bool

@@ -11,6 +11,7 @@ pub mod Making
 pub mod NameScans
 pub mod Numbers
 pub mod Places
+pub mod Plurals
 pub mod Quotes
 pub mod Scans
 pub mod Sorts

@@ -4,9 +4,11 @@ use Rattle.std.specs.Prelude.{ℕ, Bool, true, false, List, [], ◌∷◌, ◌++
 use Rattle.std.specs.List.{list_any}
 use Rattle.world_meaning.specs.Spelling.{is_spelled, lowered}
 use Rattle.world_meaning.specs.Directions.{all_directions, direction_name}
+use Rattle.world_meaning.specs.declared.place.Rel.{Rel}
+use Rattle.world_meaning.specs.declared.place.Rel.TheVariants.{In, On, Carried, Worn, Part}
 use Rattle.i7_sentences.specs.declared.name.Name.{Name}
 use Rattle.i7_sentences.specs.declared.sentence.Assertion.{Assertion}
-use Rattle.i7_sentences.specs.declared.sentence.Assertion.TheVariants.{Aside, Description, Way, Are, EitherOr, KindOfKind, Rulebook, Scene, Variable}
+use Rattle.i7_sentences.specs.declared.sentence.Assertion.TheVariants.{Aside, Description, Way, Are, EitherOr, Holds, KindOfKind, Rulebook, Scene, Usually, Variable}
 use Rattle.i7_sentences.specs.declared.sentence.Sentence.{Sentence}
 use Rattle.i7_kinds.specs.Beings.{names_said}
 pub use Rattle.i7_kinds.specs.Numbers.{number_in, place_or}
@@ -35,12 +37,15 @@ is_meant (Scene name is_recurring) = true
 is_meant (KindOfKind kind parent) = true
 is_meant (Variable name) = true
 is_meant (EitherOr kind first second) = true
+is_meant (Usually kind adjectives) = true
+is_meant (Holds holder relation things) = true
 is_meant _ = false
 
 -- the names that a sentence mentions, in the order of its words
 abbrev pub names_in : Assertion → List Name
 names_in (Are being) = names_said being
 names_in (Way way) = if way.is_room_first then way.room ∷ way.subject ∷ [] else way.subject ∷ way.room ∷ []
+names_in (Holds holder relation things) = holder ∷ things
 names_in _ = []
 
 abbrev pub names_at : Sentence → List NameAt
@@ -79,11 +84,20 @@ numbered_subject named [] = numbered.Aside
 numbered_subject named (name ∷ []) = numbered.Being (number_of named name)
 numbered_subject named (name ∷ other ∷ names) = numbered.Aside
 
+-- who carries or wears is what the sentence is about, and else what is held
+abbrev pub numbered_holding : Named → Rel → Name → List Name → Numbered
+numbered_holding named In holder things = numbered_subject named things
+numbered_holding named On holder things = numbered_subject named things
+numbered_holding named Carried holder things = numbered.Being (number_of named holder)
+numbered_holding named Worn holder things = numbered.Being (number_of named holder)
+numbered_holding named Part holder things = numbered_subject named things
+
 -- what a sentence asserts, objects by their numbers and texts as they are printed
 abbrev pub numbered_in : Named → Assertion → Numbered
 numbered_in named (Description text) = numbered.Description (printed text)
 numbered_in named (Are being) = numbered_subject named being.subjects
 numbered_in named (Way way) = numbered.Way (record { subject = number_of named way.subject; direction = way.direction; room = number_of named way.room })
+numbered_in named (Holds holder relation things) = numbered_holding named relation holder things
 numbered_in named _ = numbered.Aside
 
 abbrev pub statement_in : Named → Sentence → NumberedSentence

@@ -12,8 +12,9 @@ use Rattle.i7_kinds.specs.Places.{Places, place_of, put, thing_of}
 use Rattle.i7_kinds.specs.Scans.{lowest}
 use Rattle.i7_kinds.specs.declared.claim.Claim.{Claim}
 use Rattle.i7_kinds.specs.declared.claim.Fact.{Fact}
-use Rattle.i7_kinds.specs.declared.claim.Fact.TheVariants.{Has, Placed}
+use Rattle.i7_kinds.specs.declared.claim.Fact.TheVariants.{Has, Placed, Usually}
 use Rattle.i7_kinds.specs.declared.claim.Having.{Having}
+use Rattle.i7_kinds.specs.declared.claim.Usual.{Usual}
 use Rattle.i7_kinds.specs.declared.knowns.Known.{Known}
 
 -- the kinds allow the place: the player is directly in a room
@@ -35,12 +36,17 @@ abbrev pub is_lacking : Scope → List Known → Having → Bool
 is_lacking s knowns h =
     not (is_parted_at knowns (number_in s.objects h.object)) && not (can_be s (kind_of (known_at knowns (number_in s.objects h.object))) (number_in s.properties h.property))
 
+-- a kind lacks the property of which something is usual
+abbrev pub is_never : Scope → Usual → Bool
+is_never s u = not (can_be s (number_in s.kinds u.kind) (number_in s.properties u.property))
+
 -- C8: a place that the kinds don't allow, or a property that they lack, where they are known
 abbrev pub is_unsuited : Scope → List Known → Fact → Bool
 is_unsuited s knowns (Placed p) =
     not (is_parted_at knowns (thing_of s.objects p) || is_parted_at knowns (place_of s.objects p).holder)
     && not (suits (kinds_known s.parents knowns) (thing_of s.objects p) (place_of s.objects p))
 is_unsuited s knowns (Has h) = is_lacking s knowns h
+is_unsuited s knowns (Usually u) = is_never s u
 is_unsuited s knowns _ = false
 
 abbrev pub shows_unsuited : Scope → List Known → Claim → Bool

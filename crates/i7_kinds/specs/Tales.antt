@@ -32,7 +32,8 @@ use Rattle.i7_kinds.specs.Firsts.{first_of}
 use Rattle.i7_kinds.specs.KindClaims.{declared_by, kind_cycle, kind_names, kind_too_many, parents_of, unknown_kind}
 use Rattle.i7_kinds.specs.Knowns.{Scope, kinds_of, knowns_of, off_path}
 use Rattle.i7_kinds.specs.Places.{Places, holder_cycle, places_by, second_place}
-use Rattle.i7_kinds.specs.Values.{Values, value_twice, values_by}
+use Rattle.i7_kinds.specs.Values.{Values, usual_of, value_twice, values_by}
+use Rattle.i7_kinds.specs.declared.values.Bearer.TheVariants.{Objects, Kinds}
 use Rattle.i7_kinds.specs.Suits.{first_room, unsuited, with_player}
 use Rattle.i7_kinds.specs.declared.knowns.Known.{Known}
 use Rattle.i7_kinds.specs.NameScans.{book_twice, name_twice}
@@ -91,14 +92,15 @@ exits_of statements room = record { ways = map (λ d. way_to (target_of statemen
 abbrev pub no_exits : Exits
 no_exits = record { ways = replicate 12 (way_to None) }
 
--- the objects' kinds and places, which kinds have which properties, what sentences say of those, the texts that describe
--- rooms, and what sentences state
+-- the objects' kinds and places, which kinds have which properties, what sentences say of those and what is usual, the
+-- texts that describe rooms, and what sentences state
 pub record Made : Type 0 where
   pub parents : List (Option ℕ)
   pub kinds : List ℕ
   pub places : Places
   pub flags : List Granted
   pub values : Values
+  pub usuals : Values
   pub descriptions : List Description
   pub statements : List NumberedSentence
 
@@ -130,9 +132,10 @@ abbrev pub value_or : Option Bool → Bool → Bool
 value_or None other = other
 value_or (Some value) other = value
 
--- property n of object o is true as the story begins: where a sentence says so, and else by default
+-- property n of object o is true as the story begins: where a sentence says so, else where it usually is, and else by
+-- default
 abbrev pub begins : Made → ℕ → ℕ → ℕ → List ℕ → Bool
-begins m o kind n true_of = value_or (m.values o n) (begins_by_default m.parents o kind n true_of)
+begins m o kind n true_of = value_or (m.values o n) (value_or (usual_of m.parents m.usuals kind n) (begins_by_default m.parents o kind n true_of))
 
 -- those of these properties, counted from n, that an object of a kind has and begins with; the first are true of these
 -- kinds by default
@@ -197,7 +200,7 @@ scope_of claims keys = scope_with (kind_names claims) (parents_of (kind_names cl
 -- that is one too many
 abbrev pub faults_of : Scope → List Known → List Claim → List NumberedSentence → Faults
 faults_of s knowns claims statements = record {
-  twice = earlier (name_twice claims) (earlier (book_twice claims) (earlier (second_description (descriptions_of s.parents knowns statements)) (value_twice s claims)));
+  twice = earlier (name_twice claims) (earlier (book_twice claims) (earlier (second_description (descriptions_of s.parents knowns statements)) (earlier (value_twice Objects s claims) (value_twice Kinds s claims))));
   unknown = unknown_kind s.kinds claims;
   cycle = earlier (kind_cycle s.kinds claims) (holder_cycle s.objects claims);
   wrong = earlier (off_path s claims) (earlier (unsuited s knowns claims) (wrong_kind s.parents knowns statements));
@@ -236,7 +239,8 @@ made_of s knowns claims statements = record {
   kinds = kinds_of knowns;
   places = with_player (places_by s.objects claims) (first_room s.parents knowns);
   flags = (declared_by claims).flags;
-  values = values_by s claims;
+  values = values_by Objects s claims;
+  usuals = values_by Kinds s claims;
   descriptions = descriptions_of s.parents knowns statements;
   statements = statements;
 }

@@ -1,6 +1,6 @@
--- What sentences say of objects' either-or properties, by their numbers: the first that is said of each stands, and the
--- other value is a fault.
-use Rattle.std.specs.Prelude.{◌≡◌, ℕ, Bool, false, not, ◌&&◌, ◌==◌, List, fold, Option, Some, None, if◌then◌else◌}
+-- What sentences say of the either-or properties of objects, or usually of those of kinds, by their numbers: the first that
+-- is said of each stands, and the other value is a fault.
+use Rattle.std.specs.Prelude.{◌≡◌, ℕ, Bool, false, not, ◌&&◌, ◌==◌, List, [], ◌∷◌, fold, slice_get, Option, Some, None, if◌then◌else◌}
 use Rattle.indexmap.specs.IndexMap.{IndexMap, get}
 use Rattle.i7_kinds.specs.Firsts.{first_of}
 use Rattle.i7_kinds.specs.Knowns.{Scope}
@@ -8,65 +8,85 @@ use Rattle.i7_kinds.specs.Numbers.{number_in}
 use Rattle.i7_kinds.specs.Scans.{lowest}
 use Rattle.i7_kinds.specs.declared.claim.Claim.{Claim}
 use Rattle.i7_kinds.specs.declared.claim.Fact.{Fact}
-use Rattle.i7_kinds.specs.declared.claim.Fact.TheVariants.{Has}
-use Rattle.i7_kinds.specs.declared.claim.Having.{Having}
+use Rattle.i7_kinds.specs.declared.claim.Fact.TheVariants.{Has, Usually}
+use Rattle.i7_kinds.specs.declared.values.Bearer.{Bearer}
+use Rattle.i7_kinds.specs.declared.values.Bearer.TheVariants.{Objects, Kinds}
+use Rattle.i7_kinds.specs.declared.values.Told.{Told}
 use Rattle.i7_kinds.specs.declared.values.Slot.{Slot}
 
--- of each object and property what is said, if anything is
+-- of each object, or kind, and property what is said, if anything is
 abbrev pub Values : Type 0
 Values = ℕ → ℕ → Option Bool
 
 abbrev pub no_values : Values
-no_values object property = None
+no_values bearer property = None
 
-abbrev pub slot_of : Scope → Having → Slot
-slot_of s h = record { object = number_in s.objects h.object; property = number_in s.properties h.property }
+-- what a fact says of the properties of objects, or of kinds
+abbrev pub told_by : Bearer → Scope → Fact → Option Told
+told_by Objects s (Has h) = Some (record { slot = record { bearer = number_in s.objects h.object; property = number_in s.properties h.property }; is_true = h.is_true })
+told_by Kinds s (Usually u) = Some (record { slot = record { bearer = number_in s.kinds u.kind; property = number_in s.properties u.property }; is_true = u.is_true })
+told_by _ s _ = None
 
 abbrev pub given_slot : Slot → Bool → Values
-given_slot slot value object property = if (slot.object == object) && (slot.property == property) then Some value else None
+given_slot slot value bearer property = if (slot.bearer == bearer) && (slot.property == property) then Some value else None
 
 abbrev pub with_slot : Values → Slot → Bool → Values
-with_slot values slot value object property = first_of (values object property) (given_slot slot value object property)
+with_slot values slot value bearer property = first_of (values bearer property) (given_slot slot value bearer property)
 
-abbrev pub with_value : Scope → Values → Fact → Values
-with_value s values (Has h) = with_slot values (slot_of s h) h.is_true
-with_value s values _ = values
+abbrev pub with_told : Values → Option Told → Values
+with_told values None = values
+with_told values (Some told) = with_slot values told.slot told.is_true
 
-abbrev pub with_value_of : Scope → Values → Claim → Values
-with_value_of s values c = with_value s values c.fact
+abbrev pub with_value_of : Bearer → Scope → Values → Claim → Values
+with_value_of b s values c = with_told values (told_by b s c.fact)
 
 -- what sentences say first
-abbrev pub values_by : Scope → List Claim → Values
-values_by s claims = fold (with_value_of s) no_values claims
+abbrev pub values_by : Bearer → Scope → List Claim → Values
+values_by b s claims = fold (with_value_of b s) no_values claims
 
 -- ---- C9: the other value
 
 abbrev pub value_in : Values → Slot → Option Bool
-value_in values slot = values slot.object slot.property
+value_in values slot = values slot.bearer slot.property
 
 abbrev pub is_other : Option Bool → Bool → Bool
 is_other None value = false
 is_other (Some first) value = if first then not value else value
 
-abbrev pub is_contrary : Scope → Values → Fact → Bool
-is_contrary s values (Has h) = is_other (value_in values (slot_of s h)) h.is_true
-is_contrary s values _ = false
+abbrev pub is_contrary : Values → Option Told → Bool
+is_contrary values None = false
+is_contrary values (Some told) = is_other (value_in values told.slot) told.is_true
 
-abbrev pub shows_contrary : Scope → Values → Claim → Bool
-shows_contrary s values c = is_contrary s values c.fact
+abbrev pub shows_contrary : Bearer → Scope → Values → Claim → Bool
+shows_contrary b s values c = is_contrary values (told_by b s c.fact)
 
-abbrev pub value_twice : Scope → List Claim → Option ℕ
-value_twice s claims = lowest (shows_contrary s) (with_value_of s) no_values claims None
+abbrev pub value_twice : Bearer → Scope → List Claim → Option ℕ
+value_twice b s claims = lowest (shows_contrary b s) (with_value_of b s) no_values claims None
 
 -- what is looked for: what is said first is the other value
-abbrev pub IsContrary : Scope → List Claim → Fact → Type 0
-IsContrary s before (Has h) = value_in (values_by s before) (slot_of s h) ≡ Some (not h.is_true)
-IsContrary s before _ = ⊥
+abbrev pub IsContrary : Values → Option Told → Type 0
+IsContrary values None = ⊥
+IsContrary values (Some told) = value_in values told.slot ≡ Some (not told.is_true)
 
--- ---- what a map has of an object and a property
+-- ---- what is usual of objects of a kind: what is said of the deepest kind
+
+abbrev pub usual_on : (ℕ → Option Bool) → Option (Option ℕ) → Option Bool
+usual_on climb None = None
+usual_on climb (Some None) = None
+usual_on climb (Some (Some parent)) = climb parent
+
+-- by steps up, at most one for each item of a list
+abbrev pub usual_from : List (Option ℕ) → List (Option ℕ) → Values → ℕ → ℕ → Option Bool
+usual_from [] parents usuals kind property = usuals kind property
+usual_from (x ∷ left) parents usuals kind property = first_of (usuals kind property) (usual_on (λ parent. usual_from left parents usuals parent property) (slice_get parents kind))
+
+abbrev pub usual_of : List (Option ℕ) → Values → ℕ → ℕ → Option Bool
+usual_of parents usuals kind property = usual_from parents parents usuals kind property
+
+-- ---- what a map has of a bearer and a property
 
 abbrev pub slot_eq : Slot → Slot → Bool
-slot_eq a b = (a.object == b.object) && (a.property == b.property)
+slot_eq a b = (a.bearer == b.bearer) && (a.property == b.property)
 
 abbrev pub value_at : {S : Type 0} → IndexMap Slot Bool S → Values
-value_at values object property = get slot_eq values (record { object = object; property = property })
+value_at values bearer property = get slot_eq values (record { bearer = bearer; property = property })

@@ -45,6 +45,8 @@ fn is_unknown(names: &Strings, fact: &Fact) -> bool
         Fact::CanBe(grant) => !names.contains(grant.kind.as_slice()),
         Fact::HasNumber(grant) => !names.contains(grant.kind.as_slice()),
         Fact::Demands(demand) => !names.contains(demand.kind.as_slice()),
+        Fact::Usually(usual) => !names.contains(usual.kind.as_slice()),
+        Fact::Unread(_) => true,
         _ => false,
     }
 }

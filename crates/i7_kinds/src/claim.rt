@@ -68,6 +68,14 @@ pub struct Having {
     pub is_true: bool,
 }
 
+/// Objects of a kind usually have a quality.
+#[derive(Debug, Drop)]
+pub struct Usual {
+    pub kind: TextBytes,
+    pub property: TextBytes,
+    pub is_true: bool,
+}
+
 /// What is claimed, names in small letters.
 #[derive(Debug, Drop)]
 pub enum Fact {
@@ -79,6 +87,9 @@ pub enum Fact {
     Demands(Demand),
     Placed(Placing),
     Has(Having),
+    Usually(Usual),
+    /// Words that name nothing.
+    Unread(TextBytes),
 }
 
 /// A claim and the line of its sentence.

@@ -7,7 +7,8 @@ ghost use Rattle.i7_kinds.specs.Scans.{IsLowest, ShownBy};
 ghost use Rattle.i7_kinds.specs.Knowns.{Scope};
 ghost use Rattle.i7_kinds.specs.Sorts.{IsTooMany, too_many_as};
 ghost use Rattle.i7_kinds.specs.Standings.{IsBookTwice, IsTwice};
-ghost use Rattle.i7_kinds.specs.Values.{IsContrary, value_twice};
+ghost use Rattle.i7_kinds.specs.Values.{IsContrary, told_by, value_twice, values_by};
+ghost use Rattle.i7_kinds.specs.declared.values.Bearer.{Bearer};
 ghost use Rattle.i7_kinds.specs.declared.claim.Claim.{Claim};
 ghost use Rattle.i7_kinds.specs.declared.sorts.Sort.{Sort};
 
@@ -51,7 +52,7 @@ pub fn holder_cycles_are_found()
     ensures { (objects : List (List ℕ)) (claims : List Claim) → IsLowest (ShownBy (λ before c. IsHolderCycle objects before c.fact) claims) (holder_cycle objects claims) }
 {}
 
-/// The other value of an object's property is found at its lowest line.
+/// The other value of a property of an object, or of what is usual of a kind, is found at its lowest line.
 pub fn values_twice_are_found()
-    ensures { (scope : Scope) (claims : List Claim) → IsLowest (ShownBy (λ before c. IsContrary scope before c.fact) claims) (value_twice scope claims) }
+    ensures { (bearer : Bearer) (scope : Scope) (claims : List Claim) → IsLowest (ShownBy (λ before c. IsContrary (values_by bearer scope before) (told_by bearer scope c.fact)) claims) (value_twice bearer scope claims) }
 {}

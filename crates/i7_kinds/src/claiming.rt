@@ -2,7 +2,7 @@
 ghost use Rattle.std.specs.Prelude.{◌≡◌, ◌++◌, ◌∷◌, [], flat_map, map, IfOk, OnOk};
 ghost use Rattle.world_meaning.specs.Spelling.{lowered as small};
 ghost use Rattle.i7_kinds.specs.Beings.{holders_in};
-ghost use Rattle.i7_kinds.specs.Claims.{being_claims, claimed, claims_in, claims_of, claims_said, declares_in, declares_said, either_or, grant_of, known_by, lies, named, way_claims};
+ghost use Rattle.i7_kinds.specs.Claims.{being_claims, claimed, claims_in, claims_of, claims_said, declares_in, declares_said, either_or, grant_of, holding_claims, known_by, lies, named, way_claims};
 ghost use Rattle.i7_kinds.specs.NameScans.{standing_at};
 ghost use Rattle.i7_kinds.specs.Statements.{key_of};
 ghost use Rattle.i7_kinds.specs.declared.claim.Fact.TheVariants.{CanBe, HasNumber, Rulebook};
@@ -10,13 +10,14 @@ ghost use Rattle.i7_kinds.specs.declared.claim.Standing.TheVariants as stands;
 
 use crate::built_in::built_in_namings;
 use crate::claim::{Claim, Fact, Grant, Lying, Naming, Standing};
-use crate::demanding::{add_demand, add_placings, add_what};
+use crate::demanding::{add_demand, add_held, add_placings, add_what};
 use crate::names::key_of;
 use crate::standings::{Known, known_after};
+use crate::usuals::add_usually;
 use crate::wording::what_said;
 use i7_sentences::{Assertion, Being, Holder, Name, Sentence};
 use std::alloc::{AllocError, Global};
-use world_meaning::{TextBytes, lowered};
+use world_meaning::{Rel, TextBytes, lowered};
 
 /// The key of a name, as a text.
 pub fn key_text(alloc: Global, name: &Name) -> Result<TextBytes, AllocError>
@@ -261,6 +262,22 @@ fn declares_of(alloc: Global, sentences: &[Sentence]) -> Result<Vec<Claim>, Allo
     Ok(claims)
 }
 
+/// Adds what is claimed of what holds things, and of them.
+fn add_holding(
+    alloc: Global,
+    claims: &mut Vec<Claim>,
+    holder: &Name,
+    relation: Rel,
+    things: &[Name],
+    line: u32,
+) -> Result<(), AllocError>
+    ensures { OnOk result (claims.new.items ≡ claims.old.items ++ holding_claims holder.now relation things.now line) }
+{
+    add_naming(alloc, claims, holder, Standing::Object, line)?;
+    add_objects(alloc, claims, things, line)?;
+    add_held(alloc, claims, relation, holder, things, line)
+}
+
 /// Adds what a sentence claims.
 fn add_claims(
     alloc: Global,
@@ -274,6 +291,14 @@ fn add_claims(
     match said {
         Assertion::Way(way) => add_way(alloc, claims, &way.subject, &way.room, line),
         Assertion::Are(being) => add_being(alloc, known, claims, being, line),
+        Assertion::Holds {
+            holder,
+            relation,
+            things,
+        } => add_holding(alloc, claims, holder, *relation, things.as_slice(), line),
+        Assertion::Usually { kind, adjectives } => {
+            add_usually(alloc, known, claims, kind, adjectives.as_slice(), line)
+        }
         _ => add_declares(alloc, claims, said, line),
     }
 }

@@ -1,5 +1,5 @@
 //! What sentences demand of objects' kinds, and where they place objects.
-ghost use Rattle.std.specs.Prelude.{◌≡◌, ◌++◌, ◌∷◌, [], flat_map, map, IfOk, OnOk};
+ghost use Rattle.std.specs.Prelude.{◌≡◌, ◌++◌, ◌∷◌, [], Some, flat_map, map, IfOk, OnOk};
 ghost use Rattle.i7_kinds.specs.Claims.{demands, demands_said, has, has_all, has_quality, holder_demands, kind_said, placed, placings_said, qualities_said, what_claims, worn_claims};
 
 use crate::claim::{Claim, Demand, Fact, Having, Placing, Quality};
@@ -181,37 +181,39 @@ fn add_worn(
 fn add_placing(
     alloc: Global,
     claims: &mut Vec<Claim>,
-    holder: &Holder,
+    relation: Rel,
+    holder: &Name,
     name: &Name,
     line: u32,
 ) -> Result<(), AllocError>
-    ensures { OnOk result (claims.new.items ≡ claims.old.items ++ placed holder.now line name.now) }
+    ensures { OnOk result (claims.new.items ≡ claims.old.items ++ placed (record { relation = relation; name = holder.now }) line name.now) }
 {
     add_demand(alloc, claims, b"thing", name, line)?;
     let placing = Placing {
         thing: key_text(alloc, name)?,
-        relation: holder.relation,
-        holder: key_text(alloc, &holder.name)?,
+        relation,
+        holder: key_text(alloc, holder)?,
     };
     claims.push(Claim {
         fact: Fact::Placed(placing),
         line,
     })?;
-    add_worn(alloc, claims, holder.relation, name, line)
+    add_worn(alloc, claims, relation, name, line)
 }
 
 fn add_each_placing(
     alloc: Global,
     claims: &mut Vec<Claim>,
-    holder: &Holder,
+    relation: Rel,
+    holder: &Name,
     subjects: &[Name],
     line: u32,
 ) -> Result<(), AllocError>
-    ensures { OnOk result (claims.new.items ≡ claims.old.items ++ flat_map (placed holder.now line) subjects.now) }
+    ensures { OnOk result (claims.new.items ≡ claims.old.items ++ flat_map (placed (record { relation = relation; name = holder.now }) line) subjects.now) }
 {
     let mut rest = subjects;
     while let [name, after @ ..] = rest {
-        add_placing(alloc, claims, holder, name, line)?;
+        add_placing(alloc, claims, relation, holder, name, line)?;
         rest = after;
     }
     Ok(())
@@ -221,18 +223,34 @@ fn add_each_placing(
 fn add_holder_demand(
     alloc: Global,
     claims: &mut Vec<Claim>,
-    holder: &Holder,
+    relation: Rel,
+    holder: &Name,
     line: u32,
 ) -> Result<(), AllocError>
-    ensures { OnOk result (claims.new.items ≡ claims.old.items ++ holder_demands holder.now.relation holder.now.name line) }
+    ensures { OnOk result (claims.new.items ≡ claims.old.items ++ holder_demands relation holder.now line) }
 {
-    match holder.relation {
+    match relation {
         Rel::In => Ok(()),
-        Rel::On => add_demand(alloc, claims, b"supporter", &holder.name, line),
-        Rel::Carried => add_demand(alloc, claims, b"person", &holder.name, line),
-        Rel::Worn => add_demand(alloc, claims, b"person", &holder.name, line),
-        Rel::Part => add_demand(alloc, claims, b"thing", &holder.name, line),
+        Rel::On => add_demand(alloc, claims, b"supporter", holder, line),
+        Rel::Carried => add_demand(alloc, claims, b"person", holder, line),
+        Rel::Worn => add_demand(alloc, claims, b"person", holder, line),
+        Rel::Part => add_demand(alloc, claims, b"thing", holder, line),
     }
+}
+
+/// Adds that a holder holds objects.
+pub fn add_held(
+    alloc: Global,
+    claims: &mut Vec<Claim>,
+    relation: Rel,
+    holder: &Name,
+    subjects: &[Name],
+    line: u32,
+) -> Result<(), AllocError>
+    ensures { OnOk result (claims.new.items ≡ claims.old.items ++ placings_said (Some (record { relation = relation; name = holder.now })) subjects.now line) }
+{
+    add_holder_demand(alloc, claims, relation, holder, line)?;
+    add_each_placing(alloc, claims, relation, holder, subjects, line)
 }
 
 /// Adds where objects are placed, if that is told.
@@ -247,9 +265,6 @@ pub fn add_placings(
 {
     match place {
         None => Ok(()),
-        Some(holder) => {
-            add_holder_demand(alloc, claims, holder, line)?;
-            add_each_placing(alloc, claims, holder, subjects, line)
-        }
+        Some(holder) => { add_held(alloc, claims, holder.relation, &holder.name, subjects, line) }
     }
 }

@@ -12,6 +12,7 @@ ghost use Rattle.i7_kinds.specs.StatedWays.{stated};
 ghost use Rattle.i7_kinds.specs.Suits.{unsuited};
 ghost use Rattle.i7_kinds.specs.Tales.{faults_of};
 ghost use Rattle.i7_kinds.specs.Values.{value_twice};
+ghost use Rattle.i7_kinds.specs.declared.values.Bearer.TheVariants.{Objects, Kinds};
 
 use crate::author_kinds::{kind_cycle, kind_too_many, unknown_kind};
 use crate::claim::Claim;
@@ -25,7 +26,7 @@ use crate::sorts::{Sort, too_many_as};
 use crate::standings::{book_twice, name_twice};
 use crate::statements::NumberedSentence;
 use crate::suits::unsuited;
-use crate::values::value_twice;
+use crate::values::{Bearer, value_twice};
 use crate::ways::Ways;
 use std::alloc::{AllocError, Global};
 
@@ -66,12 +67,13 @@ fn twice(
     claims: &[Claim],
     descriptions: &Descriptions<'_>,
 ) -> Result<Option<u32>, AllocError>
-    ensures { IfOk result (λ line. line ≡ earlier (name_twice claims.now) (earlier (book_twice claims.now) (earlier (second_description (descriptions_in descriptions.now)) (value_twice scope.now claims.now)))) }
+    ensures { IfOk result (λ line. line ≡ earlier (name_twice claims.now) (earlier (book_twice claims.now) (earlier (second_description (descriptions_in descriptions.now)) (earlier (value_twice Objects scope.now claims.now) (value_twice Kinds scope.now claims.now))))) }
 {
     let name = name_twice(alloc, claims)?;
     let book = book_twice(alloc, claims)?;
-    let value = value_twice(alloc, scope, claims)?;
-    let said = earlier(descriptions.second(), value);
+    let value = value_twice(alloc, Bearer::Objects, scope, claims)?;
+    let usual = value_twice(alloc, Bearer::Kinds, scope, claims)?;
+    let said = earlier(descriptions.second(), earlier(value, usual));
     Ok(earlier(name, earlier(book, said)))
 }
 

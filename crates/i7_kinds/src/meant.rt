@@ -18,6 +18,7 @@ fn is_meant(said: &Assertion) -> bool
         Assertion::Aside | Assertion::Description(_) | Assertion::Way(_) => true,
         Assertion::Rulebook(_) | Assertion::Scene { .. } | Assertion::Variable(_) => true,
         Assertion::KindOfKind { .. } | Assertion::EitherOr { .. } | Assertion::Are(_) => true,
+        Assertion::Usually { .. } | Assertion::Holds { .. } => true,
         _ => false,
     }
 }

@@ -139,6 +139,10 @@ fn take_up_all<'a>(
             take_up(alloc, names, first, line)?;
             take_up(alloc, names, second, line)
         }
+        Assertion::Holds { holder, things, .. } => {
+            take_up(alloc, names, holder, line)?;
+            take_up_names(alloc, names, things.as_slice(), line)
+        }
         _ => Ok(()),
     }
 }

@@ -21,7 +21,7 @@ use world_meaning::{
 };
 
 /// What the objects of a tale are made from: their kinds and places, which kinds have which properties, what sentences
-/// say of those, the texts that describe rooms, and ways.
+/// say of those and what is usual, the texts that describe rooms, and ways.
 #[derive(Drop)]
 pub struct Makings<'a> {
     pub parents: &'a [Option<KindNo>],
@@ -29,6 +29,7 @@ pub struct Makings<'a> {
     pub places: &'a [Option<Place>],
     pub flags: &'a [Granted],
     pub values: &'a Values,
+    pub usuals: &'a Values,
     pub descriptions: &'a Descriptions<'a>,
     pub ways: &'a Ways<'a>,
 }

@@ -3,10 +3,11 @@ ghost use Rattle.std.specs.Prelude.{◌≡◌, ◌≤◌, IfOk, length, map};
 ghost use Rattle.world_meaning.specs.Declarations.{is_had};
 ghost use Rattle.i7_kinds.specs.Grants.{first_base, other_bases};
 ghost use Rattle.i7_kinds.specs.Making.{made_of};
+ghost use Rattle.i7_kinds.specs.Values.{usual_of, value_at};
 ghost use Rattle.i7_kinds.specs.Tales.{begins, begins_by_default, built_in_truths, properties_from, value_or};
 
 use crate::objects::Makings;
-use crate::values::{Slot, value_in};
+use crate::values::{Slot, Values, value_in};
 use std::alloc::{AllocError, Global};
 use world_meaning::{Granted, KindNo, PROPERTIES, PropertyRow, is_under_one};
 
@@ -35,7 +36,34 @@ fn value_or(value: Option<bool>, other: bool) -> bool
     }
 }
 
-/// Whether a property of an object is true as the story begins: where a sentence says so, and else by default.
+/// What is usual of objects of a kind: what is said of the deepest kind.
+fn usual_of(
+    parents: &[Option<KindNo>],
+    usuals: &Values,
+    kind: usize,
+    property: usize,
+) -> Option<bool>
+    ensures { result ≡ usual_of parents.now (value_at usuals.now) kind property }
+{
+    let mut at = kind;
+    let mut left = parents;
+    while let [_, after @ ..] = left {
+        let bearer = at;
+        if let Some(value) = value_in(usuals, Slot { bearer, property }) {
+            return Some(value);
+        }
+        match parents.get(at) {
+            Some(Some(parent)) => at = parent.get() as usize,
+            _ => return None,
+        }
+        left = after;
+    }
+    let bearer = at;
+    value_in(usuals, Slot { bearer, property })
+}
+
+/// Whether a property of an object is true as the story begins: where a sentence says so, else where it usually is, and
+/// else by default.
 fn begins(
     makings: &Makings<'_>,
     object: usize,
@@ -45,9 +73,16 @@ fn begins(
 ) -> bool
     ensures { result ≡ begins (made_of makings.now) object kind property true_of.now }
 {
-    let value = value_in(makings.values, Slot { object, property });
+    let bearer = object;
+    let value = value_in(makings.values, Slot { bearer, property });
+    let usual = usual_of(
+        makings.parents,
+        makings.usuals,
+        kind.get() as usize,
+        property,
+    );
     let other = begins_by_default(makings.parents, object, kind, property, true_of);
-    value_or(value, other)
+    value_or(value, value_or(usual, other))
 }
 
 fn is_had(parents: &[Option<KindNo>], kind: KindNo, flag: &Granted) -> bool

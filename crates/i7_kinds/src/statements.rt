@@ -1,13 +1,13 @@
 //! What the sentences of a source state, objects by their numbers.
 ghost use Rattle.std.specs.Prelude.{◌≡◌, IfOk, map};
-ghost use Rattle.i7_kinds.specs.Statements.{numbered_in, numbered_subject, statement_in};
+ghost use Rattle.i7_kinds.specs.Statements.{numbered_holding, numbered_in, numbered_subject, statement_in};
 ghost use Rattle.i7_kinds.specs.Views.{names_of};
 
 use crate::names::Names;
 use crate::quotes::printed;
 use i7_sentences::{Assertion, Name, Sentence};
 use std::alloc::{AllocError, Global};
-use world_meaning::{Direction, TextBytes};
+use world_meaning::{Direction, Rel, TextBytes};
 
 /// An assertion, objects by their numbers.
 #[derive(Debug, Drop)]
@@ -50,12 +50,33 @@ fn numbered_subject(
     }
 }
 
+/// Who carries or wears is what the sentence is about, and else what is held.
+fn numbered_holding(
+    alloc: Global,
+    names: &Names<'_>,
+    relation: Rel,
+    holder: &Name,
+    things: &[Name],
+) -> Result<Numbered, AllocError>
+    ensures { IfOk result (λ numbered. numbered ≡ numbered_holding (names_of names.now) relation holder.now things.now) }
+{
+    match relation {
+        Rel::In | Rel::On | Rel::Part => numbered_subject(alloc, names, things),
+        Rel::Carried | Rel::Worn => Ok(Numbered::Being(names.number_of(alloc, holder)?)),
+    }
+}
+
 fn numbered_in(alloc: Global, names: &Names<'_>, said: &Assertion) -> Result<Numbered, AllocError>
     ensures { IfOk result (λ numbered. numbered ≡ numbered_in (names_of names.now) said.now) }
 {
     match said {
         Assertion::Description(text) => Ok(Numbered::Description(printed(alloc, text.as_slice())?)),
         Assertion::Are(being) => numbered_subject(alloc, names, being.subjects.as_slice()),
+        Assertion::Holds {
+            holder,
+            relation,
+            things,
+        } => numbered_holding(alloc, names, *relation, holder, things.as_slice()),
         Assertion::Way(way) => Ok(Numbered::Way(NumberedWay {
             subject: names.number_of(alloc, &way.subject)?,
             direction: way.direction,

@@ -5,10 +5,10 @@ ghost use Rattle.world_meaning.specs.Placing.{can_be_held, can_hold, keeps_playe
 ghost use Rattle.i7_kinds.specs.Knowns.{kinds_known};
 ghost use Rattle.world_meaning.specs.Kinds.{is_under as lies_under};
 ghost use Rattle.i7_kinds.specs.Grants.{built_in_bases};
-ghost use Rattle.i7_kinds.specs.Suits.{can_be, first_room, kinds_in, is_lacking, is_unsuited, room_from, suits, unsuited, with_player};
+ghost use Rattle.i7_kinds.specs.Suits.{can_be, first_room, kinds_in, is_lacking, is_never, is_unsuited, room_from, suits, unsuited, with_player};
 
 use crate::author_kinds::is_under;
-use crate::claim::{Claim, Fact, Having};
+use crate::claim::{Claim, Fact, Having, Usual};
 use crate::grants::Given;
 use crate::knowns::{Known, is_of, is_parted_at, kind_of, known_at};
 use crate::names::FIRST_OF_AUTHOR;
@@ -97,6 +97,15 @@ fn is_lacking(scope: &Scope<'_>, knowns: &[Known], having: &Having) -> bool
     !is_parted_at(knowns, object) && !can_be(scope, kind_of(known_at(knowns, object)), property)
 }
 
+/// Whether a kind lacks the property of which something is usual.
+fn is_never(scope: &Scope<'_>, usual: &Usual) -> bool
+    ensures { result ≡ is_never scope.now usual.now }
+{
+    let kind = scope.kind(usual.kind.as_slice());
+    let property = scope.property(usual.property.as_slice());
+    !can_be(scope, kind, property)
+}
+
 fn is_unsuited(scope: &Scope<'_>, knowns: &[Known], fact: &Fact) -> bool
     ensures { result ≡ is_unsuited scope.now knowns.now fact.now }
 {
@@ -108,6 +117,7 @@ fn is_unsuited(scope: &Scope<'_>, knowns: &[Known], fact: &Fact) -> bool
             !is_parted && !suits(scope.parents(), knowns, thing, place)
         }
         Fact::Has(having) => is_lacking(scope, knowns, having),
+        Fact::Usually(usual) => is_never(scope, usual),
         _ => false,
     }
 }

@@ -31,12 +31,12 @@ use crate::scope::Scope;
 use crate::sorts::{Sort, names_as};
 use crate::statements::{NumberedSentence, statements_in};
 use crate::suits::{first_room, put_player};
-use crate::values::values_by;
+use crate::values::{Bearer, values_by};
 use crate::ways::Ways;
 use i7_sentences::Sentence;
 use object_words::Strings;
 use std::alloc::{AllocError, Global};
-use world_meaning::{Declared, Fault, FaultCode, Listed, Object, Tale};
+use world_meaning::{Declared, Fault, FaultCode, Listed, Object, Place, Tale};
 
 /// The refusal at a line, if there is one.
 fn refusal_at(code: FaultCode, line: Option<u32>) -> Option<Fault>
@@ -121,6 +121,21 @@ fn refusal_of(
     }
 }
 
+/// Where each object is, the player in the first room where no sentence says another place.
+fn places_of(
+    alloc: Global,
+    scope: &Scope<'_>,
+    knowns: &[Known],
+    claims: &[Claim],
+) -> Result<Vec<Option<Place>>, AllocError>
+    requires { AreSmallPlaces (with_player (places_by scope.now.objects claims.now) (first_room scope.now.parents knowns.now)) }
+    ensures { IfOk result (λ places. places.items ≡ with_player (places_by scope.now.objects claims.now) (first_room scope.now.parents knowns.now)) }
+{
+    let mut spots = places_by(alloc, scope, claims)?;
+    put_player(spots.as_mut_slice(), first_room(scope.parents(), knowns));
+    places_in(alloc, spots.as_slice())
+}
+
 /// The objects of the tale.
 fn objects_meant(
     alloc: Global,
@@ -143,16 +158,16 @@ fn objects_meant(
 {
     let parents = kind_nos(alloc, scope.parents())?;
     let kinds = kinds_of(alloc, knowns)?;
-    let mut spots = places_by(alloc, scope, claims)?;
-    put_player(spots.as_mut_slice(), first_room(scope.parents(), knowns));
-    let places = places_in(alloc, spots.as_slice())?;
-    let values = values_by(alloc, scope, claims)?;
+    let places = places_of(alloc, scope, knowns, claims)?;
+    let values = values_by(alloc, Bearer::Objects, scope, claims)?;
+    let usuals = values_by(alloc, Bearer::Kinds, scope, claims)?;
     let makings = Makings {
         parents: parents.as_slice(),
         kinds: kinds.as_slice(),
         places: places.as_slice(),
         flags: declared.flags.as_slice(),
         values: &values,
+        usuals: &usuals,
         descriptions,
         ways,
     };

@@ -1,33 +1,67 @@
-//! What sentences say of objects' either-or properties, and the lowest line of what says the other.
+//! What sentences say of the either-or properties of objects, or usually of those of kinds, and the lowest line of what
+//! says the other.
 ghost use Rattle.std.specs.Prelude.{◌≡◌, IfOk, OnOk};
-ghost use Rattle.i7_kinds.specs.Values.{is_contrary, is_other, slot_of, value_at, value_in, value_twice, values_by, with_slot, with_value};
+ghost use Rattle.i7_kinds.specs.Values.{is_contrary, is_other, told_by, value_at, value_in, value_twice, values_by, with_slot, with_told};
 
-use crate::claim::{Claim, Fact, Having};
+use crate::claim::{Claim, Fact};
 use crate::scans::lower;
 use crate::scope::Scope;
 use indexmap::IndexMap;
 use std::alloc::{AllocError, Global};
 
-/// A property of an object, by the numbers of both.
+/// Whose properties sentences tell of.
+#[derive(Clone, Copy, Debug, PartialEq, Eq)]
+pub enum Bearer {
+    Objects,
+    Kinds,
+}
+
+/// A property of an object or of a kind, by the numbers of both.
 #[derive(Clone, Copy, Debug, Hash, PartialEq, Eq)]
 pub struct Slot {
-    pub object: usize,
+    pub bearer: usize,
     pub property: usize,
 }
 
-/// What is said first of objects' properties.
+/// What is said of a property.
+#[derive(Clone, Copy, Debug)]
+pub struct Told {
+    pub slot: Slot,
+    pub is_true: bool,
+}
+
+/// What is said first of properties.
 pub type Values = IndexMap<Slot, bool>;
 
-fn slot_of(scope: &Scope<'_>, having: &Having) -> Slot
-    ensures { result ≡ slot_of scope.now having.now }
+/// What a fact says of the properties of objects, or of kinds.
+fn told_by(bearer: Bearer, scope: &Scope<'_>, fact: &Fact) -> Option<Told>
+    ensures { result ≡ told_by bearer scope.now fact.now }
 {
-    Slot {
-        object: scope.object(having.object.as_slice()),
-        property: scope.property(having.property.as_slice()),
+    match bearer {
+        Bearer::Objects => match fact {
+            Fact::Has(having) => Some(Told {
+                slot: Slot {
+                    bearer: scope.object(having.object.as_slice()),
+                    property: scope.property(having.property.as_slice()),
+                },
+                is_true: having.is_true,
+            }),
+            _ => None,
+        },
+        Bearer::Kinds => match fact {
+            Fact::Usually(usual) => Some(Told {
+                slot: Slot {
+                    bearer: scope.kind(usual.kind.as_slice()),
+                    property: scope.property(usual.property.as_slice()),
+                },
+                is_true: usual.is_true,
+            }),
+            _ => None,
+        },
     }
 }
 
-/// What is said of a property of an object.
+/// What is said of a property.
 pub fn value_in(values: &Values, slot: Slot) -> Option<bool>
     ensures { result ≡ value_in (value_at values.now) slot }
 {
@@ -44,23 +78,28 @@ fn keep(values: &mut Values, slot: Slot, value: bool) -> Result<(), AllocError>
     Ok(())
 }
 
-fn keep_fact(scope: &Scope<'_>, values: &mut Values, fact: &Fact) -> Result<(), AllocError>
-    ensures { OnOk result (value_at values.new ≡ with_value scope.now (value_at values.old) fact.now) }
+fn keep_told(values: &mut Values, told: Option<Told>) -> Result<(), AllocError>
+    ensures { OnOk result (value_at values.new ≡ with_told (value_at values.old) told) }
 {
-    match fact {
-        Fact::Has(having) => keep(values, slot_of(scope, having), having.is_true),
-        _ => Ok(()),
+    match told {
+        None => Ok(()),
+        Some(told) => keep(values, told.slot, told.is_true),
     }
 }
 
-/// What the claims say of objects' properties.
-pub fn values_by(alloc: Global, scope: &Scope<'_>, claims: &[Claim]) -> Result<Values, AllocError>
-    ensures { IfOk result (λ values. value_at values ≡ values_by scope.now claims.now) }
+/// What the claims say of the properties of objects, or of kinds.
+pub fn values_by(
+    alloc: Global,
+    bearer: Bearer,
+    scope: &Scope<'_>,
+    claims: &[Claim],
+) -> Result<Values, AllocError>
+    ensures { IfOk result (λ values. value_at values ≡ values_by bearer scope.now claims.now) }
 {
     let mut values = IndexMap::new(alloc);
     let mut rest = claims;
     while let [claim, after @ ..] = rest {
-        keep_fact(scope, &mut values, &claim.fact)?;
+        keep_told(&mut values, told_by(bearer, scope, &claim.fact))?;
         rest = after;
     }
     Ok(values)
@@ -75,34 +114,32 @@ fn is_other(first: Option<bool>, value: bool) -> bool
     }
 }
 
-/// Whether a fact says the other of what is said first.
-fn is_contrary(scope: &Scope<'_>, values: &Values, fact: &Fact) -> bool
-    ensures { result ≡ is_contrary scope.now (value_at values.now) fact.now }
+/// Whether the other of what is said first is told.
+fn is_contrary(values: &Values, told: Option<Told>) -> bool
+    ensures { result ≡ is_contrary (value_at values.now) told }
 {
-    match fact {
-        Fact::Has(having) => {
-            let slot = slot_of(scope, having);
-            is_other(value_in(values, slot), having.is_true)
-        }
-        _ => false,
+    match told {
+        None => false,
+        Some(told) => is_other(value_in(values, told.slot), told.is_true),
     }
 }
 
-/// The lowest line that says the other of what is said first of a property of an object.
+/// The lowest line that says the other of what is said first of a property.
 pub fn value_twice(
     alloc: Global,
+    bearer: Bearer,
     scope: &Scope<'_>,
     claims: &[Claim],
 ) -> Result<Option<u32>, AllocError>
-    ensures { IfOk result (λ found. found ≡ value_twice scope.now claims.now) }
+    ensures { IfOk result (λ found. found ≡ value_twice bearer scope.now claims.now) }
 {
     let mut values = IndexMap::new(alloc);
     let mut found = None;
     let mut rest = claims;
     while let [claim, after @ ..] = rest {
-        let shows = is_contrary(scope, &values, &claim.fact);
-        found = lower(shows, claim.line, found);
-        keep_fact(scope, &mut values, &claim.fact)?;
+        let told = told_by(bearer, scope, &claim.fact);
+        found = lower(is_contrary(&values, told), claim.line, found);
+        keep_told(&mut values, told)?;
         rest = after;
     }
     Ok(found)

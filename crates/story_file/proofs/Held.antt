@@ -32,6 +32,7 @@ use Rattle.i7_kinds.specs.Sorts.{built_in_either_ors, name_too_many, too_many_as
 use Rattle.i7_kinds.specs.Statements.{NameAt, named_by, stated_by}
 use Rattle.i7_kinds.specs.Suits.{first_room, unsuited, with_player}
 use Rattle.i7_kinds.specs.Values.{Values, values_by}
+use Rattle.i7_kinds.specs.declared.values.Bearer.TheVariants as bearer
 use Rattle.i7_kinds.specs.Tales.{Made, author_entry, entries_of, faults_of, frame_refusal, has_long_name, has_long_text, is_too_long, judged_by, limit_refusal, made_of, name_too_long, no_room, object_as, object_of, objects_of, or_refused, refusal_of, scope_of, tale_said, text_too_long, unless_unmeant, unmeant}
 use Rattle.i7_kinds.specs.declared.claim.Claim.{Claim}
 use Rattle.i7_kinds.specs.declared.descriptions.Description.{Description as Described}
@@ -260,8 +261,8 @@ record Whole (parents : List (Option ℕ)) (knowns : List Known) (places : Place
   first : first_room parents knowns ≡ Some room
   ways : wrong_kind parents knowns statements ≡ None
 
-abbrev made_with : Declared → List (Option ℕ) → List Known → Places → Values → List Described → List NumberedSentence → Made
-made_with declared parents knowns places values descriptions statements = record { parents = parents; kinds = kinds_of knowns; places = places; flags = declared.flags; values = values; descriptions = descriptions; statements = statements }
+abbrev made_with : Declared → List (Option ℕ) → List Known → Places → Values → Values → List Described → List NumberedSentence → Made
+made_with declared parents knowns places values usuals descriptions statements = record { parents = parents; kinds = kinds_of knowns; places = places; flags = declared.flags; values = values; usuals = usuals; descriptions = descriptions; statements = statements }
 
 stands : (kinds : Kinds) (rooms : List Bool) (place : Option Place) → ((o : ℕ) → kinds.is_room o ≡ is_at rooms o) → IsSuited kinds 0 place → is_none place ≡ false → stands_in_room rooms place ≡ true
 stands kinds rooms None told h k = absurd cc
@@ -276,13 +277,13 @@ put_there (None ∷ places) place le = refl
 put_there (Some p ∷ places) place le = refl
 
 -- with what is declared behind the built-in kinds and properties
-objects_made : (b : Behind) (knowns : List Known) (places : Places) (room : ℕ) (values : Values) (descriptions : List Described) (statements : List NumberedSentence) (mentions : List NameAt) → is_well_declared (declared_with b) ≡ true → Whole (kinds_with b) knowns places room statements (length mentions)
-    → IsWellMade (record { declared = declared_with b; objects = objects_of (made_with (declared_with b) (kinds_with b) knowns (put places 0 (place_in_room room)) values descriptions statements) 0 (entries_of mentions) })
+objects_made : (b : Behind) (knowns : List Known) (places : Places) (room : ℕ) (values usuals : Values) (descriptions : List Described) (statements : List NumberedSentence) (mentions : List NameAt) → is_well_declared (declared_with b) ≡ true → Whole (kinds_with b) knowns places room statements (length mentions)
+    → IsWellMade (record { declared = declared_with b; objects = objects_of (made_with (declared_with b) (kinds_with b) knowns (put places 0 (place_in_room room)) values usuals descriptions statements) 0 (entries_of mentions) })
 unfolding sorts_of
-objects_made b knowns places room values descriptions statements mentions declared w =
+objects_made b knowns places room values usuals descriptions statements mentions declared w =
     let S = kinds_with b in
     let placed = put places 0 (place_in_room room) in
-    let m = made_with (declared_with b) S knowns placed values descriptions statements in
+    let m = made_with (declared_with b) S knowns placed values usuals descriptions statements in
     let entries = entries_of mentions in
     let n = length S in
     let whole = all_whole S n knowns w.fine in
@@ -330,8 +331,8 @@ whole_of claims keys statements mentions room counted none first =
       ways = wrong.1;
     }
 
-abbrev tale_with : Declared → List (Option ℕ) → List Known → Places → Values → List Described → List NumberedSentence → List NameAt → Tale
-tale_with declared parents knowns places values descriptions statements mentions = record { declared = declared; objects = objects_of (made_with declared parents knowns places values descriptions statements) 0 (entries_of mentions) }
+abbrev tale_with : Declared → List (Option ℕ) → List Known → Places → Values → Values → List Described → List NumberedSentence → List NameAt → Tale
+tale_with declared parents knowns places values usuals descriptions statements mentions = record { declared = declared; objects = objects_of (made_with declared parents knowns places values usuals descriptions statements) 0 (entries_of mentions) }
 
 objects_held : (claims : List Claim) (keys : List (List ℕ)) (statements : List NumberedSentence) (mentions : List NameAt) → length keys ≡ 13 + length mentions
     → refusal_of (scope_of claims keys) (knowns_of (scope_of claims keys) claims) claims statements mentions ≡ None
@@ -358,12 +359,13 @@ objects_held claims keys statements mentions counted none =
     let declared = declared_held behind few few_properties (variables_few claims sorts.1) roots in
     let whole = subst (λ (p : List (Option ℕ)). Whole p knowns (places_by keys claims) room.0 statements (length mentions)) kinds w in
     let placed = put (places_by keys claims) 0 (place_in_room room.0) in
-    let values = values_by s claims in
-    let m = made_with (declared_with behind) (kinds_with behind) knowns placed values descriptions statements in
-    let held : IsHeld (tale_with (declared_with behind) (kinds_with behind) knowns placed values descriptions statements mentions) = record { made = objects_made behind knowns (places_by keys claims) room.0 values descriptions statements mentions declared whole; texts = texts_held m mentions limits.0 limits.1; words = words_held m mentions limits.0 } in
+    let values = values_by bearer.Objects s claims in
+    let usuals = values_by bearer.Kinds s claims in
+    let m = made_with (declared_with behind) (kinds_with behind) knowns placed values usuals descriptions statements in
+    let held : IsHeld (tale_with (declared_with behind) (kinds_with behind) knowns placed values usuals descriptions statements mentions) = record { made = objects_made behind knowns (places_by keys claims) room.0 values usuals descriptions statements mentions declared whole; texts = texts_held m mentions limits.0 limits.1; words = words_held m mentions limits.0 } in
     let declares : declared_with behind ≡ declared_by claims = declared_is claims in
     let where_placed : placed ≡ with_player (places_by keys claims) found = sym (ap (with_player (places_by keys claims)) room.1) in
-    subst IsHeld (λ i. tale_with (declares i) (sym kinds i) knowns (where_placed i) values descriptions statements mentions) held
+    subst IsHeld (λ i. tale_with (declares i) (sym kinds i) knowns (where_placed i) values usuals descriptions statements mentions) held
 
 meant_whole : (line : Option ℕ) (said : Result Tale Fault) (tale : Tale) → unless_unmeant line said ≡ Ok tale → said ≡ Ok tale
 meant_whole None said tale meant = meant

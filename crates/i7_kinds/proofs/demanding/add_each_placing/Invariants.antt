@@ -4,7 +4,7 @@ use Rattle.i7_kinds.specs.Claims.{placed}
 use Rattle.i7_kinds.proofs.demanding.add_each_placing.Given as goal
 
 abbrev pub invariant-loop-rest : goal.invariant-loop-rest
-invariant-loop-rest l = l.claims.items ++ flat_map (placed l.holder l.line) l.rest ≡ l.initial.claims.items ++ flat_map (placed l.holder l.line) l.subjects
+invariant-loop-rest l = l.claims.items ++ flat_map (placed (record { relation = l.relation; name = l.holder }) l.line) l.rest ≡ l.initial.claims.items ++ flat_map (placed (record { relation = l.relation; name = l.holder }) l.line) l.subjects
 
 abbrev pub decreases-loop-rest : goal.decreases-loop-rest
 decreases-loop-rest l = length l.rest
