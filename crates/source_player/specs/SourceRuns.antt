@@ -67,20 +67,30 @@ FaultsWith (Story fault) reader writer = (reader ≡ false) × (writer ≡ false
 FaultsWith (Start fault) reader writer = (reader ≡ false) × (writer ≡ false)
 FaultsWith (Run fault) reader writer = Blames fault reader writer
 
--- Why bytes aren't played to their end as a story: they are none, memory is refused where it begins, or
--- the run broke off.
+-- bytes that spell a story
+pub record IsSpelled (bytes : List ℕ) : Type 0 where
+  pub story : Tables
+  pub spells : Spells bytes story
+
+-- a source whose sentences mean a tale
+pub record IsMeant (source : List ℕ) : Type 0 where
+  pub tale : Tale
+  pub means : Means source tale
+
+-- Why bytes aren't played to their end as a story: they are none, memory is refused where the story that they are begins,
+-- or the run broke off.
 abbrev pub LeavesStory : SourceRunFault → List ℕ → Bool → Streams → Streams → Type 0
 LeavesStory (Source fault) bytes echo before after = ⊥
 LeavesStory (Story fault) bytes echo before after = IsNoStory fault bytes
-LeavesStory (Start fault) bytes echo before after = fault ≡ start.Memory
+LeavesStory (Start fault) bytes echo before after = (fault ≡ start.Memory) × IsSpelled bytes
 LeavesStory (Run fault) bytes echo before after = BrokeOffStory fault bytes echo before after
 
--- Why a source isn't played to its end: a refusal of it stands, memory is refused where its story is
+-- Why a source isn't played to its end: a refusal of it stands, it means a tale and memory is refused where its story is
 -- loaded or begins (what was compiled is a story), or the run broke off.
 abbrev pub LeavesSource : SourceRunFault → List ℕ → Bool → Streams → Streams → Type 0
 LeavesSource (Source fault) source echo before after = IsRefused source fault
-LeavesSource (Story fault) source echo before after = fault ≡ load.Memory
-LeavesSource (Start fault) source echo before after = fault ≡ start.Memory
+LeavesSource (Story fault) source echo before after = (fault ≡ load.Memory) × IsMeant source
+LeavesSource (Start fault) source echo before after = (fault ≡ start.Memory) × IsMeant source
 LeavesSource (Run fault) source echo before after = BrokeOffSource fault source echo before after
 
 -- A source was played over bytes of commands: the transcript is the play of all of them.

@@ -124,7 +124,7 @@ pub fn play_bytes(
     // The transcript is the play of the commands, in the game of the tale that the source's sentences mean.
     ensures played { IfOk result (λ play. PlayedBytes source.now commands.now echo play.transcript play.ending) }
 
-    // A fault says why not: a refusal of the source, memory, or a limit.
+    // A fault says why not: a refusal of the source, memory, a limit, or what stopped the run.
     ensures refused { IfErr result (λ fault. IsUnplayed fault source.now commands.now echo) }
 {
     let mut reader = Watched::new(commands);
