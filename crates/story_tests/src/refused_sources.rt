@@ -61,7 +61,7 @@ const REFUSED: &[(&str, FaultCode, u32)] = &[
         3,
     ),
     (
-        "The Hall is a room.\nBob wears a hat.",
+        "The Hall is a room.\nThe gate is a door.",
         FaultCode::NotUnderstood,
         2,
     ),
