@@ -14,7 +14,7 @@ const REFUSED: &[(&str, FaultCode, u32)] = &[
         FaultCode::NotUnderstood,
         3,
     ),
-    ("In the Hall is a room.", FaultCode::NotUnderstood, 1),
+    ("In the Hall is a room.", FaultCode::Twice, 1),
     (
         "The Hall is a room. \"A [bare] hall.\"",
         FaultCode::NotUnderstood,
