@@ -6,12 +6,17 @@ use Rattle.world_meaning.specs.declared.session.Abandon.{Abandon}
 use Rattle.world_meaning.specs.declared.session.Abandon.TheVariants.{Memory, NestedTooDeep, TooMuchWork, NumberOutOfRange}
 use Rattle.world_meaning.specs.declared.session.ReplyKind.{ReplyKind}
 use Rattle.world_meaning.specs.declared.session.ReplyKind.TheVariants.{Kept, Free, Abandoned, Ended, Over}
+use Rattle.story_format.specs.declared.tables.Tables.{Tables}
 use Rattle.world_store.specs.StoryGames.{game_of_story}
 use Rattle.story_player.specs.Spoken.{Spoken}
 use Rattle.story_player.specs.declared.session.Session.{Session}
 
+-- the story that is played, by its tables
+abbrev pub story_of : Session → Tables
+story_of session = session.world.tables
+
 abbrev pub game_of : Session → Game
-game_of session = game_of_story session.world.tables
+game_of session = game_of_story (story_of session)
 
 -- no line of this language leaves a question open
 abbrev pub state_of : Session → State

@@ -66,12 +66,13 @@ fn abandoned(reason: Abandon, text: &'static [u8]) -> Reply
 }
 
 impl Session {
-    ghost use Rattle.story_player.specs.Sessions.{answer_with, game_of, refusal_of, state_of};
+    ghost use Rattle.story_player.specs.Sessions.{answer_with, game_of, refusal_of, state_of, story_of};
 
     /// Begins the story: the player looks round.
     pub fn start(alloc: Global, story: Story) -> Result<Session, StartFault>
         ensures begun { IfOk result (λ session. state_of session ≡ (opened (game_of_story story)).state) }
         ensures game { IfOk result (λ session. game_of session ≡ game_of_story story) }
+        ensures story { IfOk result (λ session. story_of session ≡ story) }
     {
         Session::begin(alloc, story).map_err(|_| StartFault::Memory)
     }
@@ -80,6 +81,7 @@ impl Session {
     fn begin(alloc: Global, story: Story) -> Result<Session, AllocError>
         ensures begun { IfOk result (λ session. state_of session ≡ (opened (game_of_story story)).state) }
         ensures game { IfOk result (λ session. game_of session ≡ game_of_story story) }
+        ensures story { IfOk result (λ session. story_of session ≡ story) }
     {
         let story = Rc::new(alloc, story)?;
         let mut world = World::start(alloc, &story)?;
@@ -104,7 +106,7 @@ impl Session {
     /// The world as it is now.
     pub fn world(&self) -> &World
         ensures world { result.now.world ≡ (state_of self.now).world }
-        ensures story { game_of_story result.now.tables ≡ game_of self.now }
+        ensures story { result.now.tables ≡ story_of self.now }
     {
         &self.world
     }
@@ -121,6 +123,7 @@ impl Session {
         requires going { (state_of self.old).ending ≡ None }
         ensures answer { answer_with result (state_of self.new) ≡ read_answer (game_of self.old) (refusal_of result.kind) (state_of self.old) (Acts (done action)) }
         ensures game { game_of self.new ≡ game_of self.old }
+        ensures story { story_of self.new ≡ story_of self.old }
     {
         directions_are_directions(&self.world);
         if self.world.turns() >= MOST_TURNS {
@@ -146,6 +149,7 @@ impl Session {
     fn undo(&mut self) -> Reply
         ensures answer { answer_with result (state_of self.new) ≡ read_answer (game_of self.old) (refusal_of result.kind) (state_of self.old) Undo }
         ensures game { game_of self.new ≡ game_of self.old }
+        ensures story { story_of self.new ≡ story_of self.old }
     {
         match self.kept.pop_front() {
             None => Reply::fixed(texts::NOTHING_TO_UNDO, ReplyKind::Free),
@@ -160,6 +164,7 @@ impl Session {
     fn quit(&mut self) -> Reply
         ensures answer { answer_with result (state_of self.new) ≡ read_answer (game_of self.old) (refusal_of result.kind) (state_of self.old) Quit }
         ensures game { game_of self.new ≡ game_of self.old }
+        ensures story { story_of self.new ≡ story_of self.old }
     {
         self.ending = Some(Ending::Quit);
         Reply::fixed(b"", ReplyKind::Ended)
@@ -169,6 +174,7 @@ impl Session {
     fn answer(&mut self, reading: Reading) -> Reply
         ensures answer { answer_with result (state_of self.new) ≡ answer_to (game_of self.old) (refusal_of result.kind) (state_of self.old) (meant reading) }
         ensures game { game_of self.new ≡ game_of self.old }
+        ensures story { story_of self.new ≡ story_of self.old }
     {
         if self.ending.is_some() {
             return Reply::fixed(b"", ReplyKind::Over);
@@ -189,6 +195,7 @@ impl Session {
     pub(crate) fn typed(&mut self, typed: Typed<'_>) -> Reply
         ensures answer { answer_with result (state_of self.new) ≡ answer_to (game_of self.old) (refusal_of result.kind) (state_of self.old) (meant (reading_typed typed.entry)) }
         ensures game { game_of self.new ≡ game_of self.old }
+        ensures story { story_of self.new ≡ story_of self.old }
     {
         self.answer(read_typed(typed))
     }
@@ -198,6 +205,7 @@ impl Session {
     pub fn line(&mut self, line: &[u8]) -> Reply
         ensures answer { answer_with result (state_of self.new) ≡ answer_of (game_of self.old) (refusal_of result.kind) (state_of self.old) line.now }
         ensures game { game_of self.new ≡ game_of self.old }
+        ensures story { story_of self.new ≡ story_of self.old }
     {
         self.typed(Typed::Whole(line))
     }
@@ -207,6 +215,7 @@ impl Session {
         ensures state { state_of self.new ≡ ended_at_end (state_of self.old) }
         ensures ending { (state_of self.new).ending ≡ Some result }
         ensures game { game_of self.new ≡ game_of self.old }
+        ensures story { story_of self.new ≡ story_of self.old }
     {
         match self.ending {
             Some(ending) => ending,

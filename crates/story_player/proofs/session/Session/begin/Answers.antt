@@ -26,3 +26,8 @@ returns-clause-begun c =
     let start = c.in_ok-world.ensures ∙ ap (λ t. record { tables = t; world = start_world t }) c.in_ok-story.ensures.ok in
     let begins = begun c.args.story c.in_ok-world.world c.done.new.world c.in_ok-opening.opening start c.in_ok-opening.ensures.world c.in_ok-opening.ensures.text in
     ap (λ (worlds : List StoryWorld). record { world = c.done.new.world.world; kept = map (λ (v : StoryWorld). v.world) worlds; question = None; ending = None }) (ap (λ ring. ring.items) c.in_ok-kept.ensures) ∙ begins.state
+
+pub returns-clause-story : goal.returns-clause-story
+returns-clause-story c =
+    let start = c.in_ok-world.ensures ∙ ap (λ t. record { tables = t; world = start_world t }) c.in_ok-story.ensures.ok in
+    (begun c.args.story c.in_ok-world.world c.done.new.world c.in_ok-opening.opening start c.in_ok-opening.ensures.world c.in_ok-opening.ensures.text).tables
