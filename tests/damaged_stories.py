@@ -19,6 +19,9 @@ THING, ROOM, DIRECTION, DOOR, CONTAINER, SUPPORTER, PERSON = range(7)
 HOLDERS = [[ROOM, CONTAINER], [SUPPORTER], [PERSON], [PERSON], [THING]]
 # the kinds above the built-in kinds, and the kinds that have the built-in properties
 KINDS = [NONE8, NONE8, NONE8, 0, 0, 0, 0, 0, 6, 6]
+# some built-in properties by number, and the articles
+OPEN, TRANSPARENT, LIT, LIGHTED, SCENERY, DESCRIBED = 0, 2, 3, 4, 5, 8
+ARTICLES = [b"", b"a ", b"an ", b"some "]
 FLAGS = [[3, 4], [3, 4], [4], [0], [1], [0], [0], [0], [0], [7], [1]]
 
 
@@ -229,14 +232,47 @@ def judge_codes(t, named, mentioned):
     return said
 
 
+def hides(t, number):
+    """Whether an object lies in a container that is neither open nor transparent."""
+    o = t["objects"][number]
+    holder = o["holder"]
+    return o["relation"] == 0 and is_a(t, holder, CONTAINER) and not {OPEN, TRANSPARENT} & set(t["objects"][holder]["flags"])
+
+
+def gives_light(t, number, here):
+    """Whether an object is lit and in view from a room."""
+    lit = LIT in t["objects"][number]["flags"]
+    while t["objects"][number]["relation"] != NONE8:
+        lit = lit and not hides(t, number)
+        number = t["objects"][number]["holder"]
+    return lit and number == here
+
+
+def listed_names(t, numbers):
+    """The names of objects with their articles, as a list is printed."""
+    names = [ARTICLES[t["objects"][n]["article"]] + t["strings"][t["objects"][n]["name"]] for n in numbers]
+    return names[0] if len(names) == 1 else b", ".join(names[:-1]) + b" and " + names[-1]
+
+
+def on_view(t, here):
+    """The described things directly in a room that are no scenery."""
+    return [n for n, o in enumerate(t["objects"])
+            if o["relation"] == 0 and o["holder"] == here and DESCRIBED in o["flags"] and SCENERY not in o["flags"]]
+
+
 def opening(data):
     """What the story says at first, or its fault."""
     t = tables(data)
     said = judge_codes(t, *judge_tables(t))
-    room = t["objects"][t["objects"][0]["holder"]]
+    here = t["objects"][0]["holder"]
+    room = t["objects"][here]
+    if LIGHTED not in room["flags"] and not any(gives_light(t, n, here) for n in range(len(t["objects"]))):
+        return b"Darkness\nIt is pitch dark, and you can't see a thing.\n\n>"
     text = t["strings"][room["name"]] + b"\n"
     if room["code"] != NONE16:
         text += t["strings"][said[room["code"]]] + b"\n"
+    if on_view(t, here):
+        text += b"You can see " + listed_names(t, on_view(t, here)) + b" here.\n"
     return text + b"\n>"
 
 
