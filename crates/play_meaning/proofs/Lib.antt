@@ -12,6 +12,8 @@ pub mod PlainTurns
 pub mod Reckoning
 pub mod Seen
 pub mod Standing
+pub mod Stated
 pub mod Straight
 pub mod Translated
+pub mod Unstuck
 pub mod Work

@@ -10,6 +10,7 @@ pub mod Commands
 pub mod Consulting
 pub mod Deeds
 pub mod Doing
+pub mod Effects
 pub mod Games
 pub mod Grammar
 pub mod Instructions
@@ -33,6 +34,7 @@ pub mod Sessions
 pub mod Settings
 pub mod Sketches
 pub mod SoundCodes
+pub mod SoundRuns
 pub mod StandardActions
 pub mod StandardGrammar
 pub mod StandardRules

@@ -100,6 +100,7 @@ gives z (Loop k) = Some Object
 gives z (Holder r) = Some Object
 gives z Room = Some Object
 gives z Door = Some Object
+gives z Eq = Some Truth
 gives z Less = Some Truth
 gives z AtMost = Some Truth
 gives z Not = Some Truth
@@ -132,10 +133,14 @@ abbrev pub behind_eq : List Sort → Option (List Sort)
 behind_eq (b ∷ a ∷ sorts) = if are_alike a b then Some sorts else None
 behind_eq _ = None
 
--- the operands behind an instruction; none where it lacks its own
+-- the operands under those that an instruction takes; none where it lacks its own
+abbrev pub taken_from : Instruction → List Sort → Option (List Sort)
+taken_from Eq sorts = behind_eq sorts
+taken_from i sorts = below (takes i) sorts
+
+-- the operands behind an instruction
 unfoldable pub operands_behind : Counts → Instruction → List Sort → Option (List Sort)
-operands_behind z Eq sorts = with_given (Some Truth) (behind_eq sorts)
-operands_behind z i sorts = with_given (gives z i) (below (takes i) sorts)
+operands_behind z i sorts = with_given (gives z i) (taken_from i sorts)
 
 -- ---- arguments
 

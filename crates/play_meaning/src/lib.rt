@@ -5,6 +5,7 @@
 mod action;
 mod code_laws;
 mod deed_laws;
+mod effect_laws;
 mod game_laws;
 mod laws;
 mod order_laws;
@@ -15,8 +16,9 @@ mod sight_laws;
 mod work_laws;
 
 pub use action::{ActNo, ActionNow, Needs, Slot};
-pub use code_laws::{bodies_run_as_they_mean, tests_mean_their_conditions};
+pub use code_laws::{bodies_run_as_they_mean, sound_codes_run, tests_mean_their_conditions};
 pub use deed_laws::{going_is_one_deed, looking_is_one_deed, plain_turns_are_deeds};
+pub use effect_laws::effects_are_what_rules_do;
 pub use game_laws::{
     abandoned_lines_change_nothing, agreeing_games_are_one, decisions_end_consultations,
     undo_brings_back_the_world,
