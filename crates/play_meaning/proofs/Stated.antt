@@ -4,7 +4,7 @@ use Rattle.std.proofs.lemmas.List.{append-nil}
 use Rattle.play_meaning.specs.Attempts.{Attempt, next}
 use Rattle.play_meaning.specs.Codes.{no_inner}
 use Rattle.play_meaning.specs.Doing.{Inner, do_body, do_phrase}
-use Rattle.play_meaning.specs.Effects.{ByItself, HasEffectOf, Put, changing, ended, refusing, saying, silence, trying}
+use Rattle.play_meaning.specs.Effects.{ByItself, HasEffectOf, changing, ended, refusing, saying, silence, trying}
 use Rattle.play_meaning.specs.Progress.{Done, Progress, goes_on, then_do}
 use Rattle.play_meaning.specs.Saying.{Telling, said_in}
 use Rattle.play_meaning.specs.Scripts.{scope_of}
@@ -16,6 +16,7 @@ use Rattle.play_meaning.specs.Turns.{look_round}
 use Rattle.play_meaning.specs.Values.{has_quality, object_in}
 use Rattle.play_meaning.specs.Worlds.{World}
 use Rattle.play_meaning.specs.declared.action.ActionNow.{ActionNow}
+use Rattle.play_meaning.specs.declared.change.Change.TheVariants.{Put}
 use Rattle.play_meaning.specs.declared.outcome.Flow.{Flow}
 use Rattle.play_meaning.specs.declared.outcome.Flow.TheVariants.{Decides, GoesOn}
 use Rattle.play_meaning.specs.declared.outcome.Outcome.TheVariants.{Failure}

@@ -1,10 +1,9 @@
 -- What a rule that is computed answers: changes, a text, an action to try and how the rule ends; and when that is the effect
 -- of a standard rule, which is what the rule's own sentence does.
 use Rattle.std.specs.Prelude.{◌≡◌, ℕ, ◌-◌, ℤ, Bool, List, [], ◌∷◌, Option, None, Some, Ok, Err, fold, slice_get}
-use Rattle.world_meaning.specs.declared.place.Rel.{Rel}
 use Rattle.world_meaning.specs.declared.session.Abandon.TheVariants.{NumberOutOfRange}
 use Rattle.play_meaning.specs.Attempts.{Attempt, next}
-use Rattle.play_meaning.specs.Changes.{make_number, make_so, put, take_away}
+use Rattle.play_meaning.specs.Changes.{make_number, make_so, put_at, take_away}
 use Rattle.play_meaning.specs.Doing.{Inner}
 use Rattle.play_meaning.specs.Progress.{Done, Progress, change, leaves, say}
 use Rattle.play_meaning.specs.Saying.{Telling}
@@ -13,20 +12,10 @@ use Rattle.play_meaning.specs.Settings.{Setting}
 use Rattle.play_meaning.specs.StandardRules.{standard_rules}
 use Rattle.play_meaning.specs.Worlds.{World, end_with, set_scene, set_variable}
 use Rattle.play_meaning.specs.declared.action.ActionNow.{ActionNow}
+use Rattle.play_meaning.specs.declared.change.Change.{Change}
+use Rattle.play_meaning.specs.declared.change.Change.TheVariants.{SetFlag, SetNumber, SetVariable, Put, TakeOut, SetScene, EndStory}
 use Rattle.play_meaning.specs.declared.outcome.Flow.TheVariants.{GoesOn, Decides}
 use Rattle.play_meaning.specs.declared.outcome.Outcome.TheVariants.{Failure, Success}
-use Rattle.play_meaning.specs.declared.scene.SceneNow.{SceneNow}
-
--- one change of the world, as the world's own calls make it
-pub data Change : Type 0 where
-  -- an object, a property, and what becomes of it
-  SetFlag : ℕ → ℕ → Bool → Change
-  SetNumber : ℕ → ℕ → ℤ → Change
-  SetVariable : ℕ → ℤ → Change
-  Put : ℕ → Rel → ℕ → Change
-  TakeOut : ℕ → Change
-  SetScene : ℕ → SceneNow → Change
-  EndStory : List ℕ → Change
 
 -- how the rule ends: by itself, with a decision, or because a number is out of range
 pub data Ends : Type 0 where
@@ -46,7 +35,7 @@ abbrev pub made : Setting → World → Change → World
 made s w (SetFlag o property value) = make_so s (Some o) property value w
 made s w (SetNumber o property value) = make_number s (Some o) property value w
 made s w (SetVariable v value) = set_variable v value w
-made s w (Put o relation holder) = put s (Some o) relation (Some holder) w
+made s w (Put o relation holder) = put_at s o (record { relation = relation; holder = holder }) w
 made s w (TakeOut o) = take_away s (Some o) w
 made s w (SetScene scene now) = set_scene scene now w
 made s w (EndStory text) = end_with text w

@@ -1,6 +1,6 @@
 //! Which answers have the effect of a standard rule: what they must say and change.
 ghost use Rattle.std.specs.Prelude.{◌≡◌, ℕ, true, false, Some, codes};
-ghost use Rattle.play_meaning.specs.Effects.{HasEffectOf, Put, changing, refusing, saying, silence, trying};
+ghost use Rattle.play_meaning.specs.Effects.{HasEffectOf, changing, refusing, saying, silence, trying};
 ghost use Rattle.play_meaning.specs.Saying.{Telling};
 ghost use Rattle.play_meaning.specs.Settings.{scenery_flag};
 ghost use Rattle.play_meaning.specs.Trees.{First};
@@ -9,6 +9,7 @@ ghost use Rattle.play_meaning.specs.Turns.{look_round};
 ghost use Rattle.play_meaning.specs.Values.{has_quality};
 ghost use Rattle.play_meaning.specs.Worlds.{World};
 ghost use Rattle.play_meaning.specs.declared.action.ActionNow.{ActionNow};
+ghost use Rattle.play_meaning.specs.declared.change.Change.TheVariants.{Put};
 ghost use Rattle.world_meaning.specs.Texts.{said};
 ghost use Rattle.world_meaning.specs.declared.place.Rel.TheVariants.{Carried};
 

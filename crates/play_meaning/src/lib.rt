@@ -1,12 +1,16 @@
 //! What phrases, rules and actions mean: a story's rulebooks consulted rule by rule over the world's relations.
-//! This crate holds definitions and what follows from them, and runs nothing.
+//! This crate holds definitions and what follows from them, and what code that does it stands on: a ground, which is read
+//! and changed.
 #![tactic(auto)]
 
 mod action;
+mod change;
 mod code_laws;
 mod deed_laws;
 mod effect_laws;
+mod fault;
 mod game_laws;
+mod ground;
 mod laws;
 mod order_laws;
 mod outcome;
@@ -16,13 +20,16 @@ mod sight_laws;
 mod work_laws;
 
 pub use action::{ActNo, ActionNow, Needs, Slot};
+pub use change::{Change, make};
 pub use code_laws::{bodies_run_as_they_mean, sound_codes_run, tests_mean_their_conditions};
 pub use deed_laws::{going_is_one_deed, looking_is_one_deed, plain_turns_are_deeds};
 pub use effect_laws::effects_are_what_rules_do;
+pub use fault::WorldFault;
 pub use game_laws::{
     abandoned_lines_change_nothing, agreeing_games_are_one, decisions_end_consultations,
     undo_brings_back_the_world,
 };
+pub use ground::{Ground, GroundMut};
 pub use laws::{
     actions_pass_their_stages, commands_are_read, light_shows_things, rules_decide,
     rules_stand_in_order, scenes_and_stories_end, texts_are_said, things_are_handled,

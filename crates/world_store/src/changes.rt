@@ -9,9 +9,9 @@ ghost use Rattle.play_meaning.specs.Turns.{most_turns};
 ghost use Rattle.world_store.specs.StorySettings.{setting_of};
 ghost use Rattle.world_store.specs.StoryWorlds.{in_world};
 
+use crate::World;
 use crate::sight::is_in;
-use crate::{World, WorldFault};
-use play_meaning::SceneNow;
+use play_meaning::{SceneNow, WorldFault};
 use std::alloc::{AllocError, Global};
 use world_meaning::{KindNo, ObjNo, Rel, TextBytes};
 

@@ -4,15 +4,15 @@
 
 mod changes;
 mod columns;
-mod fault;
+mod ground;
 mod laws;
 mod sight;
 mod view;
 mod world;
 
-pub use fault::WorldFault;
 pub use laws::{
     changes_leave_others, directions_are_directions, tables_give_their_tales_game, the_dark_hides,
     worlds_are_of_their_stories,
 };
+pub use play_meaning::WorldFault;
 pub use world::World;

@@ -4,6 +4,8 @@
 #[cfg(test)]
 mod changes;
 #[cfg(test)]
+mod grounds;
+#[cfg(test)]
 mod seeing;
 #[cfg(test)]
 mod start;

@@ -1,0 +1,142 @@
+//! What a rule's words are read against and may change, whatever keeps it: a story's fixed facts and its world of the moment.
+use crate::{SceneNow, WorldFault};
+use std::alloc::{AllocError, Global};
+use world_meaning::{Article, KindNo, ObjNo, Place, Rel};
+
+/// A story in play that is read: what never changes of its objects, and its world. Properties, variables and scenes go by
+/// their numbers; of a number that isn't there nothing holds, and numbers are 0.
+pub trait Ground {
+    ghost use Rattle.std.specs.Prelude.{◌≡◌};
+    ghost use Rattle.std.specs.Option.{option_map};
+    ghost use Rattle.play_meaning.specs.Seeing.{encloses, has_light, is_touchable, is_visible};
+    ghost use Rattle.play_meaning.specs.Settings.{Setting};
+    ghost use Rattle.play_meaning.specs.Worlds.{World, is_true_of, number_of, place_of, scene_of, variable_of};
+
+    ghost setting: { Self → Setting };
+
+    ghost world: { Self → World };
+
+    /// How many objects there are.
+    fn object_count(&self) -> usize
+        ensures { result ≡ (setting self.now).count };
+
+    /// An object's name as it is printed, without its article.
+    fn name(&self, object: ObjNo) -> &[u8]
+        ensures { result.now ≡ (setting self.now).name object };
+
+    /// The article with which an object is told of.
+    fn article(&self, object: ObjNo) -> Article
+        ensures { result ≡ (setting self.now).article object };
+
+    /// Whether an object is of a kind, or of one below it.
+    fn is_of(&self, object: ObjNo, kind: KindNo) -> bool
+        ensures { result ≡ (setting self.now).is_of object kind };
+
+    /// Whether an object's kind has an either-or property.
+    fn has_flag(&self, object: ObjNo, property: u8) -> bool
+        ensures { result ≡ (setting self.now).has_flag object property };
+
+    /// Whether an object's kind has a number property.
+    fn has_number(&self, object: ObjNo, property: u8) -> bool
+        ensures { result ≡ (setting self.now).has_number object property };
+
+    /// Whether an object is described.
+    fn has_description(&self, object: ObjNo) -> bool
+        ensures { result ≡ (setting self.now).has_description object };
+
+    /// Where an object is, if it is anywhere.
+    fn holder(&self, object: ObjNo) -> Option<Place>
+        ensures { result ≡ place_of (world self.now) object };
+
+    /// Whether an either-or property is true of an object.
+    fn flag(&self, object: ObjNo, property: u8) -> bool
+        ensures { result ≡ is_true_of (world self.now) property object };
+
+    /// An object's number in a number property.
+    fn number(&self, object: ObjNo, property: u8) -> i32
+        ensures { result ≡ number_of (world self.now) property object };
+
+    /// What a variable is.
+    fn variable(&self, variable: u8) -> i32
+        ensures { result ≡ variable_of (world self.now) variable };
+
+    /// Where a scene stands.
+    fn scene(&self, scene: u8) -> SceneNow
+        ensures { result ≡ scene_of (world self.now) scene };
+
+    /// The turn count, from 1.
+    fn turns(&self) -> u32
+        ensures { result ≡ (world self.now).turns };
+
+    /// The text with which the story ended, if it has.
+    fn ended(&self) -> Option<&[u8]>
+        ensures { option_map (λ text. text.now) result ≡ (world self.now).ended };
+
+    /// Whether there is light where the player is.
+    fn lit_here(&self) -> bool
+        ensures { result ≡ has_light (setting self.now) (world self.now) };
+
+    /// Whether the player sees an object.
+    fn visible(&self, object: ObjNo) -> bool
+        ensures { result ≡ is_visible (setting self.now) (world self.now) object };
+
+    /// Whether the player can touch an object.
+    fn touchable(&self, object: ObjNo) -> bool
+        ensures { result ≡ is_touchable (setting self.now) (world self.now) object };
+
+    /// Whether a holder holds an object, at any depth.
+    fn encloses(&self, holder: ObjNo, object: ObjNo) -> bool
+        ensures { result ≡ encloses (world self.now) holder object };
+}
+
+/// A story in play that may be changed. Each call makes its one change, or answers `Misplaced` exactly where the kinds, the rules
+/// of placing or the numbers don't allow it and changes nothing then.
+pub trait GroundMut: Ground {
+    ghost use Rattle.std.specs.Prelude.{◌≡◌, OnErr, OnOk, Some, is_ok, length, nat_lt};
+    ghost use Rattle.play_meaning.specs.Changes.{make_number, make_so, may_be_put, put_at, take_away};
+    ghost use Rattle.play_meaning.specs.Settings.{kinds_of};
+    ghost use Rattle.play_meaning.specs.Worlds.{end_with, set_scene, set_variable};
+    ghost use Rattle.world_meaning.specs.Placing.{may_be_taken};
+
+    /// Makes an either-or property true of an object or not.
+    fn set_flag(&mut self, object: ObjNo, property: u8, value: bool) -> Result<(), WorldFault>
+        ensures answer { is_ok result ≡ (Self.setting self.old).has_flag object property }
+        ensures world { Self.world self.new ≡ make_so (Self.setting self.old) (Some object) property value (Self.world self.old) }
+        ensures setting { Self.setting self.new ≡ Self.setting self.old };
+
+    /// Sets an object's number in a number property.
+    fn set_number(&mut self, object: ObjNo, property: u8, value: i32) -> Result<(), WorldFault>
+        ensures answer { is_ok result ≡ (Self.setting self.old).has_number object property }
+        ensures world { Self.world self.new ≡ make_number (Self.setting self.old) (Some object) property value (Self.world self.old) }
+        ensures setting { Self.setting self.new ≡ Self.setting self.old };
+
+    /// Sets a variable.
+    fn set_variable(&mut self, variable: u8, value: i32) -> Result<(), WorldFault>
+        ensures answer { is_ok result ≡ nat_lt variable (length (Self.world self.old).variables) }
+        ensures world { Self.world self.new ≡ set_variable variable value (Self.world self.old) }
+        ensures setting { Self.setting self.new ≡ Self.setting self.old };
+
+    /// Sets where a scene stands.
+    fn set_scene(&mut self, scene: u8, now: SceneNow) -> Result<(), WorldFault>
+        ensures answer { is_ok result ≡ nat_lt scene (length (Self.world self.old).scenes) }
+        ensures world { Self.world self.new ≡ set_scene scene now (Self.world self.old) }
+        ensures setting { Self.setting self.new ≡ Self.setting self.old };
+
+    /// Puts an object somewhere.
+    fn put(&mut self, object: ObjNo, relation: Rel, holder: ObjNo) -> Result<(), WorldFault>
+        ensures answer { is_ok result ≡ may_be_put (Self.setting self.old) (Self.world self.old) object (record { relation = relation; holder = holder }) }
+        ensures world { Self.world self.new ≡ put_at (Self.setting self.old) object (record { relation = relation; holder = holder }) (Self.world self.old) }
+        ensures setting { Self.setting self.new ≡ Self.setting self.old };
+
+    /// Takes an object away from where it is, so that it is nowhere.
+    fn take_out(&mut self, object: ObjNo) -> Result<(), WorldFault>
+        ensures answer { is_ok result ≡ may_be_taken (kinds_of (Self.setting self.old)) object }
+        ensures world { Self.world self.new ≡ take_away (Self.setting self.old) (Some object) (Self.world self.old) }
+        ensures setting { Self.setting self.new ≡ Self.setting self.old };
+
+    /// Ends the story with a copy of a text. Refused memory leaves the world as it was.
+    fn end_story(&mut self, alloc: Global, text: &[u8]) -> Result<(), AllocError>
+        ensures ended { OnOk result (Self.world self.new ≡ end_with text.now (Self.world self.old)) }
+        ensures refused { OnErr result (Self.world self.new ≡ Self.world self.old) }
+        ensures setting { Self.setting self.new ≡ Self.setting self.old };
+}

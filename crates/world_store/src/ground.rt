@@ -1,0 +1,119 @@
+//! The world of a story as a ground, which a rule's words are read against and change.
+ghost use Rattle.world_store.specs.StorySettings.{setting_of};
+
+use crate::World;
+use play_meaning::{Ground, GroundMut, SceneNow, WorldFault};
+use std::alloc::{AllocError, Global};
+use world_meaning::{Article, KindNo, ObjNo, Place, Rel};
+
+impl Ground for World {
+    ghost setting = { λ w. setting_of w.tables };
+
+    ghost world = { λ w. w.world };
+
+    #[tactic(auto, unfolding(crate::specs::StorySettings::setting_of))]
+    fn object_count(&self) -> usize {
+        self.story().object_count()
+    }
+
+    #[tactic(auto, unfolding(crate::specs::StorySettings::setting_of))]
+    fn name(&self, object: ObjNo) -> &[u8] {
+        self.story().name(object)
+    }
+
+    #[tactic(auto, unfolding(crate::specs::StorySettings::setting_of))]
+    fn article(&self, object: ObjNo) -> Article {
+        self.story().article(object)
+    }
+
+    fn is_of(&self, object: ObjNo, kind: KindNo) -> bool {
+        self.is_of(object, kind)
+    }
+
+    fn has_flag(&self, object: ObjNo, property: u8) -> bool {
+        self.has_flag(object, property)
+    }
+
+    fn has_number(&self, object: ObjNo, property: u8) -> bool {
+        self.has_number(object, property)
+    }
+
+    #[tactic(auto, unfolding(crate::specs::StorySettings::setting_of))]
+    fn has_description(&self, object: ObjNo) -> bool {
+        self.story().description(object).is_some()
+    }
+
+    fn holder(&self, object: ObjNo) -> Option<Place> {
+        self.holder(object)
+    }
+
+    fn flag(&self, object: ObjNo, property: u8) -> bool {
+        self.flag(object, property)
+    }
+
+    fn number(&self, object: ObjNo, property: u8) -> i32 {
+        self.number(object, property)
+    }
+
+    fn variable(&self, variable: u8) -> i32 {
+        self.variable(variable)
+    }
+
+    fn scene(&self, scene: u8) -> SceneNow {
+        self.scene(scene)
+    }
+
+    fn turns(&self) -> u32 {
+        self.turns()
+    }
+
+    fn ended(&self) -> Option<&[u8]> {
+        self.ended()
+    }
+
+    fn lit_here(&self) -> bool {
+        self.lit_here()
+    }
+
+    fn visible(&self, object: ObjNo) -> bool {
+        self.visible(object)
+    }
+
+    fn touchable(&self, object: ObjNo) -> bool {
+        self.touchable(object)
+    }
+
+    fn encloses(&self, holder: ObjNo, object: ObjNo) -> bool {
+        self.encloses(holder, object)
+    }
+}
+
+impl GroundMut for World {
+    fn set_flag(&mut self, object: ObjNo, property: u8, value: bool) -> Result<(), WorldFault> {
+        self.set_flag(object, property, value)
+    }
+
+    fn set_number(&mut self, object: ObjNo, property: u8, value: i32) -> Result<(), WorldFault> {
+        self.set_number(object, property, value)
+    }
+
+    fn set_variable(&mut self, variable: u8, value: i32) -> Result<(), WorldFault> {
+        self.set_variable(variable, value)
+    }
+
+    fn set_scene(&mut self, scene: u8, now: SceneNow) -> Result<(), WorldFault> {
+        self.set_scene(scene, now)
+    }
+
+    fn put(&mut self, object: ObjNo, relation: Rel, holder: ObjNo) -> Result<(), WorldFault> {
+        self.put(object, relation, holder)
+    }
+
+    fn take_out(&mut self, object: ObjNo) -> Result<(), WorldFault> {
+        self.take_out(object)
+    }
+
+    fn end_story(&mut self, alloc: Global, text: &[u8]) -> Result<(), AllocError> {
+        self.end_story(alloc, text)
+    }
+}
