@@ -9,3 +9,5 @@ mod seeing;
 mod start;
 #[cfg(test)]
 mod story;
+#[cfg(test)]
+mod view;
