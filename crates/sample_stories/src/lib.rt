@@ -1,5 +1,9 @@
-//! Sources that the crates of tests play.
+//! Sources and a story that the crates of tests play.
 #![tactic(auto)]
+
+mod furnished;
+
+pub use furnished::{FURNISHED, GATE};
 
 /// A Hall with a description, and a Garden north of it.
 pub const TWO_ROOMS: &[u8] =

@@ -2,6 +2,7 @@
 use Rattle.std.proofs.Common.{◌≡◌, ℕ, zero, suc, ◌+◌, ◌-◌, ◌<◌, Bool, true, false, cond, eqb, List, [], ◌∷◌, ◌++◌, length, map, take, Option, Some, None, refl, sym, ap, ◌∙◌, append_assoc, arith, inl, inr}
 use Rattle.std.specs.Prelude.{min, slice_get, is_none}
 use Rattle.std.specs.List.{list_all, flat_map}
+use Rattle.std.specs.Str.{bytes_eq}
 use Rattle.std.proofs.lemmas.Bool.{ne_eqb}
 use Rattle.std.proofs.lemmas.List.{length-append}
 use Rattle.std.specs.Option.{option_map}
@@ -17,19 +18,20 @@ use Rattle.world_meaning.specs.declared.place.Place.{Place}
 use Rattle.world_meaning.specs.declared.tale.Object.{Object}
 use Rattle.world_meaning.specs.declared.tale.Tale.{Tale}
 use Rattle.object_words.specs.Mentions.{number_in}
+use Rattle.object_words.specs.Words.{words_for, words_in as told_words}
 use Rattle.object_words.proofs.StringLemmas.{length_mapped}
 use Rattle.story_format.specs.Carrying.{Carries}
-use Rattle.story_format.specs.Facts.{description_in, exits_at, holder_in, is_room_in, name_in, rooms_before, said, text_at, way_in}
+use Rattle.story_format.specs.Facts.{description_in, exits_at, holder_in, is_room_in, name_in, rooms_before, said, text_at, way_in, words_in}
 use Rattle.story_format.specs.Holding.{IsHeld}
-use Rattle.story_format.specs.Making.{Worded, worded, texts_of, code_strings, strings_of, place_holder, code_number, entry_of, entries_of, code_of, codes_of, ways_of, tables_with, tables_of, world_of}
+use Rattle.story_format.specs.Making.{Worded, worded, worded_at, worded_from, texts_of, code_strings, strings_of, place_holder, code_number, entry_of, entries_of, entry_strings, code_of, codes_of, ways_of, tables_with, tables_of, world_of}
 use Rattle.story_format.specs.Placed.{is_room_entry}
 use Rattle.story_format.specs.Soundness.{string_said}
 use Rattle.story_format.proofs.StoryLemmas.{all_at, parts, player_parts}
-use Rattle.story_format.proofs.Known.{found_by_number, is_known, is_told, told_in_strings}
+use Rattle.story_format.proofs.Known.{any_left, fold_finds, found_by_number, is_known, is_told, told_in_strings}
 use Rattle.story_format.proofs.OrderLemmas.{at_most_one}
 use Rattle.story_format.proofs.SoundLemmas.{said_back}
 use Rattle.story_format.proofs.EntryLemmas.{counted_more, counted_same, entry_room, objects_back, objects_in}
-use Rattle.story_format.proofs.TableLemmas.{entries_counted}
+use Rattle.story_format.proofs.TableLemmas.{all_known, entries_counted, knows}
 use Rattle.story_format.proofs.Fits.{few_strings}
 use Rattle.story_format.proofs.Stories.{few_objects}
 
@@ -45,6 +47,35 @@ names_carried strings (w ∷ ws) next zero h few =
     let t = both_are (is_told strings w) (list_all (is_told strings) ws) h in
     text_back strings w.object.name (both_are (is_known strings w.object.name) (list_all (is_known strings) (code_strings w)) t.0).0 few
 names_carried strings (w ∷ ws) next (suc o) h few = names_carried strings ws (next + length (code_strings w)) o (both_are (is_told strings w) (list_all (is_told strings) ws) h).1 few
+
+-- ---- words
+
+words_back : (strings texts : List (List ℕ)) → list_all (is_known strings) texts ≡ true → length strings < 65535 → map (text_at strings) (map (number_in strings) texts) ≡ texts
+words_back strings [] h few = refl
+words_back strings (text ∷ texts) h few =
+    let t = both_are (is_known strings text) (list_all (is_known strings) texts) h in
+    λ i. text_back strings text t.0 few i ∷ words_back strings texts t.1 few i
+
+words_carried : (strings : List (List ℕ)) (objects : List Object) (from next o : ℕ) → list_all (knows strings) (worded_from from objects) ≡ true → length strings < 65535
+    → words_in strings (slice_get (entries_of strings next (worded_from from objects)) o) ≡ told_words (from + o) (slice_get objects o)
+unfolding entries_of entry_of entry_strings
+words_carried strings [] from next o h few = refl
+words_carried strings (object ∷ objects) from next zero h few =
+    let t = both_are (knows strings (worded_at from object)) (list_all (knows strings) (worded_from (from + 1) objects)) h in
+    let known = (both_are (is_known strings object.name) (list_all (is_known strings) (words_for from object.name)) t.0).1 in
+    let here : from ≡ from + 0 = omega arith in
+    words_back strings (words_for from object.name) known few ∙ ap (λ n. words_for n object.name) here
+words_carried strings (object ∷ objects) from next (suc o) h few =
+    let t = both_are (knows strings (worded_at from object)) (list_all (knows strings) (worded_from (from + 1) objects)) h in
+    let there : (from + 1) + o ≡ from + suc o = omega arith in
+    words_carried strings objects (from + 1) (next + length (code_strings (worded_at from object))) o t.1 few ∙ ap (λ n. told_words n (slice_get objects o)) there
+
+none_before : (o : ℕ) → 0 + o ≡ o
+none_before o = omega arith
+
+words_known : (ws : List Worded) → list_all (knows (strings_of ws)) ws ≡ true
+unfolding strings_of
+words_known ws = all_known (strings_of ws) ws (λ text k. fold_finds (flat_map entry_strings ws ++ flat_map code_strings ws) [] text (any_left (bytes_eq text) (flat_map entry_strings ws) (flat_map code_strings ws) k))
 
 -- ---- descriptions
 
@@ -181,6 +212,7 @@ tale_carried t held =
     record {
       count = entries_counted strings 0 ws ∙ sym (length_mapped (λ (w : Worded). w.object) ws) ∙ ap length back;
       names = λ o. names_carried strings ws 0 o told few ∙ ap (λ (objects : List Object). told_name (slice_get objects o)) back;
+      words = λ o. words_carried strings t.objects 0 0 o (words_known ws) few ∙ ap (λ n. told_words n (slice_get t.objects o)) (none_before o);
       descriptions = λ o. descriptions_carried strings (flat_map (codes_of strings) ws) [] ws o few (omega (arith, le)) told refl ∙ ap (λ (objects : List Object). told_description (slice_get objects o)) back;
       ways = λ o direction. ways_found parents sorts strings ws o direction (slice_get ws o) refl exits ∙ ap (λ (objects : List Object). told_way (slice_get objects o) direction) back;
       start = start_carried parents sorts.rooms strings ws (ap (begin_rightly parents sorts.rooms) back ∙ held.made.begins) ∙ ap (λ (objects : List Object). told_place (slice_get objects 0)) back;

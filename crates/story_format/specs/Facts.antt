@@ -1,5 +1,5 @@
 -- What a story's tables say of its objects, by number; nothing of a number that no object has.
-use Rattle.std.specs.Prelude.{ℕ, ◌-◌, Bool, false, ◌==◌, List, [], length, take, count_by, slice_get, slice_index_or, Option, Some, None, if◌then◌else◌}
+use Rattle.std.specs.Prelude.{ℕ, ◌-◌, Bool, false, ◌==◌, List, [], length, map, take, count_by, slice_get, slice_index_or, Option, Some, None, if◌then◌else◌}
 use Rattle.world_meaning.specs.Tale.{room_beyond}
 use Rattle.world_meaning.specs.declared.exits.Exits.{Exits}
 use Rattle.story_format.specs.Placed.{is_room_entry}
@@ -21,6 +21,14 @@ name_in strings (Some entry) = text_at strings entry.name
 -- an object's name, as it is printed
 abbrev pub name_of : Tables → ℕ → List ℕ
 name_of t o = name_in t.strings (slice_get t.objects o)
+
+abbrev pub words_in : List (List ℕ) → Option Entry → List (List ℕ)
+words_in strings None = []
+words_in strings (Some entry) = map (text_at strings) entry.words
+
+-- the words that a command may name an object by
+abbrev pub words_of : Tables → ℕ → List (List ℕ)
+words_of t o = words_in t.strings (slice_get t.objects o)
 
 -- the text that a code says
 abbrev pub said : List (List ℕ) → Option (List ℕ) → Option (List ℕ)

@@ -2,19 +2,18 @@
 ghost use Rattle.std.specs.Prelude.{◌≡◌, IfOk, count_by, length};
 ghost use Rattle.std.specs.Int.{cast_signed, w32};
 ghost use Rattle.world_meaning.specs.Declarations.{has_property, is_had};
-ghost use Rattle.world_meaning.specs.Directions.{direction_number};
 ghost use Rattle.story_format.specs.InPlay.{article_numbered, article_of, door_in, exits_of, has_flag, has_number, is_of, number_from, start_flags, start_number, start_numbers, start_variables, starts_true};
 ghost use Rattle.story_format.specs.Placed.{places_in};
 ghost use Rattle.story_format.specs.Spells.{IsStory};
 
 use crate::Story;
 use crate::standing::places_in;
-use crate::story::exits_at;
+use crate::story::{exits_at, place_of_way};
 use crate::tables::Entry;
 use crate::world_checks::is_had;
 use crate::world_tables::WorldTables;
 use std::alloc::{AllocError, Global};
-use world_meaning::{Article, Direction, Exits, Granted, KindNo, ObjNo, Place, is_under};
+use world_meaning::{Article, Exits, Granted, KindNo, ObjNo, Place, is_under};
 
 fn article_numbered(number: u8) -> Article
     ensures { result ≡ article_numbered number }
@@ -233,17 +232,13 @@ impl Story {
     }
 }
 
-/// The door on the way in a direction.
-pub fn door_in(exits: &Option<Exits>, direction: Direction) -> Option<ObjNo>
-    ensures { result ≡ door_in exits.now (direction_number direction) }
+/// The door on the way in the direction of a number.
+pub fn door_in(exits: &Option<Exits>, direction: ObjNo) -> Option<ObjNo>
+    ensures { result ≡ door_in exits.now direction }
 {
     let Some(exits) = exits else {
         return None;
     };
-    let number = direction.number().get();
-    if number == 0 {
-        return None;
-    }
-    let way = exits.ways.get(usize::from(number) - 1)?;
+    let way = exits.ways.get(place_of_way(direction))?;
     way.door
 }

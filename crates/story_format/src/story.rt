@@ -1,14 +1,16 @@
 //! A story that was loaded, and what it says of its objects.
-ghost use Rattle.std.specs.Prelude.{◌≡◌};
+ghost use Rattle.std.specs.Prelude.{◌≡◌, ◌≤◌, ◌-◌, map};
+ghost use Rattle.std.specs.List.{list_any};
 ghost use Rattle.std.specs.Option.{option_map};
-ghost use Rattle.story_format.specs.Facts.{description_of, exits_at, name_of, object_count_of, start_of, text_at, way_of};
+ghost use Rattle.story_format.specs.Facts.{description_of, exits_at, name_of, object_count_of, start_of, text_at, way_of, words_of};
+ghost use Rattle.world_meaning.specs.Spelling.{is_spelled};
 
 use crate::place::NONE;
 use crate::soundness::string_said;
 use crate::standing::{count_of_rooms, is_room_entry};
 use crate::tables::{Entry, Tables};
 use std::marker::Model;
-use world_meaning::{Direction, Exits, KindNo, ObjNo, TextBytes};
+use world_meaning::{Exits, KindNo, ObjNo, TextBytes, is_spelled};
 
 /// A story: its tables.
 #[derive(Debug, Drop)]
@@ -37,6 +39,15 @@ fn text_at(strings: &[TextBytes], number: u16) -> &[u8]
     }
 }
 
+/// Whether one of the strings of these numbers is the word, whatever the case of its letters.
+fn hold_word(strings: &[TextBytes], numbers: &[u16], word: &[u8]) -> bool
+    ensures { result ≡ list_any (λ n. is_spelled word.now (text_at strings.now n)) numbers.now }
+{
+    numbers
+        .iter()
+        .any(|number| is_spelled(word, text_at(strings, *number)))
+}
+
 /// The ways of a room: they stand in the order of the rooms.
 pub(crate) fn exits_at(
     parents: &[Option<KindNo>],
@@ -55,9 +66,15 @@ pub(crate) fn exits_at(
     }
 }
 
+/// The place among a room's ways of the one in the direction of a number.
+pub(crate) fn place_of_way(direction: ObjNo) -> usize
+    ensures { result ≡ direction - 1 }
+{
+    (direction.get() as usize).saturating_sub(1)
+}
+
 impl Story {
     ghost use Rattle.story_format.specs.Spells.{IsStory};
-    ghost use Rattle.world_meaning.specs.Directions.{direction_number};
 
     /// The story of these tables.
     pub(crate) fn new(tables: Tables) -> Story
@@ -77,7 +94,8 @@ impl Story {
 
     /// How many objects there are: the player, the directions and the author's.
     pub fn object_count(&self) -> usize
-        ensures { result ≡ object_count_of self.now }
+        ensures count { result ≡ object_count_of self.now }
+        ensures few { result ≤ 1000 }
     {
         self.tables.objects.as_slice().len()
     }
@@ -88,6 +106,23 @@ impl Story {
     {
         match self.tables.objects.as_slice().get(object.get() as usize) {
             Some(entry) => text_at(self.tables.strings.as_slice(), entry.name),
+            None => &[],
+        }
+    }
+
+    /// Whether a command may name the object by the word, whatever the case of its letters.
+    pub fn has_word(&self, object: ObjNo, word: &[u8]) -> bool
+        ensures { result ≡ list_any (is_spelled word.now) (words_of self.now object) }
+    {
+        hold_word(self.tables.strings.as_slice(), self.words(object), word)
+    }
+
+    /// The numbers of the words that a command may name the object by.
+    fn words(&self, object: ObjNo) -> &[u16]
+        ensures { map (text_at self.now.strings) result.now ≡ words_of self.now object }
+    {
+        match self.tables.objects.as_slice().get(object.get() as usize) {
+            Some(entry) => entry.words.as_slice(),
             None => &[],
         }
     }
@@ -109,9 +144,9 @@ impl Story {
         Some(text_at(self.tables.strings.as_slice(), text))
     }
 
-    /// The room beyond the way in that direction.
-    pub fn way(&self, room: ObjNo, direction: Direction) -> Option<ObjNo>
-        ensures { result ≡ way_of self.now room (direction_number direction) }
+    /// The room beyond the way in the direction of that number; no way leads in a direction of the author's.
+    pub fn way(&self, room: ObjNo, direction: ObjNo) -> Option<ObjNo>
+        ensures { result ≡ way_of self.now room direction }
     {
         let exits = exits_at(
             self.tables.world.kinds.as_slice(),
@@ -119,11 +154,7 @@ impl Story {
             self.tables.ways.as_slice(),
             room.get() as usize,
         )?;
-        let number = direction.number().get();
-        if number == 0 {
-            return None;
-        }
-        let way = exits.ways.get(number as usize - 1)?;
+        let way = exits.ways.get(place_of_way(direction))?;
         way.room
     }
 

@@ -10,3 +10,4 @@ pub mod Words
 pub mod Writes
 pub mod Turning
 pub mod Keepings
+pub mod Objects

@@ -9,11 +9,9 @@ use Rattle.play_meaning.specs.Sessions.{State, answer_of, answer_to}
 use Rattle.world_meaning.specs.Texts.{prompt}
 use Rattle.play_meaning.specs.Transcripts.{behind_lines, echoed, played, while_going}
 use Rattle.play_meaning.specs.Games.{Game}
-use Rattle.play_meaning.specs.PlainReading.{meant}
-use Rattle.play_meaning.specs.Seeing.{is_visible}
 use Rattle.story_player.specs.Runs.{AreAnswered, BrokeOff, IsFront, has_break, streams_of}
 use Rattle.story_player.specs.Steps.{Answered, BrokeAnswer, BrokeTyping, IsTyping, PlayedLast, PlayedLine, WroteFront, last_part, last_state, shown, typed_part}
-use Rattle.story_player.specs.Typed.{IsGone, Typing, gone_reading, is_untyped, typed_reading}
+use Rattle.story_player.specs.Typed.{IsGone, Typing, gone_told, is_untyped, line_reading, told_reading, typed_reading}
 use Rattle.story_player.specs.declared.fault.RunFault.{RunFault}
 use Rattle.story_player.specs.declared.fault.RunFault.TheVariants.{Write}
 use Rattle.story_player.specs.declared.typed.Gone.{Gone}
@@ -34,12 +32,11 @@ echo_whole false front kept = refl
 -- what is written for a typed line is the line's part, whatever was let go
 pub record IsPart (g : Game) (echo : Bool) (refused : Option ℕ) (state : State) (t : Typing) (front line : List ℕ) : Type 0 where
   pub text : shown echo front ++ typed_part g echo refused state t ≡ echoed echo line ++ (answer_of g refused state line).text
-  pub next : (answer_to g refused state (meant (typed_reading t))).state ≡ (answer_of g refused state line).state
+  pub next : (answer_to g refused state (typed_reading g state t)).state ≡ (answer_of g refused state line).state
 
 pub is_part : (g : Game) (plain : ReadsPlainly g) (echo : Bool) (refused : Option ℕ) (state : State) (gone : Gone) (kept front : List ℕ) → IsGone gone front → IsPart g echo refused state (record { gone = gone; kept = kept }) front (front ++ kept)
 is_part g plain echo refused state gone kept front is =
-    let read : meant (gone_reading gone kept) ≡ g.reads state.question (is_visible g.telling.setting state.world) (front ++ kept) =
-    ap meant (reading_typed gone front kept is) ∙ sym (plain state.question (is_visible g.telling.setting state.world) (front ++ kept)) in
+    let read : told_reading g state (gone_told gone kept) ≡ line_reading g state (front ++ kept) = reading_typed g plain state gone front kept is in
     record {
       text = ap (λ r. shown echo front ++ (shown echo (kept ++ 10 ∷ []) ++ (answer_to g refused state r).text)) read
           ∙ sym (append_assoc (shown echo front) (shown echo (kept ++ 10 ∷ [])) (answer_of g refused state (front ++ kept)).text)
@@ -103,10 +100,10 @@ is_last_none g plain echo refused state gone kept front going is none =
     let nothing : front ≡ [] = front_empty front kept empty in
     record {
       refusals = [];
-      text = ap (λ v. prompt ++ (shown echo front ++ (if v then [] else (typed_part g echo refused state (record { gone = gone; kept = kept }) ++ while_going (answer_to g refused state (meant (typed_reading (record { gone = gone; kept = kept })))).state.ending prompt)))) none
+      text = ap (λ v. prompt ++ (shown echo front ++ (if v then [] else (typed_part g echo refused state (record { gone = gone; kept = kept }) ++ while_going (answer_to g refused state (typed_reading g state (record { gone = gone; kept = kept }))).state.ending prompt)))) none
           ∙ ap (λ bs. prompt ++ (shown echo bs ++ [])) nothing ∙ ap (λ bs. prompt ++ (bs ++ [])) (shown_nothing echo) ∙ append-nil prompt
           ∙ sym (played-none g echo [] state going) ∙ ap (λ bs. played g echo [] state (lines bs)) (sym empty);
-      next = ap (λ v. if v then state else (answer_to g refused state (meant (typed_reading (record { gone = gone; kept = kept })))).state) none ∙ ap (λ bs. behind_lines g [] state (lines bs)) (sym empty);
+      next = ap (λ v. if v then state else (answer_to g refused state (typed_reading g state (record { gone = gone; kept = kept }))).state) none ∙ ap (λ bs. behind_lines g [] state (lines bs)) (sym empty);
       answered = subst (λ bs. AreAnswered g [] state (lines bs)) (sym empty) refl;
     }
 
@@ -115,7 +112,7 @@ is_last_some g plain echo refused state gone kept front going is unbroken some =
     let t : Typing = record { gone = gone; kept = kept } in
     let line = front ++ kept in
     let part = is_part g plain echo refused state gone kept front is in
-    let last = while_going (answer_to g refused state (meant (typed_reading t))).state.ending prompt in
+    let last = while_going (answer_to g refused state (typed_reading g state t)).state.ending prompt in
     let one = lines-last line unbroken (typed_some gone kept front is some) in
     record {
       refusals = refused ∷ [];
@@ -126,7 +123,7 @@ is_last_some g plain echo refused state gone kept front going is unbroken some =
           ∙ ap (λ s. (prompt ++ (echoed echo line ++ (answer_of g refused state line).text)) ++ while_going s.ending prompt) part.next
           ∙ sym (played-line g echo refused state line going)
           ∙ ap (λ ls. played g echo (refused ∷ []) state ls) (sym one);
-      next = ap (λ v. if v then state else (answer_to g refused state (meant (typed_reading t))).state) some ∙ part.next ∙ sym (behind-line g refused state line going) ∙ ap (λ ls. behind_lines g (refused ∷ []) state ls) (sym one);
+      next = ap (λ v. if v then state else (answer_to g refused state (typed_reading g state t)).state) some ∙ part.next ∙ sym (behind-line g refused state line going) ∙ ap (λ ls. behind_lines g (refused ∷ []) state ls) (sym one);
       answered = subst (λ ls. AreAnswered g (refused ∷ []) state ls) (sym one) (ap length (exchanges-line g refused state line going));
     }
 

@@ -2,9 +2,7 @@
 use Rattle.std.proofs.Common.{◌≡◌, ◌∙◌, ap, sym, refl, subst, ℕ, suc, ◌-◌, Bool, true, false, List, [], ◌∷◌, length, Ok, Err, arith}
 use Rattle.std.specs.Prelude.{Option, None, Some, OnOk, Result, nat_lt, not, ◌==◌, slice_index_or, if◌then◌else◌}
 use Rattle.std.proofs.lemmas.List.{append-nil}
-use Rattle.world_meaning.specs.Directions.{direction_number}
 use Rattle.world_meaning.specs.Sight.{direction}
-use Rattle.world_meaning.specs.declared.direction.Direction.{Direction}
 use Rattle.world_meaning.specs.declared.place.Rel.TheVariants.{In}
 use Rattle.world_meaning.specs.declared.reading.Action.{Action}
 use Rattle.world_meaning.specs.declared.reading.Action.TheVariants.{Looking, Going}
@@ -14,12 +12,13 @@ use Rattle.world_meaning.specs.declared.session.ReplyKind.TheVariants.{Abandoned
 use Rattle.play_meaning.specs.Changes.{put_at}
 use Rattle.play_meaning.specs.Deeds.{arrive, closed_text, go, is_closed, look, look_text}
 use Rattle.play_meaning.specs.Games.{Acts}
-use Rattle.play_meaning.specs.PlainReading.{done}
+use Rattle.play_meaning.specs.PlainReading.{done, goes_rightly}
 use Rattle.play_meaning.specs.PlainStories.{PlainStory, game_of_plain, script_of_plain}
 use Rattle.play_meaning.specs.Progress.{change, fresh}
 use Rattle.play_meaning.specs.Scripts.{game_of}
 use Rattle.play_meaning.specs.Seeing.{has_light, root_of}
 use Rattle.play_meaning.specs.Sessions.{Answer, State, abandoned, closed, completed, ends_in_break, keep, opened, played, read_answer}
+use Rattle.play_meaning.specs.Settings.{Setting, direction_kind}
 use Rattle.play_meaning.specs.StandardActions.{standard_needs}
 use Rattle.play_meaning.specs.Turns.{count_turn, most_turns, opening, turn}
 use Rattle.play_meaning.specs.Values.{beyond}
@@ -85,27 +84,31 @@ put_so old new room player is put = put ∙ ap (λ o. in_world old (put_at (sett
 
 pub deed_ended : (k : PlainStory) (w : World) (action : Action) → (deed k w action).world.ended ≡ w.ended
 deed_ended k w Looking = look_ended k (fresh w)
-deed_ended k w (Going d) = go_ended k (direction_number d) (fresh w)
+deed_ended k w (Going d) = go_ended k d (fresh w)
 
 pub deed_turns : (k : PlainStory) (w : World) (action : Action) → (deed k w action).world.turns ≡ w.turns
 deed_turns k w Looking = look_turns k (fresh w)
-deed_turns k w (Going d) = go_turns k (direction_number d) (fresh w)
+deed_turns k w (Going d) = go_turns k d (fresh w)
+
+-- what is of kind direction is a direction
+abbrev pub AreDirections : Setting → Type 0
+AreDirections s = (o : ℕ) → s.is_of o direction_kind ≡ true → root_of s o ≡ Some direction
 
 -- the turn of the game is the deed, counted
-turn_is : (k : PlainStory) (w : World) (action : Action) → w.ended ≡ None → ((d : Direction) → root_of k.setting (direction_number d) ≡ Some direction)
+turn_is : (k : PlainStory) (w : World) (action : Action) → w.ended ≡ None → goes_rightly k.setting action ≡ true → AreDirections k.setting
     → count_turn (deed k w action) ≡ turn (game_of_plain k) (done action) (fresh w)
-turn_is k w Looking going directions = sym (look_turn k w going)
-turn_is k w (Going d) going directions = sym (go_turn k (direction_number d) w (directions d) going)
+turn_is k w Looking going rightly directions = sym (look_turn k w going)
+turn_is k w (Going d) going rightly directions = sym (go_turn k d w (directions d rightly) going)
 
 in_world_of : (k : PlainStory) (action : Action) → ((game_of_plain k).needs (done action).action).out_of_world ≡ false
 unfolding game_of script_of_plain standard_needs
 in_world_of k Looking = refl
 in_world_of k (Going d) = refl
 
-pub turn_answered : (k : PlainStory) (refused : Option ℕ) (s : State) (action : Action) → s.world.ended ≡ None → ((d : Direction) → root_of k.setting (direction_number d) ≡ Some direction)
+pub turn_answered : (k : PlainStory) (refused : Option ℕ) (s : State) (action : Action) → s.world.ended ≡ None → goes_rightly k.setting action ≡ true → AreDirections k.setting
     → turn_answer k refused s action ≡ read_answer (game_of_plain k) refused s (Acts (done action))
-turn_answered k refused s action going directions =
-    rw (in_world_of k action) (rw (turn_is k s.world action going directions) refl)
+turn_answered k refused s action going rightly directions =
+    rw (in_world_of k action) (rw (turn_is k s.world action going rightly directions) refl)
 
 -- what a body that succeeds says, whichever it is
 pub where_ok : {A E : Type 0} (result : Result A E) {X : Type 0} → X → OnOk result X
@@ -139,9 +142,9 @@ opened_so k going =
     ∙ ap (closed Free [] (look k (fresh k.start))) (look_ended k (fresh k.start) ∙ going))
 
 -- a reply and a state that are those of a turn are its answer
-pub told_as_turn : (k : PlainStory) (reply : Spoken) (to s : State) (action : Action) → s.world.ended ≡ None → ((d : Direction) → root_of k.setting (direction_number d) ≡ Some direction)
+pub told_as_turn : (k : PlainStory) (reply : Spoken) (to s : State) (action : Action) → s.world.ended ≡ None → goes_rightly k.setting action ≡ true → AreDirections k.setting
     → answer_with reply to ≡ turn_answer k (refusal_of reply.kind) s action → answer_with reply to ≡ read_answer (game_of_plain k) (refusal_of reply.kind) s (Acts (done action))
-told_as_turn k reply to s action going directions told = told ∙ turn_answered k (refusal_of reply.kind) s action going directions
+told_as_turn k reply to s action going rightly directions told = told ∙ turn_answered k (refusal_of reply.kind) s action going rightly directions
 
 pub over_told : (k : PlainStory) (reply : Spoken) (s : State) (action : Action) → reply ≡ record { text = out_of_range_text; kind = Abandoned NumberOutOfRange } → nat_lt s.world.turns most_turns ≡ false
     → answer_with reply (record s { question = None }) ≡ turn_answer k (refusal_of reply.kind) s action

@@ -1,6 +1,5 @@
 -- What a turn comes to: looking or going, counted.
 use Rattle.std.specs.Prelude.{◌≡◌, ℕ, Bool, true, false, not, List, [], ◌∷◌, ◌++◌, Option, Some, codes, if◌then◌else◌}
-use Rattle.world_meaning.specs.Directions.{direction_number}
 use Rattle.world_meaning.specs.Texts.{said}
 use Rattle.world_meaning.specs.declared.reading.Action.{Action}
 use Rattle.world_meaning.specs.declared.reading.Action.TheVariants.{Looking, Going}
@@ -47,7 +46,7 @@ pub record IsClosedOn (s : Setting) (w : World) (direction door : ℕ) : Type 0 
 -- what an action comes to, by itself
 abbrev pub deed : PlainStory → World → Action → Progress
 deed k w Looking = look k (fresh w)
-deed k w (Going direction) = go k (direction_number direction) (fresh w)
+deed k w (Going direction) = go k direction (fresh w)
 
 -- the answer to a line that means the action
 abbrev pub turn_answer : PlainStory → Option ℕ → State → Action → Answer

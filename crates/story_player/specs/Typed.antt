@@ -1,8 +1,12 @@
 -- A line that is being typed: the bytes that are kept, and what is known of those in front of them.
 use Rattle.std.specs.Prelude.{◌≡◌, ℕ, ◌<◌, ◌==◌, Bool, true, false, not, List, [], ◌∷◌, ◌++◌, length, if◌then◌else◌}
 use Rattle.std.specs.List.{list_any}
-use Rattle.world_meaning.specs.Reading.{is_blank, reading_of}
-use Rattle.world_meaning.specs.declared.reading.Reading.{Reading}
+use Rattle.play_meaning.specs.Games.{Game, Reading, Says}
+use Rattle.play_meaning.specs.Seeing.{is_visible}
+use Rattle.play_meaning.specs.Sessions.{State}
+use Rattle.world_meaning.specs.Reading.{Means, is_blank, reading_of}
+use Rattle.world_meaning.specs.Texts.{empty_text, too_long_text}
+use Rattle.world_meaning.specs.declared.reading.Reading.{Reading as PlainReading}
 use Rattle.world_meaning.specs.declared.reading.Reading.TheVariants.{Empty, TooLong}
 use Rattle.story_player.specs.declared.typed.Gone.{Gone}
 use Rattle.story_player.specs.declared.typed.Gone.TheVariants.{Nothing, Blanks, Words}
@@ -57,19 +61,36 @@ typed_with t byte =
     if is_full t then record { gone = gone_with t.gone t.kept; kept = byte ∷ [] }
     else record { gone = t.gone; kept = t.kept ++ byte ∷ [] }
 
-abbrev pub long_reading : Bool → Reading
-long_reading has_word = if has_word then TooLong else Empty
+-- a line in front of its line break: all of its bytes, or over 255 of which it is known whether a word is among them
+pub data Told : Type 0 where
+  Line : List ℕ → Told
+  Long : Bool → Told
 
-abbrev pub gone_reading : Gone → List ℕ → Reading
-gone_reading Nothing kept = reading_of kept
-gone_reading Blanks kept = long_reading (has_word kept)
-gone_reading Words kept = TooLong
+abbrev pub gone_told : Gone → List ℕ → Told
+gone_told Nothing kept = Line kept
+gone_told Blanks kept = Long (has_word kept)
+gone_told Words kept = Long true
 
--- what the line means
-abbrev pub typed_reading : Typing → Reading
-typed_reading t = gone_reading t.gone t.kept
+-- what is known of a line behind its last byte
+abbrev pub told_of : Typing → Told
+told_of t = gone_told t.gone t.kept
 
--- what a line means as it was typed
-abbrev pub reading_typed : Typed → Reading
-reading_typed (Whole bytes) = reading_of bytes.now
-reading_typed (Overlong has_word) = long_reading has_word
+abbrev pub told : Typed → Told
+told (Whole bytes) = Line bytes.now
+told (Overlong has_word) = Long has_word
+
+-- what a story without rules of its own reads in it
+abbrev pub plain_told : Means → Told → PlainReading
+plain_told means (Line line) = reading_of means line
+plain_told means (Long has_word) = if has_word then TooLong else Empty
+
+-- what a game reads in a line
+abbrev pub line_reading : Game → State → List ℕ → Reading
+line_reading g s line = g.reads s.question (is_visible g.telling.setting s.world) line
+
+abbrev pub told_reading : Game → State → Told → Reading
+told_reading g s (Line line) = line_reading g s line
+told_reading g s (Long has_word) = if has_word then Says too_long_text else Says empty_text
+
+abbrev pub typed_reading : Game → State → Typing → Reading
+typed_reading g s t = told_reading g s (told_of t)

@@ -1,6 +1,7 @@
 //! The player of a story: it reads typed lines, changes the world, takes turns back and prints the transcript.
 #![tactic(auto)]
 
+mod directions;
 mod fault;
 mod playing;
 mod reading;

@@ -3,7 +3,6 @@ ghost use Rattle.std.specs.Prelude.{◌≡◌, ◌++◌, ◌∷◌, [], ℕ, Lis
 ghost use Rattle.std.specs.Io.KnownBytes.{Appends, Consumes, IsAtEnd};
 ghost use Rattle.play_meaning.specs.Sessions.{answer_to, opened};
 ghost use Rattle.world_meaning.specs.Texts.{prompt};
-ghost use Rattle.play_meaning.specs.PlainReading.{meant};
 ghost use Rattle.play_meaning.specs.Transcripts.{while_going};
 ghost use Rattle.story_player.specs.Breaks.{Blames};
 ghost use Rattle.story_player.specs.Runs.{BrokeOff, Played, most_input, streams};
@@ -182,11 +181,11 @@ fn answer<W: Write>(
     ensures game { game_of session.new ≡ game_of session.old }
     ensures answered { OnOk result (Answered
         (λ refused. typed_part (game_of session.old) echo refused (state_of session.old) line.now)
-        (λ refused. (answer_to (game_of session.old) refused (state_of session.old) (meant (typed_reading line.now))).state)
+        (λ refused. (answer_to (game_of session.old) refused (state_of session.old) (typed_reading (game_of session.old) (state_of session.old) line.now)).state)
         (W.contents (watched_inner writer.old)) (W.contents (watched_inner writer.new)) (state_of session.new)) }
     ensures front { OnErr result (BrokeAnswer
         (λ refused. typed_part (game_of session.old) echo refused (state_of session.old) line.now)
-        (λ refused. (answer_to (game_of session.old) refused (state_of session.old) (meant (typed_reading line.now))).state)
+        (λ refused. (answer_to (game_of session.old) refused (state_of session.old) (typed_reading (game_of session.old) (state_of session.old) line.now)).state)
         (W.contents (watched_inner writer.old)) (W.contents (watched_inner writer.new)) (state_of session.new)) }
 {
     let reply = session.typed(line.typed());

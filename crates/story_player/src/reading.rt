@@ -1,10 +1,13 @@
 //! Reading a typed line.
-ghost use Rattle.std.specs.Prelude.{◌≡◌, ◌<◌, ◌≤◌, [], ◌∷◌, find, length, map, MatchOption};
-ghost use Rattle.std.specs.List.{list_all, position_or_len};
-ghost use Rattle.world_meaning.specs.Reading.{direction_meant, go_reading, going, is_article, is_blank, is_go, is_look, is_noun_for, is_quit, is_undo, is_word_for, look_reading, noun_of, reading_of, verb_reading, words_of, words_reading};
+ghost use Rattle.std.specs.Prelude.{◌≡◌, ◌<◌, ◌≤◌, [], ◌∷◌, length, map, MatchOption};
+ghost use Rattle.std.specs.List.{position_or_len};
+ghost use Rattle.world_meaning.specs.Reading.{direction_meant, go_reading, going, is_article, is_blank, is_go, is_look, is_quit, is_undo, look_reading, noun_of, reading_of, verb_reading, words_of, words_reading};
+ghost use Rattle.world_store.specs.StoryGames.{means_in};
 
+use crate::directions::direction_for;
 use arrayvec::ArrayVec;
-use world_meaning::{Action, Direction, Reading, is_spelled};
+use story_format::Story;
+use world_meaning::{Action, ObjNo, Reading, is_spelled};
 
 /// The most words of a line.
 const MOST_WORDS: usize = 32;
@@ -78,60 +81,18 @@ fn noun_of<'a, 'b>(phrase: &'b [&'a [u8]]) -> &'b [&'a [u8]]
     }
 }
 
-/// Whether the word is one for the direction: its name or its short word.
-fn is_word_for(direction: Direction, word: &[u8]) -> bool
-    ensures { result ≡ is_word_for direction word.now }
-{
-    is_spelled(word, direction.name()) || is_spelled(word, direction.short_word())
-}
-
-/// Whether each word is one for the direction.
-fn are_words_for(direction: Direction, words: &[&[u8]]) -> bool
-    ensures { result ≡ list_all (is_word_for direction) (map (λ word. word.now) words.now) }
-{
-    let mut rest = words;
-    while let [word, after @ ..] = rest {
-        if !is_word_for(direction, word) {
-            return false;
-        }
-        rest = after;
-    }
-    true
-}
-
-/// Whether each word of a noun is one for the direction, and there is one.
-fn is_noun_for(noun: &[&[u8]], direction: Direction) -> bool
-    ensures { result ≡ is_noun_for (map (λ word. word.now) noun.now) direction }
-{
-    !noun.is_empty() && are_words_for(direction, noun)
-}
-
-/// The first of the directions that the noun means.
-fn first_meant(noun: &[&[u8]], directions: &[Direction]) -> Option<Direction>
-    ensures { result ≡ find (is_noun_for (map (λ word. word.now) noun.now)) directions.now }
-{
-    let mut rest = directions;
-    while let [direction, after @ ..] = rest {
-        if is_noun_for(noun, *direction) {
-            return Some(*direction);
-        }
-        rest = after;
-    }
-    None
-}
-
 /// The direction that a noun phrase means.
-fn direction_meant(phrase: &[&[u8]]) -> Option<Direction>
-    ensures { result ≡ direction_meant (map (λ word. word.now) phrase.now) }
+fn direction_meant(story: &Story, phrase: &[&[u8]]) -> Option<ObjNo>
+    ensures { result ≡ direction_meant (means_in story.now) (map (λ word. word.now) phrase.now) }
 {
-    first_meant(noun_of(phrase), &Direction::ALL)
+    direction_for(story, noun_of(phrase))
 }
 
 /// A direction is where to go; with none, the phrase says what else the line is.
-fn going(phrase: &[&[u8]], otherwise: Reading) -> Reading
-    ensures { result ≡ going (direction_meant (map (λ word. word.now) phrase.now)) otherwise }
+fn going(story: &Story, phrase: &[&[u8]], otherwise: Reading) -> Reading
+    ensures { result ≡ going (direction_meant (means_in story.now) (map (λ word. word.now) phrase.now)) otherwise }
 {
-    match direction_meant(phrase) {
+    match direction_meant(story, phrase) {
         Some(direction) => Reading::Act(Action::Going(direction)),
         None => otherwise,
     }
@@ -166,12 +127,12 @@ fn is_quit(word: &[u8]) -> bool
 }
 
 /// What `go` and these words mean.
-fn go_reading(phrase: &[&[u8]]) -> Reading
-    ensures { result ≡ go_reading (map (λ word. word.now) phrase.now) }
+fn go_reading(story: &Story, phrase: &[&[u8]]) -> Reading
+    ensures { result ≡ go_reading (means_in story.now) (map (λ word. word.now) phrase.now) }
 {
     match phrase {
         [] => Reading::NotUnderstood,
-        [_, ..] => going(phrase, Reading::NotSeen),
+        [_, ..] => going(story, phrase, Reading::NotSeen),
     }
 }
 
@@ -186,12 +147,12 @@ fn look_reading(phrase: &[&[u8]]) -> Reading
 }
 
 /// What a verb and the words behind it mean.
-fn verb_reading(words: &[&[u8]], verb: &[u8], phrase: &[&[u8]]) -> Reading
+fn verb_reading(story: &Story, words: &[&[u8]], verb: &[u8], phrase: &[&[u8]]) -> Reading
     requires whole { map (λ word. word.now) words.now ≡ verb.now ∷ map (λ word. word.now) phrase.now }
-    ensures { result ≡ verb_reading verb.now (map (λ word. word.now) phrase.now) }
+    ensures { result ≡ verb_reading (means_in story.now) verb.now (map (λ word. word.now) phrase.now) }
 {
     if is_go(verb) {
-        return go_reading(phrase);
+        return go_reading(story, phrase);
     }
     if is_look(verb) {
         return look_reading(phrase);
@@ -202,22 +163,22 @@ fn verb_reading(words: &[&[u8]], verb: &[u8], phrase: &[&[u8]]) -> Reading
     if is_quit(verb) && phrase.is_empty() {
         return Reading::Quit;
     }
-    going(words, Reading::NoVerb)
+    going(story, words, Reading::NoVerb)
 }
 
 /// What the words of a line mean.
-fn words_reading(words: &[&[u8]]) -> Reading
-    ensures { result ≡ words_reading (map (λ word. word.now) words.now) }
+fn words_reading(story: &Story, words: &[&[u8]]) -> Reading
+    ensures { result ≡ words_reading (means_in story.now) (map (λ word. word.now) words.now) }
 {
     match words {
         [] => Reading::Empty,
-        [verb, phrase @ ..] => verb_reading(words, verb, phrase),
+        [verb, phrase @ ..] => verb_reading(story, words, verb, phrase),
     }
 }
 
-/// What a typed line means: no word, too many bytes or words, then the first grammar line that fits.
-pub fn read_line(line: &[u8]) -> Reading
-    ensures { result ≡ reading_of line.now }
+/// What a typed line means in a story: no word, too many bytes or words, then the first grammar line that fits.
+pub fn read_line(story: &Story, line: &[u8]) -> Reading
+    ensures { result ≡ reading_of (means_in story.now) line.now }
 {
     match words_of(line) {
         None => Reading::TooLong,
@@ -227,7 +188,7 @@ pub fn read_line(line: &[u8]) -> Reading
             } else if line.len() > MOST_BYTES {
                 Reading::TooLong
             } else {
-                words_reading(words.as_slice())
+                words_reading(story, words.as_slice())
             }
         }
     }

@@ -1,12 +1,13 @@
 //! A session: a story in play, line by line.
-ghost use Rattle.std.specs.Prelude.{◌≡◌, None, Some, IfOk};
+ghost use Rattle.std.specs.Prelude.{◌≡◌, true, None, Some, IfOk};
 ghost use Rattle.play_meaning.specs.Games.{Acts, Quit, Undo};
-ghost use Rattle.play_meaning.specs.PlainReading.{done, meant};
+ghost use Rattle.play_meaning.specs.PlainReading.{done, goes_rightly, is_rightly_read, meant};
 ghost use Rattle.play_meaning.specs.Sessions.{answer_of, answer_to, opened, read_answer};
 ghost use Rattle.play_meaning.specs.Transcripts.{ended_at_end};
-ghost use Rattle.world_store.specs.StoryGames.{game_of_story};
+ghost use Rattle.world_store.specs.StoryGames.{game_of_story, means_in};
+ghost use Rattle.world_store.specs.StorySettings.{setting_of};
 ghost use Rattle.story_player.specs.KeptWorlds.{AreGoing, AreOf};
-ghost use Rattle.story_player.specs.Typed.{reading_typed};
+ghost use Rattle.story_player.specs.Typed.{plain_told, told, told_reading};
 
 use crate::turns::done;
 use crate::typed::Typed;
@@ -48,11 +49,11 @@ pub struct Session {
 }
 
 /// What a line means as it was typed.
-fn read_typed(typed: Typed<'_>) -> Reading
-    ensures { result ≡ reading_typed typed.entry }
+fn read_typed(story: &Story, typed: Typed<'_>) -> Reading
+    ensures { result ≡ plain_told (means_in story.now) (told typed.entry) }
 {
     match typed {
-        Typed::Whole(line) => read_line(line),
+        Typed::Whole(line) => read_line(story, line),
         Typed::Overlong { has_word: true } => Reading::TooLong,
         Typed::Overlong { has_word: false } => Reading::Empty,
     }
@@ -121,6 +122,7 @@ impl Session {
     /// Plays a turn; the world before it is kept. Where memory is refused that is the world again.
     fn act(&mut self, action: Action) -> Reply
         requires going { (state_of self.old).ending ≡ None }
+        requires rightly { goes_rightly (setting_of (story_of self.old)) action ≡ true }
         ensures answer { answer_with result (state_of self.new) ≡ read_answer (game_of self.old) (refusal_of result.kind) (state_of self.old) (Acts (done action)) }
         ensures game { game_of self.new ≡ game_of self.old }
         ensures story { story_of self.new ≡ story_of self.old }
@@ -172,6 +174,7 @@ impl Session {
 
     /// Answers what a line means.
     fn answer(&mut self, reading: Reading) -> Reply
+        requires rightly { is_rightly_read (setting_of (story_of self.old)) reading ≡ true }
         ensures answer { answer_with result (state_of self.new) ≡ answer_to (game_of self.old) (refusal_of result.kind) (state_of self.old) (meant reading) }
         ensures game { game_of self.new ≡ game_of self.old }
         ensures story { story_of self.new ≡ story_of self.old }
@@ -193,11 +196,12 @@ impl Session {
 
     /// Answers a line as it was typed.
     pub(crate) fn typed(&mut self, typed: Typed<'_>) -> Reply
-        ensures answer { answer_with result (state_of self.new) ≡ answer_to (game_of self.old) (refusal_of result.kind) (state_of self.old) (meant (reading_typed typed.entry)) }
+        ensures answer { answer_with result (state_of self.new) ≡ answer_to (game_of self.old) (refusal_of result.kind) (state_of self.old) (told_reading (game_of self.old) (state_of self.old) (told typed.entry)) }
         ensures game { game_of self.new ≡ game_of self.old }
         ensures story { story_of self.new ≡ story_of self.old }
     {
-        self.answer(read_typed(typed))
+        let reading = read_typed(self.world.story(), typed);
+        self.answer(reading)
     }
 
     /// Answers a line. Where memory is refused in a turn, the answer says so and nothing has changed; a line that is no

@@ -3,7 +3,6 @@ ghost use Rattle.std.specs.Prelude.{◌≡◌, false, Some, IfOk, MatchOption, O
 ghost use Rattle.play_meaning.specs.Deeds.{arrive, go, is_closed, look_text, visit};
 ghost use Rattle.play_meaning.specs.Progress.{fresh};
 ghost use Rattle.play_meaning.specs.Sessions.{completed};
-ghost use Rattle.world_meaning.specs.Directions.{direction_number};
 ghost use Rattle.world_store.specs.StoryGames.{plain_story};
 ghost use Rattle.world_store.specs.StorySettings.{setting_of};
 ghost use Rattle.world_store.specs.StoryWorlds.{in_world};
@@ -12,7 +11,7 @@ ghost use Rattle.story_player.specs.Turns.{IsClosedOn, deed, door_from};
 use crate::telling::{closed_text, completed, look_text};
 use crate::texts;
 use std::alloc::{AllocError, Global};
-use world_meaning::{Action, Direction, ObjNo, Rel, TextBytes};
+use world_meaning::{Action, ObjNo, Rel, TextBytes};
 use world_store::World;
 
 /// The property that a door is open.
@@ -43,10 +42,10 @@ fn is_closed(world: &World, door: ObjNo) -> bool
 }
 
 /// The closed door on the way in a direction, if there is one.
-fn closed_door(world: &World, direction: Direction) -> Option<ObjNo>
+fn closed_door(world: &World, direction: ObjNo) -> Option<ObjNo>
     ensures { MatchOption result
-        (is_closed (setting_of world.now.tables) world.now.world (door_from (setting_of world.now.tables) world.now.world (direction_number direction)) ≡ false)
-        (λ door. IsClosedOn (setting_of world.now.tables) world.now.world (direction_number direction) door) }
+        (is_closed (setting_of world.now.tables) world.now.world (door_from (setting_of world.now.tables) world.now.world direction) ≡ false)
+        (λ door. IsClosedOn (setting_of world.now.tables) world.now.world direction door) }
 {
     let door = world.door_on_way(direction)?;
     if is_closed(world, door) {
@@ -67,9 +66,9 @@ fn arrive(alloc: Global, world: &mut World, room: ObjNo) -> Result<Vec<u8>, Allo
 }
 
 /// Goes in a direction: to the room beyond, unless a door on the way is closed or there is no way.
-fn go(alloc: Global, world: &mut World, direction: Direction) -> Result<Vec<u8>, AllocError>
-    ensures text { IfOk result (λ text. text.items ≡ (go (plain_story world.old.tables) (direction_number direction) (fresh world.old.world)).text) }
-    ensures world { OnOk result (world.new ≡ in_world world.old (go (plain_story world.old.tables) (direction_number direction) (fresh world.old.world)).world) }
+fn go(alloc: Global, world: &mut World, direction: ObjNo) -> Result<Vec<u8>, AllocError>
+    ensures text { IfOk result (λ text. text.items ≡ (go (plain_story world.old.tables) direction (fresh world.old.world)).text) }
+    ensures world { OnOk result (world.new ≡ in_world world.old (go (plain_story world.old.tables) direction (fresh world.old.world)).world) }
     ensures story { world.new.tables ≡ world.old.tables }
 {
     if let Some(door) = closed_door(world, direction) {

@@ -42,7 +42,7 @@ impl Model for TypedLine {
 
 ghost use Rattle.std.specs.Prelude.{◌≡◌, ◌<◌, ◌++◌, ◌∷◌, [], false, length};
 ghost use Rattle.std.specs.Str.Lines.{strip_carriage_return};
-ghost use Rattle.story_player.specs.Typed.{gone_with, has_word, is_full, is_untyped, is_word_byte, most_kept, nothing_typed, reading_typed, typed_reading};
+ghost use Rattle.story_player.specs.Typed.{gone_with, has_word, is_full, is_untyped, is_word_byte, most_kept, nothing_typed, told, told_of};
 
 /// Whether the byte is no blank.
 fn is_word_byte(byte: &u8) -> bool
@@ -123,7 +123,7 @@ impl TypedLine {
 
     /// The line as it was typed: whole, or what is known of it.
     pub fn typed(&self) -> Typed<'_>
-        ensures { reading_typed result ≡ typed_reading self.now }
+        ensures { told result ≡ told_of self.now }
     {
         match self.gone {
             Gone::Nothing => Typed::Whole(self.kept.as_slice()),

@@ -130,10 +130,10 @@ fn a_loaded_story_leads_its_ways(rt: HostRuntime) -> Result<(), Fail> {
     let story = load(rt.alloc(), story())?;
     let garden = ObjNo::new(GARDEN);
     assert_eq!(rt; story.start(), HALL);
-    assert_eq!(rt; story.way(HALL, Direction::North), Some(garden));
-    assert_eq!(rt; story.way(garden, Direction::South), Some(HALL));
-    assert_eq!(rt; story.way(HALL, Direction::South), None);
-    assert_eq!(rt; story.way(ObjNo::new(1), Direction::North), None);
+    assert_eq!(rt; story.way(HALL, Direction::North.number()), Some(garden));
+    assert_eq!(rt; story.way(garden, Direction::South.number()), Some(HALL));
+    assert_eq!(rt; story.way(HALL, Direction::South.number()), None);
+    assert_eq!(rt; story.way(ObjNo::new(1), Direction::North.number()), None);
     Ok(())
 }
 

@@ -1,11 +1,12 @@
 //! What a typed line may mean.
-use crate::Direction;
+use crate::ObjNo;
 
 /// What the player is to do.
 #[derive(Clone, Copy, Debug, PartialEq, Eq)]
 pub enum Action {
     Looking,
-    Going(Direction),
+    /// Going in the direction of this number.
+    Going(ObjNo),
 }
 
 /// A typed line: an action, taking back a turn, the end of the session, or something that isn't understood.

@@ -1,24 +1,20 @@
--- A story's first objects behind the player are directions, and no direction is a thing or a room.
+-- In a story no direction is a thing or a room.
 use Rattle.std.proofs.Common.{◌≡◌, ap, subst, refl, ℕ, zero, suc, Bool, true, false, eqb, leb, ltb, List, [], ◌∷◌, drop, length, take, inl, inr}
 use Rattle.std.specs.Prelude.{Option, Some, None, slice_get}
 use Rattle.std.specs.List.{list_all}
 use Rattle.world_meaning.proofs.Bools.{both_are, either}
 use Rattle.world_meaning.proofs.Climbs.{climbs_decide}
 use Rattle.world_meaning.specs.Declarations.{are_right_grants, are_right_kinds, begin_with_kinds, begin_with_properties, is_rooted, is_same_kind}
-use Rattle.world_meaning.specs.Directions.{all_directions, direction_name, direction_number}
 use Rattle.world_meaning.specs.Kinds.{Under, above, built_in_parents, direction_kind, is_under, itself}
 use Rattle.world_meaning.specs.Properties.{built_in_properties}
 use Rattle.world_meaning.specs.Sight.{direction}
-use Rattle.world_meaning.specs.declared.direction.Direction.{Direction}
-use Rattle.world_meaning.specs.declared.direction.Direction.TheVariants.{North, Northeast, Northwest, South, Southeast, Southwest, East, West, Up, Down, Inside, Outside}
 use Rattle.play_meaning.specs.Seeing.{root_of}
-use Rattle.story_format.specs.Checks.{are_direction_entries, are_distinct, are_in_place, are_right, are_right_objects, are_right_ways, has_no_rules, is_direction_entry, is_named, is_player_entry, is_right_frame, stand_rightly}
-use Rattle.story_format.specs.Placed.{sorts_in}
+use Rattle.story_format.specs.Checks.{are_distinct, are_right, are_right_objects, are_right_ways, has_no_rules, is_right_frame, stand_rightly}
+use Rattle.story_format.specs.InPlay.{is_of_in}
 use Rattle.story_format.specs.Spells.{IsStory}
 use Rattle.story_format.specs.WorldChecks.{is_right_world}
 use Rattle.story_format.specs.declared.tables.Entry.{Entry}
 use Rattle.story_format.specs.declared.tables.Tables.{Tables}
-use Rattle.story_format.proofs.RoomLemmas.{in_place, right_parts}
 use Rattle.story_format.proofs.StoryLemmas.{four, last_of_five, three}
 use Rattle.world_store.specs.StorySettings.{setting_of}
 
@@ -84,60 +80,18 @@ other_root t kind a b story ra rb other is = elim (either (is_under t.world.kind
     lies : {o : ℕ} → is_under t.world.kinds kind o ≡ true → Under t.world.kinds kind o
     lies {o} under = (climbs_decide t.world.kinds kind o).0 under
 
--- ---- entries
-
-entry_at : (strings : List (List ℕ)) (parents : List (Option ℕ)) (ds : List Direction) (es : List Entry) (i : ℕ) (d : Direction)
-    → are_direction_entries strings parents ds es ≡ true → slice_get ds i ≡ Some d → (e : Entry) × (slice_get es i ≡ Some e) × (is_under parents e.kind direction_kind ≡ true)
-unfolding are_direction_entries is_direction_entry
-entry_at strings parents [] es i d are is = absurd cc
-entry_at strings parents (x ∷ ds) [] i d are is = absurd cc
-entry_at strings parents (x ∷ ds) (e ∷ es) zero d are is = (
-  e,
-  refl,
-  (last_of_five (is_under parents e.kind direction_kind) (is_named strings e.name (direction_name x)) (eqb e.article 0) (eqb e.relation 255) (eqb e.holder 65535)
-      (both_are (is_direction_entry strings parents x e) (are_direction_entries strings parents ds es) are).0).0,
-)
-entry_at strings parents (x ∷ ds) (e ∷ es) (suc i) d are is =
-    entry_at strings parents ds es i d (both_are (is_direction_entry strings parents x e) (are_direction_entries strings parents ds es) are).1 is
-
-taken_at : (n i : ℕ) (es : List Entry) (e : Entry) → slice_get (take n es) i ≡ Some e → slice_get es i ≡ Some e
-taken_at zero i es e is = absurd cc
-taken_at (suc n) i [] e is = absurd cc
-taken_at (suc n) zero (x ∷ es) e is = is
-taken_at (suc n) (suc i) (x ∷ es) e is = taken_at n i es e is
-
-behind_player : (strings : List (List ℕ)) (parents : List (Option ℕ)) (rooms : List Bool) (entries : List Entry) (i : ℕ) (d : Direction)
-    → are_in_place strings parents rooms entries ≡ true → slice_get all_directions i ≡ Some d
-    → (e : Entry) × (slice_get entries (suc i) ≡ Some e) × (is_under parents e.kind direction_kind ≡ true)
-unfolding are_in_place
-behind_player strings parents rooms [] i d placed is = absurd cc
-behind_player strings parents rooms (player ∷ others) i d placed is =
-    let found = entry_at strings parents all_directions (take 12 others) i d
-    (three (leb 12 (length others)) (is_player_entry strings parents rooms player) (are_direction_entries strings parents all_directions (take 12 others)) placed).2 is in
-    (found.0, taken_at 12 i others found.0 found.1, found.2)
-
-numbered : (t : Tables) (i : ℕ) (d : Direction) → IsStory t → slice_get all_directions i ≡ Some d
-    → (e : Entry) × (slice_get t.objects (suc i) ≡ Some e) × (is_under t.world.kinds e.kind direction_kind ≡ true)
-numbered t i d story is = behind_player t.strings t.world.kinds (sorts_in t).rooms t.objects i d (in_place t (right_parts t story.right).0) is
+-- ---- objects
 
 rooted : (t : Tables) (n : ℕ) (e : Entry) → IsStory t → slice_get t.objects n ≡ Some e → is_under t.world.kinds e.kind direction_kind ≡ true → root_of (setting_of t) n ≡ Some direction
 unfolding setting_of built_in_parents
 rooted t n e story there is =
     rw (there, other_root t e.kind direction_kind 0 story refl refl (λ same. absurd cc) is, other_root t e.kind direction_kind 1 story refl refl (λ same. absurd cc) is, is) refl
 
-by_place : (t : Tables) (i : ℕ) (d : Direction) → IsStory t → slice_get all_directions i ≡ Some d → root_of (setting_of t) (suc i) ≡ Some direction
-by_place t i d story is = let found = numbered t i d story is in rooted t (suc i) found.0 story found.1 found.2
+-- what stands behind a number that has an entry
+rooted_entry : (t : Tables) (n : ℕ) (found : Option Entry) → IsStory t → slice_get t.objects n ≡ found → is_of_in t.world.kinds direction_kind found ≡ true → root_of (setting_of t) n ≡ Some direction
+rooted_entry t n None story there is = absurd cc
+rooted_entry t n (Some e) story there is = rooted t n e story there is
 
-pub directions_are : (t : Tables) (d : Direction) → IsStory t → root_of (setting_of t) (direction_number d) ≡ Some direction
-directions_are t North story = by_place t 0 North story refl
-directions_are t Northeast story = by_place t 1 Northeast story refl
-directions_are t Northwest story = by_place t 2 Northwest story refl
-directions_are t South story = by_place t 3 South story refl
-directions_are t Southeast story = by_place t 4 Southeast story refl
-directions_are t Southwest story = by_place t 5 Southwest story refl
-directions_are t East story = by_place t 6 East story refl
-directions_are t West story = by_place t 7 West story refl
-directions_are t Up story = by_place t 8 Up story refl
-directions_are t Down story = by_place t 9 Down story refl
-directions_are t Inside story = by_place t 10 Inside story refl
-directions_are t Outside story = by_place t 11 Outside story refl
+pub directions_are : (t : Tables) (n : ℕ) → IsStory t → (setting_of t).is_of n direction_kind ≡ true → root_of (setting_of t) n ≡ Some direction
+unfolding setting_of
+directions_are t n story is = rooted_entry t n (slice_get t.objects n) story refl is

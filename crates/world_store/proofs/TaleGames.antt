@@ -174,4 +174,4 @@ tables_game t held =
     let setting = one_setting (setting_of (tables_of t)) (told_setting t) (settings_agree t held) in
     let start = one_start t held in
     let carries = tale_carried t held in
-    λ i. record { setting = setting i; start = start i; descriptions = λ o. carries.descriptions o i; reads = reads_plainly }
+    λ i. record { setting = setting i; start = start i; descriptions = λ o. carries.descriptions o i; reads = reads_plainly (setting i) (λ o. carries.words o i) }

@@ -2,14 +2,12 @@
 ghost use Rattle.std.specs.Prelude.{◌≡◌, ◌≢◌, ◌⊎◌, ℕ, ℤ, Bool, true, false, Option, Some};
 ghost use Rattle.play_meaning.specs.PlainTales.{story_of_tale};
 ghost use Rattle.play_meaning.specs.Seeing.{encloses, has_light, is_visible, root_of};
-ghost use Rattle.play_meaning.specs.Settings.{Setting, thing_kind};
+ghost use Rattle.play_meaning.specs.Settings.{Setting, direction_kind, thing_kind};
 ghost use Rattle.play_meaning.specs.StoryWorlds.{IsWorldOf};
 ghost use Rattle.play_meaning.specs.Worlds.{World as PlayWorld, is_true_of, number_of, place_of, set_flag, set_number, set_place};
 ghost use Rattle.story_format.specs.Holding.{IsHeld};
 ghost use Rattle.story_format.specs.Making.{tables_of};
-ghost use Rattle.world_meaning.specs.Directions.{direction_number};
 ghost use Rattle.world_meaning.specs.Sight.{direction};
-ghost use Rattle.world_meaning.specs.declared.direction.Direction.{Direction};
 ghost use Rattle.world_meaning.specs.declared.place.Place.{Place};
 ghost use Rattle.world_meaning.specs.declared.tale.Tale.{Tale};
 ghost use Rattle.world_store.specs.StoryGames.{plain_story};
@@ -27,9 +25,9 @@ pub fn worlds_are_of_their_stories(world: &World)
     let _ = &world.tree;
 }
 
-/// The objects of the directions' numbers are directions, and no things or rooms.
+/// What is of kind direction is a direction, and no thing or room.
 pub fn directions_are_directions(world: &World)
-    ensures { (d : Direction) → root_of (setting_of world.now.tables) (direction_number d) ≡ Some direction }
+    ensures { (o : ℕ) → (setting_of world.now.tables).is_of o direction_kind ≡ true → root_of (setting_of world.now.tables) o ≡ Some direction }
 {
     let _ = &world.tree;
 }

@@ -5,7 +5,6 @@ ghost use Rattle.play_meaning.specs.Deeds.{is_on_view, on_view};
 ghost use Rattle.play_meaning.specs.Trees.{First};
 ghost use Rattle.play_meaning.specs.Values.{beyond, has_quality, is_held};
 ghost use Rattle.play_meaning.specs.Worlds.{location_of};
-ghost use Rattle.world_meaning.specs.Directions.{direction_number};
 ghost use Rattle.world_meaning.specs.declared.place.Rel.TheVariants.{In};
 ghost use Rattle.world_store.specs.StorySettings.{setting_of};
 
@@ -14,7 +13,7 @@ use crate::sight::is_in;
 use object_tree::Children;
 use std::alloc::{AllocError, Global};
 use story_format::door_in;
-use world_meaning::{Direction, KindNo, ObjNo};
+use world_meaning::{KindNo, ObjNo};
 
 /// The property that a thing is no part of what is seen at first.
 const SCENERY: u8 = 5;
@@ -71,24 +70,24 @@ impl World {
         Ok(self.on_view_among(alloc, things)?)
     }
 
-    /// The room beyond the way in a direction from the player's room.
-    pub fn way(&self, direction: Direction) -> Option<ObjNo>
-        ensures { result ≡ beyond (setting_of self.now.tables) (setting_of self.now.tables).room_beyond (Some (direction_number direction)) (location_of self.now.world) }
+    /// The room beyond the way in a direction, by its number, from the player's room.
+    pub fn way(&self, direction: ObjNo) -> Option<ObjNo>
+        ensures { result ≡ beyond (setting_of self.now.tables) (setting_of self.now.tables).room_beyond (Some direction) (location_of self.now.world) }
     {
         let here = self.location();
-        if self.is_of(direction.number(), KindNo::DIRECTION) && self.is_of(here, KindNo::ROOM) {
+        if self.is_of(direction, KindNo::DIRECTION) && self.is_of(here, KindNo::ROOM) {
             self.story().way(here, direction)
         } else {
             None
         }
     }
 
-    /// The door on the way in a direction from the player's room.
-    pub fn door_on_way(&self, direction: Direction) -> Option<ObjNo>
-        ensures { result ≡ beyond (setting_of self.now.tables) (setting_of self.now.tables).door_beyond (Some (direction_number direction)) (location_of self.now.world) }
+    /// The door on the way in a direction, by its number, from the player's room.
+    pub fn door_on_way(&self, direction: ObjNo) -> Option<ObjNo>
+        ensures { result ≡ beyond (setting_of self.now.tables) (setting_of self.now.tables).door_beyond (Some direction) (location_of self.now.world) }
     {
         let here = self.location();
-        if self.is_of(direction.number(), KindNo::DIRECTION) && self.is_of(here, KindNo::ROOM) {
+        if self.is_of(direction, KindNo::DIRECTION) && self.is_of(here, KindNo::ROOM) {
             door_in(&self.story().exits(here), direction)
         } else {
             None

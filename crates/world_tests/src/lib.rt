@@ -11,3 +11,5 @@ mod seeing;
 mod start;
 #[cfg(test)]
 mod story;
+#[cfg(test)]
+mod view;

@@ -16,7 +16,7 @@ unfolding plain_story
 returns-then-turns-ge-MOST_TURNS-clause-answer c =
     let k = plain_story c.args.self.now.world.tables in
     let s = state_of c.args.self.now in
-    told_as_turn k c.abandoned.result s s c.args.action c.args.self.now.going c.directions_are_directions.ensures
+    told_as_turn k c.abandoned.result s s c.args.action c.args.self.now.going c.requires.rightly c.directions_are_directions.ensures
     (over_told k c.abandoned.result s c.args.action c.abandoned.ensures (ap (λ n. nat_lt n 2147483647) (sym c.turns.ensures) ∙ le-ltb c.turns.result 2147483647 c.if-turns-ge-MOST_TURNS.true))
 
 pub next_turn-requires : goal.next_turn-requires
@@ -48,7 +48,7 @@ returns-in-Ok-done-clause-answer c =
     let kept_is =
     ap (λ ring. map (λ (v : StoryWorld). v.world) ring.items) c.push_front.ensures.items ∙ ap (λ n. map (λ (v : StoryWorld). v.world) (take n (c.in-Ok.before ∷ session.kept.items))) session.room
     ∙ map_taken (λ (v : StoryWorld). v.world) 8 (c.in-Ok.before ∷ session.kept.items) ∙ ap (λ (v : StoryWorld). take 8 (v.world ∷ s.kept)) c.in-Ok.ensures in
-    told_as_turn k c.made.result _ s c.args.action session.going c.directions_are_directions.ensures
+    told_as_turn k c.made.result _ s c.args.action session.going c.requires.rightly c.directions_are_directions.ensures
     (kept_told k c.made.result _ s c.args.action (c.made.ensures ∙ ap (λ text. record { text = text; kind = Kept }) c.in-Ok-done.ensures.text)
     (λ i. record { world = world_is i; kept = kept_is i; question = None; ending = c.requires.going i })
     (ap (λ n. nat_lt n 2147483647) (sym c.turns.ensures) ∙ lt-ltb c.turns.result 2147483647 c.if-turns-ge-MOST_TURNS.false) session.going)
