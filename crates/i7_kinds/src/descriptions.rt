@@ -24,7 +24,7 @@ pub fn subject_of(fact: &Numbered) -> Option<usize>
     ensures { result ≡ subject_of fact.now }
 {
     match fact {
-        Numbered::Aside | Numbered::Description(_) => None,
+        Numbered::Aside | Numbered::Description(_) | Numbered::Door(_) => None,
         Numbered::Being(number) => Some(*number),
         Numbered::Way(way) => Some(way.subject),
     }
@@ -49,7 +49,7 @@ fn described_by<'a>(
             text: LentText::new(text.as_slice()),
             line: statement.line,
         }),
-        Numbered::Aside | Numbered::Being(_) | Numbered::Way(_) => None,
+        Numbered::Aside | Numbered::Being(_) | Numbered::Way(_) | Numbered::Door(_) => None,
     }
 }
 
