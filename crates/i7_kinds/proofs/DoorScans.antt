@@ -1,5 +1,5 @@
 -- What is told of doors is what some claim tells, and the scan for rooms that are told again finds the lowest line.
-use Rattle.std.proofs.Common.{◌≡◌, ℕ, Bool, true, false, ◌||◌, ◌&&◌, List, [], ◌∷◌, ◌++◌, Option, refl, sym, ap, ◌∙◌, subst, inl, inr, ◌⊎◌, ⊎_elim, true≢false}
+use Rattle.std.proofs.Common.{◌≡◌, ℕ, Bool, true, false, ◌||◌, List, [], ◌∷◌, ◌++◌, Option, refl, sym, ap, ◌∙◌, subst, inl, inr, ◌⊎◌, ⊎_elim, true≢false}
 use Rattle.std.specs.Prelude.{Some, None, Decides, bytes_eq, fold}
 use Rattle.std.proofs.lemmas.List.Folds.{list_any-append}
 use Rattle.std.proofs.lemmas.Slice.Eq.{bytes_eq-Decides}
@@ -10,7 +10,7 @@ use Rattle.i7_kinds.specs.Doors.{DemandsDoor, IsDoorDemanded, IsTold, IsToldAgai
 use Rattle.i7_kinds.specs.Knowns.{door_kind}
 use Rattle.i7_kinds.specs.Numbers.{has_name, number_in}
 use Rattle.i7_kinds.specs.Scans.{IsLowest, ShownBy}
-use Rattle.i7_kinds.specs.Sorts.{named_if, with_name}
+use Rattle.i7_kinds.specs.Sorts.{with_name}
 use Rattle.i7_kinds.specs.declared.claim.Claim.{Claim}
 use Rattle.i7_kinds.specs.declared.claim.Fact.{Fact}
 use Rattle.i7_kinds.specs.declared.claim.Fact.TheVariants.{Between, Demands}
