@@ -8,7 +8,7 @@ use Rattle.std.proofs.lemmas.List.{length-append}
 use Rattle.i7_sentences.specs.declared.name.Name.{Name}
 use Rattle.i7_sentences.specs.declared.sentence.Sentence.{Sentence}
 use Rattle.i7_sentences.specs.declared.sentence.Assertion.{Assertion}
-use Rattle.i7_sentences.specs.declared.sentence.Assertion.TheVariants.{Description, Door, Way, Are, Holds}
+use Rattle.i7_sentences.specs.declared.sentence.Assertion.TheVariants.{Description, DescriptionOf, Door, Way, Are, Holds}
 use Rattle.world_meaning.specs.declared.place.Rel.{Rel}
 use Rattle.world_meaning.specs.declared.place.Rel.TheVariants.{In, On, Carried, Worn, Part}
 use Rattle.world_meaning.specs.declared.fault.FaultCode.{FaultCode}
@@ -81,6 +81,7 @@ holding-within named Part holder things = subject-within named things
 
 pub assertion-within : (named : Named) (said : Assertion) → IsWithin (length named.keys) (numbered_in named said)
 assertion-within named (Description text) = tt
+assertion-within named (DescriptionOf object text) = tt
 assertion-within named (Are being) = subject-within named being.subjects
 assertion-within named (Holds holder relation things) = holding-within named relation holder things
 assertion-within named (Way way) = (number-within named.keys (key_of way.subject.text), number-within named.keys (key_of way.room.text))
@@ -115,6 +116,7 @@ SmallLeads leads = (room direction : ℕ) → IsSmallTarget (first_target leads 
 stated-small-by : (most : ℕ) (fact : Numbered) (leads : List Lead) → most ≤ 1000 → IsWithin most fact → SmallLeads leads → SmallLeads (stated_in fact ++ leads)
 stated-small-by most numbered.Aside leads few within others room direction = others room direction
 stated-small-by most (numbered.Description text) leads few within others room direction = others room direction
+stated-small-by most (numbered.Describes o text) leads few within others room direction = others room direction
 stated-small-by most (numbered.Being o) leads few within others room direction = others room direction
 stated-small-by most (numbered.Way way) leads few within others room direction = small-lead (way_there way) leads room direction (omega (arith, within.0, few), tt) (others room direction)
 stated-small-by most (numbered.Door d) leads few within others room direction =
@@ -125,6 +127,7 @@ stated-small-by most (numbered.Door d) leads few within others room direction =
 implied-small-by : (most : ℕ) (fact : Numbered) (leads : List Lead) → most ≤ 1000 → IsWithin most fact → SmallLeads leads → SmallLeads (implied_in fact ++ leads)
 implied-small-by most numbered.Aside leads few within others room direction = others room direction
 implied-small-by most (numbered.Description text) leads few within others room direction = others room direction
+implied-small-by most (numbered.Describes o text) leads few within others room direction = others room direction
 implied-small-by most (numbered.Being o) leads few within others room direction = others room direction
 implied-small-by most (numbered.Way way) leads few within others room direction = small-lead (way_back way) leads room direction (omega (arith, within.1, few), tt) (others room direction)
 implied-small-by most (numbered.Door d) leads few within others room direction = others room direction

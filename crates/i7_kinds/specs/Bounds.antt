@@ -26,6 +26,7 @@ LeadWithin statements = (room direction : ℕ) → IsSmallTarget (target_of stat
 abbrev pub IsWithin : ℕ → Numbered → Type 0
 IsWithin most numbered.Aside = ⊤
 IsWithin most (numbered.Description text) = ⊤
+IsWithin most (numbered.Describes o text) = ⊤
 IsWithin most (numbered.Being o) = ⊤
 IsWithin most (numbered.Way way) = (way.subject ≤ most) × (way.room ≤ most)
 IsWithin most (numbered.Door d) = (d.door ≤ most) × (d.first.room ≤ most) × (d.second.room ≤ most)

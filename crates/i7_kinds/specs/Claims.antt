@@ -159,6 +159,7 @@ declares_in sentence = declares_said sentence.said sentence.line
 abbrev pub claims_said : Standings → Assertion → ℕ → List Claim
 claims_said known (assertion.Way way) line = way_claims way.subject way.room line
 claims_said known (assertion.Door door first second) line = door_claims door first.room second.room line
+claims_said known (assertion.DescriptionOf object text) line = named stands.Object line object ∷ []
 claims_said known (assertion.Are being) line = being_claims known being line
 claims_said known (assertion.Holds holder relation things) line = holding_claims holder relation things line
 claims_said known (assertion.Usually kind adjectives) line = usually_claims known kind adjectives line

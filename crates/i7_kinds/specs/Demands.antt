@@ -29,6 +29,7 @@ first_of_author = 13
 abbrev pub subject_of : Numbered → Option ℕ
 subject_of numbered.Aside = None
 subject_of (numbered.Description text) = None
+subject_of (numbered.Describes o text) = None
 subject_of (numbered.Being o) = Some o
 subject_of (numbered.Way way) = Some way.subject
 subject_of (numbered.Door door) = None
@@ -62,6 +63,7 @@ is_wrong_door parents knowns door first second =
 abbrev pub is_wrong : List (Option ℕ) → List Known → Option ℕ → Numbered → Bool
 is_wrong parents knowns before numbered.Aside = false
 is_wrong parents knowns before (numbered.Description text) = is_wrong_subject parents knowns before
+is_wrong parents knowns before (numbered.Describes o text) = false
 is_wrong parents knowns before (numbered.Being o) = false
 is_wrong parents knowns before (numbered.Way way) = is_wrong_way parents knowns way.subject way.room
 is_wrong parents knowns before (numbered.Door d) = is_wrong_door parents knowns d.door d.first.room d.second.room
@@ -74,24 +76,29 @@ wrong_after parents knowns before (statement ∷ statements) =
 abbrev pub wrong_kind : List (Option ℕ) → List Known → List NumberedSentence → Option ℕ
 wrong_kind parents knowns statements = wrong_after parents knowns None statements
 
--- a text describes a room, at its line
-abbrev pub told_of : ℕ → Numbered → ℕ → List Description
-told_of o (numbered.Description text) line = record { object = o; text = text; line = line } ∷ []
-told_of o numbered.Aside line = []
-told_of o (numbered.Being other) line = []
-told_of o (numbered.Way way) line = []
-told_of o (numbered.Door door) line = []
+-- a text alone describes the room that the statement before it is about, at its line
+abbrev pub told_alone : List (Option ℕ) → List Known → Option ℕ → List ℕ → ℕ → List Description
+told_alone parents knowns None text line = []
+told_alone parents knowns (Some o) text line = if is_room parents knowns o then record { object = o; text = text; line = line } ∷ [] else []
+
+-- what a statement says that describes an object
+abbrev pub told_in : List (Option ℕ) → List Known → Option ℕ → Numbered → ℕ → List Description
+told_in parents knowns before numbered.Aside line = []
+told_in parents knowns before (numbered.Description text) line = told_alone parents knowns before text line
+told_in parents knowns before (numbered.Describes o text) line = record { object = o; text = text; line = line } ∷ []
+told_in parents knowns before (numbered.Being o) line = []
+told_in parents knowns before (numbered.Way way) line = []
+told_in parents knowns before (numbered.Door door) line = []
 
 abbrev pub described_by : List (Option ℕ) → List Known → Option ℕ → NumberedSentence → List Description
-described_by parents knowns None statement = []
-described_by parents knowns (Some o) statement = if is_room parents knowns o then told_of o statement.said statement.line else []
+described_by parents knowns before statement = told_in parents knowns before statement.said statement.line
 
 abbrev pub described_after : List (Option ℕ) → List Known → Option ℕ → List NumberedSentence → List Description
 described_after parents knowns before [] = []
 described_after parents knowns before (statement ∷ statements) =
     described_by parents knowns before statement ++ described_after parents knowns (subject_of statement.said) statements
 
--- each text alone describes the room that the statement before it is about
+-- what describes objects, in order
 abbrev pub descriptions_of : List (Option ℕ) → List Known → List NumberedSentence → List Description
 descriptions_of parents knowns statements = described_after parents knowns None statements
 
@@ -134,6 +141,7 @@ way_through door here beyond = lead_to here.room here.direction beyond.room (Som
 abbrev pub stated_in : Numbered → List Lead
 stated_in numbered.Aside = []
 stated_in (numbered.Description text) = []
+stated_in (numbered.Describes o text) = []
 stated_in (numbered.Being o) = []
 stated_in (numbered.Way way) = way_there way ∷ []
 stated_in (numbered.Door d) = way_through d.door d.first d.second ∷ way_through d.door d.second d.first ∷ []
@@ -142,6 +150,7 @@ stated_in (numbered.Door d) = way_through d.door d.first d.second ∷ way_throug
 abbrev pub implied_in : Numbered → List Lead
 implied_in numbered.Aside = []
 implied_in (numbered.Description text) = []
+implied_in (numbered.Describes o text) = []
 implied_in (numbered.Being o) = []
 implied_in (numbered.Way way) = way_back way ∷ []
 implied_in (numbered.Door d) = []

@@ -280,6 +280,9 @@ fn add_claims(
             first,
             second,
         } => add_door(alloc, claims, door, &first.room, &second.room, line),
+        Assertion::DescriptionOf { object, .. } => {
+            add_naming(alloc, claims, object, Standing::Object, line)
+        }
         Assertion::Are(being) => add_being(alloc, known, claims, being, line),
         Assertion::Holds {
             holder,

@@ -68,7 +68,7 @@ fn is_wrong(
     ensures { result ≡ is_wrong parents.now knowns.now before said.now }
 {
     match said {
-        Numbered::Aside | Numbered::Being(_) => false,
+        Numbered::Aside | Numbered::Being(_) | Numbered::Describes { .. } => false,
         Numbered::Description(_) => is_wrong_subject(parents, knowns, before),
         Numbered::Way(way) => is_wrong_way(parents, knowns, way.subject, way.room),
         Numbered::Door(door) => is_wrong_door(parents, knowns, *door),

@@ -13,6 +13,7 @@ fn is_meant(said: &Assertion) -> bool
         Assertion::Rulebook(_) | Assertion::Scene { .. } | Assertion::Variable(_) => true,
         Assertion::KindOfKind { .. } | Assertion::EitherOr { .. } | Assertion::Are(_) => true,
         Assertion::Usually { .. } | Assertion::Holds { .. } | Assertion::Door { .. } => true,
+        Assertion::DescriptionOf { .. } => true,
         _ => false,
     }
 }

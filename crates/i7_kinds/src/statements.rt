@@ -16,6 +16,8 @@ pub enum Numbered {
     Aside,
     /// A text as it is printed.
     Description(TextBytes),
+    /// An object, and the text that describes it, as it is printed.
+    Describes { object: usize, text: TextBytes },
     /// What an object is.
     Being(usize),
     Way(NumberedWay),
@@ -96,6 +98,10 @@ fn numbered_in(alloc: Global, names: &Names<'_>, said: &Assertion) -> Result<Num
 {
     match said {
         Assertion::Description(text) => Ok(Numbered::Description(printed(alloc, text.as_slice())?)),
+        Assertion::DescriptionOf { object, text } => Ok(Numbered::Describes {
+            object: names.number_of(alloc, object)?,
+            text: printed(alloc, text.as_slice())?,
+        }),
         Assertion::Are(being) => numbered_subject(alloc, names, being.subjects.as_slice()),
         Assertion::Holds {
             holder,

@@ -99,7 +99,10 @@ fn lead_stated(targets: &mut Targets, said: &Numbered) -> Result<(), AllocError>
     ensures { OnOk result (LeadsOn targets.old targets.new (first_target (stated_in said.now))) }
 {
     match said {
-        Numbered::Aside | Numbered::Description(_) | Numbered::Being(_) => Ok(()),
+        Numbered::Aside
+        | Numbered::Description(_)
+        | Numbered::Describes { .. }
+        | Numbered::Being(_) => Ok(()),
         Numbered::Way(way) => lead_exit(targets, way_there(*way)),
         Numbered::Door(door) => {
             let there = way_through(door.door, door.first, door.second);
@@ -114,7 +117,10 @@ fn lead_back(targets: &mut Targets, said: &Numbered) -> Result<(), AllocError>
     ensures { OnOk result (LeadsOn targets.old targets.new (first_target (implied_in said.now))) }
 {
     match said {
-        Numbered::Aside | Numbered::Description(_) | Numbered::Being(_) => Ok(()),
+        Numbered::Aside
+        | Numbered::Description(_)
+        | Numbered::Describes { .. }
+        | Numbered::Being(_) => Ok(()),
         Numbered::Way(way) => lead_exit(targets, way_back(*way)),
         Numbered::Door(_) => Ok(()),
     }
@@ -181,7 +187,10 @@ fn leads_elsewhere(targets: &Targets, leads: &[NumberedSentence], said: &Numbere
     ensures { result ≡ leads_elsewhere (stated_leads leads.now) said.now }
 {
     match said {
-        Numbered::Aside | Numbered::Description(_) | Numbered::Being(_) => false,
+        Numbered::Aside
+        | Numbered::Description(_)
+        | Numbered::Describes { .. }
+        | Numbered::Being(_) => false,
         Numbered::Way(way) => is_elsewhere(targets, leads, way_there(*way)),
         Numbered::Door(door) => {
             let there = way_through(door.door, door.first, door.second);

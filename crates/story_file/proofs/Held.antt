@@ -76,6 +76,7 @@ is_right parents knowns (Some target) = is_of parents knowns 1 target.room && is
 abbrev is_of_rooms : List (Option ℕ) → List Known → Numbered → Bool
 is_of_rooms parents knowns numbered.Aside = true
 is_of_rooms parents knowns (numbered.Description text) = true
+is_of_rooms parents knowns (numbered.Describes o text) = true
 is_of_rooms parents knowns (numbered.Being o) = true
 is_of_rooms parents knowns (numbered.Way way) = is_of parents knowns 1 way.subject && is_of parents knowns 1 way.room
 is_of_rooms parents knowns (numbered.Door d) = is_of parents knowns 3 d.door && (is_of parents knowns 1 d.first.room && is_of parents knowns 1 d.second.room)
@@ -95,6 +96,7 @@ module _ (parents : List (Option ℕ)) (knowns : List Known) (whole : (o : ℕ) 
   between : (before : Option ℕ) (fact : Numbered) → is_wrong parents knowns before fact ≡ false → is_of_rooms parents knowns fact ≡ true
   between before numbered.Aside h = refl
   between before (numbered.Description text) h = refl
+  between before (numbered.Describes o text) h = refl
   between before (numbered.Being o) h = refl
   between before (numbered.Way way) h = judged (is_parted_at knowns way.subject) (is_parted_at knowns way.room) (is_of parents knowns 1 way.subject && is_of parents knowns 1 way.room) (whole way.subject) (whole way.room) h
   between before (numbered.Door d) h =
@@ -124,6 +126,7 @@ module _ (parents : List (Option ℕ)) (knowns : List Known) (whole : (o : ℕ) 
   stated_one : (fact : Numbered) (leads : List Lead) → is_of_rooms parents knowns fact ≡ true → LeadRight leads → LeadRight (stated_in fact ++ leads)
   stated_one numbered.Aside leads h k room direction = k room direction
   stated_one (numbered.Description text) leads h k room direction = k room direction
+  stated_one (numbered.Describes o text) leads h k room direction = k room direction
   stated_one (numbered.Being o) leads h k room direction = k room direction
   stated_one (numbered.Way way) leads h k room direction =
       lead_right (way_there way) leads room direction (plain_right way.subject (both_are (is_of parents knowns 1 way.subject) (is_of parents knowns 1 way.room) h).0) (k room direction)
@@ -136,6 +139,7 @@ module _ (parents : List (Option ℕ)) (knowns : List Known) (whole : (o : ℕ) 
   implied_one : (fact : Numbered) (leads : List Lead) → is_of_rooms parents knowns fact ≡ true → LeadRight leads → LeadRight (implied_in fact ++ leads)
   implied_one numbered.Aside leads h k room direction = k room direction
   implied_one (numbered.Description text) leads h k room direction = k room direction
+  implied_one (numbered.Describes o text) leads h k room direction = k room direction
   implied_one (numbered.Being o) leads h k room direction = k room direction
   implied_one (numbered.Way way) leads h k room direction =
       lead_right (way_back way) leads room direction (plain_right way.room (both_are (is_of parents knowns 1 way.subject) (is_of parents knowns 1 way.room) h).1) (k room direction)

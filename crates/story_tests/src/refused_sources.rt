@@ -92,6 +92,16 @@ const REFUSED: &[(&str, FaultCode, u32)] = &[
     ),
     ("The gate is a door.", FaultCode::NoRoom, 1),
     (
+        "The Hall is a room. \"One.\"\nThe description of the ball is \"Two.\"\nThe description of the Hall is \"Two.\"",
+        FaultCode::Twice,
+        3,
+    ),
+    (
+        "The Hall is a room.\nThe description of the Hall is \"One.\"\n\"Two.\"",
+        FaultCode::WrongKind,
+        3,
+    ),
+    (
         "The Hall is a room.\nThe ball is in the Hall. \"Round.\"",
         FaultCode::WrongKind,
         2,
@@ -198,6 +208,7 @@ const TAKEN: &[&str] = &[
     "the HALL IS A Room",
     "The gate is north of the Hall and south of the Yard.\nThe gate is an open door. The knob is part of the gate.",
     "The gate is a door. The Hall is a room.",
+    "The Hall is a room. \"One.\"\nThe description of the Hall is \"One.\" The description of north is \"Up.\"",
     "The ring is north of the Maze and north of the Maze.",
     "The gate is north of the Hall and south of the Yard.\nThe Hall is south of the Yard's End. The Yard is west of the Hall.",
     "Hall are a room.",
