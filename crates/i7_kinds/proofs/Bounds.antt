@@ -8,14 +8,13 @@ use Rattle.std.proofs.lemmas.List.{length-append}
 use Rattle.i7_sentences.specs.declared.name.Name.{Name}
 use Rattle.i7_sentences.specs.declared.sentence.Sentence.{Sentence}
 use Rattle.i7_sentences.specs.declared.sentence.Assertion.{Assertion}
-use Rattle.i7_sentences.specs.declared.sentence.Assertion.TheVariants.{Description, Way, Are, Holds}
-use Rattle.world_meaning.specs.Directions.{opposite_of}
+use Rattle.i7_sentences.specs.declared.sentence.Assertion.TheVariants.{Description, DescriptionOf, Door, Way, Are, Holds}
 use Rattle.world_meaning.specs.declared.place.Rel.{Rel}
 use Rattle.world_meaning.specs.declared.place.Rel.TheVariants.{In, On, Carried, Worn, Part}
 use Rattle.world_meaning.specs.declared.fault.FaultCode.{FaultCode}
 use Rattle.world_meaning.specs.declared.fault.FaultCode.TheVariants.{Cycle, NoRoom, TooMany, Twice, TwoPlaces, UnknownName, WrongKind}
-use Rattle.i7_kinds.specs.Bounds.{AreWithin, IsSmall, IsWithin, LeadWithin}
-use Rattle.i7_kinds.specs.Demands.{Lead, first_target, line_at, implied_in, implied_leads, is_exit, lead_of, stated_in, stated_leads}
+use Rattle.i7_kinds.specs.Bounds.{AreWithin, IsSmallTarget, IsWithin, LeadWithin}
+use Rattle.i7_kinds.specs.Demands.{first_target, line_at, implied_in, implied_leads, is_exit, stated_in, stated_leads, way_back, way_there, way_through}
 use Rattle.i7_kinds.specs.Scans.{earlier}
 use Rattle.i7_kinds.specs.declared.faults.Faults.{Faults}
 use Rattle.i7_kinds.specs.Firsts.{first_of}
@@ -23,6 +22,8 @@ use Rattle.i7_kinds.specs.Tales.{frame_refusal, no_room, object_too_many, refusa
 use Rattle.i7_kinds.specs.declared.statements.Numbered.{Numbered}
 use Rattle.i7_kinds.specs.declared.statements.Numbered.TheVariants as numbered
 use Rattle.i7_kinds.specs.declared.statements.NumberedSentence.{NumberedSentence}
+use Rattle.i7_kinds.specs.declared.ways.Lead.{Lead}
+use Rattle.i7_kinds.specs.declared.ways.Target.{Target}
 use Rattle.i7_kinds.specs.Statements.{NameAt, Named, built_in_keys, numbered_holding, numbered_in, numbered_subject, has_key, key_of, named_by, names_at, number_in, place_or, stated_by, statement_in, with_name, with_names_of}
 
 -- as many keys as objects
@@ -80,9 +81,12 @@ holding-within named Part holder things = subject-within named things
 
 pub assertion-within : (named : Named) (said : Assertion) → IsWithin (length named.keys) (numbered_in named said)
 assertion-within named (Description text) = tt
+assertion-within named (DescriptionOf object text) = tt
 assertion-within named (Are being) = subject-within named being.subjects
 assertion-within named (Holds holder relation things) = holding-within named relation holder things
 assertion-within named (Way way) = (number-within named.keys (key_of way.subject.text), number-within named.keys (key_of way.room.text))
+assertion-within named (Door door first second) =
+    (number-within named.keys (key_of door.text), number-within named.keys (key_of first.room.text), number-within named.keys (key_of second.room.text))
 assertion-within named _ = tt
 
 pub all-within : (named : Named) (sentences : List Sentence) → AreWithin (length named.keys) (map (statement_in named) sentences)
@@ -93,42 +97,53 @@ all-within named (sentence ∷ sentences) = (assertion-within named sentence.sai
 pub source-within : (sentences : List Sentence) → AreWithin (length (named_by sentences).keys) (stated_by sentences)
 source-within sentences = all-within (named_by sentences) sentences
 
-pub small-first : (a b : Option ℕ) → IsSmall a → IsSmall b → IsSmall (first_of a b)
+pub small-first : (a b : Option Target) → IsSmallTarget a → IsSmallTarget b → IsSmallTarget (first_of a b)
 small-first None b first second = second
-small-first (Some n) b first second = first
+small-first (Some t) b first second = first
 
 -- a lead in front of others
-pub small-lead : (lead : Lead) (leads : List Lead) (room direction : ℕ) → lead.target ≤ 1000 → IsSmall (first_target leads room direction) → IsSmall (first_target (lead ∷ leads) room direction)
+pub small-lead : (lead : Lead) (leads : List Lead) (room direction : ℕ) → IsSmallTarget (Some lead.target) → IsSmallTarget (first_target leads room direction) → IsSmallTarget (first_target (lead ∷ leads) room direction)
 small-lead lead leads room direction small others =
-    let Goal : Bool → Type 0 = λ v. is_exit room direction lead ≡ v → IsSmall (first_target (lead ∷ leads) room direction) in
+    let Goal : Bool → Type 0 = λ v. is_exit room direction lead ≡ v → IsSmallTarget (first_target (lead ∷ leads) room direction) in
     elim (is_exit room direction lead) as Goal [
       | true ↦ λ here. rw here small
       | false ↦ λ other. rw other others
     ] refl
 
-pub stated-small-by : (most : ℕ) (fact : Numbered) (line : ℕ) (statements : List NumberedSentence) (room direction : ℕ) → most ≤ 1000 → IsWithin most fact → IsSmall (first_target (stated_leads statements) room direction) → IsSmall (first_target (stated_in fact line ++ stated_leads statements) room direction)
-stated-small-by most numbered.Aside line statements room direction few within others = others
-stated-small-by most (numbered.Description text) line statements room direction few within others = others
-stated-small-by most (numbered.Being o) line statements room direction few within others = others
-stated-small-by most (numbered.Way way) line statements room direction few within others = small-lead (lead_of way.subject way.direction way.room line) (stated_leads statements) room direction (omega (arith, within.0, few)) others
+abbrev pub SmallLeads : List Lead → Type 0
+SmallLeads leads = (room direction : ℕ) → IsSmallTarget (first_target leads room direction)
 
-pub implied-small-by : (most : ℕ) (fact : Numbered) (line : ℕ) (statements : List NumberedSentence) (room direction : ℕ) → most ≤ 1000 → IsWithin most fact → IsSmall (first_target (implied_leads statements) room direction) → IsSmall (first_target (implied_in fact line ++ implied_leads statements) room direction)
-implied-small-by most numbered.Aside line statements room direction few within others = others
-implied-small-by most (numbered.Description text) line statements room direction few within others = others
-implied-small-by most (numbered.Being o) line statements room direction few within others = others
-implied-small-by most (numbered.Way way) line statements room direction few within others = small-lead (lead_of way.room (opposite_of way.direction) way.subject line) (implied_leads statements) room direction (omega (arith, within.1, few)) others
+stated-small-by : (most : ℕ) (fact : Numbered) (leads : List Lead) → most ≤ 1000 → IsWithin most fact → SmallLeads leads → SmallLeads (stated_in fact ++ leads)
+stated-small-by most numbered.Aside leads few within others room direction = others room direction
+stated-small-by most (numbered.Description text) leads few within others room direction = others room direction
+stated-small-by most (numbered.Describes o text) leads few within others room direction = others room direction
+stated-small-by most (numbered.Being o) leads few within others room direction = others room direction
+stated-small-by most (numbered.Way way) leads few within others room direction = small-lead (way_there way) leads room direction (omega (arith, within.0, few), tt) (others room direction)
+stated-small-by most (numbered.Door d) leads few within others room direction =
+    let door : d.door ≤ 1000 = omega (arith, within.0, few) in
+    small-lead (way_through d.door d.first d.second) (way_through d.door d.second d.first ∷ leads) room direction (omega (arith, within.2, few), door)
+    (small-lead (way_through d.door d.second d.first) leads room direction (omega (arith, within.1, few), door) (others room direction))
 
-pub stated-small : (most : ℕ) (statements : List NumberedSentence) (room direction : ℕ) → most ≤ 1000 → AreWithin most statements → IsSmall (first_target (stated_leads statements) room direction)
-stated-small most [] room direction few within = tt
-stated-small most (statement ∷ statements) room direction few within = stated-small-by most statement.said statement.line statements room direction few within.0 (stated-small most statements room direction few within.1)
+implied-small-by : (most : ℕ) (fact : Numbered) (leads : List Lead) → most ≤ 1000 → IsWithin most fact → SmallLeads leads → SmallLeads (implied_in fact ++ leads)
+implied-small-by most numbered.Aside leads few within others room direction = others room direction
+implied-small-by most (numbered.Description text) leads few within others room direction = others room direction
+implied-small-by most (numbered.Describes o text) leads few within others room direction = others room direction
+implied-small-by most (numbered.Being o) leads few within others room direction = others room direction
+implied-small-by most (numbered.Way way) leads few within others room direction = small-lead (way_back way) leads room direction (omega (arith, within.1, few), tt) (others room direction)
+implied-small-by most (numbered.Door d) leads few within others room direction = others room direction
 
-pub implied-small : (most : ℕ) (statements : List NumberedSentence) (room direction : ℕ) → most ≤ 1000 → AreWithin most statements → IsSmall (first_target (implied_leads statements) room direction)
-implied-small most [] room direction few within = tt
-implied-small most (statement ∷ statements) room direction few within = implied-small-by most statement.said statement.line statements room direction few within.0 (implied-small most statements room direction few within.1)
+stated-small : (most : ℕ) (statements : List NumberedSentence) → most ≤ 1000 → AreWithin most statements → SmallLeads (stated_leads statements)
+stated-small most [] few within room direction = tt
+stated-small most (statement ∷ statements) few within room direction = stated-small-by most statement.said (stated_leads statements) few within.0 (stated-small most statements few within.1) room direction
+
+implied-small : (most : ℕ) (statements : List NumberedSentence) → most ≤ 1000 → AreWithin most statements → SmallLeads (implied_leads statements)
+implied-small most [] few within room direction = tt
+implied-small most (statement ∷ statements) few within room direction = implied-small-by most statement.said (implied_leads statements) few within.0 (implied-small most statements few within.1) room direction
 
 -- a source of few objects leads within a story
 pub lead-within : (most : ℕ) (statements : List NumberedSentence) → most ≤ 1000 → AreWithin most statements → LeadWithin statements
-lead-within most statements few within room direction = small-first (first_target (stated_leads statements) room direction) (first_target (implied_leads statements) room direction) (stated-small most statements room direction few within) (implied-small most statements room direction few within)
+lead-within most statements few within room direction =
+    small-first (first_target (stated_leads statements) room direction) (first_target (implied_leads statements) room direction) (stated-small most statements few within room direction) (implied-small most statements few within room direction)
 
 pub unmapped : {A B : Type 0} (f : A → B) (found : Option A) → option_map f found ≡ None → found ≡ None
 unmapped f None none = refl

@@ -1,18 +1,18 @@
 -- Where no demand lies off a path and each kind is known, each object has a kind, the player that of a person and
 -- the directions that of a direction.
-use Rattle.std.proofs.Common.{◌≡◌, ℕ, zero, suc, ◌+◌, ◌-◌, ◌<◌, ◌≤◌, Bool, true, false, eqb, List, [], ◌∷◌, length, Option, refl, sym, ap, ◌∙◌, subst, arith, inl, inr, true≢false}
+use Rattle.std.proofs.Common.{◌≡◌, ℕ, zero, suc, ◌+◌, ◌-◌, ◌<◌, ◌≤◌, Bool, true, false, ◌&&◌, eqb, List, [], ◌∷◌, length, Option, refl, sym, ap, ◌∙◌, subst, arith, inl, inr, true≢false}
 use Rattle.std.specs.Prelude.{Some, None, fold, not, replicate, slice_set}
 use Rattle.std.proofs.lemmas.Bool.{eqb-true}
 use Rattle.world_meaning.proofs.Bools.{either}
 use Rattle.world_meaning.proofs.Climbs.{climbs_decide}
 use Rattle.world_meaning.specs.Kinds.{Under, itself, is_under}
 use Rattle.i7_kinds.specs.KindClaims.{is_unknown, same_names, shows_unknown, unknown_kind}
-use Rattle.i7_kinds.specs.Knowns.{Scope, deepen, deepened, first_knowns, is_in, is_off, is_parted, kind_by, known_at, knowns_of, off_path, shows_off, thing_or_container, unknown, with_holder, with_known, with_known_of}
+use Rattle.i7_kinds.specs.Knowns.{Scope, deepen, deepened, first_knowns, is_in, is_off, is_parted, kind_by, known_at, knowns_of, off_path, shows_off, thing_or_container, unknown, with_demand, with_holder, with_known, with_known_of, with_room}
 use Rattle.i7_kinds.specs.Numbers.{has_name, number_in}
 use Rattle.i7_kinds.specs.Scans.{lowest}
 use Rattle.i7_kinds.specs.declared.claim.Claim.{Claim}
 use Rattle.i7_kinds.specs.declared.claim.Fact.{Fact}
-use Rattle.i7_kinds.specs.declared.claim.Fact.TheVariants.{Demands, Placed}
+use Rattle.i7_kinds.specs.declared.claim.Fact.TheVariants.{Demands, Placed, RoomUnlessDoor}
 use Rattle.i7_kinds.specs.declared.claim.Placing.{Placing}
 use Rattle.i7_kinds.specs.declared.knowns.Demanded.{Demanded}
 use Rattle.i7_kinds.specs.declared.knowns.Demanded.TheVariants.{Nothing, Deepest, Parted}
@@ -79,8 +79,8 @@ not_false : (b : Bool) → not b ≡ false → b ≡ true
 not_false true h = refl
 not_false false h = absurd cc
 
--- with each name of a kind below n
-module _ (s : Scope) (n : ℕ) (known_kinds : (kind : List ℕ) → has_name s.kinds kind ≡ true → number_in s.kinds kind < n) where
+-- with more kinds than the built-in ones, and each name of a kind below n
+module _ (s : Scope) (n : ℕ) (many : 10 ≤ n) (known_kinds : (kind : List ℕ) → has_name s.kinds kind ≡ true → number_in s.kinds kind < n) where
   abbrev Fine : List Known → Type 0
   Fine knowns = AreFine s.parents n knowns
 
@@ -92,11 +92,22 @@ module _ (s : Scope) (n : ℕ) (known_kinds : (kind : List ℕ) → has_name s.k
         | inr isnt ↦ rw isnt (fine o)
       ]
 
+  demand_fine : (name : List ℕ) (kind : ℕ) (knowns : List Known) → kind < n → is_parted (deepened s knowns name kind) ≡ false → Fine knowns → Fine (with_demand s knowns name kind)
+  demand_fine name kind knowns lt h fine o =
+      let object = number_in s.objects name in
+      set_at (λ (known : Known). IsFine s.parents n (base o) known.demanded) knowns object o (record (known_at knowns object) { demanded = deepened s knowns name kind }) (fine o)
+      (λ e. subst (λ (x : ℕ). IsFine s.parents n (base x) (deepened s knowns name kind)) (sym e) (deepen_fine s.parents n (base object) (known_at knowns object).demanded kind lt h (fine object)))
+
+  room_fine : (name : List ℕ) (knowns : List Known) → (not (has_name s.doors name) && is_parted (deepened s knowns name 1)) ≡ false → Fine knowns → Fine (with_room s knowns name)
+  room_fine name knowns h fine =
+      elim (either (has_name s.doors name)) [
+        | inl is ↦ rw is fine
+        | inr isnt ↦ let apart : is_parted (deepened s knowns name 1) ≡ false = rw isnt at h in rw isnt (demand_fine name 1 knowns (omega (arith, many)) apart fine)
+      ]
+
   fact_fine : (f : Fact) (knowns : List Known) → is_off s knowns f ≡ false → is_unknown s.kinds f ≡ false → Fine knowns → Fine (with_known s knowns f)
-  fact_fine (Demands d) knowns h k fine o =
-      let object = number_in s.objects d.object in
-      set_at (λ (known : Known). IsFine s.parents n (base o) known.demanded) knowns object o (record (known_at knowns object) { demanded = deepened s knowns d }) (fine o)
-      (λ e. subst (λ (x : ℕ). IsFine s.parents n (base x) (deepened s knowns d)) (sym e) (deepen_fine s.parents n (base object) (known_at knowns object).demanded (number_in s.kinds d.kind) (known_kinds d.kind (not_false _ k)) h (fine object)))
+  fact_fine (Demands d) knowns h k fine o = demand_fine d.object (number_in s.kinds d.kind) knowns (known_kinds d.kind (not_false _ k)) h fine o
+  fact_fine (RoomUnlessDoor name) knowns h k fine o = room_fine name knowns h fine o
   fact_fine (Placed p) knowns h k fine o = holder_fine p knowns fine o
   fact_fine _ knowns h k fine o = fine o
 
@@ -132,12 +143,17 @@ first_fine parents n count many (suc (suc (suc (suc (suc (suc (suc (suc (suc (su
 first_fine parents n count many (suc (suc (suc (suc (suc (suc (suc (suc (suc (suc (suc (suc (suc o))))))))))))) = still_nothing parents n _ (nothing_later (count - 13) o)
 
 pub knowns_fine : (s : Scope) (n : ℕ) (claims : List Claim) → ((kind : List ℕ) → has_name s.kinds kind ≡ true → number_in s.kinds kind < n) → 10 ≤ n → off_path s claims ≡ None → unknown_kind s.kinds claims ≡ None → AreFine s.parents n (knowns_of s claims)
-knowns_fine s n claims kinds many h k = claims_fine s n kinds claims (first_knowns (length s.objects)) h k (first_fine s.parents n (length s.objects) many)
+knowns_fine s n claims kinds many h k = claims_fine s n many kinds claims (first_knowns (length s.objects)) h k (first_fine s.parents n (length s.objects) many)
 
 -- ---- how many are known
 
 fact_length : (s : Scope) (f : Fact) (knowns : List Known) → length (with_known s knowns f) ≡ length knowns
 fact_length s (Demands d) knowns = set_length knowns (number_in s.objects d.object) _
+fact_length s (RoomUnlessDoor name) knowns =
+    elim (either (has_name s.doors name)) [
+      | inl is ↦ rw is refl
+      | inr isnt ↦ rw isnt (set_length knowns (number_in s.objects name) _)
+    ]
 fact_length s (Placed p) knowns =
     elim (either (is_in p.relation)) [
       | inl is ↦ rw is (set_length knowns (number_in s.objects p.holder) _)

@@ -3,6 +3,7 @@ pub mod Rooted
 pub mod KindScans
 pub mod SortScans
 pub mod BookScans
+pub mod DoorScans
 pub mod Lowest
 pub mod NameScans
 pub mod Kept

@@ -3,6 +3,7 @@ use Rattle.std.proofs.Common.{◌≡◌, ℕ, suc, ◌+◌, ◌≤◌, List, [],
 use Rattle.std.specs.Prelude.{None}
 use Rattle.i7_kinds.specs.Bounds.{AreSmallKnowns, AreSmallPlaces, AreWithin, LeadWithin}
 use Rattle.i7_kinds.specs.Demands.{descriptions_of, wrong_kind}
+use Rattle.i7_kinds.specs.Doors.{doors_of}
 use Rattle.i7_kinds.specs.KindClaims.{AreSmallKinds, declared_by, givens_by, kind_names, kind_too_many, parents_of, unknown_kind}
 use Rattle.i7_kinds.specs.Knowns.{Scope, kind_of, known_at, knowns_of, off_path}
 use Rattle.i7_kinds.specs.Places.{places_by}
@@ -15,7 +16,7 @@ use Rattle.i7_kinds.proofs.Granting.{flags_counted}
 use Rattle.i7_sentences.specs.declared.sentence.Sentence.{Sentence}
 use Rattle.i7_kinds.specs.Statements.{NameAt, Named, named_by, statement_in}
 use Rattle.i7_kinds.specs.Suits.{first_room, unsuited, with_player}
-use Rattle.i7_kinds.specs.Tales.{faults_of, frame_refusal, limit_refusal, judged, refusal_of, said_by, said_in, scope_of, scope_with, unless_unmeant, unmeant}
+use Rattle.i7_kinds.specs.Tales.{faults_of, frame_refusal, limit_refusal, judged, refusal_of, said_by, said_in, scope_of, scope_with, unless_unmeant, unmeant_sentence}
 use Rattle.i7_kinds.specs.declared.claim.Claim.{Claim}
 use Rattle.i7_kinds.specs.declared.knowns.Known.{Known}
 use Rattle.i7_kinds.specs.declared.statements.NumberedSentence.{NumberedSentence}
@@ -104,12 +105,12 @@ named_counted sentences named same = subst (λ (n : Named). length n.keys ≡ 13
 
 -- ---- from the code's names to the sentences'
 
-pub scope_same : (s : Scope) (kinds : List (List ℕ)) (parents : List (Option ℕ)) (claims : List Claim) (objects keys properties : List (List ℕ)) (givens : List Given)
-    → s ≡ record { objects = objects; kinds = kinds; parents = parents; properties = properties; givens = givens } → objects ≡ keys → properties ≡ names_as sort.EitherOr claims → givens ≡ givens_of properties kinds claims
+pub scope_same : (s : Scope) (kinds : List (List ℕ)) (parents : List (Option ℕ)) (claims : List Claim) (objects keys properties : List (List ℕ)) (givens : List Given) (doors : List (List ℕ))
+    → s ≡ record { objects = objects; kinds = kinds; parents = parents; properties = properties; givens = givens; doors = doors } → objects ≡ keys → properties ≡ names_as sort.EitherOr claims → givens ≡ givens_of properties kinds claims → doors ≡ doors_of kinds parents claims
     → s ≡ scope_with kinds parents claims keys
-scope_same s kinds parents claims objects keys properties givens h o p g =
+scope_same s kinds parents claims objects keys properties givens doors h o p g d =
     let given = g ∙ ap (λ (ps : List (List ℕ)). givens_of ps kinds claims) p in
-    h ∙ (λ i. record { objects = o i; kinds = kinds; parents = parents; properties = p i; givens = given i })
+    h ∙ (λ i. record { objects = o i; kinds = kinds; parents = parents; properties = p i; givens = given i; doors = d i })
 
 pub scope_meant : (s : Scope) (kinds : List (List ℕ)) (parents : List (Option ℕ)) (claims : List Claim) (keys : List (List ℕ)) → s ≡ scope_with kinds parents claims keys → kinds ≡ kind_names claims → parents ≡ parents_of kinds claims → s ≡ scope_of claims s.objects
 scope_meant s kinds parents claims keys h named above =
@@ -119,7 +120,7 @@ scope_meant s kinds parents claims keys h named above =
     ∙ ap (λ (names : List (List ℕ)). scope_with names (parents_of names claims) claims s.objects) named
 
 pub said_same : (kinds : List (List ℕ)) (parents : List (Option ℕ)) (claims : List Claim) (sentences : List Sentence) (s : Scope) (statements : List NumberedSentence) (mentions : List NameAt) (line : Option ℕ) (named : Named)
-    → named ≡ named_by sentences → s ≡ scope_with kinds parents claims named.keys → statements ≡ map (statement_in named) sentences → mentions ≡ named.mentions → line ≡ unmeant kinds parents claims sentences → line ≡ None
+    → named ≡ named_by sentences → s ≡ scope_with kinds parents claims named.keys → statements ≡ map (statement_in named) sentences → mentions ≡ named.mentions → line ≡ unmeant_sentence sentences → line ≡ None
     → judged s claims statements mentions ≡ said_in kinds parents claims sentences
 said_same kinds parents claims sentences s statements mentions line named same scope stated mentioned meant none =
     let of_names = λ (n : Named). judged (scope_with kinds parents claims n.keys) claims (map (statement_in n) sentences) n.mentions in

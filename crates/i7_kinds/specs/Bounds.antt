@@ -7,22 +7,29 @@ use Rattle.i7_kinds.specs.declared.knowns.Known.{Known}
 use Rattle.i7_kinds.specs.declared.statements.Numbered.{Numbered}
 use Rattle.i7_kinds.specs.declared.statements.Numbered.TheVariants as numbered
 use Rattle.i7_kinds.specs.declared.statements.NumberedSentence.{NumberedSentence}
+use Rattle.i7_kinds.specs.declared.ways.Target.{Target}
 
 -- the number of an object of a story, if there is one
 abbrev pub IsSmall : Option ℕ → Type 0
 IsSmall None = ⊤
 IsSmall (Some number) = number ≤ 1000
 
--- each exit leads to an object of a story
-abbrev pub LeadWithin : List NumberedSentence → Type 0
-LeadWithin statements = (room direction : ℕ) → IsSmall (target_of statements room direction)
+abbrev pub IsSmallTarget : Option Target → Type 0
+IsSmallTarget None = ⊤
+IsSmallTarget (Some target) = (target.room ≤ 1000) × IsSmall target.door
 
--- the numbers of a way are at most this
+-- each exit leads to an object of a story, by another
+abbrev pub LeadWithin : List NumberedSentence → Type 0
+LeadWithin statements = (room direction : ℕ) → IsSmallTarget (target_of statements room direction)
+
+-- the numbers of a way and of a door are at most this
 abbrev pub IsWithin : ℕ → Numbered → Type 0
 IsWithin most numbered.Aside = ⊤
 IsWithin most (numbered.Description text) = ⊤
+IsWithin most (numbered.Describes o text) = ⊤
 IsWithin most (numbered.Being o) = ⊤
 IsWithin most (numbered.Way way) = (way.subject ≤ most) × (way.room ≤ most)
+IsWithin most (numbered.Door d) = (d.door ≤ most) × (d.first.room ≤ most) × (d.second.room ≤ most)
 
 -- and so of all statements
 abbrev pub AreWithin : ℕ → List NumberedSentence → Type 0

@@ -17,7 +17,7 @@ use Rattle.i7_kinds.specs.Wording.{usual_said, what_said}
 use Rattle.i7_kinds.specs.declared.wording.What.{What}
 use Rattle.i7_kinds.specs.declared.claim.Claim.{Claim}
 use Rattle.i7_kinds.specs.declared.claim.Fact.{Fact}
-use Rattle.i7_kinds.specs.declared.claim.Fact.TheVariants.{Stands, Rulebook, Lies, CanBe, HasNumber, Demands, Placed, Has, Usually, Unread}
+use Rattle.i7_kinds.specs.declared.claim.Fact.TheVariants.{Stands, Rulebook, Lies, CanBe, HasNumber, Demands, RoomUnlessDoor, Between, Placed, Has, Usually, Unread}
 use Rattle.i7_kinds.specs.declared.claim.Grant.{Grant}
 use Rattle.i7_kinds.specs.declared.claim.Quality.{Quality}
 use Rattle.i7_kinds.specs.declared.claim.Standing.{Standing}
@@ -122,10 +122,21 @@ usual_claims kind (Some what) words line = map (usual kind line) what.qualities
 abbrev pub usually_claims : Standings → Name → List ℕ → ℕ → List Claim
 usually_claims known kind words line = usual_claims (kind_or (kind_named known (key_of kind.text)) (key_of kind.text)) (usual_said known words) words line
 
--- a way leads between rooms
+-- an object is a room
+abbrev pub room_claims : Name → ℕ → List Claim
+room_claims room line = named stands.Object line room ∷ demands (codes "room") line room ∷ []
+
+-- a way leads between rooms; what is a door is no room
 abbrev pub way_claims : Name → Name → ℕ → List Claim
-way_claims subject room line =
-    named stands.Object line subject ∷ named stands.Object line room ∷ demands (codes "room") line subject ∷ demands (codes "room") line room ∷ []
+way_claims subject room line = named stands.Object line subject ∷ claimed (RoomUnlessDoor (key_of subject.text)) line ∷ room_claims room line
+
+-- an object is a door, and its rooms are told
+abbrev pub placed_door : Name → ℕ → List Claim
+placed_door door line = named stands.Object line door ∷ demands (codes "door") line door ∷ claimed (Between (key_of door.text)) line ∷ []
+
+-- a door stands between two rooms
+abbrev pub door_claims : Name → Name → Name → ℕ → List Claim
+door_claims door first second line = placed_door door line ++ room_claims first line ++ room_claims second line
 
 -- a holder holds things so
 abbrev pub holding_claims : Name → Rel → List Name → ℕ → List Claim
@@ -147,6 +158,8 @@ declares_in sentence = declares_said sentence.said sentence.line
 -- what a sentence claims, where each name stands for this
 abbrev pub claims_said : Standings → Assertion → ℕ → List Claim
 claims_said known (assertion.Way way) line = way_claims way.subject way.room line
+claims_said known (assertion.Door door first second) line = door_claims door first.room second.room line
+claims_said known (assertion.DescriptionOf object text) line = named stands.Object line object ∷ []
 claims_said known (assertion.Are being) line = being_claims known being line
 claims_said known (assertion.Holds holder relation things) line = holding_claims holder relation things line
 claims_said known (assertion.Usually kind adjectives) line = usually_claims known kind adjectives line

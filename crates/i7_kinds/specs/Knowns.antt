@@ -1,29 +1,32 @@
 -- The kinds of objects: the deepest kind that is demanded of each, all of its demands lying on one path.
-use Rattle.std.specs.Prelude.{ℕ, ◌-◌, Bool, true, false, ◌==◌, List, ◌∷◌, ◌++◌, length, map, fold, replicate, slice_get, slice_index_or, slice_set, Option, Some, None, if◌then◌else◌}
-use Rattle.world_meaning.specs.Kinds.{direction_kind, is_under, person_kind}
+use Rattle.std.specs.Prelude.{ℕ, ◌-◌, Bool, true, false, not, ◌==◌, ◌&&◌, List, ◌∷◌, ◌++◌, length, map, fold, replicate, slice_get, slice_index_or, slice_set, Option, Some, None, if◌then◌else◌}
+use Rattle.world_meaning.specs.Kinds.{direction_kind, is_under, person_kind, room_kind}
 use Rattle.world_meaning.specs.Placing.{Kinds}
 use Rattle.world_meaning.specs.declared.place.Rel.{Rel}
 use Rattle.world_meaning.specs.declared.place.Rel.TheVariants.{In}
-use Rattle.i7_kinds.specs.Numbers.{number_in}
+use Rattle.i7_kinds.specs.Numbers.{has_name, number_in}
 use Rattle.i7_kinds.specs.Scans.{lowest}
 use Rattle.i7_kinds.specs.declared.claim.Claim.{Claim}
-use Rattle.i7_kinds.specs.declared.claim.Demand.{Demand}
 use Rattle.i7_kinds.specs.declared.claim.Fact.{Fact}
-use Rattle.i7_kinds.specs.declared.claim.Fact.TheVariants.{Demands, Placed}
+use Rattle.i7_kinds.specs.declared.claim.Fact.TheVariants.{Demands, Placed, RoomUnlessDoor}
 use Rattle.i7_kinds.specs.declared.claim.Placing.{Placing}
 use Rattle.i7_kinds.specs.declared.knowns.Demanded.{Demanded}
 use Rattle.i7_kinds.specs.declared.knowns.Demanded.TheVariants.{Nothing, Deepest, Parted}
 use Rattle.i7_kinds.specs.declared.grants.Given.{Given}
 use Rattle.i7_kinds.specs.declared.knowns.Known.{Known}
 
--- the names of objects, of kinds and of either-or properties, by number, of each kind the kind above it, and which kinds
--- sentences give a property to
+-- the names of objects, of kinds and of either-or properties, by number, of each kind the kind above it, which kinds
+-- sentences give a property to, and of which objects they demand a door
 pub record Scope : Type 0 where
   pub objects : List (List ℕ)
   pub kinds : List (List ℕ)
   pub parents : List (Option ℕ)
   pub properties : List (List ℕ)
   pub givens : List Given
+  pub doors : List (List ℕ)
+
+abbrev pub door_kind : ℕ
+door_kind = 3
 
 -- ---- what is known of an object by the claims so far
 
@@ -46,11 +49,15 @@ deepen parents Nothing kind = Deepest kind
 deepen parents (Deepest d) kind = if is_under parents d kind then Deepest d else (if is_under parents kind d then Deepest kind else Parted)
 deepen parents Parted kind = Parted
 
-abbrev pub deepened : Scope → List Known → Demand → Demanded
-deepened s knowns d = deepen s.parents (known_at knowns (number_in s.objects d.object)).demanded (number_in s.kinds d.kind)
+abbrev pub deepened : Scope → List Known → List ℕ → ℕ → Demanded
+deepened s knowns object kind = deepen s.parents (known_at knowns (number_in s.objects object)).demanded kind
 
-abbrev pub with_demand : Scope → List Known → Demand → List Known
-with_demand s knowns d = slice_set knowns (number_in s.objects d.object) (record (known_at knowns (number_in s.objects d.object)) { demanded = deepened s knowns d })
+abbrev pub with_demand : Scope → List Known → List ℕ → ℕ → List Known
+with_demand s knowns object kind = slice_set knowns (number_in s.objects object) (record (known_at knowns (number_in s.objects object)) { demanded = deepened s knowns object kind })
+
+-- a room is demanded, unless a door is
+abbrev pub with_room : Scope → List Known → List ℕ → List Known
+with_room s knowns object = if has_name s.doors object then knowns else with_demand s knowns object room_kind
 
 abbrev pub is_in : Rel → Bool
 is_in In = true
@@ -63,7 +70,8 @@ with_holder s knowns p =
     else knowns
 
 abbrev pub with_known : Scope → List Known → Fact → List Known
-with_known s knowns (Demands d) = with_demand s knowns d
+with_known s knowns (Demands d) = with_demand s knowns d.object (number_in s.kinds d.kind)
+with_known s knowns (RoomUnlessDoor object) = with_room s knowns object
 with_known s knowns (Placed p) = with_holder s knowns p
 with_known s knowns _ = knowns
 
@@ -115,7 +123,7 @@ abbrev pub kinds_known : List (Option ℕ) → List Known → Kinds
 kinds_known parents knowns = record {
   is_thing = is_of parents knowns 0;
   is_room = is_of parents knowns 1;
-  is_door = is_of parents knowns 3;
+  is_door = is_of parents knowns door_kind;
   is_container = is_of parents knowns 4;
   is_supporter = is_of parents knowns 5;
   is_person = is_of parents knowns 6;
@@ -124,7 +132,8 @@ kinds_known parents knowns = record {
 -- ---- C8: the first demand off the path of the earlier ones
 
 abbrev pub is_off : Scope → List Known → Fact → Bool
-is_off s knowns (Demands d) = is_parted (deepened s knowns d)
+is_off s knowns (Demands d) = is_parted (deepened s knowns d.object (number_in s.kinds d.kind))
+is_off s knowns (RoomUnlessDoor object) = not (has_name s.doors object) && is_parted (deepened s knowns object room_kind)
 is_off s knowns _ = false
 
 abbrev pub shows_off : Scope → List Known → Claim → Bool

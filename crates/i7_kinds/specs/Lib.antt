@@ -3,6 +3,7 @@ pub mod Bounds
 pub mod Claims
 pub mod Demands
 pub mod Described
+pub mod Doors
 pub mod Firsts
 pub mod Grants
 pub mod KindClaims

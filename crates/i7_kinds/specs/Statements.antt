@@ -8,14 +8,16 @@ use Rattle.world_meaning.specs.declared.place.Rel.{Rel}
 use Rattle.world_meaning.specs.declared.place.Rel.TheVariants.{In, On, Carried, Worn, Part}
 use Rattle.i7_sentences.specs.declared.name.Name.{Name}
 use Rattle.i7_sentences.specs.declared.sentence.Assertion.{Assertion}
-use Rattle.i7_sentences.specs.declared.sentence.Assertion.TheVariants.{Aside, Description, Way, Are, EitherOr, Holds, KindOfKind, Rulebook, Scene, Usually, Variable}
+use Rattle.i7_sentences.specs.declared.sentence.Assertion.TheVariants.{Aside, Description, DescriptionOf, Door, Way, Are, EitherOr, Holds, KindOfKind, Rulebook, Scene, Usually, Variable}
 use Rattle.i7_sentences.specs.declared.sentence.Sentence.{Sentence}
+use Rattle.i7_sentences.specs.declared.sentence.Side.{Side}
 use Rattle.i7_kinds.specs.Beings.{names_said}
 pub use Rattle.i7_kinds.specs.Numbers.{number_in, place_or}
 use Rattle.i7_kinds.specs.Quotes.{printed}
 use Rattle.i7_kinds.specs.declared.statements.Numbered.{Numbered}
 use Rattle.i7_kinds.specs.declared.statements.Numbered.TheVariants as numbered
 use Rattle.i7_kinds.specs.declared.statements.NumberedSentence.{NumberedSentence}
+use Rattle.i7_kinds.specs.declared.statements.NumberedSide.{NumberedSide}
 
 -- names are compared in small letters; `player` and `yourself` are one
 abbrev pub key_of : List ℕ → List ℕ
@@ -30,7 +32,9 @@ pub record NameAt : Type 0 where
 abbrev pub is_meant : Assertion → Bool
 is_meant Aside = true
 is_meant (Description text) = true
+is_meant (DescriptionOf object text) = true
 is_meant (Way way) = true
+is_meant (Door door first second) = true
 is_meant (Are being) = true
 is_meant (Rulebook name) = true
 is_meant (Scene name is_recurring) = true
@@ -45,6 +49,8 @@ is_meant _ = false
 abbrev pub names_in : Assertion → List Name
 names_in (Are being) = names_said being
 names_in (Way way) = if way.is_room_first then way.room ∷ way.subject ∷ [] else way.subject ∷ way.room ∷ []
+names_in (DescriptionOf object text) = object ∷ []
+names_in (Door door first second) = door ∷ first.room ∷ second.room ∷ []
 names_in (Holds holder relation things) = holder ∷ things
 names_in _ = []
 
@@ -92,11 +98,16 @@ numbered_holding named Carried holder things = numbered.Being (number_of named h
 numbered_holding named Worn holder things = numbered.Being (number_of named holder)
 numbered_holding named Part holder things = numbered_subject named things
 
+abbrev pub side_in : Named → Side → NumberedSide
+side_in named side = record { direction = side.direction; room = number_of named side.room }
+
 -- what a sentence asserts, objects by their numbers and texts as they are printed
 abbrev pub numbered_in : Named → Assertion → Numbered
 numbered_in named (Description text) = numbered.Description (printed text)
+numbered_in named (DescriptionOf object text) = numbered.Describes (number_of named object) (printed text)
 numbered_in named (Are being) = numbered_subject named being.subjects
 numbered_in named (Way way) = numbered.Way (record { subject = number_of named way.subject; direction = way.direction; room = number_of named way.room })
+numbered_in named (Door door first second) = numbered.Door (record { door = number_of named door; first = side_in named first; second = side_in named second })
 numbered_in named (Holds holder relation things) = numbered_holding named relation holder things
 numbered_in named _ = numbered.Aside
 

@@ -1,5 +1,5 @@
 -- The tale that a source's sentences mean, or the refusal that stands.
-use Rattle.std.specs.Prelude.{ℕ, ◌+◌, ◌-◌, Bool, false, not, ◌&&◌, ◌||◌, ◌==◌, nat_lt, List, [], ◌∷◌, ◌++◌, length, map, find, replicate, slice_get, slice_index_or, Option, Some, None, option_map, codes, Result, Ok, Err, if◌then◌else◌}
+use Rattle.std.specs.Prelude.{ℕ, ◌+◌, ◌-◌, Bool, not, ◌&&◌, ◌||◌, ◌==◌, nat_lt, List, [], ◌∷◌, ◌++◌, length, map, find, replicate, slice_get, slice_index_or, Option, Some, None, option_map, codes, Result, Ok, Err, if◌then◌else◌}
 use Rattle.std.specs.List.{list_any}
 use Rattle.world_meaning.specs.Directions.{all_directions, direction_name, direction_number}
 use Rattle.world_meaning.specs.declared.article.Article.{Article}
@@ -25,9 +25,7 @@ use Rattle.i7_kinds.specs.Demands.{wrong_kind, descriptions_of, description_of, 
 use Rattle.object_words.specs.Words.{words_for}
 use Rattle.i7_kinds.specs.Claims.{claims_of}
 use Rattle.i7_kinds.specs.Grants.{first_base, givens_of, other_bases}
-use Rattle.i7_kinds.specs.Numbers.{has_name, number_in}
-use Rattle.i7_kinds.specs.declared.claim.Fact.{Fact}
-use Rattle.i7_kinds.specs.declared.claim.Fact.TheVariants.{Demands}
+use Rattle.i7_kinds.specs.Doors.{door_twice, doors_of}
 use Rattle.i7_kinds.specs.Firsts.{first_of}
 use Rattle.i7_kinds.specs.KindClaims.{declared_by, kind_cycle, kind_names, kind_too_many, parents_of, unknown_kind}
 use Rattle.i7_kinds.specs.Knowns.{Scope, kinds_of, knowns_of, off_path}
@@ -40,11 +38,12 @@ use Rattle.i7_kinds.specs.NameScans.{book_twice, name_twice}
 use Rattle.i7_kinds.specs.declared.claim.Claim.{Claim}
 use Rattle.i7_kinds.specs.declared.entries.Entry.{Entry}
 use Rattle.i7_kinds.specs.declared.faults.Faults.{Faults}
-use Rattle.i7_kinds.specs.Scans.{earlier, lowest}
+use Rattle.i7_kinds.specs.Scans.{earlier}
 use Rattle.i7_kinds.specs.Sorts.{name_too_many, names_as}
 use Rattle.i7_kinds.specs.declared.sorts.Sort.TheVariants as sort
 use Rattle.i7_kinds.specs.declared.descriptions.Description.{Description}
 use Rattle.i7_kinds.specs.declared.statements.NumberedSentence.{NumberedSentence}
+use Rattle.i7_kinds.specs.declared.ways.Target.{Target}
 use Rattle.i7_kinds.specs.Statements.{NameAt, is_meant, named_by, stated_by}
 
 -- C12: the object that is one too many; the player and the directions are among the 1,000
@@ -82,8 +81,9 @@ article_of written.None name = article.None
 article_of written.Plain name = plain_article name
 article_of written.Some name = article.Some
 
-abbrev pub way_to : Option ℕ → Way
-way_to target = record { room = target; door = None }
+abbrev pub way_to : Option Target → Way
+way_to None = record { room = None; door = None }
+way_to (Some target) = record { room = Some target.room; door = target.door }
 
 -- where a room's twelve directions lead
 unfoldable pub exits_of : List NumberedSentence → ℕ → Exits
@@ -189,6 +189,7 @@ scope_with kinds parents claims keys = record {
   parents = parents;
   properties = names_as sort.EitherOr claims;
   givens = givens_of (names_as sort.EitherOr claims) kinds claims;
+  doors = doors_of kinds parents claims;
 }
 
 abbrev pub scope_of : List Claim → List (List ℕ) → Scope
@@ -196,15 +197,15 @@ scope_of claims keys = scope_with (kind_names claims) (parents_of (kind_names cl
 
 -- what sentences may not say together, by the lowest lines: C9 of a name that stands for two things, of a rulebook's that
 -- is another's, of a second description and of the other value of a property; C7 of a kind that isn't there; C11 of a cycle of kinds or of holders; C8 of
--- demands off one path and of what the kinds don't allow; C10 of an exit's or an object's second place; C12 of a name
--- that is one too many
+-- demands off one path and of what the kinds don't allow; C10 of an exit's or an object's second place, and of a door
+-- whose rooms are told again; C12 of a name that is one too many
 abbrev pub faults_of : Scope → List Known → List Claim → List NumberedSentence → Faults
 faults_of s knowns claims statements = record {
   twice = earlier (name_twice claims) (earlier (book_twice claims) (earlier (second_description (descriptions_of s.parents knowns statements)) (earlier (value_twice Objects s claims) (value_twice Kinds s claims))));
   unknown = unknown_kind s.kinds claims;
   cycle = earlier (kind_cycle s.kinds claims) (holder_cycle s.objects claims);
   wrong = earlier (off_path s claims) (earlier (unsuited s knowns claims) (wrong_kind s.parents knowns statements));
-  second = earlier (second_target statements) (second_place s.objects claims);
+  second = earlier (second_target statements) (earlier (second_place s.objects claims) (door_twice claims));
   too_many = earlier (kind_too_many claims) (name_too_many claims);
 }
 
@@ -260,28 +261,9 @@ is_unmeant sentence = not (is_meant sentence.said)
 abbrev pub line_of_sentence : Sentence → ℕ
 line_of_sentence sentence = sentence.line
 
--- the first sentence whose assertion has no meaning yet
+-- C5: the first sentence whose assertion has no meaning yet
 abbrev pub unmeant_sentence : List Sentence → Option ℕ
 unmeant_sentence sentences = option_map line_of_sentence (find is_unmeant sentences)
-
--- a door is demanded
-abbrev pub is_door_demanded : List (List ℕ) → List (Option ℕ) → Fact → Bool
-is_door_demanded kinds parents (Demands d) = has_name kinds d.kind && is_under parents (number_in kinds d.kind) 3
-is_door_demanded kinds parents _ = false
-
-abbrev pub shows_door : List (List ℕ) → List (Option ℕ) → Claim → Bool
-shows_door kinds parents c = is_door_demanded kinds parents c.fact
-
-abbrev pub same_parents : List (Option ℕ) → Claim → List (Option ℕ)
-same_parents parents c = parents
-
--- doors have no meaning yet
-abbrev pub door_demanded : List (List ℕ) → List (Option ℕ) → List Claim → Option ℕ
-door_demanded kinds parents claims = lowest (shows_door kinds) same_parents parents claims None
-
--- C5: the lowest line of what has no meaning yet
-abbrev pub unmeant : List (List ℕ) → List (Option ℕ) → List Claim → List Sentence → Option ℕ
-unmeant kinds parents claims sentences = earlier (unmeant_sentence sentences) (door_demanded kinds parents claims)
 
 abbrev pub unless_unmeant : Option ℕ → Result Tale Fault → Result Tale Fault
 unless_unmeant None said = said
@@ -290,7 +272,7 @@ unless_unmeant (Some line) said = Err (record { code = NotUnderstood; line = lin
 -- where the kinds have these names and these kinds above them
 abbrev pub said_in : List (List ℕ) → List (Option ℕ) → List Claim → List Sentence → Result Tale Fault
 said_in kinds parents claims sentences =
-    unless_unmeant (unmeant kinds parents claims sentences)
+    unless_unmeant (unmeant_sentence sentences)
     (judged (scope_with kinds parents claims (named_by sentences).keys) claims (stated_by sentences) (named_by sentences).mentions)
 
 abbrev pub said_by : List Claim → List Sentence → Result Tale Fault

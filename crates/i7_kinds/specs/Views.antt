@@ -8,6 +8,7 @@ use Rattle.i7_kinds.specs.declared.names.Names.{Names}
 use Rattle.i7_kinds.specs.declared.descriptions.Description.{Description}
 use Rattle.i7_kinds.specs.declared.names.Mention.{Mention}
 use Rattle.i7_kinds.specs.declared.ways.Exit.{Exit}
+use Rattle.i7_kinds.specs.declared.ways.Target.{Target}
 
 abbrev pub mention_of : Mention → NameAt
 mention_of mention = record { name = mention.name.now; line = mention.line }
@@ -30,13 +31,13 @@ abbrev pub exit_eq : Exit → Exit → Bool
 exit_eq a b = (a.room == b.room) && (a.direction == b.direction)
 
 -- the target that a map has for an exit
-abbrev pub target_at : {S : Type 0} → IndexMap Exit ℕ S → ℕ → ℕ → Option ℕ
+abbrev pub target_at : {S : Type 0} → IndexMap Exit Target S → ℕ → ℕ → Option Target
 target_at targets room direction = get exit_eq targets (record { room = room; direction = direction })
 
 -- an exit that has a target keeps it, and the others are given theirs
-abbrev pub LeadsOn : {S : Type 0} → IndexMap Exit ℕ S → IndexMap Exit ℕ S → (ℕ → ℕ → Option ℕ) → Type 0
+abbrev pub LeadsOn : {S : Type 0} → IndexMap Exit Target S → IndexMap Exit Target S → (ℕ → ℕ → Option Target) → Type 0
 LeadsOn old new given = (room direction : ℕ) → target_at new room direction ≡ first_of (target_at old room direction) (given room direction)
 
 -- the target of an exit when one is given to this one
-abbrev pub given_exit : Exit → ℕ → ℕ → ℕ → Option ℕ
+abbrev pub given_exit : Exit → Target → ℕ → ℕ → Option Target
 given_exit exit target room direction = if (exit.room == room) && (exit.direction == direction) then Some target else None

@@ -85,6 +85,10 @@ pub enum Fact {
     CanBe(Grant),
     HasNumber(Grant),
     Demands(Demand),
+    /// An object is a room, unless a door is demanded of it.
+    RoomUnlessDoor(TextBytes),
+    /// A door's two rooms are told.
+    Between(TextBytes),
     Placed(Placing),
     Has(Having),
     Usually(Usual),

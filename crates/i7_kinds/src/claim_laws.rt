@@ -1,5 +1,7 @@
 //! Laws: the lines that scans over claims find are the lowest that show what is looked for.
-ghost use Rattle.std.specs.Prelude.{ℕ, List};
+ghost use Rattle.std.specs.Prelude.{ℕ, Decides, List, Option};
+ghost use Rattle.i7_kinds.specs.Doors.{IsDoorDemanded, IsToldAgain, door_twice, doors_of};
+ghost use Rattle.i7_kinds.specs.Numbers.{has_name};
 ghost use Rattle.i7_kinds.specs.KindClaims.{IsCycle, IsKindTooMany, IsUnknown, kind_cycle, kind_too_many, unknown_kind};
 ghost use Rattle.i7_kinds.specs.NameScans.{book_twice, name_twice};
 ghost use Rattle.i7_kinds.specs.Places.{IsHolderCycle, IsSecond, holder_cycle, second_place};
@@ -50,6 +52,16 @@ pub fn second_places_are_found()
 /// A place that closes a cycle of holders is found at its lowest line.
 pub fn holder_cycles_are_found()
     ensures { (objects : List (List ℕ)) (claims : List Claim) → IsLowest (ShownBy (λ before c. IsHolderCycle objects before c.fact) claims) (holder_cycle objects claims) }
+{}
+
+/// The objects that are told of as doors are those of which some sentence demands a door, wherever it stands.
+pub fn doors_are_those_demanded()
+    ensures { (kinds : List (List ℕ)) (parents : List (Option ℕ)) (claims : List Claim) (object : List ℕ) → Decides (has_name (doors_of kinds parents claims) object) (IsDoorDemanded kinds parents claims object) }
+{}
+
+/// A sentence that tells the rooms of a door again is found at its lowest line.
+pub fn doors_twice_are_found()
+    ensures { (claims : List Claim) → IsLowest (ShownBy (λ before c. IsToldAgain before c.fact) claims) (door_twice claims) }
 {}
 
 /// The other value of a property of an object, or of what is usual of a kind, is found at its lowest line.

@@ -2,7 +2,7 @@
 ghost use Rattle.std.specs.Prelude.{◌≡◌, ◌++◌, ◌∷◌, [], flat_map, map, IfOk, OnOk};
 ghost use Rattle.world_meaning.specs.Spelling.{lowered as small};
 ghost use Rattle.i7_kinds.specs.Beings.{holders_in};
-ghost use Rattle.i7_kinds.specs.Claims.{being_claims, claimed, claims_in, claims_of, claims_said, declares_in, declares_said, either_or, grant_of, holding_claims, known_by, lies, named, way_claims};
+ghost use Rattle.i7_kinds.specs.Claims.{being_claims, claimed, claims_in, claims_of, claims_said, declares_in, declares_said, either_or, grant_of, holding_claims, known_by, lies, named};
 ghost use Rattle.i7_kinds.specs.NameScans.{standing_at};
 ghost use Rattle.i7_kinds.specs.Statements.{key_of};
 ghost use Rattle.i7_kinds.specs.declared.claim.Fact.TheVariants.{CanBe, HasNumber, Rulebook};
@@ -10,7 +10,8 @@ ghost use Rattle.i7_kinds.specs.declared.claim.Standing.TheVariants as stands;
 
 use crate::built_in::built_in_namings;
 use crate::claim::{Claim, Fact, Grant, Lying, Naming, Standing};
-use crate::demanding::{add_demand, add_held, add_placings, add_what};
+use crate::demanding::{add_held, add_placings, add_what};
+use crate::leading::{add_door, add_way};
 use crate::names::key_of;
 use crate::standings::{Known, known_after};
 use crate::usuals::add_usually;
@@ -27,7 +28,7 @@ pub fn key_text(alloc: Global, name: &Name) -> Result<TextBytes, AllocError>
 }
 
 /// Adds that a name stands for something.
-fn add_naming(
+pub fn add_naming(
     alloc: Global,
     claims: &mut Vec<Claim>,
     name: &Name,
@@ -173,22 +174,6 @@ fn add_objects(
     Ok(())
 }
 
-/// Adds what a way between rooms claims.
-fn add_way(
-    alloc: Global,
-    claims: &mut Vec<Claim>,
-    subject: &Name,
-    room: &Name,
-    line: u32,
-) -> Result<(), AllocError>
-    ensures { OnOk result (claims.new.items ≡ claims.old.items ++ way_claims subject.now room.now line) }
-{
-    add_naming(alloc, claims, subject, Standing::Object, line)?;
-    add_naming(alloc, claims, room, Standing::Object, line)?;
-    add_demand(alloc, claims, b"room", subject, line)?;
-    add_demand(alloc, claims, b"room", room, line)
-}
-
 /// Adds the name of what holds.
 fn add_holder(
     alloc: Global,
@@ -290,6 +275,14 @@ fn add_claims(
 {
     match said {
         Assertion::Way(way) => add_way(alloc, claims, &way.subject, &way.room, line),
+        Assertion::Door {
+            door,
+            first,
+            second,
+        } => add_door(alloc, claims, door, &first.room, &second.room, line),
+        Assertion::DescriptionOf { object, .. } => {
+            add_naming(alloc, claims, object, Standing::Object, line)
+        }
         Assertion::Are(being) => add_being(alloc, known, claims, being, line),
         Assertion::Holds {
             holder,

@@ -1,6 +1,6 @@
-//! Lone texts: each describes the room that is the subject of the sentence before it.
+//! Texts that describe objects; one alone describes the room that is the subject of the sentence before it.
 ghost use Rattle.std.specs.Prelude.{◌≡◌, ℕ, nat_eq, option_copied, IfOk, OnOk};
-ghost use Rattle.i7_kinds.specs.Demands.{described_by, description_of, descriptions_of, is_second, second_description, subject_of};
+ghost use Rattle.i7_kinds.specs.Demands.{described_by, description_of, descriptions_of, is_second, second_description, subject_of, told_alone};
 ghost use Rattle.i7_kinds.specs.Firsts.{first_of, given};
 ghost use Rattle.i7_kinds.specs.Views.{found_descriptions, text_at};
 
@@ -11,7 +11,7 @@ use crate::statements::{Numbered, NumberedSentence};
 use indexmap::IndexMap;
 use std::alloc::{AllocError, Global};
 
-/// A room, and a text that describes it.
+/// An object, and a text that describes it.
 #[derive(Debug, Drop)]
 pub struct Description<'a> {
     pub object: usize,
@@ -24,10 +24,32 @@ pub fn subject_of(fact: &Numbered) -> Option<usize>
     ensures { result ≡ subject_of fact.now }
 {
     match fact {
-        Numbered::Aside | Numbered::Description(_) => None,
+        Numbered::Aside | Numbered::Description(_) | Numbered::Describes { .. } => None,
+        Numbered::Door(_) => None,
         Numbered::Being(number) => Some(*number),
         Numbered::Way(way) => Some(way.subject),
     }
+}
+
+/// What a text alone behind a statement about this object, or about none, describes.
+fn told_alone<'a>(
+    parents: &[Option<usize>],
+    knowns: &[Known],
+    before: Option<usize>,
+    text: &'a [u8],
+    line: u32,
+) -> Option<Description<'a>>
+    ensures { found_descriptions result ≡ told_alone parents.now knowns.now before text.now line }
+{
+    let object = before?;
+    if !is_room(parents, knowns, object) {
+        return None;
+    }
+    Some(Description {
+        object,
+        text: LentText::new(text),
+        line,
+    })
 }
 
 /// What a statement behind one about this object, or about none, describes.
@@ -39,21 +61,19 @@ fn described_by<'a>(
 ) -> Option<Description<'a>>
     ensures { found_descriptions result ≡ described_by parents.now knowns.now before statement.now }
 {
-    let object = before?;
-    if !is_room(parents, knowns, object) {
-        return None;
-    }
+    let line = statement.line;
     match &statement.said {
-        Numbered::Description(text) => Some(Description {
-            object,
+        Numbered::Description(text) => told_alone(parents, knowns, before, text.as_slice(), line),
+        Numbered::Describes { object, text } => Some(Description {
+            object: *object,
             text: LentText::new(text.as_slice()),
-            line: statement.line,
+            line,
         }),
-        Numbered::Aside | Numbered::Being(_) | Numbered::Way(_) => None,
+        Numbered::Aside | Numbered::Being(_) | Numbered::Way(_) | Numbered::Door(_) => None,
     }
 }
 
-/// The descriptions that follow a statement about a room, in order.
+/// The texts that describe objects, in order.
 pub fn descriptions_of<'a>(
     alloc: Global,
     parents: &[Option<usize>],
@@ -75,7 +95,7 @@ pub fn descriptions_of<'a>(
     Ok(descriptions)
 }
 
-/// The texts that describe rooms, and each room's first.
+/// The texts that describe objects, and each object's first.
 #[derive(Drop)]
 pub struct Descriptions<'a> {
     all: Vec<Description<'a>>,

@@ -1,11 +1,12 @@
 //! The lines at which sentences say together what they may not.
 ghost use Rattle.std.specs.Prelude.{◌≡◌, IfOk};
-ghost use Rattle.i7_kinds.specs.Demands.{descriptions_of, second_description, wrong_kind};
+ghost use Rattle.i7_kinds.specs.Demands.{descriptions_of, second_description, second_target, wrong_kind};
 ghost use Rattle.i7_kinds.specs.Described.{descriptions_in};
+ghost use Rattle.i7_kinds.specs.Doors.{door_twice};
 ghost use Rattle.i7_kinds.specs.KindClaims.{kind_cycle};
 ghost use Rattle.i7_kinds.specs.Knowns.{off_path};
 ghost use Rattle.i7_kinds.specs.NameScans.{book_twice, name_twice};
-ghost use Rattle.i7_kinds.specs.Places.{holder_cycle};
+ghost use Rattle.i7_kinds.specs.Places.{holder_cycle, second_place};
 ghost use Rattle.i7_kinds.specs.Scans.{earlier};
 ghost use Rattle.i7_kinds.specs.Sorts.{name_too_many};
 ghost use Rattle.i7_kinds.specs.StatedWays.{stated};
@@ -17,6 +18,7 @@ ghost use Rattle.i7_kinds.specs.declared.values.Bearer.TheVariants.{Objects, Kin
 use crate::author_kinds::{kind_cycle, kind_too_many, unknown_kind};
 use crate::claim::Claim;
 use crate::descriptions::Descriptions;
+use crate::doors::door_twice;
 use crate::kinds::wrong_kind;
 use crate::knowns::{Known, off_path};
 use crate::places::{holder_cycle, second_place};
@@ -41,7 +43,7 @@ pub struct Faults {
     pub cycle: Option<u32>,
     /// A demand off the path of earlier ones, or what the kinds don't allow.
     pub wrong: Option<u32>,
-    /// A second place of an object or of an exit.
+    /// A second place of an object or of an exit, or a door's rooms again.
     pub second: Option<u32>,
     /// A name that is one too many.
     pub too_many: Option<u32>,
@@ -102,6 +104,20 @@ fn wrong(
     Ok(earlier(off, earlier(unsuited, wrong)))
 }
 
+/// The lowest line of what is a second place, or tells the rooms of a door again.
+fn second(
+    alloc: Global,
+    scope: &Scope<'_>,
+    claims: &[Claim],
+    ways: &Ways<'_>,
+) -> Result<Option<u32>, AllocError>
+    ensures { IfOk result (λ line. line ≡ earlier (second_target (stated ways.now)) (earlier (second_place scope.now.objects claims.now) (door_twice claims.now))) }
+{
+    let place = second_place(alloc, scope, claims)?;
+    let door = door_twice(alloc, claims)?;
+    Ok(earlier(ways.second_target(), earlier(place, door)))
+}
+
 /// The faults of a source's claims and statements.
 pub fn faults_of(
     alloc: Global,
@@ -119,7 +135,7 @@ pub fn faults_of(
         unknown: unknown_kind(scope.kinds(), claims),
         cycle: cycle(alloc, scope, claims)?,
         wrong: wrong(alloc, scope, knowns, claims, ways.statements())?,
-        second: earlier(ways.second_target(), second_place(alloc, scope, claims)?),
+        second: second(alloc, scope, claims, ways)?,
         too_many: earlier(kind_too_many(claims), name_too_many(alloc, claims)?),
     })
 }

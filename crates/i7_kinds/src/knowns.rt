@@ -1,10 +1,10 @@
 //! The kinds of objects: the deepest kind that is demanded of each.
 ghost use Rattle.std.specs.Prelude.{◌≡◌, IfOk, length, slice_set};
 ghost use Rattle.world_meaning.specs.Kinds.{direction_kind, person_kind};
-ghost use Rattle.i7_kinds.specs.Knowns.{deepen, deepened, first_knowns, is_of, is_off, is_parted, is_parted_at, kind_by, kind_of, known_as, known_at, knowns_of, off_path, thing_or_container, unknown, with_demand, with_holder, with_known};
+ghost use Rattle.i7_kinds.specs.Knowns.{deepen, deepened, first_knowns, is_of, is_off, is_parted, is_parted_at, kind_by, kind_of, known_as, known_at, knowns_of, off_path, thing_or_container, unknown, with_demand, with_holder, with_known, with_room};
 
 use crate::author_kinds::is_under;
-use crate::claim::{Claim, Demand, Fact, Placing};
+use crate::claim::{Claim, Fact, Placing};
 use crate::names::FIRST_OF_AUTHOR;
 use crate::scans::lower;
 use crate::scope::Scope;
@@ -93,21 +93,29 @@ fn deepen(parents: &[Option<usize>], demanded: Demanded, kind: usize) -> Demande
     }
 }
 
-fn deepened(scope: &Scope<'_>, knowns: &[Known], demand: &Demand) -> Demanded
-    ensures { result ≡ deepened scope.now knowns.now demand.now }
+fn deepened(scope: &Scope<'_>, knowns: &[Known], object: &[u8], kind: usize) -> Demanded
+    ensures { result ≡ deepened scope.now knowns.now object.now kind }
 {
-    let known = known_at(knowns, scope.object(demand.object.as_slice()));
-    let kind = scope.kind(demand.kind.as_slice());
+    let known = known_at(knowns, scope.object(object));
     deepen(scope.parents(), known.demanded, kind)
 }
 
-fn add_demand(scope: &Scope<'_>, knowns: &mut [Known], demand: &Demand)
-    ensures { knowns.new ≡ with_demand scope.now knowns.old demand.now }
+fn add_demand(scope: &Scope<'_>, knowns: &mut [Known], object: &[u8], kind: usize)
+    ensures { knowns.new ≡ with_demand scope.now knowns.old object.now kind }
 {
-    let demanded = deepened(scope, knowns, demand);
-    let object = scope.object(demand.object.as_slice());
-    let holds = known_at(knowns, object).holds;
-    keep(knowns, object, Known { demanded, holds });
+    let demanded = deepened(scope, knowns, object, kind);
+    let number = scope.object(object);
+    let holds = known_at(knowns, number).holds;
+    keep(knowns, number, Known { demanded, holds });
+}
+
+/// Demands a room, unless a door is demanded.
+fn add_room(scope: &Scope<'_>, knowns: &mut [Known], object: &[u8])
+    ensures { knowns.new ≡ with_room scope.now knowns.old object.now }
+{
+    if !scope.is_door(object) {
+        add_demand(scope, knowns, object, KindNo::ROOM.get() as usize);
+    }
 }
 
 fn add_holder(scope: &Scope<'_>, knowns: &mut [Known], placing: &Placing)
@@ -125,7 +133,11 @@ fn add_fact(scope: &Scope<'_>, knowns: &mut [Known], fact: &Fact)
     ensures { knowns.new ≡ with_known scope.now knowns.old fact.now }
 {
     match fact {
-        Fact::Demands(demand) => add_demand(scope, knowns, demand),
+        Fact::Demands(demand) => {
+            let kind = scope.kind(demand.kind.as_slice());
+            add_demand(scope, knowns, demand.object.as_slice(), kind);
+        }
+        Fact::RoomUnlessDoor(object) => add_room(scope, knowns, object.as_slice()),
         Fact::Placed(placing) => add_holder(scope, knowns, placing),
         _ => {}
     }
@@ -148,11 +160,25 @@ pub fn knowns_of(
     Ok(knowns)
 }
 
+/// Whether one demand more lies off the path of the earlier ones.
+fn parts(scope: &Scope<'_>, knowns: &[Known], object: &[u8], kind: usize) -> bool
+    ensures { result ≡ is_parted (deepened scope.now knowns.now object.now kind) }
+{
+    matches!(deepened(scope, knowns, object, kind), Demanded::Parted)
+}
+
 fn is_off(scope: &Scope<'_>, knowns: &[Known], fact: &Fact) -> bool
     ensures { result ≡ is_off scope.now knowns.now fact.now }
 {
     match fact {
-        Fact::Demands(demand) => matches!(deepened(scope, knowns, demand), Demanded::Parted),
+        Fact::Demands(demand) => {
+            let kind = scope.kind(demand.kind.as_slice());
+            parts(scope, knowns, demand.object.as_slice(), kind)
+        }
+        Fact::RoomUnlessDoor(object) => {
+            let object = object.as_slice();
+            !scope.is_door(object) && parts(scope, knowns, object, KindNo::ROOM.get() as usize)
+        }
         _ => false,
     }
 }

@@ -10,11 +10,13 @@ mod claiming;
 mod declaring;
 mod demanding;
 mod descriptions;
+mod doors;
 mod entries;
 mod faults;
 mod grants;
 mod kinds;
 mod knowns;
+mod leading;
 mod lent_text;
 mod limits;
 mod making;
@@ -39,8 +41,9 @@ mod ways;
 mod wording;
 
 pub use claim_laws::{
-    books_twice_are_found, cycles_are_found, holder_cycles_are_found, kinds_too_many_are_found,
-    names_too_many_are_found, names_twice_are_found, second_places_are_found,
-    unknown_kinds_are_found, values_twice_are_found,
+    books_twice_are_found, cycles_are_found, doors_are_those_demanded, doors_twice_are_found,
+    holder_cycles_are_found, kinds_too_many_are_found, names_too_many_are_found,
+    names_twice_are_found, second_places_are_found, unknown_kinds_are_found,
+    values_twice_are_found,
 };
 pub use tale::tale_of;

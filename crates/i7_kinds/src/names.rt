@@ -139,6 +139,16 @@ fn take_up_all<'a>(
             take_up(alloc, names, first, line)?;
             take_up(alloc, names, second, line)
         }
+        Assertion::DescriptionOf { object, .. } => take_up(alloc, names, object, line),
+        Assertion::Door {
+            door,
+            first,
+            second,
+        } => {
+            take_up(alloc, names, door, line)?;
+            take_up(alloc, names, &first.room, line)?;
+            take_up(alloc, names, &second.room, line)
+        }
         Assertion::Holds { holder, things, .. } => {
             take_up(alloc, names, holder, line)?;
             take_up_names(alloc, names, things.as_slice(), line)

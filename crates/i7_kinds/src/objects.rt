@@ -2,7 +2,7 @@
 ghost use Rattle.std.specs.Prelude.{◌≡◌, ◌≤◌, ◌++◌, ◌∷◌, [], IfOk, OnOk, length, option_copied};
 ghost use Rattle.world_meaning.specs.Directions.{direction_number};
 ghost use Rattle.world_meaning.specs.Standing.{place_at};
-ghost use Rattle.i7_kinds.specs.Bounds.{LeadWithin};
+ghost use Rattle.i7_kinds.specs.Bounds.{IsSmall, LeadWithin};
 ghost use Rattle.i7_kinds.specs.Demands.{target_of};
 ghost use Rattle.i7_kinds.specs.Making.{made_of};
 ghost use Rattle.i7_kinds.specs.StatedWays.{stated};
@@ -40,6 +40,16 @@ const NOWHERE: Way = Way {
     door: None,
 };
 
+fn door_no(door: Option<usize>) -> Option<ObjNo>
+    requires { IsSmall door }
+    ensures { result ≡ door }
+{
+    match door {
+        None => None,
+        Some(door) => Some(ObjNo::new(door as u16)),
+    }
+}
+
 /// The way out of a room in a direction.
 fn way_of(ways: &Ways<'_>, room: usize, direction: Direction) -> Way
     requires { LeadWithin (stated ways.now) }
@@ -48,8 +58,8 @@ fn way_of(ways: &Ways<'_>, room: usize, direction: Direction) -> Way
     match ways.target_of(room, direction) {
         None => NOWHERE,
         Some(target) => Way {
-            room: Some(ObjNo::new(target as u16)),
-            door: None,
+            room: Some(ObjNo::new(target.room as u16)),
+            door: door_no(target.door),
         },
     }
 }

@@ -1,5 +1,5 @@
-//! The names of a source's objects, kinds and either-or properties, by number, which kind lies under which, and which
-//! kinds sentences give a property to.
+//! The names of a source's objects, kinds and either-or properties, by number, which kind lies under which, which kinds
+//! sentences give a property to, and of which objects they demand a door.
 ghost use Rattle.std.specs.Prelude.{◌≡◌};
 
 use crate::author_kinds::is_under;
@@ -8,8 +8,8 @@ use crate::names::number_in;
 use object_words::Strings;
 use std::marker::Model;
 
-/// The names of objects, of kinds and of properties, of each kind the kind above it, and the kinds that properties are
-/// given to.
+/// The names of objects, of kinds and of properties, of each kind the kind above it, the kinds that properties are given
+/// to, and the objects of which doors are demanded.
 #[derive(Drop)]
 pub struct Scope<'a> {
     objects: &'a Strings,
@@ -17,6 +17,7 @@ pub struct Scope<'a> {
     parents: &'a [Option<usize>],
     properties: &'a Strings,
     givens: &'a [Given],
+    doors: &'a Strings,
 }
 
 impl<'a> Model for Scope<'a> {
@@ -24,13 +25,13 @@ impl<'a> Model for Scope<'a> {
 
     ghost Value = { Names };
 
-    ghost view = { λ s. record { objects = s.objects.now; kinds = s.kinds.now; parents = s.parents.now; properties = s.properties.now; givens = s.givens.now } };
+    ghost view = { λ s. record { objects = s.objects.now; kinds = s.kinds.now; parents = s.parents.now; properties = s.properties.now; givens = s.givens.now; doors = s.doors.now } };
 }
 
 impl<'a> Scope<'a> {
     ghost use Rattle.std.specs.Prelude.{length};
     ghost use Rattle.world_meaning.specs.Kinds.{is_under};
-    ghost use Rattle.i7_kinds.specs.Numbers.{number_in};
+    ghost use Rattle.i7_kinds.specs.Numbers.{has_name, number_in};
 
     /// Objects of these names, kinds of these, and properties of these.
     pub fn new(
@@ -39,8 +40,9 @@ impl<'a> Scope<'a> {
         parents: &'a [Option<usize>],
         properties: &'a Strings,
         givens: &'a [Given],
+        doors: &'a Strings,
     ) -> Scope<'a>
-        ensures { result ≡ record { objects = objects.now; kinds = kinds.now; parents = parents.now; properties = properties.now; givens = givens.now } }
+        ensures { result ≡ record { objects = objects.now; kinds = kinds.now; parents = parents.now; properties = properties.now; givens = givens.now; doors = doors.now } }
     {
         Scope {
             objects,
@@ -48,6 +50,7 @@ impl<'a> Scope<'a> {
             parents,
             properties,
             givens,
+            doors,
         }
     }
 
@@ -63,6 +66,13 @@ impl<'a> Scope<'a> {
         ensures { result.now ≡ self.now.givens }
     {
         self.givens
+    }
+
+    /// Whether a sentence demands a door of the object of this name.
+    pub fn is_door(&self, key: &[u8]) -> bool
+        ensures { result ≡ has_name self.now.doors key.now }
+    {
+        self.doors.contains(key)
     }
 
     /// The number of the object of this name.

@@ -1,11 +1,11 @@
 //! What the sentences of a source state, objects by their numbers.
 ghost use Rattle.std.specs.Prelude.{◌≡◌, IfOk, map};
-ghost use Rattle.i7_kinds.specs.Statements.{numbered_holding, numbered_in, numbered_subject, statement_in};
+ghost use Rattle.i7_kinds.specs.Statements.{numbered_holding, numbered_in, numbered_subject, side_in, statement_in};
 ghost use Rattle.i7_kinds.specs.Views.{names_of};
 
 use crate::names::Names;
 use crate::quotes::printed;
-use i7_sentences::{Assertion, Name, Sentence};
+use i7_sentences::{Assertion, Name, Sentence, Side};
 use std::alloc::{AllocError, Global};
 use world_meaning::{Direction, Rel, TextBytes};
 
@@ -16,9 +16,12 @@ pub enum Numbered {
     Aside,
     /// A text as it is printed.
     Description(TextBytes),
+    /// An object, and the text that describes it, as it is printed.
+    Describes { object: usize, text: TextBytes },
     /// What an object is.
     Being(usize),
     Way(NumberedWay),
+    Door(NumberedDoor),
 }
 
 /// The subject lies in this direction of the room.
@@ -27,6 +30,21 @@ pub struct NumberedWay {
     pub subject: usize,
     pub direction: Direction,
     pub room: usize,
+}
+
+/// A direction out of a room.
+#[derive(Clone, Copy, Debug)]
+pub struct NumberedSide {
+    pub direction: Direction,
+    pub room: usize,
+}
+
+/// The door is in the one direction of the one room, and in the other of the other.
+#[derive(Clone, Copy, Debug)]
+pub struct NumberedDoor {
+    pub door: usize,
+    pub first: NumberedSide,
+    pub second: NumberedSide,
 }
 
 /// What a sentence asserts, objects by their numbers, and its line.
@@ -66,11 +84,24 @@ fn numbered_holding(
     }
 }
 
+fn side_in(alloc: Global, names: &Names<'_>, side: &Side) -> Result<NumberedSide, AllocError>
+    ensures { IfOk result (λ numbered. numbered ≡ side_in (names_of names.now) side.now) }
+{
+    Ok(NumberedSide {
+        direction: side.direction,
+        room: names.number_of(alloc, &side.room)?,
+    })
+}
+
 fn numbered_in(alloc: Global, names: &Names<'_>, said: &Assertion) -> Result<Numbered, AllocError>
     ensures { IfOk result (λ numbered. numbered ≡ numbered_in (names_of names.now) said.now) }
 {
     match said {
         Assertion::Description(text) => Ok(Numbered::Description(printed(alloc, text.as_slice())?)),
+        Assertion::DescriptionOf { object, text } => Ok(Numbered::Describes {
+            object: names.number_of(alloc, object)?,
+            text: printed(alloc, text.as_slice())?,
+        }),
         Assertion::Are(being) => numbered_subject(alloc, names, being.subjects.as_slice()),
         Assertion::Holds {
             holder,
@@ -81,6 +112,15 @@ fn numbered_in(alloc: Global, names: &Names<'_>, said: &Assertion) -> Result<Num
             subject: names.number_of(alloc, &way.subject)?,
             direction: way.direction,
             room: names.number_of(alloc, &way.room)?,
+        })),
+        Assertion::Door {
+            door,
+            first,
+            second,
+        } => Ok(Numbered::Door(NumberedDoor {
+            door: names.number_of(alloc, door)?,
+            first: side_in(alloc, names, first)?,
+            second: side_in(alloc, names, second)?,
         })),
         _ => Ok(Numbered::Aside),
     }

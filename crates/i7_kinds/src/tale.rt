@@ -17,12 +17,13 @@ use crate::claim::Claim;
 use crate::claiming::claims_of;
 use crate::declaring::declared_by;
 use crate::descriptions::Descriptions;
+use crate::doors::doors_of;
 use crate::faults::{Faults, faults_of};
 use crate::grants::givens_of;
 use crate::knowns::{Known, knowns_of};
 use crate::limits::{name_too_long, object_too_many, text_too_long};
 use crate::making::{kinds_of, places_in};
-use crate::meant::unmeant;
+use crate::meant::unmeant_sentence;
 use crate::names::{Mention, names_of};
 use crate::objects::{Makings, objects_of};
 use crate::places::places_by;
@@ -220,7 +221,7 @@ fn said_in(
     requires above { parents.now ≡ parents_of kinds.now claims.now }
     ensures { IfOk result (λ said. said ≡ said_in kinds.now parents.now claims.now sentences.now) }
 {
-    if let Some(line) = unmeant(kinds, parents, claims, sentences) {
+    if let Some(line) = unmeant_sentence(sentences) {
         return Ok(Err(Fault {
             code: FaultCode::NotUnderstood,
             line,
@@ -231,7 +232,8 @@ fn said_in(
     let properties = names_as(alloc, Sort::EitherOr, claims)?;
     let givens = givens_of(alloc, &properties, kinds, claims)?;
     let given = givens.as_slice();
-    let scope = Scope::new(names.keys(), kinds, parents, &properties, given);
+    let doors = doors_of(alloc, kinds, parents, claims)?;
+    let scope = Scope::new(names.keys(), kinds, parents, &properties, given, &doors);
     let mentions = names.mentions();
     let said = judged(alloc, &scope, mentions, claims, statements.as_slice())?;
     Ok(said)

@@ -1,9 +1,9 @@
-//! Ways: those that sentences state, and the ways back that they imply.
-ghost use Rattle.std.specs.Prelude.{◌≡◌, ℕ, IfOk, OnOk};
-ghost use Rattle.i7_kinds.specs.Demands.{first_target, implied_in, implied_leads, is_elsewhere, lead_of, second_target, stated_in, stated_leads, target_of};
+//! Ways: those that sentences state, plainly or by a door, and the ways back that they imply.
+ghost use Rattle.std.specs.Prelude.{◌≡◌, ℕ, ◌∷◌, [], IfOk, OnOk};
+ghost use Rattle.i7_kinds.specs.Demands.{first_target, implied_in, implied_leads, is_elsewhere, is_same_door, is_target, lead_to, leads_elsewhere, second_target, stated_in, stated_leads, target_of, way_back, way_there, way_through};
 ghost use Rattle.i7_kinds.specs.Views.{LeadsOn, given_exit, target_at};
 
-use crate::statements::{Numbered, NumberedSentence, NumberedWay};
+use crate::statements::{Numbered, NumberedSentence, NumberedSide, NumberedWay};
 use indexmap::IndexMap;
 use std::alloc::{AllocError, Global};
 use world_meaning::{Direction, ObjNo};
@@ -11,12 +11,26 @@ use world_meaning::{Direction, ObjNo};
 /// A direction out of an object, by the numbers of both.
 #[derive(Clone, Copy, Debug, Hash, PartialEq, Eq)]
 pub struct Exit {
-    room: usize,
-    direction: ObjNo,
+    pub room: usize,
+    pub direction: ObjNo,
+}
+
+/// The room beyond, and the door on the way.
+#[derive(Clone, Copy, Debug)]
+pub struct Target {
+    pub room: usize,
+    pub door: Option<usize>,
+}
+
+/// An exit leads to a target.
+#[derive(Clone, Copy, Debug)]
+pub struct Lead {
+    pub exit: Exit,
+    pub target: Target,
 }
 
 /// Where exits lead: the first target of each.
-type Targets = IndexMap<Exit, usize>;
+type Targets = IndexMap<Exit, Target>;
 
 /// The ways of a source's statements.
 #[derive(Drop)]
@@ -29,45 +43,86 @@ pub struct Ways<'a> {
     ghost seen: { second ≡ second_target statements.now },
 }
 
-/// Gives an exit its target, unless it has one.
-fn lead(targets: &mut Targets, exit: Exit, target: usize) -> Result<(), AllocError>
-    ensures { OnOk result (LeadsOn targets.old targets.new (given_exit exit target)) }
+fn lead_to(room: usize, direction: Direction, target: usize, door: Option<usize>) -> Lead
+    ensures { result ≡ lead_to room direction target door }
 {
-    if targets.get(&exit).is_none() {
-        targets.insert(exit, target)?;
+    Lead {
+        exit: Exit {
+            room,
+            direction: direction.number(),
+        },
+        target: Target { room: target, door },
+    }
+}
+
+/// The way that is stated.
+fn way_there(way: NumberedWay) -> Lead
+    ensures { result ≡ way_there way }
+{
+    lead_to(way.room, way.direction, way.subject, None)
+}
+
+/// The way back of one that is stated.
+fn way_back(way: NumberedWay) -> Lead
+    ensures { result ≡ way_back way }
+{
+    lead_to(way.subject, way.direction.opposite(), way.room, None)
+}
+
+/// The way from one side of a door to the other.
+fn way_through(door: usize, here: NumberedSide, beyond: NumberedSide) -> Lead
+    ensures { result ≡ way_through door here beyond }
+{
+    lead_to(here.room, here.direction, beyond.room, Some(door))
+}
+
+/// Leads an exit, unless it is led.
+fn lead_exit(targets: &mut Targets, lead: Lead) -> Result<(), AllocError>
+    ensures { OnOk result (LeadsOn targets.old targets.new (given_exit lead.exit lead.target)) }
+{
+    if targets.get(&lead.exit).is_none() {
+        targets.insert(lead.exit, lead.target)?;
     }
     Ok(())
 }
 
-/// Leads where a statement says.
-fn lead_stated(targets: &mut Targets, statement: &NumberedSentence) -> Result<(), AllocError>
-    ensures { OnOk result (LeadsOn targets.old targets.new (first_target (stated_in statement.now.said statement.now.line))) }
+/// Leads one exit, and then another, which may be the same.
+fn lead_both(targets: &mut Targets, first: Lead, second: Lead) -> Result<(), AllocError>
+    ensures { OnOk result (LeadsOn targets.old targets.new (first_target (first ∷ second ∷ []))) }
 {
-    match &statement.said {
-        Numbered::Aside | Numbered::Description(_) | Numbered::Being(_) => Ok(()),
-        Numbered::Way(way) => {
-            let exit = Exit {
-                room: way.room,
-                direction: way.direction.number(),
-            };
-            lead(targets, exit, way.subject)
+    lead_exit(targets, first)?;
+    lead_exit(targets, second)
+}
+
+/// Leads where a statement says.
+fn lead_stated(targets: &mut Targets, said: &Numbered) -> Result<(), AllocError>
+    ensures { OnOk result (LeadsOn targets.old targets.new (first_target (stated_in said.now))) }
+{
+    match said {
+        Numbered::Aside
+        | Numbered::Description(_)
+        | Numbered::Describes { .. }
+        | Numbered::Being(_) => Ok(()),
+        Numbered::Way(way) => lead_exit(targets, way_there(*way)),
+        Numbered::Door(door) => {
+            let there = way_through(door.door, door.first, door.second);
+            let back = way_through(door.door, door.second, door.first);
+            lead_both(targets, there, back)
         }
     }
 }
 
 /// Leads the way back of the one that a statement says.
-fn lead_back(targets: &mut Targets, statement: &NumberedSentence) -> Result<(), AllocError>
-    ensures { OnOk result (LeadsOn targets.old targets.new (first_target (implied_in statement.now.said statement.now.line))) }
+fn lead_back(targets: &mut Targets, said: &Numbered) -> Result<(), AllocError>
+    ensures { OnOk result (LeadsOn targets.old targets.new (first_target (implied_in said.now))) }
 {
-    match &statement.said {
-        Numbered::Aside | Numbered::Description(_) | Numbered::Being(_) => Ok(()),
-        Numbered::Way(way) => {
-            let exit = Exit {
-                room: way.subject,
-                direction: way.direction.opposite().number(),
-            };
-            lead(targets, exit, way.room)
-        }
+    match said {
+        Numbered::Aside
+        | Numbered::Description(_)
+        | Numbered::Describes { .. }
+        | Numbered::Being(_) => Ok(()),
+        Numbered::Way(way) => lead_exit(targets, way_back(*way)),
+        Numbered::Door(_) => Ok(()),
     }
 }
 
@@ -78,7 +133,7 @@ fn stated_targets(alloc: Global, statements: &[NumberedSentence]) -> Result<Targ
     let mut targets = IndexMap::new(alloc);
     let mut rest = statements;
     while let [statement, after @ ..] = rest {
-        lead_stated(&mut targets, statement)?;
+        lead_stated(&mut targets, &statement.said)?;
         rest = after;
     }
     Ok(targets)
@@ -90,25 +145,58 @@ fn lead_all_back(targets: &mut Targets, statements: &[NumberedSentence]) -> Resu
 {
     let mut rest = statements;
     while let [statement, after @ ..] = rest {
-        lead_back(targets, statement)?;
+        lead_back(targets, &statement.said)?;
         rest = after;
     }
     Ok(())
 }
 
-/// Whether a way leads an exit elsewhere than its first target.
-fn is_elsewhere(targets: &Targets, leads: &[NumberedSentence], way: NumberedWay, line: u32) -> bool
+fn is_same_door(door: Option<usize>, other: Option<usize>) -> bool
+    ensures { result ≡ is_same_door door other }
+{
+    match door {
+        None => other.is_none(),
+        Some(door) => match other {
+            None => false,
+            Some(other) => door == other,
+        },
+    }
+}
+
+fn is_target(target: Target, other: Target) -> bool
+    ensures { result ≡ is_target target other }
+{
+    target.room == other.room && is_same_door(target.door, other.door)
+}
+
+/// Whether an exit is led elsewhere than to its first target.
+fn is_elsewhere(targets: &Targets, leads: &[NumberedSentence], lead: Lead) -> bool
     requires stated { (room direction : ℕ) → target_at targets.now room direction ≡ first_target (stated_leads leads.now) room direction }
-    ensures { result ≡ is_elsewhere (stated_leads leads.now) (lead_of way.subject way.direction way.room line) }
+    ensures { result ≡ is_elsewhere (stated_leads leads.now) lead }
 {
     let _ = leads;
-    let exit = Exit {
-        room: way.room,
-        direction: way.direction.number(),
-    };
-    match targets.get(&exit) {
+    match targets.get(&lead.exit) {
         None => true,
-        Some(target) => way.subject != *target,
+        Some(first) => !is_target(lead.target, *first),
+    }
+}
+
+/// Whether a statement leads an exit elsewhere than to its first target.
+fn leads_elsewhere(targets: &Targets, leads: &[NumberedSentence], said: &Numbered) -> bool
+    requires stated { (room direction : ℕ) → target_at targets.now room direction ≡ first_target (stated_leads leads.now) room direction }
+    ensures { result ≡ leads_elsewhere (stated_leads leads.now) said.now }
+{
+    match said {
+        Numbered::Aside
+        | Numbered::Description(_)
+        | Numbered::Describes { .. }
+        | Numbered::Being(_) => false,
+        Numbered::Way(way) => is_elsewhere(targets, leads, way_there(*way)),
+        Numbered::Door(door) => {
+            let there = way_through(door.door, door.first, door.second);
+            let back = way_through(door.door, door.second, door.first);
+            is_elsewhere(targets, leads, there) || is_elsewhere(targets, leads, back)
+        }
     }
 }
 
@@ -120,10 +208,8 @@ fn second_target(targets: &Targets, statements: &[NumberedSentence]) -> Option<u
 {
     let mut rest = statements;
     while let [statement, after @ ..] = rest {
-        if let Numbered::Way(way) = &statement.said {
-            if is_elsewhere(targets, statements, *way, statement.line) {
-                return Some(statement.line);
-            }
+        if leads_elsewhere(targets, statements, &statement.said) {
+            return Some(statement.line);
         }
         rest = after;
     }
@@ -163,7 +249,7 @@ impl<'a> Ways<'a> {
     }
 
     /// Where an exit leads: where a sentence says, else where the first that implies it does.
-    pub fn target_of(&self, room: usize, direction: Direction) -> Option<usize>
+    pub fn target_of(&self, room: usize, direction: Direction) -> Option<Target>
         ensures { result ≡ target_of (stated self.now) room (direction_number direction) }
     {
         let exit = Exit {

@@ -1,5 +1,5 @@
 -- A story file holds the tale that sentences mean.
-use Rattle.std.proofs.Common.{◌≡◌, ℕ, ◌+◌, ◌-◌, ◌<◌, ◌≤◌, Bool, true, false, cond, not, ◌&&◌, ◌||◌, ltb, leb, eqb, List, [], ◌∷◌, ◌++◌, length, map, Option, Some, None, Ok, refl, sym, ap, subst, ◌∙◌, arith, inl, inr}
+use Rattle.std.proofs.Common.{◌≡◌, ℕ, ◌+◌, ◌-◌, ◌<◌, ◌≤◌, Bool, true, false, cond, not, ◌&&◌, ◌||◌, ltb, leb, eqb, List, [], ◌∷◌, ◌++◌, length, map, Option, Some, None, Ok, refl, sym, ap, subst, ◌∙◌, arith, inl, inr, true≢false}
 use Rattle.std.specs.Prelude.{Result, find, is_none, slice_get}
 use Rattle.std.specs.List.{list_all}
 use Rattle.std.specs.Option.{option_map}
@@ -8,11 +8,11 @@ use Rattle.std.proofs.lemmas.Option.{slice_get_past}
 use Rattle.world_meaning.proofs.Bools.{both, both_are, either}
 use Rattle.world_meaning.specs.Chains.{IsTree}
 use Rattle.world_meaning.specs.Declarations.{is_below as is_kind_below, is_rooted, is_well_declared}
-use Rattle.world_meaning.specs.Directions.{all_directions, opposite_of}
+use Rattle.world_meaning.specs.Directions.{all_directions}
 use Rattle.world_meaning.specs.Placing.{Kinds, can_be_held, can_hold, keeps_player}
 use Rattle.world_meaning.specs.Sight.{is_in}
 use Rattle.world_meaning.specs.Sorts.{is_at, kinds_told, sorts_of, under_each}
-use Rattle.world_meaning.specs.Standing.{are_well_placed, is_at_or_none, place_at}
+use Rattle.world_meaning.specs.Standing.{are_well_placed, is_at_or_none, leads, place_at}
 use Rattle.world_meaning.specs.WellMade.{IsWellMade, begin_rightly, has_right_exits, kinds_of as kinds_in, places_of as places_in, stands_in_room}
 use Rattle.world_meaning.specs.declared.declared.Declared.{Declared}
 use Rattle.world_meaning.specs.declared.fault.Fault.{Fault}
@@ -22,7 +22,7 @@ use Rattle.world_meaning.specs.declared.tale.Tale.{Tale}
 use Rattle.i7_sentences.specs.declared.sentence.Sentence.{Sentence}
 use Rattle.object_words.specs.Words.{more_words, words_for}
 use Rattle.i7_kinds.specs.Claims.{claims_of}
-use Rattle.i7_kinds.specs.Demands.{Lead, descriptions_of, description_of, first_target, implied_in, implied_leads, is_exit, is_wrong, lead_of, line_at, line_of_description, stated_in, stated_leads, subject_of, target_of, wrong_after, wrong_kind}
+use Rattle.i7_kinds.specs.Demands.{descriptions_of, description_of, first_target, implied_in, implied_leads, is_exit, is_wrong, line_at, line_of_description, stated_in, stated_leads, subject_of, target_of, way_back, way_there, way_through, wrong_after, wrong_kind}
 use Rattle.i7_kinds.specs.Firsts.{first_of}
 use Rattle.i7_kinds.specs.KindClaims.{declared_by, kind_cycle, kind_names, kind_too_many, parents_of}
 use Rattle.i7_kinds.specs.Knowns.{is_of, is_parted_at, kinds_known, kinds_of, known_at, knowns_of, off_path}
@@ -33,7 +33,7 @@ use Rattle.i7_kinds.specs.Statements.{NameAt, named_by, stated_by}
 use Rattle.i7_kinds.specs.Suits.{first_room, unsuited, with_player}
 use Rattle.i7_kinds.specs.Values.{Values, values_by}
 use Rattle.i7_kinds.specs.declared.values.Bearer.TheVariants as bearer
-use Rattle.i7_kinds.specs.Tales.{Made, author_entry, entries_of, faults_of, frame_refusal, has_long_name, has_long_text, is_too_long, judged_by, limit_refusal, made_of, name_too_long, no_room, object_as, object_of, objects_of, or_refused, refusal_of, scope_of, tale_said, text_too_long, unless_unmeant, unmeant}
+use Rattle.i7_kinds.specs.Tales.{Made, author_entry, entries_of, faults_of, frame_refusal, has_long_name, has_long_text, is_too_long, judged_by, limit_refusal, made_of, name_too_long, no_room, object_as, object_of, objects_of, or_refused, refusal_of, scope_of, tale_said, text_too_long, unless_unmeant, unmeant_sentence, way_to}
 use Rattle.i7_kinds.specs.declared.claim.Claim.{Claim}
 use Rattle.i7_kinds.specs.declared.descriptions.Description.{Description as Described}
 use Rattle.i7_kinds.specs.declared.entries.Entry.{Entry}
@@ -42,6 +42,8 @@ use Rattle.i7_kinds.specs.declared.sorts.Sort.TheVariants as sort
 use Rattle.i7_kinds.specs.declared.statements.Numbered.{Numbered}
 use Rattle.i7_kinds.specs.declared.statements.Numbered.TheVariants as numbered
 use Rattle.i7_kinds.specs.declared.statements.NumberedSentence.{NumberedSentence}
+use Rattle.i7_kinds.specs.declared.ways.Lead.{Lead}
+use Rattle.i7_kinds.specs.declared.ways.Target.{Target}
 use Rattle.i7_kinds.proofs.Bounds.{NoFaults, counted-source, earlier_none, first_none_both, frame_parts, unmapped, unrefused}
 use Rattle.i7_kinds.proofs.Fines.{AreFine, base, kind_few, knowns_counted}
 use Rattle.i7_kinds.proofs.Granting.{either_ors_behind}
@@ -61,20 +63,31 @@ none_or false b h = (refl, h)
 
 -- ---- ways lead between rooms
 
-abbrev is_room_or_none : List (Option ℕ) → List Known → Option ℕ → Bool
-is_room_or_none parents knowns None = true
-is_room_or_none parents knowns (Some o) = is_of parents knowns 1 o
+abbrev is_door_or_none : List (Option ℕ) → List Known → Option ℕ → Bool
+is_door_or_none parents knowns None = true
+is_door_or_none parents knowns (Some o) = is_of parents knowns 3 o
 
--- the objects of a fact are rooms
+-- to a room, by a door or none
+abbrev is_right : List (Option ℕ) → List Known → Option Target → Bool
+is_right parents knowns None = true
+is_right parents knowns (Some target) = is_of parents knowns 1 target.room && is_door_or_none parents knowns target.door
+
+-- the objects of a fact are rooms, and what is between two a door
 abbrev is_of_rooms : List (Option ℕ) → List Known → Numbered → Bool
 is_of_rooms parents knowns numbered.Aside = true
 is_of_rooms parents knowns (numbered.Description text) = true
+is_of_rooms parents knowns (numbered.Describes o text) = true
 is_of_rooms parents knowns (numbered.Being o) = true
 is_of_rooms parents knowns (numbered.Way way) = is_of parents knowns 1 way.subject && is_of parents knowns 1 way.room
+is_of_rooms parents knowns (numbered.Door d) = is_of parents knowns 3 d.door && (is_of parents knowns 1 d.first.room && is_of parents knowns 1 d.second.room)
 
 nothing_wrong : (wrong : Bool) (line : ℕ) (later : Option ℕ) → cond wrong (Some line) later ≡ None → (wrong ≡ false) × (later ≡ None)
 nothing_wrong true line later h = absurd cc
 nothing_wrong false line later h = (refl, h)
+
+neither : (a b : Bool) → a ≡ false → b ≡ false → (a || b) ≡ false
+neither true b h k = absurd (true≢false h)
+neither false b h k = k
 
 module _ (parents : List (Option ℕ)) (knowns : List Known) (whole : (o : ℕ) → is_parted_at knowns o ≡ false) where
   abbrev are_of_rooms : NumberedSentence → Bool
@@ -83,8 +96,12 @@ module _ (parents : List (Option ℕ)) (knowns : List Known) (whole : (o : ℕ) 
   between : (before : Option ℕ) (fact : Numbered) → is_wrong parents knowns before fact ≡ false → is_of_rooms parents knowns fact ≡ true
   between before numbered.Aside h = refl
   between before (numbered.Description text) h = refl
+  between before (numbered.Describes o text) h = refl
   between before (numbered.Being o) h = refl
   between before (numbered.Way way) h = judged (is_parted_at knowns way.subject) (is_parted_at knowns way.room) (is_of parents knowns 1 way.subject && is_of parents knowns 1 way.room) (whole way.subject) (whole way.room) h
+  between before (numbered.Door d) h =
+      judged (is_parted_at knowns d.door) (is_parted_at knowns d.first.room || is_parted_at knowns d.second.room) (is_of_rooms parents knowns (numbered.Door d))
+      (whole d.door) (neither (is_parted_at knowns d.first.room) (is_parted_at knowns d.second.room) (whole d.first.room) (whole d.second.room)) h
 
   all_of_rooms : (before : Option ℕ) (statements : List NumberedSentence) → wrong_after parents knowns before statements ≡ None → list_all are_of_rooms statements ≡ true
   all_of_rooms before [] h = refl
@@ -92,53 +109,76 @@ module _ (parents : List (Option ℕ)) (knowns : List Known) (whole : (o : ℕ) 
       let t = nothing_wrong (is_wrong parents knowns before statement.said) statement.line (wrong_after parents knowns (subject_of statement.said) statements) h in
       both (are_of_rooms statement) (list_all are_of_rooms statements) (between before statement.said t.0) (all_of_rooms (subject_of statement.said) statements t.1)
 
-  lead_room : (lead : Lead) (leads : List Lead) (room direction : ℕ) → is_of parents knowns 1 lead.target ≡ true → is_room_or_none parents knowns (first_target leads room direction) ≡ true → is_room_or_none parents knowns (first_target (lead ∷ leads) room direction) ≡ true
-  lead_room lead leads room direction h k =
+  -- each exit is led to a room, by a door or none
+  abbrev LeadRight : List Lead → Type 0
+  LeadRight leads = (room direction : ℕ) → is_right parents knowns (first_target leads room direction) ≡ true
+
+  lead_right : (lead : Lead) (leads : List Lead) (room direction : ℕ) → is_right parents knowns (Some lead.target) ≡ true → is_right parents knowns (first_target leads room direction) ≡ true → is_right parents knowns (first_target (lead ∷ leads) room direction) ≡ true
+  lead_right lead leads room direction h k =
       elim (either (is_exit room direction lead)) [
         | inl is ↦ rw is h
         | inr isnt ↦ rw isnt k
       ]
 
-  stated_one : (fact : Numbered) (line : ℕ) (leads : List Lead) (room direction : ℕ) → is_of_rooms parents knowns fact ≡ true → is_room_or_none parents knowns (first_target leads room direction) ≡ true → is_room_or_none parents knowns (first_target (stated_in fact line ++ leads) room direction) ≡ true
-  stated_one numbered.Aside line leads room direction h k = k
-  stated_one (numbered.Description text) line leads room direction h k = k
-  stated_one (numbered.Being o) line leads room direction h k = k
-  stated_one (numbered.Way way) line leads room direction h k = lead_room (lead_of way.subject way.direction way.room line) leads room direction (both_are (is_of parents knowns 1 way.subject) (is_of parents knowns 1 way.room) h).0 k
+  plain_right : (room : ℕ) → is_of parents knowns 1 room ≡ true → (is_of parents knowns 1 room && true) ≡ true
+  plain_right room h = both (is_of parents knowns 1 room) true h refl
 
-  implied_one : (fact : Numbered) (line : ℕ) (leads : List Lead) (room direction : ℕ) → is_of_rooms parents knowns fact ≡ true → is_room_or_none parents knowns (first_target leads room direction) ≡ true → is_room_or_none parents knowns (first_target (implied_in fact line ++ leads) room direction) ≡ true
-  implied_one numbered.Aside line leads room direction h k = k
-  implied_one (numbered.Description text) line leads room direction h k = k
-  implied_one (numbered.Being o) line leads room direction h k = k
-  implied_one (numbered.Way way) line leads room direction h k = lead_room (lead_of way.room (opposite_of way.direction) way.subject line) leads room direction (both_are (is_of parents knowns 1 way.subject) (is_of parents knowns 1 way.room) h).1 k
+  stated_one : (fact : Numbered) (leads : List Lead) → is_of_rooms parents knowns fact ≡ true → LeadRight leads → LeadRight (stated_in fact ++ leads)
+  stated_one numbered.Aside leads h k room direction = k room direction
+  stated_one (numbered.Description text) leads h k room direction = k room direction
+  stated_one (numbered.Describes o text) leads h k room direction = k room direction
+  stated_one (numbered.Being o) leads h k room direction = k room direction
+  stated_one (numbered.Way way) leads h k room direction =
+      lead_right (way_there way) leads room direction (plain_right way.subject (both_are (is_of parents knowns 1 way.subject) (is_of parents knowns 1 way.room) h).0) (k room direction)
+  stated_one (numbered.Door d) leads h k room direction =
+      let t = both_are (is_of parents knowns 3 d.door) (is_of parents knowns 1 d.first.room && is_of parents knowns 1 d.second.room) h in
+      let u = both_are (is_of parents knowns 1 d.first.room) (is_of parents knowns 1 d.second.room) t.1 in
+      lead_right (way_through d.door d.first d.second) (way_through d.door d.second d.first ∷ leads) room direction (both (is_of parents knowns 1 d.second.room) (is_of parents knowns 3 d.door) u.1 t.0)
+      (lead_right (way_through d.door d.second d.first) leads room direction (both (is_of parents knowns 1 d.first.room) (is_of parents knowns 3 d.door) u.0 t.0) (k room direction))
 
-  stated_rooms : (statements : List NumberedSentence) (room direction : ℕ) → list_all are_of_rooms statements ≡ true → is_room_or_none parents knowns (first_target (stated_leads statements) room direction) ≡ true
-  stated_rooms [] room direction h = refl
-  stated_rooms (statement ∷ statements) room direction h =
+  implied_one : (fact : Numbered) (leads : List Lead) → is_of_rooms parents knowns fact ≡ true → LeadRight leads → LeadRight (implied_in fact ++ leads)
+  implied_one numbered.Aside leads h k room direction = k room direction
+  implied_one (numbered.Description text) leads h k room direction = k room direction
+  implied_one (numbered.Describes o text) leads h k room direction = k room direction
+  implied_one (numbered.Being o) leads h k room direction = k room direction
+  implied_one (numbered.Way way) leads h k room direction =
+      lead_right (way_back way) leads room direction (plain_right way.room (both_are (is_of parents knowns 1 way.subject) (is_of parents knowns 1 way.room) h).1) (k room direction)
+  implied_one (numbered.Door d) leads h k room direction = k room direction
+
+  stated_right : (statements : List NumberedSentence) → list_all are_of_rooms statements ≡ true → LeadRight (stated_leads statements)
+  stated_right [] h room direction = refl
+  stated_right (statement ∷ statements) h room direction =
       let t = both_are (are_of_rooms statement) (list_all are_of_rooms statements) h in
-      stated_one statement.said statement.line (stated_leads statements) room direction t.0 (stated_rooms statements room direction t.1)
+      stated_one statement.said (stated_leads statements) t.0 (stated_right statements t.1) room direction
 
-  implied_rooms : (statements : List NumberedSentence) (room direction : ℕ) → list_all are_of_rooms statements ≡ true → is_room_or_none parents knowns (first_target (implied_leads statements) room direction) ≡ true
-  implied_rooms [] room direction h = refl
-  implied_rooms (statement ∷ statements) room direction h =
+  implied_right : (statements : List NumberedSentence) → list_all are_of_rooms statements ≡ true → LeadRight (implied_leads statements)
+  implied_right [] h room direction = refl
+  implied_right (statement ∷ statements) h room direction =
       let t = both_are (are_of_rooms statement) (list_all are_of_rooms statements) h in
-      implied_one statement.said statement.line (implied_leads statements) room direction t.0 (implied_rooms statements room direction t.1)
+      implied_one statement.said (implied_leads statements) t.0 (implied_right statements t.1) room direction
 
-  either_room : (a b : Option ℕ) → is_room_or_none parents knowns a ≡ true → is_room_or_none parents knowns b ≡ true → is_room_or_none parents knowns (first_of a b) ≡ true
-  either_room None b h k = k
-  either_room (Some o) b h k = h
+  either_right : (a b : Option Target) → is_right parents knowns a ≡ true → is_right parents knowns b ≡ true → is_right parents knowns (first_of a b) ≡ true
+  either_right None b h k = k
+  either_right (Some t) b h k = h
 
-  targets_rooms : (statements : List NumberedSentence) → wrong_kind parents knowns statements ≡ None → (room direction : ℕ) → is_room_or_none parents knowns (target_of statements room direction) ≡ true
-  targets_rooms statements h room direction =
+  targets_right : (statements : List NumberedSentence) → wrong_kind parents knowns statements ≡ None → (room direction : ℕ) → is_right parents knowns (target_of statements room direction) ≡ true
+  targets_right statements h room direction =
       let rooms = all_of_rooms None statements h in
-      either_room (first_target (stated_leads statements) room direction) (first_target (implied_leads statements) room direction) (stated_rooms statements room direction rooms) (implied_rooms statements room direction rooms)
+      either_right (first_target (stated_leads statements) room direction) (first_target (implied_leads statements) room direction) (stated_right statements rooms room direction) (implied_right statements rooms room direction)
 
-  at_or_none : (o : Option ℕ) → is_room_or_none parents knowns o ≡ true → is_at_or_none (under_each parents (kinds_of knowns) 1) o ≡ true
-  at_or_none None h = refl
-  at_or_none (Some o) h = told parents knowns 1 o ∙ h
+  door_right : (door : Option ℕ) → is_door_or_none parents knowns door ≡ true → is_at_or_none (under_each parents (kinds_of knowns) 3) door ≡ true
+  door_right None h = refl
+  door_right (Some o) h = told parents knowns 3 o ∙ h
+
+  leads_right : (target : Option Target) → is_right parents knowns target ≡ true → leads (sorts_of parents (kinds_of knowns)) (way_to target) ≡ true
+  unfolding sorts_of
+  leads_right None h = refl
+  leads_right (Some target) h =
+      let t = both_are (is_of parents knowns 1 target.room) (is_door_or_none parents knowns target.door) h in
+      both (is_at (under_each parents (kinds_of knowns) 1) target.room) (is_at_or_none (under_each parents (kinds_of knowns) 3) target.door) (told parents knowns 1 target.room ∙ t.0) (door_right target.door t.1)
 
   lead_to_rooms : (statements : List NumberedSentence) → wrong_kind parents knowns statements ≡ None → LeadToRooms (sorts_of parents (kinds_of knowns)) statements
-  unfolding sorts_of
-  lead_to_rooms statements h room direction = at_or_none (target_of statements room direction) (targets_rooms statements h room direction)
+  lead_to_rooms statements h room direction = leads_right (target_of statements room direction) (targets_right statements h room direction)
 
 -- ---- names and texts are short
 
@@ -381,5 +421,5 @@ tale_held sentences tale meant =
     let statements = stated_by sentences in
     let mentions = (named_by sentences).mentions in
     let whole : Tale = record { declared = declared_by claims; objects = objects_of (made_of s knowns claims statements) 0 (entries_of mentions) } in
-    let t = meant_none (refusal_of s knowns claims statements mentions) whole tale (meant_whole (unmeant (kind_names claims) (parents_of (kind_names claims) claims) claims sentences) (judged_by s knowns claims statements mentions) tale meant) in
+    let t = meant_none (refusal_of s knowns claims statements mentions) whole tale (meant_whole (unmeant_sentence sentences) (judged_by s knowns claims statements mentions) tale meant) in
     subst IsHeld t.1 (objects_held claims keys statements mentions (counted-source sentences) t.0)

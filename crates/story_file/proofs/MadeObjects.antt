@@ -9,7 +9,7 @@ use Rattle.world_meaning.specs.Directions.{all_directions, direction_number}
 use Rattle.world_meaning.specs.Kinds.{is_under}
 use Rattle.world_meaning.specs.Placing.{Kinds}
 use Rattle.world_meaning.specs.Sorts.{is_at, kinds_told, sorts_of, under_each}
-use Rattle.world_meaning.specs.Standing.{are_well_placed, is_at_or_none, is_well_placed, lead_rightly, leads, place_at}
+use Rattle.world_meaning.specs.Standing.{are_well_placed, is_well_placed, lead_rightly, leads, place_at}
 use Rattle.world_meaning.specs.WellMade.{are_directions, begin_rightly, has_right_exits, is_direction, is_player, kinds_of as kinds_in, places_of as places_in, stands_in_room}
 use Rattle.world_meaning.specs.declared.direction.Direction.{Direction}
 use Rattle.world_meaning.specs.declared.place.Place.{Place}
@@ -21,6 +21,7 @@ use Rattle.i7_kinds.specs.Statements.{NameAt}
 use Rattle.i7_kinds.specs.declared.entries.Entry.{Entry}
 use Rattle.i7_kinds.specs.declared.knowns.Known.{Known}
 use Rattle.i7_kinds.specs.declared.statements.NumberedSentence.{NumberedSentence}
+use Rattle.i7_kinds.specs.declared.ways.Target.{Target}
 use Rattle.i7_kinds.specs.Tales.{Made, author_entry, direction_entry, entries_of, exits_of, kind_at, object_as, object_of, objects_of, way_to}
 use Rattle.i7_kinds.proofs.Placed.{AreSuited, IsSuited}
 use Rattle.story_format.proofs.Known.{text_is_itself}
@@ -96,12 +97,13 @@ all_placed kinds places h = placed_from kinds 0 places (λ i j q. let same : i �
 
 -- ---- ways lead between rooms
 
-ways_lead : (sorts : Sorts) (targets : Direction → Option ℕ) (ds : List Direction) → ((d : Direction) → is_at_or_none sorts.rooms (targets d) ≡ true) → list_all (leads sorts) (map (λ d. way_to (targets d)) ds) ≡ true
+ways_lead : (sorts : Sorts) (targets : Direction → Option Target) (ds : List Direction) → ((d : Direction) → leads sorts (way_to (targets d)) ≡ true) → list_all (leads sorts) (map (λ d. way_to (targets d)) ds) ≡ true
 ways_lead sorts targets [] h = refl
-ways_lead sorts targets (d ∷ ds) h = both (leads sorts (way_to (targets d))) (list_all (leads sorts) (map (λ d. way_to (targets d)) ds)) (both (is_at_or_none sorts.rooms (targets d)) true (h d) refl) (ways_lead sorts targets ds h)
+ways_lead sorts targets (d ∷ ds) h = both (leads sorts (way_to (targets d))) (list_all (leads sorts) (map (λ d. way_to (targets d)) ds)) (h d) (ways_lead sorts targets ds h)
 
+-- to rooms, perhaps by doors
 abbrev pub LeadToRooms : Sorts → List NumberedSentence → Type 0
-LeadToRooms sorts statements = (room direction : ℕ) → is_at_or_none sorts.rooms (target_of statements room direction) ≡ true
+LeadToRooms sorts statements = (room direction : ℕ) → leads sorts (way_to (target_of statements room direction)) ≡ true
 
 exits_lead : (sorts : Sorts) (statements : List NumberedSentence) (o : ℕ) → LeadToRooms sorts statements → lead_rightly sorts (exits_of statements o) ≡ true
 unfolding lead_rightly exits_of

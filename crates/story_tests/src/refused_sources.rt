@@ -37,9 +37,9 @@ const REFUSED: &[(&str, FaultCode, u32)] = &[
         1,
     ),
     (
-        "The trapdoor is above the Cellar and below the Hall.",
-        FaultCode::NotUnderstood,
-        1,
+        "The trapdoor is above the Cellar and below the Hall.\nThe trapdoor is above the Cellar and below the Hall.",
+        FaultCode::TwoPlaces,
+        2,
     ),
     ("The Hall of Mirrors is a room.", FaultCode::ReservedWord, 1),
     ("The is a room.", FaultCode::ReservedWord, 1),
@@ -61,9 +61,45 @@ const REFUSED: &[(&str, FaultCode, u32)] = &[
         3,
     ),
     (
-        "The Hall is a room.\nThe gate is a door.",
-        FaultCode::NotUnderstood,
+        "The gate is north of the Hall.\nThe Hall is a room. The arch is a kind of door.\n\nThe gate is an arch.",
+        FaultCode::WrongKind,
+        1,
+    ),
+    (
+        "The Hall is a room.\nThe gate is a door.\nThe ball is part of the gate.\nThe gate is in the Hall.",
+        FaultCode::WrongKind,
+        4,
+    ),
+    (
+        "The gate is north of the Hall and south of the Yard.\n\"Iron.\"",
+        FaultCode::WrongKind,
         2,
+    ),
+    (
+        "The Hall is a room. The gate is a man.\nThe gate is north of the Hall and south of the Yard.",
+        FaultCode::WrongKind,
+        2,
+    ),
+    (
+        "The gate is north of the Hall and south of the Yard.\nThe Yard is north of the Hall.",
+        FaultCode::TwoPlaces,
+        2,
+    ),
+    (
+        "The gate is north of the Hall and south of the Yard.\nThe arch is west of the Hall and south of the Yard.",
+        FaultCode::TwoPlaces,
+        2,
+    ),
+    ("The gate is a door.", FaultCode::NoRoom, 1),
+    (
+        "The Hall is a room. \"One.\"\nThe description of the ball is \"Two.\"\nThe description of the Hall is \"Two.\"",
+        FaultCode::Twice,
+        3,
+    ),
+    (
+        "The Hall is a room.\nThe description of the Hall is \"One.\"\n\"Two.\"",
+        FaultCode::WrongKind,
+        3,
     ),
     (
         "The Hall is a room.\nThe ball is in the Hall. \"Round.\"",
@@ -170,6 +206,11 @@ const REFUSED: &[(&str, FaultCode, u32)] = &[
 /// Sources that are taken.
 const TAKEN: &[&str] = &[
     "the HALL IS A Room",
+    "The gate is north of the Hall and south of the Yard.\nThe gate is an open door. The knob is part of the gate.",
+    "The gate is a door. The Hall is a room.",
+    "The Hall is a room. \"One.\"\nThe description of the Hall is \"One.\" The description of north is \"Up.\"",
+    "The ring is north of the Maze and north of the Maze.",
+    "The gate is north of the Hall and south of the Yard.\nThe Hall is south of the Yard's End. The Yard is west of the Hall.",
     "Hall are a room.",
     "The Hall and the Yard are a room.",
     "The ball is in the cup. The cup is on the desk. The desk is in the Hall. The Hall is a room.",

@@ -23,15 +23,15 @@ judged-requires-clause-counted c =
 pub judged-requires-clause-scope : goal.judged-requires-clause-scope
 judged-requires-clause-scope c =
     scope_meant c.new-scope.result c.args.kinds.now c.args.parents.now c.args.claims.now (names_of c.in_ok-names.names).keys
-    (scope_same c.new-scope.result c.args.kinds.now c.args.parents.now c.args.claims.now c.keys.result.now (names_of c.in_ok-names.names).keys c.in_ok-properties.properties c.as_slice-given.result.now
-    c.new-scope.ensures c.keys.ensures c.in_ok-properties.ensures (c.as_slice-given.ensures.value ∙ c.in_ok-givens.ensures))
+    (scope_same c.new-scope.result c.args.kinds.now c.args.parents.now c.args.claims.now c.keys.result.now (names_of c.in_ok-names.names).keys c.in_ok-properties.properties c.as_slice-given.result.now c.in_ok-doors.doors
+    c.new-scope.ensures c.keys.ensures c.in_ok-properties.ensures (c.as_slice-given.ensures.value ∙ c.in_ok-givens.ensures) c.in_ok-doors.ensures)
     c.requires.named c.requires.above
 
 pub returns : goal.returns
 returns c =
     c.in_ok-said.ensures
-    ∙ said_same c.args.kinds.now c.args.parents.now c.args.claims.now c.args.sentences.now c.new-scope.result c.as_slice.result.now (mentions_of c.mentions-mentions.result.now) c.unmeant.result (names_of c.in_ok-names.names)
+    ∙ said_same c.args.kinds.now c.args.parents.now c.args.claims.now c.args.sentences.now c.new-scope.result c.as_slice.result.now (mentions_of c.mentions-mentions.result.now) c.unmeant_sentence.result (names_of c.in_ok-names.names)
     c.in_ok-names.ensures
-    (scope_same c.new-scope.result c.args.kinds.now c.args.parents.now c.args.claims.now c.keys.result.now (names_of c.in_ok-names.names).keys c.in_ok-properties.properties c.as_slice-given.result.now
-    c.new-scope.ensures c.keys.ensures c.in_ok-properties.ensures (c.as_slice-given.ensures.value ∙ c.in_ok-givens.ensures))
-    (c.as_slice.ensures.value ∙ c.in_ok-statements.ensures) c.mentions-mentions.ensures c.unmeant.ensures c.in_default.is
+    (scope_same c.new-scope.result c.args.kinds.now c.args.parents.now c.args.claims.now c.keys.result.now (names_of c.in_ok-names.names).keys c.in_ok-properties.properties c.as_slice-given.result.now c.in_ok-doors.doors
+    c.new-scope.ensures c.keys.ensures c.in_ok-properties.ensures (c.as_slice-given.ensures.value ∙ c.in_ok-givens.ensures) c.in_ok-doors.ensures)
+    (c.as_slice.ensures.value ∙ c.in_ok-statements.ensures) c.mentions-mentions.ensures c.unmeant_sentence.ensures c.in_default.is
