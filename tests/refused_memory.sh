@@ -1,5 +1,5 @@
 #!/usr/bin/env bash
-# Plays two rows, each as a source and as a compiled story, with each allocation of the run refused in turn. Each
+# Plays three rows, each as a source and as a compiled story, with each allocation of the run refused in turn. Each
 # run must end in one of two ways: with status 4, the one line `i7story: out of memory` and no transcript; or
 # with status 0 and the transcript in which at most one reply is that of the abandoned turn.
 # Use: tests/refused_memory.sh PROGRAM
@@ -28,16 +28,26 @@ row, scratch = map(pathlib.Path, sys.argv[1:])
 dark = "Darkness\nIt is pitch dark, and you can't see a thing.\n"
 grotto = "Grotto\nWater drips from the roof.\nYou can see a brass lamp, a chest and some moss here.\n"
 mouth = "Cave Mouth\nDaylight ends here. The cave goes on to the north.\n"
-start, looks, ways = {
+hall = "Hall\nA gate leads north, a hatch down.\n"
+garden = "Garden\nRoses climb the wall. The gate is to the south.\nYou can see a rose here.\n"
+start, looks, ways, closed = {
     "two_rooms": (
         "Hall",
         {"Hall": "Hall\nA bare hall.\n", "Garden": "Garden\n"},
         {("Hall", "n"): "Garden", ("Garden", "s"): "Hall"},
+        {},
+    ),
+    "doors_between_rooms": (
+        "Hall",
+        {"Hall": hall, "Garden": garden},
+        {("Hall", "n"): "Garden", ("Garden", "s"): "Hall"},
+        {("Hall", "d"): "The old hatch is closed.\n"},
     ),
     "lamp_in_a_dark_room": (
         "Mouth",
         {"Mouth": mouth, "Cave": dark, "Grotto": grotto},
         {("Mouth", "n"): "Cave", ("Cave", "e"): "Grotto", ("Cave", "s"): "Mouth", ("Grotto", "w"): "Cave"},
+        {},
     ),
 }[row.name]
 commands = (row / "commands").read_text().split()
@@ -56,7 +66,7 @@ def transcript(refused):
         else:
             kept.append(room)
             beyond = room if command == "look" else ways.get((room, command))
-            text += looks[beyond] if beyond else "You can't go that way.\n"
+            text += looks[beyond] if beyond else closed.get((room, command), "You can't go that way.\n")
             room = beyond or room
     return text + "\n>"
 
@@ -68,7 +78,7 @@ PY
 
 passed=0
 failed=0
-for name in two_rooms lamp_in_a_dark_room; do
+for name in two_rooms lamp_in_a_dark_room doors_between_rooms; do
   row=$here/rows/$name
   "$program" compile "$row/source.i7" "$scratch/story" || exit 1
   expected || exit 1
