@@ -7,3 +7,4 @@ pub mod TaleGames
 pub mod Tops
 pub mod Views
 pub mod Directing
+pub mod RowLemmas

@@ -2,3 +2,4 @@ pub mod StorySettings
 pub mod StartWorlds
 pub mod StoryGames
 pub mod StoryWorlds
+pub mod Rows

@@ -73,22 +73,26 @@ impl Model for World {
 fn start_flags(alloc: Global, story: &Story) -> Result<Columns<bool>, AllocError>
     ensures { IfOk result (λ flags. flags ≡ map (start_flags story.now) (range_with_len 0 (length story.now.world.flags))) }
 {
-    let mut flags = Columns::new(alloc);
-    for property in 0..story.flag_count() {
-        flags.push(story.flags(alloc, property)?)?;
+    let count = story.flag_count();
+    let mut flags = Vec::new(alloc);
+    for property in 0..count {
+        let column = story.flags(alloc, property)?;
+        flags.extend_from_slice(column.as_slice())?;
     }
-    Ok(flags)
+    Ok(Columns::new(flags, story.object_count() as u16, count))
 }
 
 /// The numbers with which the objects of a story begin.
 fn start_numbers(alloc: Global, story: &Story) -> Result<Columns<i32>, AllocError>
     ensures { IfOk result (λ numbers. numbers ≡ map (start_numbers story.now) (range_with_len 0 (length story.now.world.numbers))) }
 {
-    let mut numbers = Columns::new(alloc);
-    for property in 0..story.number_count() {
-        numbers.push(story.numbers(alloc, property)?)?;
+    let count = story.number_count();
+    let mut numbers = Vec::new(alloc);
+    for property in 0..count {
+        let column = story.numbers(alloc, property)?;
+        numbers.extend_from_slice(column.as_slice())?;
     }
-    Ok(numbers)
+    Ok(Columns::new(numbers, story.object_count() as u16, count))
 }
 
 /// The tree of a story's objects as it begins.
