@@ -1,5 +1,5 @@
 -- In a story no direction is a thing or a room.
-use Rattle.std.proofs.Common.{◌≡◌, ap, subst, refl, ℕ, zero, suc, Bool, true, false, eqb, leb, ltb, List, [], ◌∷◌, drop, length, take, inl, inr}
+use Rattle.std.proofs.Common.{◌≡◌, ap, subst, refl, ℕ, zero, suc, true, false, leb, ltb, List, [], ◌∷◌, drop, length, inl, inr}
 use Rattle.std.specs.Prelude.{Option, Some, None, slice_get}
 use Rattle.std.specs.List.{list_all}
 use Rattle.world_meaning.proofs.Bools.{both_are, either}

@@ -1,5 +1,5 @@
 -- Columns of one height that stand in one list, one behind the other.
-use Rattle.std.specs.Prelude.{ℕ, zero, suc, ◌+◌, ◌*◌, Bool, ◌&&◌, nat_lt, List, [], ◌∷◌, drop, take, Option, None, Some, slice_index_or, slice_set, if◌then◌else◌}
+use Rattle.std.specs.Prelude.{ℕ, zero, suc, ◌+◌, ◌*◌, ◌&&◌, nat_lt, List, [], ◌∷◌, drop, take, Option, None, Some, slice_index_or, slice_set, if◌then◌else◌}
 
 -- so many columns
 unfoldable pub rows : {T : Type 0} → ℕ → ℕ → List T → List (List T)

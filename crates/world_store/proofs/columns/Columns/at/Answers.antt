@@ -1,6 +1,6 @@
 use Rattle.std.proofs.Common.{[], ◌∙◌, ap, sym}
 use Rattle.std.specs.Prelude.{slice_index_or}
-use Rattle.world_store.specs.Rows.{place_in, read_at}
+use Rattle.world_store.specs.Rows.{read_at}
 use Rattle.world_store.proofs.RowLemmas.{rows_read}
 use Rattle.world_store.proofs.columns.Columns.at.Goals as goal
 

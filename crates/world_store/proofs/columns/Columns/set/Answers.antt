@@ -1,6 +1,6 @@
-use Rattle.std.proofs.Common.{[], ◌∙◌, ap, sym}
+use Rattle.std.proofs.Common.{[], ◌∙◌, ap}
 use Rattle.std.specs.Prelude.{slice_index_or, slice_set}
-use Rattle.world_store.specs.Rows.{place_in, rows, write_at}
+use Rattle.world_store.specs.Rows.{rows, write_at}
 use Rattle.world_store.proofs.RowLemmas.{rows_written}
 use Rattle.world_store.proofs.columns.Columns.set.Goals as goal
 
