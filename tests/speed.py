@@ -1,6 +1,7 @@
 #!/usr/bin/env python3
-"""Counts the machine's instructions that the built program takes, by callgrind: to compile, a byte of the source; a turn; and a look
-in a room of many things. Counts are differences of two runs, so that starting the program is left out.
+"""Counts the machine's instructions that the built program takes, by callgrind: to compile, a byte of the source; a turn that goes
+to another room; and a look in a room of many things. Counts are differences of two runs, so that starting the program is
+left out.
 
 Use: tests/speed.py PROGRAM    (needs valgrind; no part of the gate)"""
 import os
@@ -12,6 +13,8 @@ import tempfile
 
 program = str(pathlib.Path(sys.argv[1]).resolve())
 MOST_OBJECTS = 987
+THERE_AND_BACK = b"n\ns\n"
+LOOK = b"look\n"
 
 
 def row_of_rooms(rooms):
@@ -49,10 +52,10 @@ def compiled(source):
     subprocess.run([program, "compile", "s.i7", "story"], check=True)
 
 
-def turns_take(line):
-    """The instructions of a turn, from the hundredth on."""
-    few, many = (instructions(["play", "story"], line * times) for times in (100, 1100))
-    return (many - few) // 1000
+def turn_takes(lines):
+    """The instructions of a turn, where these lines are typed over and over."""
+    few, many = (instructions(["play", "story"], lines * times) for times in (100, 1100))
+    return (many - few) // (1000 * lines.count(b"\n"))
 
 
 with tempfile.TemporaryDirectory() as scratch:
@@ -64,8 +67,8 @@ with tempfile.TemporaryDirectory() as scratch:
         source = row_of_rooms(rooms)
         compiled(source)
         a_byte = (instructions(["compile", "s.i7", "none"]) - least) // len(source)
-        print(f"{rooms:5}  {a_byte:30}  {turns_take(b'look' + bytes([10])):6}")
+        print(f"{rooms:5}  {a_byte:30}  {turn_takes(THERE_AND_BACK):6}")
     print("things  instructions of a look")
     for things in (10, 100, 200, 400):
         compiled(full_room(things))
-        print(f"{things:6}  {turns_take(b'look' + bytes([10])):22}")
+        print(f"{things:6}  {turn_takes(LOOK):22}")
