@@ -112,17 +112,18 @@ fn place(relation: Rel, holder: ObjNo) -> Place {
 #[test]
 fn chains_climb_from_holder_to_holder(rt: HostRuntime) -> Result<(), Fail> {
     let mut world = begun(rt.alloc())?;
-    let in_hall = place(Rel::In, hall());
-    assert!(rt; climbs(&world, coin(), &[place(Rel::In, chest()), in_hall]));
-    assert!(rt; climbs(&world, player(), &[in_hall]));
+    let of_coin = [place(Rel::In, chest()), place(Rel::In, hall())];
+    assert!(rt; climbs(&world, coin(), &of_coin));
+    let of_player = [place(Rel::In, hall())];
+    assert!(rt; climbs(&world, player(), &of_player));
     assert!(rt; climbs(&world, gate(), &[]));
     world.put(chest(), Rel::Carried, player())?;
-    let steps = [
+    let behind = [
         place(Rel::In, chest()),
         place(Rel::Carried, player()),
-        in_hall,
+        place(Rel::In, hall()),
     ];
-    assert!(rt; climbs(&world, coin(), &steps));
+    assert!(rt; climbs(&world, coin(), &behind));
     Ok(())
 }
 
