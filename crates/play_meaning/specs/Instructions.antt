@@ -1,166 +1,125 @@
--- The instructions of a story's codes. Numbers, truths and objects are whole numbers: a truth is 0 or 1, nothing is -1,
--- an object is its number. What an instruction takes lies on the operands, the last pushed on top.
+-- The instructions of a story's codes, one row each: the first byte, the arguments behind it, the operands that are taken,
+-- the last pushed first, and the one that is given.
 use Rattle.std.specs.Prelude.{ℕ, ◌+◌, ◌-◌, ◌==◌, ℤ, Bool, List, [], ◌∷◌, nat_lt, Option, None, Some, if◌then◌else◌}
 use Rattle.world_meaning.specs.declared.place.Rel.{Rel}
 use Rattle.play_meaning.specs.Trees.{Naming}
+pub use Rattle.play_meaning.specs.declared.instruction.Asked.{Asked}
+pub use Rattle.play_meaning.specs.declared.instruction.Asked.TheVariants.{IsFirst, IsSecond, IsNotFirst, IsNotSecond}
+pub use Rattle.play_meaning.specs.declared.instruction.Instruction.{Instruction}
+pub use Rattle.play_meaning.specs.declared.instruction.Instruction.TheVariants.{Num, Var, Prop, Turns, Add, Sub, Mul, Eq, Less, AtMost, Not, And, Or, Noun, Second, Location, Loop, Flag, Kind, Held, Holder, Encloses, Visible, Touchable, Dark, Happens, HasDescription, Room, Door, Count, Names, Say, Name, Figure, Description, SetFlag, SetProp, SetVar, PutAt, Move, Away, Try, Follow, IfZero, Jump, Begin, Next, EndStory, Done, NoDecision, Success, Failure, Answer}
+use Rattle.play_meaning.specs.declared.operand.Sort.{Sort}
+use Rattle.play_meaning.specs.declared.operand.Sort.TheVariants.{Number, Truth, Object}
 
--- how a property is asked: by its first name, by its second, or that it isn't so
-pub data Asked : Type 0 where
-  IsFirst : Asked
-  IsSecond : Asked
-  IsNotFirst : Asked
-  IsNotSecond : Asked
+-- what an argument says
+pub data Argument : Type 0 where
+  -- in four bytes
+  Integer : ℤ → Argument
+  -- in one byte: what is known of an object or the world, by its number
+  Variable : ℕ → Argument
+  NumberProperty : ℕ → Argument
+  FlagProperty : ℕ → Argument
+  KindOf : ℕ → Argument
+  SceneOf : ℕ → Argument
+  ActionOf : ℕ → Argument
+  -- a loop by its number: one that is open, one that opens here, the innermost
+  OpenLoopOf : ℕ → Argument
+  NewLoop : ℕ → Argument
+  Innermost : ℕ → Argument
+  Relation : Rel → Argument
+  Side : Asked → Argument
+  Choice : Bool → Argument
+  Form : Naming → Argument
+  -- in two bytes
+  TestCode : ℕ → Argument
+  StringOf : ℕ → Argument
+  BookOf : ℕ → Argument
+  Place : ℕ → Argument
 
-pub data Instruction : Type 0 where
-  -- a number; a variable; a property of an object; the turn count
-  Num : ℤ → Instruction
-  Var : ℕ → Instruction
-  Prop : ℕ → Instruction
-  Turns : Instruction
-  -- of two numbers, or of two objects
-  Add : Instruction
-  Sub : Instruction
-  Mul : Instruction
-  Eq : Instruction
-  Less : Instruction
-  AtMost : Instruction
-  -- of truths
-  Not : Instruction
-  And : Instruction
-  Or : Instruction
-  -- objects: the nouns, the player's room, the object of an open loop
-  Noun : Instruction
-  Second : Instruction
-  Location : Instruction
-  Loop : ℕ → Instruction
-  -- what is asked of an object: a property, a kind, whether it is held so by another; and its holder, if it is held so
-  Flag : ℕ → Asked → Instruction
-  Kind : ℕ → Instruction
-  Held : Rel → Instruction
-  Holder : Rel → Instruction
-  Encloses : Instruction
-  Visible : Instruction
-  Touchable : Instruction
-  Dark : Instruction
-  Happens : ℕ → Instruction
-  HasDescription : Instruction
-  -- what lies in a direction from a room
-  Room : Instruction
-  Door : Instruction
-  -- the objects of which a test code is true, as the object of the loop of this number: how many they are, their names
-  Count : ℕ → ℕ → Instruction
-  Names : Naming → ℕ → ℕ → Instruction
-  -- what is said: a string, a name, a number, an object's description
-  Say : ℕ → Instruction
-  Name : Naming → Instruction
-  Figure : Instruction
-  Description : Instruction
-  -- what is changed
-  SetFlag : ℕ → Bool → Instruction
-  SetProp : ℕ → Instruction
-  SetVar : ℕ → Instruction
-  PutAt : Rel → Instruction
-  Move : Instruction
-  Away : Instruction
-  -- an action that is tried, silently or not; a rulebook that is followed
-  Try : Bool → ℕ → Instruction
-  Follow : ℕ → Instruction
-  -- ways: to a place if a truth is false; to a place; a loop begins; its next turn, by a test code, or its exit
-  IfZero : ℕ → Instruction
-  Jump : ℕ → Instruction
-  Begin : ℕ → Instruction
-  Next : ℕ → ℕ → ℕ → Instruction
-  -- the story ends with a string; the code ends
-  EndStory : ℕ → Instruction
-  Done : Instruction
-  NoDecision : Instruction
-  Success : Instruction
-  Failure : Instruction
-  Answer : Instruction
+-- how many bytes it takes
+abbrev pub width : Argument → ℕ
+width (Integer n) = 4
+width (TestCode n) = 2
+width (StringOf n) = 2
+width (BookOf n) = 2
+width (Place n) = 2
+width _ = 1
+
+abbrev pub widths : List Argument → ℕ
+widths [] = 0
+widths (a ∷ arguments) = width a + widths arguments
+
+pub record Row : Type 0 where
+  pub byte : ℕ
+  pub arguments : List Argument
+  pub takes : List Sort
+  pub gives : Option Sort
+
+abbrev pub row : ℕ → List Argument → List Sort → Option Sort → Row
+row byte arguments takes gives = record { byte = byte; arguments = arguments; takes = takes; gives = gives }
+
+-- what a number gives goes by the number, and what is compared by its sort
+abbrev pub row_of : Instruction → Row
+row_of (Num n) = row 0x01 (Integer n ∷ []) [] None
+row_of (Var v) = row 0x02 (Variable v ∷ []) [] (Some Number)
+row_of (Prop p) = row 0x03 (NumberProperty p ∷ []) (Object ∷ []) (Some Number)
+row_of Turns = row 0x04 [] [] (Some Number)
+row_of Add = row 0x05 [] (Number ∷ Number ∷ []) (Some Number)
+row_of Sub = row 0x06 [] (Number ∷ Number ∷ []) (Some Number)
+row_of Mul = row 0x07 [] (Number ∷ Number ∷ []) (Some Number)
+row_of Eq = row 0x08 [] [] (Some Truth)
+row_of Less = row 0x09 [] (Number ∷ Number ∷ []) (Some Truth)
+row_of AtMost = row 0x0A [] (Number ∷ Number ∷ []) (Some Truth)
+row_of Not = row 0x0B [] (Truth ∷ []) (Some Truth)
+row_of And = row 0x0C [] (Truth ∷ Truth ∷ []) (Some Truth)
+row_of Or = row 0x0D [] (Truth ∷ Truth ∷ []) (Some Truth)
+row_of Noun = row 0x0E [] [] (Some Object)
+row_of Second = row 0x0F [] [] (Some Object)
+row_of Location = row 0x10 [] [] (Some Object)
+row_of (Loop k) = row 0x11 (OpenLoopOf k ∷ []) [] (Some Object)
+row_of (Flag p asked) = row 0x12 (FlagProperty p ∷ Side asked ∷ []) (Object ∷ []) (Some Truth)
+row_of (Kind kind) = row 0x13 (KindOf kind ∷ []) (Object ∷ []) (Some Truth)
+row_of (Held r) = row 0x14 (Relation r ∷ []) (Object ∷ Object ∷ []) (Some Truth)
+row_of (Holder r) = row 0x15 (Relation r ∷ []) (Object ∷ []) (Some Object)
+row_of Encloses = row 0x16 [] (Object ∷ Object ∷ []) (Some Truth)
+row_of Visible = row 0x17 [] (Object ∷ []) (Some Truth)
+row_of Touchable = row 0x18 [] (Object ∷ []) (Some Truth)
+row_of Dark = row 0x19 [] [] (Some Truth)
+row_of (Happens s) = row 0x1A (SceneOf s ∷ []) [] (Some Truth)
+row_of HasDescription = row 0x1B [] (Object ∷ []) (Some Truth)
+row_of Room = row 0x1C [] (Object ∷ Object ∷ []) (Some Object)
+row_of Door = row 0x1D [] (Object ∷ Object ∷ []) (Some Object)
+row_of (Count k test) = row 0x20 (NewLoop k ∷ TestCode test ∷ []) [] (Some Number)
+row_of (Names naming k test) = row 0x21 (Form naming ∷ NewLoop k ∷ TestCode test ∷ []) [] None
+row_of (Say s) = row 0x22 (StringOf s ∷ []) [] None
+row_of (Name naming) = row 0x23 (Form naming ∷ []) (Object ∷ []) None
+row_of Figure = row 0x24 [] (Number ∷ []) None
+row_of Description = row 0x25 [] (Object ∷ []) None
+row_of (SetFlag p value) = row 0x26 (FlagProperty p ∷ Choice value ∷ []) (Object ∷ []) None
+row_of (SetProp p) = row 0x27 (NumberProperty p ∷ []) (Number ∷ Object ∷ []) None
+row_of (SetVar v) = row 0x28 (Variable v ∷ []) (Number ∷ []) None
+row_of (PutAt r) = row 0x29 (Relation r ∷ []) (Object ∷ Object ∷ []) None
+row_of Move = row 0x2A [] (Object ∷ Object ∷ []) None
+row_of Away = row 0x2B [] (Object ∷ []) None
+row_of (Try silent action) = row 0x30 (Choice silent ∷ ActionOf action ∷ []) (Object ∷ Object ∷ []) None
+row_of (Follow book) = row 0x31 (BookOf book ∷ []) [] None
+row_of (IfZero place) = row 0x32 (Place place ∷ []) (Truth ∷ []) None
+row_of (Jump place) = row 0x33 (Place place ∷ []) [] None
+row_of (Begin k) = row 0x34 (NewLoop k ∷ []) [] None
+row_of (Next k test exit) = row 0x35 (Innermost k ∷ TestCode test ∷ Place exit ∷ []) [] None
+row_of (EndStory s) = row 0x36 (StringOf s ∷ []) [] None
+row_of Done = row 0x37 [] [] None
+row_of NoDecision = row 0x38 [] [] None
+row_of Success = row 0x39 [] [] None
+row_of Failure = row 0x3A [] [] None
+row_of Answer = row 0x3B [] (Truth ∷ []) None
 
 -- the first byte of an instruction
 abbrev pub opcode : Instruction → ℕ
-opcode (Num a) = 0x01
-opcode (Var a) = 0x02
-opcode (Prop a) = 0x03
-opcode Turns = 0x04
-opcode Add = 0x05
-opcode Sub = 0x06
-opcode Mul = 0x07
-opcode Eq = 0x08
-opcode Less = 0x09
-opcode AtMost = 0x0A
-opcode Not = 0x0B
-opcode And = 0x0C
-opcode Or = 0x0D
-opcode Noun = 0x0E
-opcode Second = 0x0F
-opcode Location = 0x10
-opcode (Loop a) = 0x11
-opcode (Flag a b) = 0x12
-opcode (Kind a) = 0x13
-opcode (Held a) = 0x14
-opcode (Holder a) = 0x15
-opcode Encloses = 0x16
-opcode Visible = 0x17
-opcode Touchable = 0x18
-opcode Dark = 0x19
-opcode (Happens a) = 0x1A
-opcode HasDescription = 0x1B
-opcode Room = 0x1C
-opcode Door = 0x1D
-opcode (Count a b) = 0x20
-opcode (Names a b c) = 0x21
-opcode (Say a) = 0x22
-opcode (Name a) = 0x23
-opcode Figure = 0x24
-opcode Description = 0x25
-opcode (SetFlag a b) = 0x26
-opcode (SetProp a) = 0x27
-opcode (SetVar a) = 0x28
-opcode (PutAt a) = 0x29
-opcode Move = 0x2A
-opcode Away = 0x2B
-opcode (Try a b) = 0x30
-opcode (Follow a) = 0x31
-opcode (IfZero a) = 0x32
-opcode (Jump a) = 0x33
-opcode (Begin a) = 0x34
-opcode (Next a b c) = 0x35
-opcode (EndStory a) = 0x36
-opcode Done = 0x37
-opcode NoDecision = 0x38
-opcode Success = 0x39
-opcode Failure = 0x3A
-opcode Answer = 0x3B
+opcode i = (row_of i).byte
 
 -- how many bytes an instruction takes
 abbrev pub size_of : Instruction → ℕ
-size_of (Num n) = 5
-size_of (Var v) = 2
-size_of (Prop p) = 2
-size_of (Loop k) = 2
-size_of (Flag p asked) = 3
-size_of (Kind k) = 2
-size_of (Held r) = 2
-size_of (Holder r) = 2
-size_of (Happens s) = 2
-size_of (Count k test) = 4
-size_of (Names naming k test) = 5
-size_of (Say s) = 3
-size_of (Name naming) = 2
-size_of (SetFlag p value) = 3
-size_of (SetProp p) = 2
-size_of (SetVar v) = 2
-size_of (PutAt r) = 2
-size_of (Try silent action) = 3
-size_of (Follow book) = 3
-size_of (IfZero place) = 3
-size_of (Jump place) = 3
-size_of (Begin k) = 2
-size_of (Next k test exit) = 6
-size_of (EndStory s) = 3
-size_of _ = 1
+size_of i = 1 + widths (row_of i).arguments
 
 abbrev pub sizes : List Instruction → ℕ
 sizes [] = 0

@@ -1,36 +1,14 @@
 -- What instructions take and give, what their arguments name, and in which codes they may stand.
 use Rattle.std.specs.Prelude.{ℕ, ◌+◌, ℤ, pos, negsuc, int_le, int_lt, nat_le, nat_lt, ◌==◌, Bool, true, false, ◌&&◌, ◌||◌, List, [], ◌∷◌, length, Option, None, Some, if◌then◌else◌}
-use Rattle.play_meaning.specs.Instructions.{Add, And, Answer, AtMost, Away, Begin, Count, Description, Door, Encloses, EndStory, Eq, Figure, Flag, Follow, Happens, HasDescription, Held, Holder, IfZero, Instruction, Kind, Less, Loop, Move, Mul, Name, Names, Next, Not, Num, Or, Prop, PutAt, Room, Say, SetFlag, SetProp, SetVar, Sub, Touchable, Try, Turns, Var, Visible, Dark, Location, Noun, Second, opcode}
-
--- what a code is for
-pub data Use : Type 0 where
-  -- its answer is a truth; so many loops are open around it
-  Test : ℕ → Use
-  Describing : Use
-  Body : Use
-
--- how many there are of each; a code's own number
-pub record Counts : Type 0 where
-  pub objects : ℕ
-  pub kinds : ℕ
-  pub flags : ℕ
-  pub numbers : ℕ
-  pub variables : ℕ
-  pub scenes : ℕ
-  pub strings : ℕ
-  pub codes : ℕ
-  pub actions : ℕ
-  pub books : ℕ
-  pub own : ℕ
+use Rattle.std.specs.List.{list_all}
+use Rattle.play_meaning.specs.Instructions.{ActionOf, Argument, BookOf, Eq, FlagProperty, Innermost, Instruction, KindOf, NewLoop, Num, NumberProperty, OpenLoopOf, SceneOf, StringOf, TestCode, Variable, opcode, row_of}
+pub use Rattle.play_meaning.specs.declared.operand.Counts.{Counts}
+pub use Rattle.play_meaning.specs.declared.operand.Sort.{Sort}
+pub use Rattle.play_meaning.specs.declared.operand.Sort.TheVariants.{Number, NumberOrObject, Object, Truth}
+pub use Rattle.play_meaning.specs.declared.operand.Use.{Use}
+pub use Rattle.play_meaning.specs.declared.operand.Use.TheVariants.{Body, Describing, Test}
 
 -- ---- operands
-
--- a number that stands in a code may be an object too
-pub data Sort : Type 0 where
-  Number : Sort
-  Truth : Sort
-  Object : Sort
-  NumberOrObject : Sort
 
 abbrev pub serves : Sort → Sort → Bool
 serves NumberOrObject Number = true
@@ -48,74 +26,15 @@ are_alike a b = (serves a Number && serves b Number) || (serves a Truth && serve
 
 -- what an instruction takes, the last pushed first
 abbrev pub takes : Instruction → List Sort
-takes (Prop p) = Object ∷ []
-takes Add = Number ∷ Number ∷ []
-takes Sub = Number ∷ Number ∷ []
-takes Mul = Number ∷ Number ∷ []
-takes Less = Number ∷ Number ∷ []
-takes AtMost = Number ∷ Number ∷ []
-takes Not = Truth ∷ []
-takes And = Truth ∷ Truth ∷ []
-takes Or = Truth ∷ Truth ∷ []
-takes (Flag p asked) = Object ∷ []
-takes (Kind kind) = Object ∷ []
-takes (Held r) = Object ∷ Object ∷ []
-takes (Holder r) = Object ∷ []
-takes Encloses = Object ∷ Object ∷ []
-takes Visible = Object ∷ []
-takes Touchable = Object ∷ []
-takes HasDescription = Object ∷ []
-takes Room = Object ∷ Object ∷ []
-takes Door = Object ∷ Object ∷ []
-takes (Name naming) = Object ∷ []
-takes Figure = Number ∷ []
-takes Description = Object ∷ []
-takes (SetFlag p value) = Object ∷ []
-takes (SetProp p) = Number ∷ Object ∷ []
-takes (SetVar v) = Number ∷ []
-takes (PutAt r) = Object ∷ Object ∷ []
-takes Move = Object ∷ Object ∷ []
-takes Away = Object ∷ []
-takes (Try silent action) = Object ∷ Object ∷ []
-takes (IfZero place) = Truth ∷ []
-takes Answer = Truth ∷ []
-takes _ = []
+takes i = (row_of i).takes
 
 abbrev pub is_object : Counts → ℤ → Bool
 is_object z n = int_le (negsuc 0) n && int_lt n (pos z.objects)
 
+-- what an instruction gives; a number that stands in a code may be an object too
 abbrev pub gives : Counts → Instruction → Option Sort
 gives z (Num n) = if is_object z n then Some NumberOrObject else Some Number
-gives z (Var v) = Some Number
-gives z (Prop p) = Some Number
-gives z Turns = Some Number
-gives z Add = Some Number
-gives z Sub = Some Number
-gives z Mul = Some Number
-gives z (Count k test) = Some Number
-gives z Noun = Some Object
-gives z Second = Some Object
-gives z Location = Some Object
-gives z (Loop k) = Some Object
-gives z (Holder r) = Some Object
-gives z Room = Some Object
-gives z Door = Some Object
-gives z Eq = Some Truth
-gives z Less = Some Truth
-gives z AtMost = Some Truth
-gives z Not = Some Truth
-gives z And = Some Truth
-gives z Or = Some Truth
-gives z (Flag p asked) = Some Truth
-gives z (Kind kind) = Some Truth
-gives z (Held r) = Some Truth
-gives z Encloses = Some Truth
-gives z Visible = Some Truth
-gives z Touchable = Some Truth
-gives z Dark = Some Truth
-gives z (Happens scene) = Some Truth
-gives z HasDescription = Some Truth
-gives z _ = None
+gives z i = (row_of i).gives
 
 abbrev pub below : List Sort → List Sort → Option (List Sort)
 below [] sorts = Some sorts
@@ -152,26 +71,25 @@ is_test z n = nat_lt z.own n && nat_lt n z.codes
 abbrev pub may_open : ℕ → ℕ → Bool
 may_open depth k = (k == depth) && nat_lt depth 9
 
+-- what an argument names is there, inside so many loops
+abbrev pub is_there : Counts → ℕ → Argument → Bool
+is_there z depth (Variable v) = nat_lt v z.variables
+is_there z depth (NumberProperty p) = nat_lt p z.numbers
+is_there z depth (FlagProperty p) = nat_lt p z.flags
+is_there z depth (KindOf kind) = nat_lt kind z.kinds
+is_there z depth (SceneOf scene) = nat_lt scene z.scenes
+is_there z depth (ActionOf action) = nat_lt action z.actions
+is_there z depth (OpenLoopOf k) = nat_lt k depth
+is_there z depth (NewLoop k) = may_open depth k
+is_there z depth (Innermost k) = k + 1 == depth
+is_there z depth (TestCode test) = is_test z test
+is_there z depth (StringOf string) = nat_lt string z.strings
+is_there z depth (BookOf book) = nat_lt book z.books
+is_there z depth argument = true
+
 -- each argument names something that is there, inside so many loops
 unfoldable pub names_what_is_there : Counts → ℕ → Instruction → Bool
-names_what_is_there z depth (Var v) = nat_lt v z.variables
-names_what_is_there z depth (SetVar v) = nat_lt v z.variables
-names_what_is_there z depth (Prop p) = nat_lt p z.numbers
-names_what_is_there z depth (SetProp p) = nat_lt p z.numbers
-names_what_is_there z depth (Flag p asked) = nat_lt p z.flags
-names_what_is_there z depth (SetFlag p value) = nat_lt p z.flags
-names_what_is_there z depth (Kind kind) = nat_lt kind z.kinds
-names_what_is_there z depth (Happens scene) = nat_lt scene z.scenes
-names_what_is_there z depth (Loop k) = nat_lt k depth
-names_what_is_there z depth (Count k test) = may_open depth k && is_test z test
-names_what_is_there z depth (Names naming k test) = may_open depth k && is_test z test
-names_what_is_there z depth (Begin k) = may_open depth k
-names_what_is_there z depth (Next k test exit) = (k + 1 == depth) && is_test z test
-names_what_is_there z depth (Say string) = nat_lt string z.strings
-names_what_is_there z depth (EndStory string) = nat_lt string z.strings
-names_what_is_there z depth (Try silent action) = nat_lt action z.actions
-names_what_is_there z depth (Follow book) = nat_lt book z.books
-names_what_is_there z depth i = true
+names_what_is_there z depth i = list_all (is_there z depth) (row_of i).arguments
 
 -- ---- what a code is for
 

@@ -3,6 +3,8 @@
 use Rattle.std.specs.Prelude.{ℕ, ℤ, Bool, List, Option}
 use Rattle.world_meaning.specs.declared.place.Rel.{Rel}
 use Rattle.play_meaning.specs.declared.outcome.Flow.{Flow}
+pub use Rattle.play_meaning.specs.declared.naming.Naming.{Naming}
+pub use Rattle.play_meaning.specs.declared.naming.Naming.TheVariants.{CapitalDefinite, CapitalIndefinite, Definite, Indefinite, Plain}
 
 pub data Object : Type 0 where
   -- an object by its number
@@ -65,14 +67,6 @@ pub data Condition : Type 0 where
   Not : Condition → Condition
   And : Condition → Condition → Condition
   Or : Condition → Condition → Condition
-
--- how an object is named: alone, with its article, with a capital
-pub data Naming : Type 0 where
-  Plain : Naming
-  Definite : Naming
-  CapitalDefinite : Naming
-  Indefinite : Naming
-  CapitalIndefinite : Naming
 
 -- a text: pieces one behind the other
 pub data Text : Type 0 where

@@ -11,7 +11,10 @@ mod effect_laws;
 mod fault;
 mod game_laws;
 mod ground;
+mod instruction;
 mod laws;
+mod naming;
+mod operand;
 mod order_laws;
 mod outcome;
 mod phrase_laws;
@@ -30,11 +33,14 @@ pub use game_laws::{
     undo_brings_back_the_world,
 };
 pub use ground::{Ground, GroundMut};
+pub use instruction::{Asked, Instruction};
 pub use laws::{
     actions_pass_their_stages, commands_are_read, light_shows_things, rules_decide,
     rules_stand_in_order, scenes_and_stories_end, texts_are_said, things_are_handled,
     turns_are_undone, ways_and_doors_are_gone_through, work_has_an_end,
 };
+pub use naming::Naming;
+pub use operand::{Counts, Sort, Use};
 pub use order_laws::{rulebooks_are_in_order, rules_passed_over_are_false};
 pub use outcome::{Flow, Outcome};
 pub use phrase_laws::{
