@@ -2,11 +2,9 @@
 use Rattle.std.specs.Prelude.{◌≡◌, ◌⊎◌, ℕ, ◌+◌, ◌<◌, ◌≤◌, true, List, [], ◌∷◌, length, Some}
 use Rattle.play_meaning.specs.Instructions.{Answer, Begin, Done, Failure, IfZero, Instruction, Jump, Next, NoDecision, Success, at_place, size_of, sizes}
 use Rattle.play_meaning.specs.Operands.{Body, Counts, Describing, Sort, Test, Use, may_hold, names_what_is_there, operands_behind}
-
--- an open loop: the place of its next turn, and of its exit
-pub record OpenLoop : Type 0 where
-  pub head : ℕ
-  pub exit : ℕ
+pub use Rattle.play_meaning.specs.declared.way.OpenLoop.{OpenLoop}
+pub use Rattle.play_meaning.specs.declared.way.Way.{Way}
+pub use Rattle.play_meaning.specs.declared.way.Way.TheVariants.{Branch, Ends, Leap, Opens, Straight, Turns}
 
 -- what is known at a place: the operands, the last pushed first, and the open loops, the innermost first
 pub record Label : Type 0 where
@@ -27,17 +25,6 @@ loops_around Describing = 0
 loops_around Body = 0
 
 -- ---- ways
-
-pub data Way : Type 0 where
-  -- to what stands behind
-  Straight : Way
-  -- behind, or to a place further on
-  Branch : ℕ → Way
-  Leap : ℕ → Way
-  Opens : Way
-  -- a turn, or the exit
-  Turns : ℕ → Way
-  Ends : Way
 
 abbrev pub way_of : Instruction → Way
 way_of (IfZero place) = Branch place

@@ -20,6 +20,7 @@ mod outcome;
 mod phrase_laws;
 mod scene;
 mod sight_laws;
+mod way;
 mod work_laws;
 
 pub use action::{ActNo, ActionNow, Needs, Slot};
@@ -48,4 +49,5 @@ pub use phrase_laws::{
 };
 pub use scene::SceneNow;
 pub use sight_laws::sight_is_by_chains;
+pub use way::{OpenLoop, Way};
 pub use work_laws::work_is_bounded;
