@@ -1,8 +1,9 @@
 //! What is known of a code before it is run: the sorts of its operands, what it is for, what its arguments may name.
 
 /// What an operand is.
-#[derive(Clone, Copy, Debug, PartialEq, Eq)]
+#[derive(Clone, Copy, Debug, Default, PartialEq, Eq)]
 pub enum Sort {
+    #[default]
     Number,
     Truth,
     Object,

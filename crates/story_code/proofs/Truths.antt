@@ -1,0 +1,8 @@
+-- Truths that are joined to nothing more.
+use Rattle.std.proofs.Common.{◌≡◌, Bool, true, false, ◌&&◌, refl}
+
+pub and_true : (b : Bool) → (b && true) ≡ b
+and_true true = refl
+and_true false = refl
+
+pub ruleset truth_steps = (and_true)
