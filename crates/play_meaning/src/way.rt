@@ -20,6 +20,6 @@ pub enum Way {
 /// An open loop: the place of its next turn, and of its exit.
 #[derive(Clone, Copy, Debug, Default, PartialEq, Eq)]
 pub struct OpenLoop {
-    pub head: usize,
+    pub head: u16,
     pub exit: u16,
 }

@@ -1,2 +1,4 @@
+pub mod FrontLemmas
+pub mod Rooms
 pub mod Stacks
 pub mod Truths

@@ -1,5 +1,5 @@
 -- How codes are spelled: each instruction's byte, then its arguments, a number's high byte first.
-use Rattle.std.specs.Prelude.{◌≡◌, ℕ, ℤ, pos, negsuc, int_lt, int_le, nat_lt, Bool, true, false, ◌&&◌, List, [], ◌∷◌, ◌++◌}
+use Rattle.std.specs.Prelude.{◌≡◌, ℕ, ℤ, pos, negsuc, nat_lt, Bool, true, false, List, [], ◌∷◌, ◌++◌}
 use Rattle.std.specs.Int.{w16, w32, cast_unsigned, to_be_bytes}
 use Rattle.std.specs.List.{list_all}
 use Rattle.play_meaning.specs.Instructions.{ActionOf, Argument, BookOf, Choice, FlagProperty, Form, Innermost, Integer, KindOf, NewLoop, NumberProperty, OpenLoopOf, Place, Relation, SceneOf, Side, StringOf, TestCode, Variable, row_of}
@@ -59,9 +59,14 @@ abbrev pub spelling : List Instruction → List ℕ
 spelling [] = []
 spelling (i ∷ is) = spelled i ++ spelling is
 
+-- from -2147483648 to 2147483647
+abbrev pub is_integer : ℤ → Bool
+is_integer (pos n) = nat_lt n 2147483648
+is_integer (negsuc n) = nat_lt n 2147483648
+
 -- its bytes can say an argument: an integer has thirty-two bits, a number of two bytes is below 65,536
 abbrev pub can_say : Argument → Bool
-can_say (Integer n) = int_le (negsuc 2147483647) n && int_lt n (pos 2147483648)
+can_say (Integer n) = is_integer n
 can_say (TestCode n) = nat_lt n 65536
 can_say (StringOf n) = nat_lt n 65536
 can_say (BookOf n) = nat_lt n 65536

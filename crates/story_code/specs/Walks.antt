@@ -51,6 +51,6 @@ abbrev pub filled_meets : Sizes → Option (List Instruction) → Option (List �
 filled_meets z is None = false
 filled_meets z is (Some table) = meets z 0 (Some (bare [])) is table
 
--- both walks, with an empty table
+-- both walks, with a table that is empty at first
 abbrev pub checked : Sizes → List ℕ → List ℕ → Bool
 checked z bytes blank = not (is_nil bytes) && filled_meets z (code_in bytes) (fills z 0 (Some (bare [])) (code_in bytes) blank)

@@ -1,5 +1,5 @@
 //! What is known at a place of a code: the sorts of the operands, and the open loops.
-ghost use Rattle.std.specs.Prelude.{◌≡◌, ◌<◌, [], ◌∷◌, None, Some, MatchOption, length, nat_lt, if◌then◌else◌};
+ghost use Rattle.std.specs.Prelude.{◌≡◌, ◌<◌, ◌≤◌, [], ◌∷◌, None, Some, MatchOption, length, nat_lt, if◌then◌else◌};
 ghost use Rattle.story_code.specs.Passes.{if_so, innermost, is_nil};
 
 use arrayvec::ArrayVec;
@@ -122,7 +122,8 @@ impl Loops {
 
     /// How many there are.
     pub fn len(&self) -> usize
-        ensures { result ≡ length self.now }
+        ensures count { result ≡ length self.now }
+        ensures few { result ≤ 9 }
     {
         self.kept.len()
     }

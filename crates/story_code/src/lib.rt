@@ -2,11 +2,14 @@
 #![tactic(auto)]
 
 mod argument;
+mod behind;
 mod decoding;
+mod effect;
 mod known;
 mod named;
 mod row;
 mod sizes;
+mod verifying;
 
 pub use decoding::front;
 pub use sizes::Sizes;
