@@ -57,7 +57,7 @@ word_bytes high low h l = sym (be_bytes_2 (high ∷ low ∷ []) (word_of high lo
     small (suc zero) = l
     small (suc (suc k)) = omega arith
 
-both_are : (a b : Bool) → (a && b) ≡ true → (a ≡ true) × (b ≡ true)
+pub both_are : (a b : Bool) → (a && b) ≡ true → (a ≡ true) × (b ≡ true)
 both_are true b h = (refl, h)
 both_are false b h = let no : ⊥ = cc in absurd no
 

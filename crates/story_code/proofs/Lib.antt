@@ -1,4 +1,5 @@
 pub mod FrontLemmas
 pub mod Rooms
+pub mod SpelledFronts
 pub mod Stacks
 pub mod Truths
