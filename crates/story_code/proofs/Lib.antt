@@ -3,3 +3,4 @@ pub mod Rooms
 pub mod SpelledFronts
 pub mod Stacks
 pub mod Truths
+pub mod WalkLemmas

@@ -80,12 +80,14 @@ fn fill(bytes: &[u8], sizes: &Sizes, table: &mut [u32]) -> bool
 
 /// Whether a jump that leads on comes to a place without operands inside the same loop.
 #[tactic(auto, unfolding(crate::specs::Walks::goal_met))]
-fn is_met(table: &[u32], place: usize, instruction: Instruction, loops: &Loops) -> bool
-    ensures { result ≡ goal_met table.now place instruction loops.now }
+fn is_met(table: &[u32], place: usize, instruction: Instruction, known: &Known) -> bool
+    ensures { result ≡ goal_met table.now place instruction known.now.loops }
 {
     match way(instruction) {
-        Way::Branch(to) => scope_at(table, to) == scope_of(loops),
-        Way::Leap(to) => place >= to as usize || scope_at(table, to) == scope_of(loops),
+        Way::Branch(to) => scope_at(table, to) == scope_of(&known.loops),
+        Way::Leap(to) => {
+            place >= to as usize || scope_at(table, to) == scope_of(&known.loops)
+        },
         _ => true,
     }
 }
@@ -100,7 +102,7 @@ fn meet(bytes: &[u8], sizes: &Sizes, table: &[u32]) -> bool
     let mut rest = bytes;
     while let Some(instruction) = front(rest) {
         let (_, after) = rest.split_at(size(instruction));
-        if !is_met(table, place, instruction, &known.loops) {
+        if !is_met(table, place, instruction, &known) {
             return false;
         }
         if !behind(&mut known, sizes, place, instruction, front(after)) {
