@@ -1,4 +1,6 @@
 pub mod FrontLemmas
+pub mod Passing
+pub mod Places
 pub mod Rooms
 pub mod SpelledFronts
 pub mod Stacks
