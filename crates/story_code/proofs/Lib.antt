@@ -1,4 +1,5 @@
 pub mod FrontLemmas
+pub mod Marking
 pub mod Passing
 pub mod Places
 pub mod Rooms
