@@ -3,6 +3,7 @@ pub mod Marking
 pub mod Passing
 pub mod Places
 pub mod Rooms
+pub mod Sounding
 pub mod SpelledFronts
 pub mod Stacks
 pub mod Truths

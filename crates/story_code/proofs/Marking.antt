@@ -30,7 +30,7 @@ Passed Opens p q ks ls rest l =
 Passed (Turns exit) p q ks ls rest l = (ks ≡ []) × ((outer : List OpenLoop) × ((ls ≡ record { head = p; exit = exit } ∷ outer) × ((is_nil rest ≡ false) × (l ≡ bare ls))))
 Passed Ends p q ks ls rest l = l ≡ bare ls
 
-so_is : {A : Type 0} (b : Bool) (a c : A) → if_so b a ≡ Some c → (b ≡ true) × (c ≡ a)
+pub so_is : {A : Type 0} (b : Bool) (a c : A) → if_so b a ≡ Some c → (b ≡ true) × (c ≡ a)
 so_is true a c h = let e : c ≡ a = cc in (refl, e)
 so_is false a c h = let no : ⊥ = cc in absurd no
 
@@ -38,21 +38,21 @@ if_is : {A : Type 0} (b : Bool) (o : Option A) (c : A) → (if b then o else Non
 if_is true o c h = (refl, h)
 if_is false o c h = let no : ⊥ = cc in absurd no
 
-nil_is : {A : Type 0} (xs : List A) → is_nil xs ≡ true → xs ≡ []
+pub nil_is : {A : Type 0} (xs : List A) → is_nil xs ≡ true → xs ≡ []
 nil_is [] h = refl
 nil_is (x ∷ xs) h = let no : ⊥ = cc in absurd no
 
-not_is : (b : Bool) → not b ≡ true → b ≡ false
+pub not_is : (b : Bool) → not b ≡ true → b ≡ false
 not_is true h = let no : ⊥ = cc in absurd no
 not_is false h = refl
 
-eq_is : (a b : ℕ) → (a == b) ≡ true → a ≡ b
+pub eq_is : (a b : ℕ) → (a == b) ≡ true → a ≡ b
 eq_is a b h = grind (arith, common_steps, h)
 
-lt_is : (a b : ℕ) → nat_lt a b ≡ true → a < b
+pub lt_is : (a b : ℕ) → nat_lt a b ≡ true → a < b
 lt_is a b h = grind (arith, common_steps, h)
 
-none_some : {A : Type 0} (c : A) → None ≡ Some c → ⊥
+pub none_some : {A : Type 0} (c : A) → None ≡ Some c → ⊥
 none_some c h = cc
 
 closed_is : (to here : ℕ) (ls : List OpenLoop) (l : Label) → closed_at to here ls ≡ Some l → (outer : List OpenLoop) × ((ls ≡ record { head = to; exit = here } ∷ outer) × (l ≡ bare outer))
@@ -95,12 +95,12 @@ passed Ends p q ks ls rest l h = let e : l ≡ bare ls = cc in e
 
 -- one step
 pub record Step (z : Sizes) (p : ℕ) (i : Instruction) (rest : List Instruction) (l l' : Label) : Type 0 where
-  allowed : may_hold z.role i ≡ true
-  named : names_what_is_there z.counts (loops_around z.role + length l.loops) i ≡ true
-  ended : ends_well z.role i rest ≡ true
-  left : List Sort
-  typed : operands_behind z.counts i l.operands ≡ Some left
-  way : Passed (way_of i) p (p + size_of i) left l.loops rest l'
+  pub allowed : may_hold z.role i ≡ true
+  pub named : names_what_is_there z.counts (loops_around z.role + length l.loops) i ≡ true
+  pub ended : ends_well z.role i rest ≡ true
+  pub left : List Sort
+  pub typed : operands_behind z.counts i l.operands ≡ Some left
+  pub way : Passed (way_of i) p (p + size_of i) left l.loops rest l'
 
 step_by : (z : Sizes) (p : ℕ) (i : Instruction) (rest : List Instruction) (l l' : Label) (o : Option (List Sort)) → may_hold z.role i ≡ true → names_what_is_there z.counts (loops_around z.role + length l.loops) i ≡ true → ends_well z.role i rest ≡ true
     → operands_behind z.counts i l.operands ≡ o → left_behind o p i l.loops rest ≡ Some l' → Step z p i rest l l'
@@ -134,7 +134,7 @@ marked z p l [] ms h = let a = so_is _ [] ms h in (a.1, nil_is l.loops a.0)
 marked z p l (i ∷ is) ms h = marked_at z p l i is ms (behind z p i is l) refl h (λ l' ms' e. marked z (p + size_of i) l' is ms' e)
 
 -- nothing is marked past the end
-look_past : (z : Sizes) (is : List Instruction) (p : ℕ) (l : Label) (ms : List Mark) (q : ℕ) → Marked z p l is ms → p + sizes is ≤ q → look ms q ≡ None
+pub look_past : (z : Sizes) (is : List Instruction) (p : ℕ) (l : Label) (ms : List Mark) (q : ℕ) → Marked z p l is ms → p + sizes is ≤ q → look ms q ≡ None
 look_past z [] p l ms q m le = ap (λ x. look x q) m.0
 look_past z (i ∷ is) p l ms q m le =
     let pos = size_of-positive i in
@@ -150,7 +150,7 @@ look_split i is p l ms' q found false e h more =
     let m = more h in let n : p + (size_of i + m.0) ≡ q = omega (arith, m.1.1.1) in
     (size_of i + m.0, (m.1.0, (at_past i is (size_of i + m.0) m.0 refl ∙ m.1.1.0, n)))
 
-look_place : (z : Sizes) (is : List Instruction) (p : ℕ) (l : Label) (ms : List Mark) (q : ℕ) (found : Label) → Marked z p l is ms → look ms q ≡ Some found → (r : ℕ) × ((i : Instruction) × ((at_place is r ≡ Some i) × (p + r ≡ q)))
+pub look_place : (z : Sizes) (is : List Instruction) (p : ℕ) (l : Label) (ms : List Mark) (q : ℕ) (found : Label) → Marked z p l is ms → look ms q ≡ Some found → (r : ℕ) × ((i : Instruction) × ((at_place is r ≡ Some i) × (p + r ≡ q)))
 look_place z [] p l ms q found m h = absurd (none_some found (ap (λ x. look x q) (sym m.0) ∙ h))
 look_place z (i ∷ is) p l ms q found m h =
     look_split i is p l m.1.0 q found (p == q) refl (ap (λ x. look x q) (sym m.1.1.1.0) ∙ h) (λ h'. look_place z is (p + size_of i) m.0 m.1.0 q found m.1.1.1.1 h')
