@@ -1,25 +1,22 @@
 -- The instruction that is read at the front of bytes is one that they spell.
-use Rattle.std.proofs.Common.{◌≡◌, ◌≢◌, ◌⊎◌, FitsSigned, inl, inr, ℕ, zero, suc, ◌+◌, ◌<◌, ◌≤◌, ◌^◌, ◌==◌, ◌||◌, ◌&&◌, ℤ, pos, negsuc, int_le, int_lt, nat_lt, Bool, true, false, if◌then◌else◌, List, [], ◌∷◌, ◌++◌, length, drop, slice_index, get_or, Option, Some, None, refl, sym, ap, ◌∙◌, subst, arith, length-append, length-drop}
+use Rattle.std.proofs.Common.{◌≡◌, ◌⊎◌, FitsSigned, inl, inr, ℕ, zero, suc, ◌<◌, ◌≤◌, ◌^◌, ◌==◌, ◌&&◌, ℤ, pos, negsuc, nat_lt, Bool, true, false, if◌then◌else◌, List, [], ◌∷◌, ◌++◌, length, slice_index, get_or, Option, Some, None, refl, sym, ap, ◌∙◌, subst, arith, length-append}
 use Rattle.std.proofs.lemmas.Grind.{common_steps}
-use Rattle.std.proofs.lemmas.Nat.{be_bytes_2, be_bytes_4, from_be_bytes-to_be_bytes_2, from_be_bytes-to_be_bytes_4}
+use Rattle.std.proofs.lemmas.Nat.{be_bytes_2, be_bytes_4, from_be_bytes-to_be_bytes_4}
 use Rattle.std.specs.Int.{w16, w32, cast_signed, cast_unsigned, from_be_bytes, to_be_bytes}
 use Rattle.std.specs.Option.{option_map}
 use Rattle.world_meaning.specs.declared.place.Rel.{Rel}
-use Rattle.world_meaning.specs.declared.place.Rel.TheVariants.{In, On, Carried, Worn, Part}
 use Rattle.play_meaning.specs.Instructions.{Argument, Integer, opcode, row_of, size_of, widths}
 use Rattle.play_meaning.specs.Values.{relation_number}
 use Rattle.play_meaning.specs.declared.instruction.Asked.{Asked}
-use Rattle.play_meaning.specs.declared.instruction.Asked.TheVariants.{IsFirst, IsNotFirst, IsNotSecond, IsSecond}
 use Rattle.play_meaning.specs.declared.instruction.Instruction.{Instruction}
-use Rattle.play_meaning.specs.declared.instruction.Instruction.TheVariants.{Add, And, Answer, AtMost, Away, Begin, Count, Dark, Description, Done, Door, Encloses, EndStory, Eq, Failure, Figure, Flag, Follow, Happens, HasDescription, Held, Holder, IfZero, Jump, Kind, Less, Location, Loop, Move, Mul, Name, Names, Next, NoDecision, Not, Noun, Num, Or, Prop, PutAt, Room, Say, Second, SetFlag, SetProp, SetVar, Sub, Success, Touchable, Try, Turns, Var, Visible}
+use Rattle.play_meaning.specs.declared.instruction.Instruction.TheVariants.{Count, Flag, Name, Names, Next, Num, SetFlag, Try}
 use Rattle.play_meaning.specs.declared.naming.Naming.{Naming}
-use Rattle.play_meaning.specs.declared.naming.Naming.TheVariants.{CapitalDefinite, CapitalIndefinite, Definite, Indefinite, Plain}
 use Rattle.std.specs.List.{list_all}
 use borrow.Author.Differences.{fits_in}
 use mir.Val.{Fits}
 use mir.ValLaws.{of_z_fits, to_z-Fits, to_z-of_z}
 use Rattle.std.proofs.lemmas.Int.{of_z-to_z}
-use Rattle.story_code.specs.Spelling.{arguments_bytes, is_integer, can_say, can_spell, choice_number, form_number, side_number, spelled}
+use Rattle.story_code.specs.Spelling.{arguments_bytes, is_integer, can_say, can_spell, choice_number, form_number, side_number}
 use Rattle.story_code.specs.Passes.{is_nil}
 use Rattle.story_code.specs.Fronts.{by_byte, by_relation, by_word, choice_of, common_in, count_in, first_related, first_with, flag_in, form_of, front, front_by, has_byte, has_relation, has_word, integer_in, name_in, names_in, next_in, plain_ones, relation_of, set_flag_in, side_of, try_in, with_byte, with_relation, with_word, word_of}
 
@@ -105,8 +102,9 @@ relation_says b r e = (says _ (b ∷ []) refl here refl, (says _ (b ∷ []) refl
 word_said : (i : Instruction) (high low : ℕ) → 2 ≡ widths (row_of i).arguments → arguments_bytes (row_of i).arguments ≡ to_be_bytes w16 (word_of high low)
     → can_spell i ≡ (nat_lt (word_of high low) 65536 && true) → Says i (high ∷ low ∷ [])
 word_said i high low m b c = record {
-    many = m;
-    said = λ small. (word_bytes high low (small 0) (small 1) ∙ sym b, c ∙ ap (λ t. t && true) (small_word high low (small 0) (small 1))) }
+  many = m;
+  said = λ small. (word_bytes high low (small 0) (small 1) ∙ sym b, c ∙ ap (λ t. t && true) (small_word high low (small 0) (small 1)));
+}
 
 word_says : (high low : ℕ) → AllAre (λ i. Says i (high ∷ low ∷ [])) (with_word (word_of high low))
 word_says high low = (word_said _ high low refl refl refl, (word_said _ high low refl refl refl, (word_said _ high low refl refl refl, (word_said _ high low refl refl refl, (word_said _ high low refl refl refl, tt)))))
@@ -205,8 +203,9 @@ reads_try (b ∷ action ∷ rest) i h =
 
 count_says : (k high low : ℕ) → Says (Count k (word_of high low)) (k ∷ high ∷ low ∷ [])
 count_says k high low = record {
-    many = refl;
-    said = λ small. (ap (λ ws. k ∷ ws) (word_bytes high low (small 1) (small 2)), ap (λ t. t && true) (small_word high low (small 1) (small 2))) }
+  many = refl;
+  said = λ small. (ap (λ ws. k ∷ ws) (word_bytes high low (small 1) (small 2)), ap (λ t. t && true) (small_word high low (small 1) (small 2)));
+}
 
 reads_count : Reads 0x20 count_in
 reads_count (k ∷ high ∷ low ∷ rest) i h =
@@ -216,8 +215,9 @@ reads_count _ i h = let no : ⊥ = cc in absurd no
 
 names_say : (naming : Naming) (form k high low : ℕ) → form ≡ form_number naming → Says (Names naming k (word_of high low)) (form ∷ k ∷ high ∷ low ∷ [])
 names_say naming form k high low e = record {
-    many = refl;
-    said = λ small. (ap (λ n. n ∷ k ∷ high ∷ low ∷ []) e ∙ ap (λ ws. form_number naming ∷ k ∷ ws) (word_bytes high low (small 2) (small 3)), ap (λ t. t && true) (small_word high low (small 2) (small 3))) }
+  many = refl;
+  said = λ small. (ap (λ n. n ∷ k ∷ high ∷ low ∷ []) e ∙ ap (λ ws. form_number naming ∷ k ∷ ws) (word_bytes high low (small 2) (small 3)), ap (λ t. t && true) (small_word high low (small 2) (small 3)));
+}
 
 reads_names : Reads 0x21 names_in
 reads_names (form ∷ k ∷ high ∷ low ∷ rest) i h =
@@ -227,10 +227,12 @@ reads_names _ i h = let no : ⊥ = cc in absurd no
 
 next_says : (k high low eh el : ℕ) → Says (Next k (word_of high low) (word_of eh el)) (k ∷ high ∷ low ∷ eh ∷ el ∷ [])
 next_says k high low eh el = record {
-    many = refl;
-    said = λ small. (
-      ap (λ ws. k ∷ (ws ++ eh ∷ el ∷ [])) (word_bytes high low (small 1) (small 2)) ∙ ap (λ ws. k ∷ (to_be_bytes w16 (word_of high low) ++ ws)) (word_bytes eh el (small 3) (small 4)),
-      ap (λ t. t && (nat_lt (word_of eh el) 65536 && true)) (small_word high low (small 1) (small 2)) ∙ ap (λ t. t && true) (small_word eh el (small 3) (small 4))) }
+  many = refl;
+  said = λ small. (
+    ap (λ ws. k ∷ (ws ++ eh ∷ el ∷ [])) (word_bytes high low (small 1) (small 2)) ∙ ap (λ ws. k ∷ (to_be_bytes w16 (word_of high low) ++ ws)) (word_bytes eh el (small 3) (small 4)),
+    ap (λ t. t && (nat_lt (word_of eh el) 65536 && true)) (small_word high low (small 1) (small 2)) ∙ ap (λ t. t && true) (small_word eh el (small 3) (small 4)),
+  );
+}
 
 reads_next : Reads 0x35 next_in
 reads_next (k ∷ high ∷ low ∷ eh ∷ el ∷ rest) i h =
@@ -267,12 +269,15 @@ either false x y a h = inr h
 reads_common : (b : ℕ) → Reads b (common_in b)
 unfolding common_in
 reads_common b rest i h = elim (either (has_relation b) _ _ i h) [
-    inl p ↦ reads_relation b rest i p.1
+  | inl p ↦ reads_relation b rest i p.1
   | inr h ↦ elim (either (has_word b) _ _ i h) [
-      inl p ↦ reads_word b rest i p.1
+    | inl p ↦ reads_word b rest i p.1
     | inr h ↦ elim (either (has_byte b) _ _ i h) [
-        inl p ↦ reads_byte b rest i p.1
-      | inr h ↦ reads_plain b rest i h ] ] ]
+      | inl p ↦ reads_byte b rest i p.1
+      | inr h ↦ reads_plain b rest i h
+    ]
+  ]
+]
 
 -- that of a byte of its own, or a later one
 own : (b k : ℕ) (reads : List ℕ → Option Instruction) (later : Option Instruction) (rest : List ℕ) (i : Instruction) → Reads k reads → (if b == k then reads rest else later) ≡ Some i → (later ≡ Some i → IsRead i (b ∷ rest)) → IsRead i (b ∷ rest)

@@ -1,3 +1,4 @@
+pub mod Exact
 pub mod FrontLemmas
 pub mod Marking
 pub mod Passing

@@ -1,5 +1,5 @@
 -- A code that passes is sound.
-use Rattle.std.proofs.Common.{◌≡◌, ◌⊎◌, inl, inr, ℕ, zero, suc, ◌+◌, ◌-◌, ◌<◌, ◌≤◌, ◌==◌, Bool, true, false, ◌&&◌, not, nat_lt, if◌then◌else◌, List, [], ◌∷◌, length, Option, Some, None, refl, sym, ap, ◌∙◌, subst, arith}
+use Rattle.std.proofs.Common.{◌≡◌, ◌⊎◌, inl, inr, ℕ, ◌+◌, ◌<◌, ◌≤◌, ◌==◌, Bool, true, false, not, nat_lt, if◌then◌else◌, List, [], ◌∷◌, length, Option, Some, None, refl, sym, ap, ◌∙◌, arith}
 use Rattle.std.proofs.lemmas.Grind.{common_steps}
 use Rattle.play_meaning.specs.Instructions.{at_place, size_of, sizes}
 use Rattle.play_meaning.specs.SoundCodes.{Label, bare, way_of}
@@ -10,13 +10,10 @@ use Rattle.play_meaning.specs.declared.way.Way.{Way}
 use Rattle.play_meaning.specs.declared.way.Way.TheVariants.{Branch, Ends, Leap, Opens, Straight, Turns}
 use Rattle.story_code.specs.declared.sizes.Sizes.{Sizes}
 use Rattle.play_meaning.specs.Operands.{may_hold, names_what_is_there, operands_behind}
-use Rattle.play_meaning.specs.SoundCodes.{EndsInAnswer, IsFine, IsPlace, IsSound, Labelled, LeadsTo, Ways, loops_around}
-use Rattle.play_meaning.specs.declared.instruction.Instruction.TheVariants.{Answer}
-use Rattle.play_meaning.specs.declared.operand.Use.{Use}
-use Rattle.play_meaning.specs.declared.operand.Use.TheVariants.{Body, Describing, Test}
-use Rattle.story_code.specs.Passes.{Mark, all_meet, answers, behind, closed_at, ends_well, if_so, is_allowed, is_bare_in, is_nil, leapt, left_behind, look, marks_from, met, opened_at, opened_by, passes, same_loop, stands_at, way_behind, way_meets, with_mark}
+use Rattle.play_meaning.specs.SoundCodes.{loops_around}
+use Rattle.story_code.specs.Passes.{Mark, behind, closed_at, ends_well, if_so, is_allowed, is_nil, left_behind, look, marks_from, opened_by, stands_at, way_behind, with_mark}
 use Rattle.story_code.proofs.FrontLemmas.{both_are}
-use Rattle.story_code.proofs.Places.{at_cases, at_past}
+use Rattle.story_code.proofs.Places.{at_past}
 use Rattle.story_code.proofs.WalkLemmas.{size_of-positive}
 
 -- what a step of the pass found, by cases of the way

@@ -1,16 +1,16 @@
 -- Sound code passes.
-use Rattle.std.proofs.Common.{◌≡◌, ◌⊎◌, inl, inr, ℕ, zero, suc, ◌+◌, ◌-◌, ◌<◌, ◌≤◌, ◌==◌, Bool, true, false, ◌&&◌, not, nat_lt, if◌then◌else◌, List, [], ◌∷◌, length, Option, Some, None, refl, sym, ap, ◌∙◌, subst, arith}
+use Rattle.std.proofs.Common.{◌≡◌, ◌⊎◌, inl, inr, ℕ, ◌+◌, ◌-◌, ◌<◌, ◌≤◌, ◌==◌, Bool, true, false, ◌&&◌, not, nat_lt, if◌then◌else◌, List, [], ◌∷◌, length, Some, None, refl, sym, ap, ◌∙◌, subst, arith}
 use Rattle.std.proofs.lemmas.Grind.{common_steps}
 use Rattle.play_meaning.specs.Instructions.{at_place, size_of, sizes}
-use Rattle.play_meaning.specs.SoundCodes.{Label, bare, way_of}
+use Rattle.play_meaning.specs.SoundCodes.{bare, way_of}
 use Rattle.play_meaning.specs.declared.instruction.Instruction.{Instruction}
 use Rattle.play_meaning.specs.declared.operand.Sort.{Sort}
 use Rattle.play_meaning.specs.declared.way.OpenLoop.{OpenLoop}
 use Rattle.play_meaning.specs.declared.way.Way.{Way}
 use Rattle.play_meaning.specs.declared.way.Way.TheVariants.{Branch, Ends, Leap, Opens, Straight, Turns}
 use Rattle.story_code.specs.declared.sizes.Sizes.{Sizes}
-use Rattle.play_meaning.specs.Operands.{may_hold, names_what_is_there, operands_behind}
-use Rattle.play_meaning.specs.SoundCodes.{EndsInAnswer, IsPlace, IsSound, Labelled, LeadsTo, Ways, loops_around}
+use Rattle.play_meaning.specs.Operands.{names_what_is_there, operands_behind}
+use Rattle.play_meaning.specs.SoundCodes.{EndsInAnswer, IsSound, LeadsTo, Ways, loops_around}
 use Rattle.play_meaning.specs.declared.instruction.Instruction.TheVariants.{Answer}
 use Rattle.play_meaning.specs.declared.operand.Use.{Use}
 use Rattle.play_meaning.specs.declared.operand.Use.TheVariants.{Body, Describing, Test}

@@ -1,5 +1,5 @@
 -- Instructions that stand at a place of a code.
-use Rattle.std.proofs.Common.{◌≡◌, ◌⊎◌, inl, inr, ℕ, zero, suc, ◌+◌, ◌-◌, ◌<◌, ◌≤◌, ◌==◌, Bool, true, false, nat_lt, if◌then◌else◌, List, [], ◌∷◌, ◌++◌, length, Option, Some, None, refl, sym, ap, ◌∙◌, subst, arith}
+use Rattle.std.proofs.Common.{◌≡◌, ◌⊎◌, inl, inr, ℕ, ◌+◌, ◌-◌, ◌≤◌, ◌==◌, Bool, true, false, nat_lt, if◌then◌else◌, List, [], ◌∷◌, Some, None, refl, ap, ◌∙◌, arith}
 use Rattle.std.proofs.lemmas.Grind.{common_steps}
 use Rattle.play_meaning.specs.Instructions.{at_place, size_of, sizes}
 use Rattle.play_meaning.specs.declared.instruction.Instruction.{Instruction}
@@ -28,8 +28,9 @@ at_cases j js r i h = at_split j i js r (r == 0) (nat_lt r (size_of j)) refl ref
 pub none_past_end : (is : List Instruction) (p : ℕ) (i : Instruction) → sizes is ≤ p → at_place is p ≡ Some i → ⊥
 none_past_end [] p i e h = let no : ⊥ = cc in no
 none_past_end (j ∷ js) p i e h = elim (at_cases j js p i h) [
-    inl f ↦ let no : ⊥ = omega (arith, size_of-positive j, e, f.0) in no
-  | inr f ↦ let n : sizes js ≤ p - size_of j = omega (arith, e, f.0) in none_past_end js (p - size_of j) i n f.1 ]
+  | inl f ↦ let no : ⊥ = omega (arith, size_of-positive j, e, f.0) in no
+  | inr f ↦ let n : sizes js ≤ p - size_of j = omega (arith, e, f.0) in none_past_end js (p - size_of j) i n f.1
+]
 
 -- the instructions stand in the code at this place
 abbrev pub HasAt : List Instruction → ℕ → List Instruction → Type 0

@@ -1,5 +1,5 @@
 -- A loop is opened only where there is room for it.
-use Rattle.std.proofs.Common.{◌≡◌, ℕ, ◌+◌, ◌<◌, ◌==◌, Bool, true, false, ◌&&◌, List, length, nat_lt, arith}
+use Rattle.std.proofs.Common.{◌≡◌, ℕ, ◌+◌, ◌<◌, Bool, true, false, ◌&&◌, List, length, arith}
 use Rattle.std.proofs.lemmas.Grind.{common_steps}
 use Rattle.play_meaning.specs.Operands.{may_hold, names_what_is_there}
 use Rattle.play_meaning.specs.SoundCodes.{loops_around, way_of}

@@ -1,5 +1,5 @@
 -- Of a code that passes, what was marked is known at each place.
-use Rattle.std.proofs.Common.{◌≡◌, ◌⊎◌, inl, inr, ℕ, zero, suc, ◌+◌, ◌-◌, ◌<◌, ◌≤◌, ◌==◌, Bool, true, false, ◌&&◌, not, nat_lt, if◌then◌else◌, List, [], ◌∷◌, length, Option, Some, None, refl, sym, ap, ◌∙◌, subst, arith}
+use Rattle.std.proofs.Common.{◌≡◌, inl, inr, ℕ, ◌+◌, ◌-◌, ◌≤◌, ◌==◌, Bool, true, false, nat_lt, if◌then◌else◌, List, [], ◌∷◌, length, Option, Some, None, refl, sym, ap, ◌∙◌, subst, arith}
 use Rattle.std.proofs.lemmas.Grind.{common_steps}
 use Rattle.play_meaning.specs.Instructions.{at_place, size_of, sizes}
 use Rattle.play_meaning.specs.SoundCodes.{Label, bare, way_of}
@@ -9,8 +9,8 @@ use Rattle.play_meaning.specs.declared.way.OpenLoop.{OpenLoop}
 use Rattle.play_meaning.specs.declared.way.Way.{Way}
 use Rattle.play_meaning.specs.declared.way.Way.TheVariants.{Branch, Ends, Leap, Opens, Straight, Turns}
 use Rattle.story_code.specs.declared.sizes.Sizes.{Sizes}
-use Rattle.play_meaning.specs.Operands.{may_hold, names_what_is_there, operands_behind}
-use Rattle.play_meaning.specs.SoundCodes.{EndsInAnswer, IsFine, IsPlace, IsSound, Labelled, LeadsTo, Ways, loops_around}
+use Rattle.play_meaning.specs.Operands.{names_what_is_there, operands_behind}
+use Rattle.play_meaning.specs.SoundCodes.{EndsInAnswer, IsFine, IsSound, Labelled, LeadsTo, Ways, loops_around}
 use Rattle.play_meaning.specs.declared.instruction.Instruction.TheVariants.{Answer}
 use Rattle.play_meaning.specs.declared.operand.Use.{Use}
 use Rattle.play_meaning.specs.declared.operand.Use.TheVariants.{Body, Describing, Test}
@@ -35,7 +35,8 @@ module _ (z : Sizes) (whole : List Instruction) (all : List Mark) where
     views = λ q le. viewed q le;
     found = λ r. found r;
     ends = omega (arith, s.ends);
-    meets = (both_are _ _ (ap (all_meet all) (sym s.marks.1.1.1.0) ∙ s.meets)).1 }
+    meets = (both_are _ _ (ap (all_meet all) (sym s.marks.1.1.1.0) ∙ s.meets)).1;
+  }
     where
       viewed : (q : ℕ) → p + size_of i ≤ q → look all q ≡ look s.marks.1.0 q
       viewed q le =
@@ -43,6 +44,7 @@ module _ (z : Sizes) (whole : List Instruction) (all : List Mark) where
           let e : (p == q) ≡ false = grind (arith, common_steps, le, pos) in
           let le' : p ≤ q = omega (arith, le) in
           s.views q le' ∙ ap (λ x. look x q) s.marks.1.1.1.0 ∙ ap (λ b. if b then Some l else look s.marks.1.0 q) e
+
       found : (r : ℕ) → at_place whole (p + size_of i + r) ≡ at_place is r
       found r =
           let e : p + size_of i + r ≡ p + (size_of i + r) = omega arith in
@@ -85,8 +87,9 @@ module _ (z : Sizes) (whole : List Instruction) (all : List Mark) where
   way_opened Straight p q ks ls rest l w h o = subst (λ x. Opened x.loops) (sym w.1) o
   way_opened (Branch to) p q ks ls rest l w h o = subst (λ x. Opened x.loops) (sym w.1.1.1) o
   way_opened (Leap to) p q ks ls rest l w h o = elim w.1 [
-      inl f ↦ subst (λ x. Opened x.loops) (sym f.1) o
-    | inr f ↦ subst (λ x. Opened x.loops) (sym f.1.1.1.1) (tail_opened _ f.1.0 (subst Opened f.1.1.0 o)) ]
+    | inl f ↦ subst (λ x. Opened x.loops) (sym f.1) o
+    | inr f ↦ subst (λ x. Opened x.loops) (sym f.1.1.1.1) (tail_opened _ f.1.0 (subst Opened f.1.1.0 o))
+  ]
   way_opened Opens p q ks ls rest l w h o =
       let some : is_nil rest ≡ false = ap is_nil w.1.1.1.1.0 in
       let same = w.1.1.1.1.1.1 in
@@ -98,8 +101,9 @@ module _ (z : Sizes) (whole : List Instruction) (all : List Mark) where
   way_closes Straight p q ks ls rest l w h o = subst (λ x. Closes x.loops) w.1 o
   way_closes (Branch to) p q ks ls rest l w h o = subst (λ x. Closes x.loops) w.1.1.1 o
   way_closes (Leap to) p q ks ls rest l w h o = elim w.1 [
-      inl f ↦ subst (λ x. Closes x.loops) f.1 o
-    | inr f ↦ subst Closes (sym f.1.1.0) (subst (Here q) f.1.1.1.1 (h f.1.1.1.0), subst (λ x. Closes x.loops) f.1.1.1.1 o) ]
+    | inl f ↦ subst (λ x. Closes x.loops) f.1 o
+    | inr f ↦ subst Closes (sym f.1.1.0) (subst (Here q) f.1.1.1.1 (h f.1.1.1.0), subst (λ x. Closes x.loops) f.1.1.1.1 o)
+  ]
   way_closes Opens p q ks ls rest l w h o = tail_closes (record { head = q; exit = w.1.1.1.0 }) ls (subst (λ x. Closes x.loops) w.1.1.1.1.1.1 o)
   way_closes (Turns exit) p q ks ls rest l w h o = subst (λ x. Closes x.loops) w.1.1.1.1 o
   way_closes Ends p q ks ls rest l w h o = subst (λ x. Closes x.loops) w o
@@ -131,7 +135,9 @@ module _ (z : Sizes) (whole : List Instruction) (all : List Mark) where
       let n = next_standing p l i is ms s in
       let e : p + size_of i ≡ p + size_of i + 0 = omega arith in
       record {
-        l = l; l' = s.marks.0; rest = is;
+        l = l;
+        l' = s.marks.0;
+        rest = is;
         place = here p l (i ∷ is) ms s refl;
         step = s.marks.1.1.0;
         meets = meets_here p l i is ms s;
@@ -140,18 +146,20 @@ module _ (z : Sizes) (whole : List Instruction) (all : List Mark) where
         ahead = here (p + size_of i) s.marks.0 is s.marks.1.0 n;
         at_end = past (p + size_of i) s.marks.0 is s.marks.1.0 n;
         first = ap (at_place whole) e ∙ n.found 0;
-        ends = n.ends }
+        ends = n.ends;
+      }
 
   all_at : (is : List Instruction) (p : ℕ) (l : Label) (ms : List Mark) → Standing p l is ms → Opened l.loops → (r : ℕ) (i : Instruction) → at_place is r ≡ Some i → At (p + r) i
   all_at [] p l ms s o r i h = absurd (none_some i h)
   all_at (j ∷ is) p l ms s o r i h = elim (at_cases j is r i h) [
-      inl f ↦ let e : p ≡ p + r = omega (arith, f.0) in subst (λ q. At q i) e (subst (At p) f.1 (first_at p l j is ms s o))
+    | inl f ↦ let e : p ≡ p + r = omega (arith, f.0) in subst (λ q. At q i) e (subst (At p) f.1 (first_at p l j is ms s o))
     | inr f ↦
         let n = next_standing p l j is ms s in
         let st = s.marks.1.1.0 in
         let o' = way_opened (way_of j) p (p + size_of j) st.left l.loops is s.marks.0 st.way (here (p + size_of j) s.marks.0 is s.marks.1.0 n) o in
         let e : p + size_of j + (r - size_of j) ≡ p + r = omega (arith, f.0) in
-        subst (λ q. At q i) e (all_at is (p + size_of j) s.marks.0 s.marks.1.0 n o' (r - size_of j) i f.1) ]
+        subst (λ q. At q i) e (all_at is (p + size_of j) s.marks.0 s.marks.1.0 n o' (r - size_of j) i f.1)
+  ]
 
   abbrev label_or : Option Label → Label
   label_or None = bare []
@@ -200,14 +208,15 @@ module _ (z : Sizes) (whole : List Instruction) (all : List Mark) where
   ways (Branch to) p i ks ls a w m o c more =
       (w.0, (w.1.0, (goal_is to ls (look all to) refl m (more to) o, label_here _ _ (subst (Here (p + size_of i)) w.1.1.1 (a.ahead w.1.1.0)))))
   ways (Leap to) p i ks ls a w m o c more = elim w.1 [
-      inl f ↦
+    | inl f ↦
         let lt : nat_lt p to ≡ true = grind (arith, common_steps, f.0) in
         let met : is_bare_in ls (look all to) ≡ true = ap (λ b. if b then is_bare_in ls (look all to) else true) (sym lt) ∙ m in
         (w.0, (goal_is to ls (look all to) refl met (more to) o, inl (f.0, behind_is p i ls a f.1 (is_nil a.rest) refl)))
     | inr f ↦
         let outer = f.1.0 in
         let head = back_to outer (subst Opened f.1.1.0 o) in
-        (w.0, (subst (λ l. LeadsTo known to (bare l)) (sym f.1.1.0) (label_here _ _ head), inr (f.0, (outer, (f.1.1.0, label_here _ _ (subst (Here (p + size_of i)) f.1.1.1.1 (a.ahead f.1.1.1.0))))))) ]
+        (w.0, (subst (λ l. LeadsTo known to (bare l)) (sym f.1.1.0) (label_here _ _ head), inr (f.0, (outer, (f.1.1.0, label_here _ _ (subst (Here (p + size_of i)) f.1.1.1.1 (a.ahead f.1.1.1.0)))))))
+  ]
     where
       back_to : (outer : List OpenLoop) → Opened (record { head = to; exit = p + size_of i } ∷ outer) → Here to (bare (record { head = to; exit = p + size_of i } ∷ outer))
       back_to outer o = o.0
@@ -232,7 +241,8 @@ module _ (z : Sizes) (whole : List Instruction) (all : List Mark) where
         named = ap (λ l. names_what_is_there z.counts (loops_around z.role + length l.loops) i) e ∙ a.step.named;
         left = a.step.left;
         typed = ap (λ l. operands_behind z.counts i l.operands) e ∙ a.step.typed;
-        ways = subst (λ l. Ways (way_of i) known p (p + size_of i) a.step.left l.loops) (sym e) (ways (way_of i) p i a.step.left a.l.loops a a.step.way a.meets a.opened a.closing more) }
+        ways = subst (λ l. Ways (way_of i) known p (p + size_of i) a.step.left l.loops) (sym e) (ways (way_of i) p i a.step.left a.l.loops a a.step.way a.meets a.opened a.closing more);
+      }
 
 -- an answer is the last instruction
 last_nil : (rest : List Instruction) (n m : ℕ) → is_nil rest ≡ true → n + 1 + sizes rest ≡ m → n + 1 ≡ m
@@ -247,20 +257,25 @@ answered_by Body whole h = tt
 sound_by : (z : Sizes) (whole : List Instruction) (o : Option (List Mark)) → is_nil whole ≡ false → marks_from z 0 (Some (bare [])) whole ≡ o → met o ≡ true → IsSound z.counts z.role whole
 sound_by z whole None h e m = let no : ⊥ = cc in absurd no
 sound_by z whole (Some all) h e m = record {
-    at = label_at z whole all;
-    starts = label_here z whole all 0 (bare []) (here z whole all 0 (bare []) whole all standing h);
-    fine = λ p i f. fine_at z whole all p i (at p i f) more;
-    closed = ap (λ o. (label_or z whole all o).loops) (look_past z whole 0 (bare []) all (sizes whole) marks (omega arith));
-    answered = answered_by z.role whole (λ p f. let a = at p Answer f in (a.rest, (a.step.ended, a.ends))) }
+  at = label_at z whole all;
+  starts = label_here z whole all 0 (bare []) (here z whole all 0 (bare []) whole all standing h);
+  fine = λ p i f. fine_at z whole all p i (at p i f) more;
+  closed = ap (λ o. (label_or z whole all o).loops) (look_past z whole 0 (bare []) all (sizes whole) marks (omega arith));
+  answered = answered_by z.role whole (λ p f. let a = at p Answer f in (a.rest, (a.step.ended, a.ends)));
+}
   where
     marks : Marked z 0 (bare []) whole all
     marks = marked z 0 (bare []) whole all e
+
     zero_plus : (r : ℕ) → at_place whole (0 + r) ≡ at_place whole r
     zero_plus r = let n : 0 + r ≡ r = omega arith in ap (at_place whole) n
+
     standing : Standing z whole all 0 (bare []) whole all
     standing = record { marks = marks; views = λ q le. refl; found = zero_plus; ends = omega arith; meets = m }
+
     at : (p : ℕ) (i : Instruction) → at_place whole p ≡ Some i → At z whole all p i
     at p i f = let n : 0 + p ≡ p = omega arith in subst (λ q. At z whole all q i) n (all_at z whole all whole 0 (bare []) all standing tt p i f)
+
     more : (q : ℕ) (l : Label) → look all q ≡ Some l → ((i : Instruction) × (at_place whole q ≡ Some i)) × Opened z whole all l.loops
     more q l f =
         let r = look_place z whole 0 (bare []) all q l marks f in

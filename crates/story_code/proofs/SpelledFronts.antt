@@ -1,20 +1,14 @@
 -- The instruction whose bytes stand at the front is the one that is read there.
-use Rattle.std.proofs.Common.{◌≡◌, ◌≢◌, ◌⊎◌, inl, inr, ℕ, zero, suc, ◌+◌, ◌<◌, ◌≤◌, ◌^◌, ◌==◌, ◌||◌, ◌&&◌, ℤ, pos, negsuc, int_le, int_lt, nat_lt, Bool, true, false, if◌then◌else◌, List, [], ◌∷◌, ◌++◌, length, drop, slice_index, get_or, Option, Some, None, refl, sym, ap, ◌∙◌, subst, arith, length-append, length-drop}
+use Rattle.std.proofs.Common.{◌≡◌, ℕ, ◌<◌, ◌^◌, nat_lt, true, false, List, ◌++◌, Some, refl, ap, ◌∙◌, arith}
 use Rattle.std.proofs.lemmas.Grind.{common_steps}
-use Rattle.std.proofs.lemmas.Nat.{be_bytes_2, be_bytes_4, from_be_bytes-to_be_bytes_2, from_be_bytes-to_be_bytes_4}
-use Rattle.std.specs.Int.{w16, w32, cast_signed, cast_unsigned, from_be_bytes, to_be_bytes}
-use Rattle.std.specs.Option.{option_map}
-use Rattle.world_meaning.specs.declared.place.Rel.{Rel}
+use Rattle.std.proofs.lemmas.Nat.{from_be_bytes-to_be_bytes_2}
+use Rattle.std.specs.Int.{w16, from_be_bytes, to_be_bytes}
 use Rattle.world_meaning.specs.declared.place.Rel.TheVariants.{In, On, Carried, Worn, Part}
-use Rattle.play_meaning.specs.Instructions.{opcode, row_of, size_of, widths}
-use Rattle.play_meaning.specs.Values.{relation_number}
-use Rattle.play_meaning.specs.declared.instruction.Asked.{Asked}
 use Rattle.play_meaning.specs.declared.instruction.Asked.TheVariants.{IsFirst, IsNotFirst, IsNotSecond, IsSecond}
 use Rattle.play_meaning.specs.declared.instruction.Instruction.{Instruction}
 use Rattle.play_meaning.specs.declared.instruction.Instruction.TheVariants.{Add, And, Answer, AtMost, Away, Begin, Count, Dark, Description, Done, Door, Encloses, EndStory, Eq, Failure, Figure, Flag, Follow, Happens, HasDescription, Held, Holder, IfZero, Jump, Kind, Less, Location, Loop, Move, Mul, Name, Names, Next, NoDecision, Not, Noun, Num, Or, Prop, PutAt, Room, Say, Second, SetFlag, SetProp, SetVar, Sub, Success, Touchable, Try, Turns, Var, Visible}
-use Rattle.play_meaning.specs.declared.naming.Naming.{Naming}
 use Rattle.play_meaning.specs.declared.naming.Naming.TheVariants.{CapitalDefinite, CapitalIndefinite, Definite, Indefinite, Plain}
-use Rattle.story_code.specs.Spelling.{can_spell, spelled, spelling}
+use Rattle.story_code.specs.Spelling.{can_spell, spelled}
 use Rattle.story_code.specs.Fronts.{common_in, front, front_by}
 use Rattle.story_code.proofs.FrontLemmas.{both_are, integer_back}
 

@@ -1,8 +1,8 @@
 -- The walks over bytes, step by step.
-use Rattle.std.proofs.Common.{◌≡◌, ◌⊎◌, inl, inr, ℕ, zero, suc, ◌+◌, ◌-◌, ◌<◌, ◌≤◌, ◌==◌, Bool, true, false, ◌&&◌, not, nat_lt, if◌then◌else◌, List, [], ◌∷◌, length, drop, Option, Some, None, slice_set, refl, sym, ap, ◌∙◌, subst, arith, length-drop}
+use Rattle.std.proofs.Common.{◌≡◌, ◌⊎◌, inl, inr, ℕ, zero, suc, ◌+◌, ◌<◌, ◌≤◌, ◌==◌, Bool, true, false, ◌&&◌, if◌then◌else◌, List, [], ◌∷◌, length, drop, Option, Some, None, slice_set, refl, sym, ap, ◌∙◌, arith, length-drop}
 use Rattle.std.proofs.lemmas.Grind.{common_steps}
-use Rattle.play_meaning.specs.Instructions.{at_place, size_of, sizes}
-use Rattle.play_meaning.specs.SoundCodes.{Label, bare, way_of}
+use Rattle.play_meaning.specs.Instructions.{size_of, sizes}
+use Rattle.play_meaning.specs.SoundCodes.{Label, way_of}
 use Rattle.play_meaning.specs.declared.instruction.Instruction.{Instruction}
 use Rattle.play_meaning.specs.declared.operand.Sort.{Sort}
 use Rattle.play_meaning.specs.declared.way.OpenLoop.{OpenLoop}
@@ -81,17 +81,19 @@ front_or bytes = by (front bytes) refl
 
 behind_rest : (z : Sizes) (p : ℕ) (i : Instruction) (l : Label) (after : List ℕ) (is : List Instruction) → code_in after ≡ Some is → behind z p i is l ≡ behind z p i (next_list (front after)) l
 behind_rest z p i l after is h = elim (front_or after) [
-    inl e ↦
+  | inl e ↦
       let empty : if_so (is_nil after) [] ≡ Some is = sym (code_is_none after e) ∙ h in
       ap (λ x. behind z p i x l) (nil_rest (is_nil after) empty) ∙ ap (λ o. behind z p i (next_list o) l) (sym e)
   | inr e ↦
       let split : with_first e.0 (code_in (drop (size_of e.0) after)) ≡ Some is = sym (code_splits after e.0 e.1) ∙ h in
       let c = cons_rest e.0 (code_in (drop (size_of e.0) after)) split in
-      ap (λ x. behind z p i x l) c.1 ∙ behind_next z p i e.0 l c.0 ∙ ap (λ o. behind z p i (next_list o) l) (sym e.1) ]
+      ap (λ x. behind z p i x l) c.1 ∙ behind_next z p i e.0 l c.0 ∙ ap (λ o. behind z p i (next_list o) l) (sym e.1)
+]
   where
     nil_rest : (b : Bool) → if_so b [] ≡ Some is → is ≡ []
     nil_rest true h = cc
     nil_rest false h = let no : ⊥ = cc in absurd no
+
     cons_rest : (n : Instruction) (o : Option (List Instruction)) → with_first n o ≡ Some is → (more : List Instruction) × (is ≡ n ∷ more)
     cons_rest n None h = let no : ⊥ = cc in absurd no
     cons_rest n (Some more) h = let e : is ≡ n ∷ more = cc in (more, e)
@@ -126,6 +128,7 @@ meets_step z p l bytes i t h =
     and_false : (b : Bool) → false ≡ (b && false)
     and_false true = refl
     and_false false = refl
+
     by_rest : (o : Option (List Instruction)) → code_in (drop (size_of i) bytes) ≡ o → meets z p (Some l) (with_first i o) t ≡ (goal_met t p i l.loops && meets z (p + size_of i) (behind z p i (next_list (front (drop (size_of i) bytes))) l) o t)
     by_rest None e = and_false (goal_met t p i l.loops)
     by_rest (Some is) e = ap (λ b. goal_met t p i l.loops && met_from z (p + size_of i) b is t) (behind_rest z p i l (drop (size_of i) bytes) is e)

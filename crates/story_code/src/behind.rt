@@ -80,17 +80,13 @@ fn go_on(known: &mut Known, way: Way, place: usize, here: usize, next: Option<In
 {
     match way {
         Way::Straight => next.is_some(),
-        Way::Branch(to) => {
-            known.operands.is_empty() && place < to as usize && next.is_some()
-        }
+        Way::Branch(to) => { known.operands.is_empty() && place < to as usize && next.is_some() }
         Way::Leap(to) => {
             known.operands.is_empty() && leap(&mut known.loops, to, place, here, next)
         }
         Way::Opens => known.operands.is_empty() && open(&mut known.loops, here, next),
         Way::Turns(exit) => {
-            known.operands.is_empty()
-                && is_inside(&known.loops, place, exit)
-                && next.is_some()
+            known.operands.is_empty() && is_inside(&known.loops, place, exit) && next.is_some()
         }
         Way::Ends => {
             known.operands.clear();
@@ -161,5 +157,11 @@ pub fn behind(
     if !effect(&mut known.operands, &sizes.counts, instruction) {
         return false;
     }
-    go_on(known, way(instruction), place, place + size(instruction), next)
+    go_on(
+        known,
+        way(instruction),
+        place,
+        place + size(instruction),
+        next,
+    )
 }

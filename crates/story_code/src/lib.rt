@@ -13,3 +13,4 @@ mod verifying;
 
 pub use decoding::front;
 pub use sizes::Sizes;
+pub use verifying::verify;

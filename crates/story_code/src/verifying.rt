@@ -85,9 +85,7 @@ fn is_met(table: &[u32], place: usize, instruction: Instruction, known: &Known) 
 {
     match way(instruction) {
         Way::Branch(to) => scope_at(table, to) == scope_of(&known.loops),
-        Way::Leap(to) => {
-            place >= to as usize || scope_at(table, to) == scope_of(&known.loops)
-        },
+        Way::Leap(to) => { place >= to as usize || scope_at(table, to) == scope_of(&known.loops) },
         _ => true,
     }
 }
@@ -121,4 +119,37 @@ fn check(bytes: &[u8], sizes: &Sizes, table: &mut [u32]) -> bool
     ensures { result ≡ checked sizes.now bytes.now table.old }
 {
     !bytes.is_empty() && fill(bytes, sizes, table) && meet(bytes, sizes, table)
+}
+
+/// Whether a code is sound, by a small table.
+fn check_short(bytes: &[u8], sizes: &Sizes) -> bool
+    requires { length bytes.now ≤ 4096 }
+    ensures { IsTrue result ↔ IsSoundCode sizes.now bytes.now }
+{
+    let mut table = [0; FEW];
+    check(bytes, sizes, &mut table)
+}
+
+/// Whether a code is sound, by a table of all places.
+fn check_long(bytes: &[u8], sizes: &Sizes) -> bool
+    requires { length bytes.now < 2 ^ 16 }
+    ensures { IsTrue result ↔ IsSoundCode sizes.now bytes.now }
+{
+    let mut table = [0; MANY];
+    check(bytes, sizes, &mut table)
+}
+
+/// Whether bytes are a sound code: at each place the operands are the same along every way there, each instruction finds
+/// its own, each argument names something that is there, and no way leads out. A code has at most 65,535 bytes. Takes time
+/// in its bytes and no memory but a table on the stack.
+pub fn verify(bytes: &[u8], sizes: &Sizes) -> bool
+    ensures { IsTrue result ↔ IsSoundCode sizes.now bytes.now }
+{
+    if bytes.len() <= FEW {
+        check_short(bytes, sizes)
+    } else if bytes.len() < MANY {
+        check_long(bytes, sizes)
+    } else {
+        false
+    }
 }

@@ -1,6 +1,6 @@
-use Rattle.std.proofs.Common.{◌≡◌, ◌∙◌, ◌&&◌, sym, ap, arith, drop, Some, length, length-drop}
+use Rattle.std.proofs.Common.{◌∙◌, sym, ap, arith, drop}
 use Rattle.story_code.proofs.FrontLemmas.{front_fits}
-use Rattle.story_code.proofs.WalkLemmas.{meet_missed, meet_next, meet_stop, meets_end, nil_length, size_of-positive}
+use Rattle.story_code.proofs.WalkLemmas.{meet_missed, meet_next, meet_stop, meets_end, nil_length}
 use Rattle.story_code.proofs.verifying.meet.Goals as goal
 
 pub split_at-requires : goal.split_at-requires
@@ -16,7 +16,8 @@ returns-then-not-behind c =
 pub loop-instruction-preserved : goal.loop-instruction-preserved
 loop-instruction-preserved c = record {
   same = meet_next _ _ _ _ _ _ _ _ _ _ _ _ (sym c.in-Some.ensures) c.size-place.ensures (c.split_at.ensures.back ∙ ap (λ n. drop n c.loop-instruction.rest.now) (c.size.ensures ∙ sym c.size-place.ensures)) c.is_met.ensures c.if-not-is_met.false c.front-in-Some.result c.front-in-Some.ensures c.behind.ensures c.if-not-behind.false c.loop-instruction.invariant.same;
-  bound = omega (arith, c.loop-instruction.invariant.bound, c.split_at.ensures.back_len, c.size.ensures, c.size-place.ensures, front_fits _ _ (sym c.in-Some.ensures)) }
+  bound = omega (arith, c.loop-instruction.invariant.bound, c.split_at.ensures.back_len, c.size.ensures, c.size-place.ensures, front_fits _ _ (sym c.in-Some.ensures));
+}
 
 pub returns : goal.returns
 returns c = c.is_empty.ensures ∙ nil_length c.loop-instruction.rest.now ∙ sym (meets_end _ _ _ _ _ (sym c.front.ensures ∙ c.in_default.is)) ∙ c.loop-instruction.invariant.same
