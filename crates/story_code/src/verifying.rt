@@ -19,6 +19,9 @@ const FEW: usize = 4_096;
 /// The places to which ways may lead.
 const MANY: usize = 65_536;
 
+/// Stands for a place where no instruction begins, or where operands stand.
+const NO_SCOPE: u32 = 0;
+
 /// A number for the innermost loop that is open.
 fn scope_of(loops: &Loops) -> u32
     ensures { result ≡ scope_of loops.now }
@@ -29,23 +32,23 @@ fn scope_of(loops: &Loops) -> u32
     }
 }
 
-/// The same where no operand stands, else 0.
+/// The same where no operand stands.
 fn bare_scope(known: &Known) -> u32
     ensures { result ≡ bare_scope known.now }
 {
     if known.operands.is_empty() {
         scope_of(&known.loops)
     } else {
-        0
+        NO_SCOPE
     }
 }
 
-/// The number that stands for a place; 0 where the table has none.
+/// The number that stands for a place.
 fn scope_at(table: &[u32], place: u16) -> u32
     ensures { result ≡ slice_index table.now place }
 {
     match table.get(place as usize) {
-        None => 0,
+        None => NO_SCOPE,
         Some(scope) => *scope,
     }
 }
@@ -126,7 +129,7 @@ fn check_short(bytes: &[u8], sizes: &Sizes) -> bool
     requires { length bytes.now ≤ 4096 }
     ensures { IsTrue result ↔ IsSoundCode sizes.now bytes.now }
 {
-    let mut table = [0; FEW];
+    let mut table = [NO_SCOPE; FEW];
     check(bytes, sizes, &mut table)
 }
 
@@ -135,7 +138,7 @@ fn check_long(bytes: &[u8], sizes: &Sizes) -> bool
     requires { length bytes.now < 2 ^ 16 }
     ensures { IsTrue result ↔ IsSoundCode sizes.now bytes.now }
 {
-    let mut table = [0; MANY];
+    let mut table = [NO_SCOPE; MANY];
     check(bytes, sizes, &mut table)
 }
 
