@@ -216,6 +216,12 @@ spells_in bytes code s =
     let le : sizes code ≤ length bytes = omega (arith, ap length s.whole, spelling_size code) in
     ap (read_within (length bytes)) s.whole ∙ read_spelled (length bytes) code le s.each
 
+some_is : (x y : List Instruction) → Some x ≡ Some y → x ≡ y
+some_is x y h = cc
+
+pub one_code : (bytes : List ℕ) (one another : List Instruction) → Spells bytes one → Spells bytes another → one ≡ another
+one_code bytes one another s t = some_is one another (sym (spells_in bytes one s) ∙ spells_in bytes another t)
+
 small_front : (xs ys : List ℕ) → Small (xs ++ ys) → Small xs
 small_front [] ys s zero = omega arith
 small_front [] ys s (suc k) = omega arith

@@ -1,4 +1,5 @@
 pub mod Fronts
+pub mod Laws
 pub mod Passes
 pub mod Soundness
 pub mod Spelling

@@ -11,3 +11,8 @@ pub record IsSoundCode (z : Sizes) (bytes : List ℕ) : Type 0 where
   pub code : List Instruction
   pub spells : Spells bytes code
   pub sound : IsSound z.counts z.role code
+
+-- bytes, and what they are judged by
+pub record Judged : Type 0 where
+  pub sizes : Sizes
+  pub bytes : List ℕ

@@ -6,11 +6,15 @@ mod behind;
 mod decoding;
 mod effect;
 mod known;
+mod laws;
 mod named;
 mod row;
 mod sizes;
+mod verified;
 mod verifying;
 
 pub use decoding::front;
+pub use laws::one_code;
 pub use sizes::Sizes;
+pub use verified::Verified;
 pub use verifying::verify;
