@@ -2,6 +2,7 @@
 //! changed where the rules of placing allow it, and copied; what is seen, touched and lit in it is told by walks.
 #![tactic(auto)]
 
+mod atlas;
 mod changes;
 mod columns;
 mod ground;
