@@ -56,7 +56,17 @@ fn new_trees_hold_nothing(rt: HostRuntime) -> Result<(), Fail> {
 fn trees_are_made_from_places(rt: HostRuntime) -> Result<(), Fail> {
     let alloc = rt.alloc();
     let shelf = ObjNo::new(1);
-    let places = [held(Rel::On, shelf), None, held(Rel::In, shelf)];
+    let places = [
+        Some(Place {
+            relation: Rel::On,
+            holder: shelf,
+        }),
+        None,
+        Some(Place {
+            relation: Rel::In,
+            holder: shelf,
+        }),
+    ];
     let tree = Tree::from_places(alloc, &places)?;
     assert_eq!(rt; tree.holder(ObjNo::new(0)), held(Rel::On, shelf));
     assert_eq!(rt; tree.holder(shelf), None);
