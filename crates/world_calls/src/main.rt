@@ -6,11 +6,10 @@ mod calls;
 
 use calls::{Answer, called};
 use sample_stories::FURNISHED;
-use std::env;
-use std::fs;
 use std::io::{Stdout, Write};
 use std::process::ExitCode;
 use std::rc::Rc;
+use std::{env, fs};
 use story_format::{Story, load};
 use world_store::World;
 

@@ -94,7 +94,8 @@ fn agree_on_objects(world: &World, other: &World) -> bool {
     (0..23u16).map(ObjNo::new).all(|object| {
         world.holder(object) == other.holder(object)
             && world.number(object, WEIGHT) == other.number(object, WEIGHT)
-            && (0..11u8).all(|property| world.flag(object, property) == other.flag(object, property))
+            && (0..11u8).all(|property| world.flag(object, property)
+                == other.flag(object, property))
     })
 }
 
