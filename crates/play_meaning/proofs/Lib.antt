@@ -17,3 +17,4 @@ pub mod Straight
 pub mod Translated
 pub mod Unstuck
 pub mod Work
+pub mod Placings

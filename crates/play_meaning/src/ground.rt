@@ -1,7 +1,6 @@
 //! What a rule's words are read against and may change, whatever keeps it: a story's fixed facts and its world of the moment.
 use crate::{SceneNow, WorldFault};
-use std::alloc::{AllocError, Global};
-use world_meaning::{Article, KindNo, ObjNo, Place, Rel};
+use world_meaning::{Article, KindNo, ObjNo, Place, Rel, TextBytes};
 
 /// A story in play that is read: what never changes of its objects, and its world. Properties, variables and scenes go by
 /// their numbers; of a number that isn't there nothing holds, and numbers are 0.
@@ -90,9 +89,9 @@ pub trait Ground {
 }
 
 /// A story in play that may be changed. Each call makes its one change, or answers `Misplaced` exactly where the kinds, the rules
-/// of placing or the numbers don't allow it and changes nothing then.
+/// of placing or the numbers don't allow it and changes nothing then. None takes memory.
 pub trait GroundMut: Ground {
-    ghost use Rattle.std.specs.Prelude.{◌≡◌, OnErr, OnOk, Some, is_ok, length, nat_lt};
+    ghost use Rattle.std.specs.Prelude.{◌≡◌, Some, is_ok, length, nat_lt, true};
     ghost use Rattle.play_meaning.specs.Changes.{make_number, make_so, may_be_put, put_at, take_away};
     ghost use Rattle.play_meaning.specs.Settings.{kinds_of};
     ghost use Rattle.play_meaning.specs.Worlds.{end_with, set_scene, set_variable};
@@ -134,9 +133,9 @@ pub trait GroundMut: Ground {
         ensures world { Self.world self.new ≡ take_away (Self.setting self.old) (Some object) (Self.world self.old) }
         ensures setting { Self.setting self.new ≡ Self.setting self.old };
 
-    /// Ends the story with a copy of a text. Refused memory leaves the world as it was.
-    fn end_story(&mut self, alloc: Global, text: &[u8]) -> Result<(), AllocError>
-        ensures ended { OnOk result (Self.world self.new ≡ end_with text.now (Self.world self.old)) }
-        ensures refused { OnErr result (Self.world self.new ≡ Self.world self.old) }
+    /// Ends the story with a text. This is never refused.
+    fn end_story(&mut self, text: TextBytes) -> Result<(), WorldFault>
+        ensures answer { is_ok result ≡ true }
+        ensures world { Self.world self.new ≡ end_with text (Self.world self.old) }
         ensures setting { Self.setting self.new ≡ Self.setting self.old };
 }

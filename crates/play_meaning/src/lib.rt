@@ -48,6 +48,6 @@ pub use phrase_laws::{
     bodies_are_done, conditions_hold, names_and_numbers_are_said, phrases_change_the_world,
 };
 pub use scene::SceneNow;
-pub use sight_laws::sight_is_by_chains;
+pub use sight_laws::{placing_is_by_chains, sight_is_by_chains};
 pub use way::{OpenLoop, Way};
 pub use work_laws::work_is_bounded;

@@ -1,6 +1,6 @@
 -- What keeps the lists of a world as long as its story says, and the player in a room.
 use Rattle.std.proofs.Common.{◌≡◌, ◌∙◌, sym, ap, refl, subst, ℕ, zero, suc, ◌+◌, ◌<◌, ◌≤◌, ◌≢◌, ℤ, Bool, true, eqb, List, [], ◌∷◌, length, map, arith, lit<, inl, inr, get_or-set_same, get_or-set_other}
-use Rattle.std.specs.Prelude.{Option, Some, None, ◌&&◌, ◌^◌, option_map, replicate, slice_index_or, slice_set}
+use Rattle.std.specs.Prelude.{Option, Some, None, ◌&&◌, ◌^◌, option_map, replicate, slice_get, slice_index_or, slice_set}
 use Rattle.std.specs.List.{range_with_len}
 use Rattle.std.proofs.Math.ListN.{length-set}
 use Rattle.std.proofs.lemmas.Bool.{eqb-true, eqb-false}
@@ -11,19 +11,24 @@ use Rattle.world_meaning.proofs.Bools.{both_are, either}
 use Rattle.world_meaning.specs.Chains.{IsTree}
 use Rattle.world_meaning.specs.Placing.{Kinds, keeps_player}
 use Rattle.world_meaning.specs.Sight.{is_in}
+use Rattle.world_meaning.specs.Sorts.{is_at, sorts_of, under_each}
 use Rattle.world_meaning.specs.Standing.{place_at}
 use Rattle.world_meaning.specs.declared.place.Place.{Place}
 use Rattle.world_meaning.specs.declared.place.Rel.{Rel}
 use Rattle.world_meaning.specs.declared.place.Rel.TheVariants.{In, On, Carried, Worn, Part}
 use Rattle.object_tree.specs.Places.{holder_of, place_of}
+use Rattle.play_meaning.specs.Settings.{room_kind}
 use Rattle.play_meaning.specs.Worlds.{World}
 use Rattle.play_meaning.specs.declared.scene.SceneNow.{SceneNow}
 use Rattle.story_format.specs.Facts.{start_of}
-use Rattle.story_format.specs.InPlay.{start_flags, start_numbers, start_variable, start_variables, starts_true}
-use Rattle.story_format.specs.Placed.{place_of as place_in, places_in}
+use Rattle.story_format.specs.InPlay.{is_of, is_of_in, start_flags, start_number, start_numbers, start_variable, start_variables, starts_true}
+use Rattle.story_format.specs.Placed.{kinds_in, place_of as place_in, places_in}
 use Rattle.story_format.specs.Spells.{IsStory}
+use Rattle.story_format.specs.declared.tables.Entry.{Entry}
 use Rattle.story_format.specs.declared.tables.Tables.{Tables}
 use Rattle.story_format.proofs.Beginnings.{holders_there, player_in_room, stories_few, stories_tree}
+use Rattle.story_format.proofs.RoomLemmas.{story_starts}
+use Rattle.world_store.specs.Rows.{AreColumns}
 use Rattle.world_store.specs.StartWorlds.{not_begun, start_world}
 use Rattle.world_store.specs.StoryWorlds.{IsKept}
 
@@ -71,22 +76,35 @@ pub length_made : (n : ℕ) → length (replicate n not_begun) ≡ n
 length_made zero = refl
 length_made (suc n) = ap suc (length_made n)
 
-truths_from : (t : Tables) (a n property : ℕ) → length (slice_index_or (map (start_flags t) (range_with_len a n)) property []) ≤ length t.objects
-truths_from t a zero property = omega arith
-truths_from t a (suc n) zero = omega (arith, length-map t.objects (starts_true a))
-truths_from t a (suc n) (suc property) = truths_from t (a + 1) n property
+high_from : {A : Type 0} (column : ℕ → List A) (height a n i : ℕ) → ((k : ℕ) → length (column k) ≡ height) → i < n → length (slice_index_or (map column (range_with_len a n)) i []) ≡ height
+high_from column height a zero i high below = absurd (omega (arith, below))
+high_from column height a (suc n) zero high below = high a
+high_from column height a (suc n) (suc i) high below = high_from column height (a + 1) n i high (omega (arith, below))
+
+columns_made : {A : Type 0} (column : ℕ → List A) (count height : ℕ) → ((k : ℕ) → length (column k) ≡ height) → AreColumns (map column (range_with_len 0 count)) count height
+columns_made column count height high = record { many = length-map-range_with_len column 0 count; high = λ i below. high_from column height 0 count i high below }
+
+-- whether an object is of a kind is told of it and read off its entry alike
+told_of : (parents : List (Option ℕ)) (kind : ℕ) (entries : List Entry) (o : ℕ) → is_at (under_each parents (kinds_in entries) kind) o ≡ is_of_in parents kind (slice_get entries o)
+told_of parents kind [] o = refl
+told_of parents kind (e ∷ entries) zero = refl
+told_of parents kind (e ∷ entries) (suc o) = told_of parents kind entries o
+
+room_at_start : (t : Tables) → IsStory t → is_of t (start_of t) room_kind ≡ true
+unfolding sorts_of
+room_at_start t story = sym (told_of t.world.kinds room_kind t.objects (start_of t)) ∙ story_starts t story
 
 pub kept_at_start : (t : Tables) → IsStory t → IsKept t (start_world t)
 unfolding start_world
 kept_at_start t story = record {
   story = story;
   objects = length-map t.objects place_in;
-  flags = length-map-range_with_len (start_flags t) 0 (length t.world.flags);
-  truths = λ property. truths_from t 0 (length t.world.flags) property;
-  numbers = length-map-range_with_len (start_numbers t) 0 (length t.world.numbers);
+  flags = columns_made (start_flags t) (length t.world.flags) (length t.objects) (λ property. length-map t.objects (starts_true property));
+  numbers = columns_made (start_numbers t) (length t.world.numbers) (length t.objects) (λ property. length-map t.objects (start_number t.world property));
   variables = length-map t.world.variables start_variable;
   scenes = length_made (length t.rules.scenes);
-  room = start_of t;
+  here = start_of t;
+  room = room_at_start t story;
   player = at_or (places_in t.objects) 0 ∙ player_in_room t story;
 }
 
@@ -104,9 +122,9 @@ kept_begun t u places flags numbers variables scenes same p f n v s story =
 -- ---- changes
 
 -- the player's place, and with it all places
-moved : (t : Tables) (w : World) (places : List (Option Place)) (room : ℕ) → IsKept t w → length places ≡ length w.places
-    → place_of places 0 ≡ Some (record { relation = In; holder = room }) → IsKept t (record w { places = places })
-moved t w places room k same player = record { story = k.story; objects = same ∙ k.objects; flags = k.flags; truths = k.truths; numbers = k.numbers; variables = k.variables; scenes = k.scenes; room = room; player = player }
+moved : (t : Tables) (w : World) (places : List (Option Place)) (here : ℕ) → IsKept t w → length places ≡ length w.places → is_of t here room_kind ≡ true
+    → place_of places 0 ≡ Some (record { relation = In; holder = here }) → IsKept t (record w { places = places })
+moved t w places here k same room player = record { story = k.story; objects = same ∙ k.objects; flags = k.flags; numbers = k.numbers; variables = k.variables; scenes = k.scenes; here = here; room = room; player = player }
 
 not_none : (places : List (Option Place)) (place : Place) → place_of places 0 ≡ Some place → 0 < length places
 not_none [] place e = absurd (none-some place e)
@@ -122,17 +140,19 @@ directly place is = by place.relation place.holder is
     by Worn holder is = absurd cc
     by Part holder is = absurd cc
 
-pub keeps_put : (t : Tables) (w : World) (kinds : Kinds) (o : ℕ) (place : Place) (places : List (Option Place)) → IsKept t w → keeps_player kinds o place ≡ true
+pub keeps_put : (t : Tables) (w : World) (kinds : Kinds) (o : ℕ) (place : Place) (places : List (Option Place)) → IsKept t w → kinds.is_room ≡ (λ x. is_of t x room_kind)
+    → keeps_player kinds o place ≡ true
     → places ≡ slice_set w.places o (Some place) → IsKept t (record w { places = places })
-keeps_put t w kinds o place places k keeps is =
+keeps_put t w kinds o place places k rooms keeps is =
     elim (either (eqb o 0)) [
       | inl player ↦
           let first : o ≡ 0 = eqb-true o 0 player in
           let inside : (is_in place.relation && kinds.is_room place.holder) ≡ true = rw player at keeps in
           let there : place_of places 0 ≡ Some place = ap (λ (ps : List (Option Place)). place_of ps 0) (is ∙ ap (λ (n : ℕ). slice_set w.places n (Some place)) first)
           ∙ get_or-set_same w.places 0 (Some place) None (not_none w.places _ k.player) in
-          moved t w places place.holder k (ap length is ∙ length-set w.places o (Some place)) (there ∙ ap Some (directly place (both_are _ _ inside).0))
+          let a_room : is_of t place.holder room_kind ≡ true = sym (ap (λ (f : ℕ → Bool). f place.holder) rooms) ∙ (both_are _ _ inside).1 in
+          moved t w places place.holder k (ap length is ∙ length-set w.places o (Some place)) a_room (there ∙ ap Some (directly place (both_are _ _ inside).0))
       | inr other ↦
           let away : 0 ≢ o = λ e. eqb-false o 0 other (sym e) in
-          moved t w places k.room k (ap length is ∙ length-set w.places o (Some place)) (ap (λ (ps : List (Option Place)). place_of ps 0) is ∙ get_or-set_other w.places o 0 (Some place) None away ∙ k.player)
+          moved t w places k.here k (ap length is ∙ length-set w.places o (Some place)) k.room (ap (λ (ps : List (Option Place)). place_of ps 0) is ∙ get_or-set_other w.places o 0 (Some place) None away ∙ k.player)
     ]

@@ -1,6 +1,10 @@
 -- What the laws of worlds cite.
-use Rattle.std.proofs.Common.{◌≡◌, ◌∙◌, ◌≢◌, ◌⊎◌, sym, ap, refl, ℕ, zero, suc, ◌<◌, ℤ, Bool, true, false, List, [], ◌∷◌, length, arith, inl, inr, get_or-set_other, eqb-true}
-use Rattle.std.specs.Prelude.{Option, Some, None, ◌&&◌, ◌||◌, ◌==◌, if◌then◌else◌, pos, slice_index_or, slice_set}
+use Rattle.std.proofs.Common.{◌≡◌, ◌∙◌, ◌≢◌, ◌⊎◌, sym, ap, refl, ℕ, zero, suc, ◌<◌, ◌≤◌, ℤ, Bool, true, false, List, [], ◌∷◌, length, arith, inl, inr, get_or-set_same, get_or-set_other, eqb-true}
+use Rattle.std.specs.Prelude.{Option, Some, None, ◌&&◌, ◌||◌, ◌==◌, if◌then◌else◌, nat_lt, pos, slice_get, slice_index_or, slice_set}
+use Rattle.std.proofs.lemmas.Bool.{ltb-false, ltb-true}
+use Rattle.world_meaning.proofs.Bools.{either}
+use Rattle.world_meaning.specs.Declarations.{has_property}
+use Rattle.world_meaning.specs.declared.declared.Granted.{Granted}
 use Rattle.world_meaning.specs.Chains.{IsChain}
 use Rattle.world_meaning.specs.Sight.{thing, room, direction}
 use Rattle.world_meaning.specs.declared.place.Place.{Place}
@@ -9,7 +13,10 @@ use Rattle.play_meaning.specs.Seeing.{encloses, has_light, is_in_view, is_visibl
 use Rattle.play_meaning.specs.Settings.{Setting, direction_kind, room_kind, thing_kind}
 use Rattle.play_meaning.specs.StoryWorlds.{IsWorldOf}
 use Rattle.play_meaning.specs.Worlds.{World, chain, is_true_of, location_of, number_of, place_of, set_flag, set_number, set_place}
+use Rattle.story_format.specs.InPlay.{has_in}
+use Rattle.story_format.specs.declared.tables.Entry.{Entry}
 use Rattle.story_format.specs.declared.tables.Tables.{Tables}
+use Rattle.world_store.specs.Rows.{AreColumns}
 use Rattle.world_store.specs.StorySettings.{setting_of}
 use Rattle.world_store.specs.StoryWorlds.{IsKept}
 
@@ -20,17 +27,68 @@ true_within [] o is = absurd cc
 true_within (b ∷ row) zero is = omega arith
 true_within (b ∷ row) (suc o) is = omega (arith, true_within row o is)
 
+-- no column stands behind the last
+none_past : {A : Type 0} (columns : List (List A)) (i : ℕ) → length columns ≤ i → slice_index_or columns i [] ≡ []
+none_past [] i past = refl
+none_past (column ∷ columns) zero past = absurd (omega (arith, past))
+none_past (column ∷ columns) (suc i) past = none_past columns i (omega (arith, past))
+
+at_most : {A : Type 0} (columns : List (List A)) (count height i : ℕ) → AreColumns columns count height → length (slice_index_or columns i []) ≤ height
+at_most columns count height i k =
+    elim (either (nat_lt i count)) [
+      | inl inside ↦ omega (arith, k.high i (ltb-true i count inside))
+      | inr past ↦ omega (arith, ap length (none_past columns i (omega (arith, ltb-false i count past, k.many))))
+    ]
+
 true_there : (t : Tables) (w : World) (property o : ℕ) → IsKept t w → is_true_of w property o ≡ true → o < (setting_of t).count
 unfolding is_true_of setting_of
-true_there t w property o k is = omega (arith, true_within (slice_index_or w.flags property []) o is, k.truths property)
+true_there t w property o k is =
+    omega (arith, true_within (slice_index_or w.flags property []) o is, at_most w.flags (length t.world.flags) (length t.objects) property k.flags)
 
 pub world_of_story : (t : Tables) (w : World) → IsKept t w → ((o : ℕ) → IsChain (place_of w) o (chain w o)) → IsWorldOf (setting_of t) w
 world_of_story t w k ends = record {
   chains = ends;
-  room = record { relation = In; holder = k.room };
+  room = record { relation = In; holder = k.here };
   player = k.player;
   there = λ property o is. true_there t w property o k is;
 }
+
+-- ---- what is set is read
+
+granted_there : (parents : List (Option ℕ)) (granted : List Granted) (kind property : ℕ) → has_property parents granted kind property ≡ true → property < length granted
+granted_there parents [] kind property has = absurd cc
+granted_there parents (g ∷ granted) kind zero has = omega arith
+granted_there parents (g ∷ granted) kind (suc property) has = omega (arith, granted_there parents granted kind property has)
+
+had_there : (parents : List (Option ℕ)) (granted : List Granted) (property : ℕ) (entries : List Entry) (o : ℕ) → has_in parents granted property (slice_get entries o) ≡ true
+    → (o < length entries) × (property < length granted)
+had_there parents granted property [] o has = absurd cc
+had_there parents granted property (e ∷ entries) zero has = (omega arith, granted_there parents granted e.kind property has)
+had_there parents granted property (e ∷ entries) (suc o) has =
+    let found = had_there parents granted property entries o has in
+    (omega (arith, found.0), found.1)
+
+cell_read : {A : Type 0} (columns : List (List A)) (count height i o : ℕ) (value otherwise : A) → AreColumns columns count height → i < count → o < height
+    → slice_index_or (slice_index_or (slice_set columns i (slice_set (slice_index_or columns i []) o value)) i []) o otherwise ≡ value
+cell_read columns count height i o value otherwise k inside at =
+    ap (λ column. slice_index_or column o otherwise) (get_or-set_same columns i (slice_set (slice_index_or columns i []) o value) [] (omega (arith, inside, k.many)))
+    ∙ get_or-set_same (slice_index_or columns i []) o value otherwise (omega (arith, at, k.high i inside))
+
+pub flag_read : (t : Tables) (w : World) (property o : ℕ) (value : Bool) → IsKept t w → (setting_of t).has_flag o property ≡ true → is_true_of (set_flag property o value w) property o ≡ value
+unfolding is_true_of set_flag setting_of
+flag_read t w property o value k has =
+    let there = had_there t.world.kinds t.world.flags property t.objects o has in
+    cell_read w.flags (length t.world.flags) (length t.objects) property o value false k.flags there.1 there.0
+
+pub number_read : (t : Tables) (w : World) (property o : ℕ) (value : ℤ) → IsKept t w → (setting_of t).has_number o property ≡ true → number_of (set_number property o value w) property o ≡ value
+unfolding number_of set_number setting_of
+number_read t w property o value k has =
+    let there = had_there t.world.kinds t.world.numbers property t.objects o has in
+    cell_read w.numbers (length t.world.numbers) (length t.objects) property o value (pos 0) k.numbers there.1 there.0
+
+pub place_read : (t : Tables) (w : World) (o : ℕ) (place : Option Place) → IsKept t w → o < (setting_of t).count → place_of (set_place o place w) o ≡ place
+unfolding setting_of
+place_read t w o place k there = get_or-set_same w.places o place None (omega (arith, there, k.objects))
 
 -- ---- changes
 

@@ -8,3 +8,4 @@ pub mod Tops
 pub mod Views
 pub mod Directing
 pub mod RowLemmas
+pub mod Atlases

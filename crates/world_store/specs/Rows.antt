@@ -1,5 +1,5 @@
 -- Columns of one height that stand in one list, one behind the other.
-use Rattle.std.specs.Prelude.{ℕ, zero, suc, ◌+◌, ◌*◌, ◌&&◌, nat_lt, List, [], ◌∷◌, drop, take, Option, None, Some, slice_index_or, slice_set, if◌then◌else◌}
+use Rattle.std.specs.Prelude.{◌≡◌, ℕ, zero, suc, ◌+◌, ◌*◌, ◌<◌, ◌&&◌, nat_lt, List, [], ◌∷◌, drop, length, take, Option, None, Some, slice_index_or, slice_set, if◌then◌else◌}
 
 -- so many columns
 unfoldable pub rows : {T : Type 0} → ℕ → ℕ → List T → List (List T)
@@ -17,3 +17,8 @@ read_at values (Some place) otherwise = slice_index_or values place otherwise
 abbrev pub write_at : {T : Type 0} → List T → Option ℕ → T → List T
 write_at values None value = values
 write_at values (Some place) value = slice_set values place value
+
+-- so many columns, each of this height
+pub record AreColumns {T : Type 0} (columns : List (List T)) (count height : ℕ) : Type 0 where
+  pub many : length columns ≡ count
+  pub high : (column : ℕ) → column < count → length (slice_index_or columns column []) ≡ height

@@ -1,5 +1,5 @@
 //! What changes the world: each setter makes one change, where the rules of the kinds and of placing allow it.
-ghost use Rattle.std.specs.Prelude.{◌≡◌, ◌<◌, ℕ, Some, OnOk, OnErr, is_ok, length, nat_lt};
+ghost use Rattle.std.specs.Prelude.{◌≡◌, ◌<◌, ℕ, Some, is_ok, length, nat_lt, true};
 ghost use Rattle.play_meaning.specs.Changes.{make_number, make_so, may_be_put, put_at, take_away};
 ghost use Rattle.play_meaning.specs.Settings.{kinds_of};
 ghost use Rattle.play_meaning.specs.Worlds.{chain, end_with, next_turn, place_of, set_scene, set_variable};
@@ -12,7 +12,6 @@ ghost use Rattle.world_store.specs.StoryWorlds.{in_world};
 use crate::World;
 use crate::sight::is_in;
 use play_meaning::{SceneNow, WorldFault};
-use std::alloc::{AllocError, Global};
 use world_meaning::{KindNo, ObjNo, Rel, TextBytes};
 
 impl World {
@@ -74,12 +73,11 @@ impl World {
         self.turns += 1;
     }
 
-    /// Ends the story with a copy of a text. Refused memory leaves the world as it was.
-    pub fn end_story(&mut self, alloc: Global, text: &[u8]) -> Result<(), AllocError>
-        ensures ended { OnOk result (self.new ≡ in_world self.old (end_with text.now self.old.world)) }
-        ensures refused { OnErr result (self.new ≡ self.old) }
+    /// Ends the story with a text. This is never refused.
+    pub fn end_story(&mut self, text: TextBytes) -> Result<(), WorldFault>
+        ensures answer { is_ok result ≡ true }
+        ensures world { self.new ≡ in_world self.old (end_with text self.old.world) }
     {
-        let text = TextBytes::copied(alloc, text)?;
         self.ended = Some(text);
         Ok(())
     }

@@ -3,8 +3,7 @@ ghost use Rattle.world_store.specs.StorySettings.{setting_of};
 
 use crate::World;
 use play_meaning::{Ground, GroundMut, SceneNow, WorldFault};
-use std::alloc::{AllocError, Global};
-use world_meaning::{Article, KindNo, ObjNo, Place, Rel};
+use world_meaning::{Article, KindNo, ObjNo, Place, Rel, TextBytes};
 
 impl Ground for World {
     ghost setting = { λ w. setting_of w.tables };
@@ -113,7 +112,7 @@ impl GroundMut for World {
         self.take_out(object)
     }
 
-    fn end_story(&mut self, alloc: Global, text: &[u8]) -> Result<(), AllocError> {
-        self.end_story(alloc, text)
+    fn end_story(&mut self, text: TextBytes) -> Result<(), WorldFault> {
+        self.end_story(text)
     }
 }

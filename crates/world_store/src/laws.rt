@@ -1,10 +1,11 @@
 //! What holds of every story in play, of its worlds and their changes, and of the dark.
-ghost use Rattle.std.specs.Prelude.{◌≡◌, ◌≢◌, ◌⊎◌, ℕ, ℤ, Bool, true, false, Option, Some};
+ghost use Rattle.std.specs.Prelude.{◌≡◌, ◌≢◌, ◌⊎◌, ◌<◌, ℕ, ℤ, Bool, true, false, Option, Some, length};
 ghost use Rattle.play_meaning.specs.PlainTales.{story_of_tale};
 ghost use Rattle.play_meaning.specs.Seeing.{encloses, has_light, is_visible, root_of};
 ghost use Rattle.play_meaning.specs.Settings.{Setting, direction_kind, thing_kind};
 ghost use Rattle.play_meaning.specs.StoryWorlds.{IsWorldOf};
-ghost use Rattle.play_meaning.specs.Worlds.{World as PlayWorld, is_true_of, number_of, place_of, set_flag, set_number, set_place};
+ghost use Rattle.play_meaning.specs.Worlds.{World as PlayWorld, is_true_of, number_of, place_of, scene_of, set_flag, set_number, set_place, set_scene, set_variable, variable_of};
+ghost use Rattle.play_meaning.specs.declared.scene.SceneNow.{SceneNow};
 ghost use Rattle.story_format.specs.Holding.{IsHeld};
 ghost use Rattle.story_format.specs.Making.{tables_of};
 ghost use Rattle.world_meaning.specs.Sight.{direction};
@@ -12,6 +13,7 @@ ghost use Rattle.world_meaning.specs.declared.place.Place.{Place};
 ghost use Rattle.world_meaning.specs.declared.tale.Tale.{Tale};
 ghost use Rattle.world_store.specs.StoryGames.{plain_story};
 ghost use Rattle.world_store.specs.StorySettings.{setting_of};
+ghost use Rattle.world_store.specs.StoryWorlds.{IsKept};
 
 use crate::World;
 use world_meaning::ObjNo;
@@ -50,3 +52,28 @@ pub fn the_dark_hides()
     ensures { (s : Setting) (w : PlayWorld) (o : ℕ) → has_light s w ≡ false → s.is_of o thing_kind ≡ true → is_visible s w o ≡ true
         → (o ≡ 0) ⊎ (encloses w 0 o ≡ true) }
 {}
+
+/// What is known of any world that is handed in: it says of each object where it is, whether each property is true of it,
+/// and its numbers, and the player is directly in a room.
+pub fn worlds_are_whole(world: &World)
+    ensures { IsKept world.now.tables world.now.world }
+{
+    let _ = &world.tree;
+}
+
+/// In a world of a story what is set is read: of objects that have the property, of where objects are, and of the variables and
+/// scenes that are there.
+pub fn what_is_set_is_read(world: &World)
+    ensures flags { (property o : ℕ) (value : Bool) → (setting_of world.now.tables).has_flag o property ≡ true
+        → is_true_of (set_flag property o value world.now.world) property o ≡ value }
+    ensures numbers { (property o : ℕ) (value : ℤ) → (setting_of world.now.tables).has_number o property ≡ true
+        → number_of (set_number property o value world.now.world) property o ≡ value }
+    ensures places { (o : ℕ) (place : Option Place) → o < (setting_of world.now.tables).count
+        → place_of (set_place o place world.now.world) o ≡ place }
+    ensures variables { (variable : ℕ) (value : ℤ) → variable < length world.now.world.variables
+        → variable_of (set_variable variable value world.now.world) variable ≡ value }
+    ensures scenes { (scene : ℕ) (now : SceneNow) → scene < length world.now.world.scenes
+        → scene_of (set_scene scene now world.now.world) scene ≡ now }
+{
+    let _ = &world.tree;
+}

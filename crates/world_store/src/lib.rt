@@ -2,6 +2,7 @@
 //! changed where the rules of placing allow it, and copied; what is seen, touched and lit in it is told by walks.
 #![tactic(auto)]
 
+mod atlas;
 mod changes;
 mod columns;
 mod ground;
@@ -12,7 +13,7 @@ mod world;
 
 pub use laws::{
     changes_leave_others, directions_are_directions, tables_give_their_tales_game, the_dark_hides,
-    worlds_are_of_their_stories,
+    what_is_set_is_read, worlds_are_of_their_stories, worlds_are_whole,
 };
 pub use play_meaning::WorldFault;
 pub use world::World;

@@ -88,7 +88,7 @@ impl World {
     {
         let here = self.location();
         if self.is_of(direction, KindNo::DIRECTION) && self.is_of(here, KindNo::ROOM) {
-            door_in(&self.story().exits(here), direction)
+            door_in(&self.exits(here), direction)
         } else {
             None
         }

@@ -5,12 +5,13 @@ ghost use Rattle.std.specs.Option.{option_map};
 ghost use Rattle.play_meaning.specs.Seeing.{encloses, is_held_by};
 ghost use Rattle.play_meaning.specs.Worlds.{chain, is_true_of, location_of, number_of, place_of, scene_of, variable_of};
 ghost use Rattle.world_meaning.specs.Chains.{IsChain};
-ghost use Rattle.story_format.specs.InPlay.{start_flags, start_numbers};
+ghost use Rattle.story_format.specs.InPlay.{exits_of, start_flags, start_numbers};
 ghost use Rattle.story_format.specs.Placed.{places_in};
 ghost use Rattle.story_format.specs.Spells.{IsStory};
 ghost use Rattle.world_store.specs.StartWorlds.{start_world};
 ghost use Rattle.world_store.specs.StorySettings.{setting_of};
 
+use crate::atlas::Atlas;
 use crate::columns::Columns;
 use object_tree::{Chain, Tree};
 use play_meaning::SceneNow;
@@ -18,7 +19,7 @@ use std::alloc::{AllocError, Global};
 use std::marker::Model;
 use std::rc::Rc;
 use story_format::Story;
-use world_meaning::{KindNo, ObjNo, Place, TextBytes};
+use world_meaning::{Exits, KindNo, ObjNo, Place, TextBytes};
 
 /// A scene that never began.
 const NOT_BEGUN: SceneNow = SceneNow {
@@ -30,7 +31,7 @@ const NOT_BEGUN: SceneNow = SceneNow {
 /// and the ending stand.
 #[derive(Drop)]
 pub struct World {
-    pub(crate) story: Rc<Story>,
+    pub(crate) atlas: Rc<Atlas>,
     pub(crate) tree: Tree,
     pub(crate) flags: Columns<bool>,
     pub(crate) numbers: Columns<i32>,
@@ -46,7 +47,7 @@ impl Model for World {
     ghost Value = { StoryWorld };
 
     ghost view = { λ w. record {
-      tables = w.story.value;
+      tables = w.atlas.value;
       world = record {
         places = w.tree;
         flags = w.flags;
@@ -58,7 +59,7 @@ impl Model for World {
       };
     } };
 
-    ghost invariant = { λ w. IsKept w.story.value (record {
+    ghost invariant = { λ w. IsKept w.atlas.value (record {
       places = w.tree;
       flags = w.flags;
       numbers = w.numbers;
@@ -138,8 +139,9 @@ impl World {
         let numbers = start_numbers(alloc, told)?;
         let variables = told.variables(alloc)?;
         let scenes = vec![in alloc; NOT_BEGUN; told.scene_count()]?;
+        let atlas = Rc::new(alloc, Atlas::new(alloc, story)?)?;
         Ok(World {
-            story: story.clone()?,
+            atlas,
             tree,
             flags,
             numbers,
@@ -155,7 +157,7 @@ impl World {
         ensures { IfOk result (λ world. world ≡ self.now) }
     {
         Ok(World {
-            story: self.story.clone()?,
+            atlas: self.atlas.clone()?,
             tree: self.tree.copy(alloc)?,
             flags: self.flags.copy(alloc)?,
             numbers: self.numbers.copy(alloc)?,
@@ -170,7 +172,14 @@ impl World {
     pub fn story(&self) -> &Story
         ensures { result.now ≡ self.now.tables }
     {
-        self.story.as_ref()
+        self.atlas.as_ref().story()
+    }
+
+    /// The ways of a room, if it is one.
+    pub(crate) fn exits(&self, room: ObjNo) -> Option<Exits>
+        ensures { result ≡ exits_of self.now.tables room }
+    {
+        self.atlas.as_ref().exits(room)
     }
 
     /// Where an object is: its holder and how it is held, or nothing. An object that isn't there is nowhere.

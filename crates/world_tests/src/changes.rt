@@ -3,7 +3,7 @@ use crate::start::{begun, inside};
 use crate::story::{cave, chest, coin, gate, gem, hall, jar, table};
 use play_meaning::SceneNow;
 use std::test::Fail;
-use world_meaning::{ObjNo, Rel};
+use world_meaning::{ObjNo, Rel, TextBytes};
 use world_store::WorldFault;
 
 /// The player.
@@ -95,7 +95,10 @@ fn turns_are_counted_and_stories_end(rt: HostRuntime) -> Result<(), Fail> {
         world.next_turn();
     }
     assert_eq!(rt; world.turns(), 2);
-    world.end_story(alloc, b"You won.")?;
+    assert_eq!(rt;
+        world.end_story(TextBytes::copied(alloc, b"You won.")?),
+        Ok(())
+    );
     assert!(rt; world.ended() == Some(b"You won.".as_slice()));
     Ok(())
 }

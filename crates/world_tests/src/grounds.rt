@@ -2,7 +2,6 @@
 use crate::start::{begun, inside};
 use crate::story::{chest, coin, gate, gem, hall, jar, table};
 use play_meaning::{Change, Ground, GroundMut, SceneNow, WorldFault, make};
-use std::alloc::{AllocError, Global};
 use std::test::Fail;
 use world_meaning::{Article, KindNo, ObjNo, Rel, TextBytes};
 
@@ -76,10 +75,9 @@ fn refuses_what_is_out_of_place<G: GroundMut>(ground: &mut G) -> bool {
         && ground.take_out(player()) == misplaced
 }
 
-/// Ends the story of a ground.
-fn is_won<G: GroundMut>(alloc: Global, ground: &mut G) -> Result<bool, AllocError> {
-    ground.end_story(alloc, b"You won.")?;
-    Ok(ground.ended() == Some(b"You won.".as_slice()))
+/// Ends the story of a ground with this text, and answers whether that is so.
+fn is_ended<G: GroundMut>(ground: &mut G, text: TextBytes) -> bool {
+    ground.end_story(text) == Ok(()) && ground.ended() == Some(b"You won.".as_slice())
 }
 
 #[test]
@@ -88,7 +86,8 @@ fn grounds_are_changed_or_refuse(rt: HostRuntime) -> Result<(), Fail> {
     let mut world = begun(alloc)?;
     assert!(rt; refuses_what_kinds_lack(&mut world));
     assert!(rt; refuses_what_is_out_of_place(&mut world));
-    assert!(rt; is_won(alloc, &mut world)?);
+    let text = TextBytes::copied(alloc, b"You won.")?;
+    assert!(rt; is_ended(&mut world, text));
     assert!(rt; world.flag(chest(), 0));
     assert_eq!(rt; world.number(gem(), 0), 9);
     assert_eq!(rt; world.variable(1), 40);
@@ -105,33 +104,32 @@ fn changes_are_made(rt: HostRuntime) -> Result<(), Fail> {
         property: 0,
         value: true,
     };
-    make(alloc, &mut world, &opened)?;
+    make(&mut world, opened);
     assert!(rt; world.flag(chest(), 0));
     let moved = Change::Put {
         object: coin(),
         relation: Rel::On,
         holder: table(),
     };
-    make(alloc, &mut world, &moved)?;
+    make(&mut world, moved);
     assert!(rt; world.encloses(table(), coin()));
-    make(alloc, &mut world, &Change::TakeOut(coin()))?;
+    make(&mut world, Change::TakeOut(coin()));
     assert_eq!(rt; world.holder(coin()), None);
     let won = Change::EndStory(TextBytes::copied(alloc, b"You won.")?);
-    make(alloc, &mut world, &won)?;
+    make(&mut world, won);
     assert!(rt; world.ended() == Some(b"You won.".as_slice()));
     Ok(())
 }
 
 #[test]
 fn changes_that_are_not_allowed_do_nothing(rt: HostRuntime) -> Result<(), Fail> {
-    let alloc = rt.alloc();
-    let mut world = begun(alloc)?;
+    let mut world = begun(rt.alloc())?;
     let weight = Change::SetNumber {
         object: hall(),
         property: 0,
         value: 9,
     };
-    make(alloc, &mut world, &weight)?;
+    make(&mut world, weight);
     assert_eq!(rt; world.number(hall(), 0), 0);
     let storm = Change::SetScene {
         scene: 0,
@@ -140,22 +138,21 @@ fn changes_that_are_not_allowed_do_nothing(rt: HostRuntime) -> Result<(), Fail> 
             has_begun: true,
         },
     };
-    make(alloc, &mut world, &storm)?;
+    make(&mut world, storm);
     assert!(rt; !world.scene(0).has_begun);
-    make(alloc, &mut world, &Change::TakeOut(player()))?;
+    make(&mut world, Change::TakeOut(player()));
     assert_eq!(rt; world.holder(player()), inside(hall()));
     Ok(())
 }
 
 #[test]
 fn variables_are_changed(rt: HostRuntime) -> Result<(), Fail> {
-    let alloc = rt.alloc();
-    let mut world = begun(alloc)?;
+    let mut world = begun(rt.alloc())?;
     let score = Change::SetVariable {
         variable: 0,
         value: 12,
     };
-    make(alloc, &mut world, &score)?;
+    make(&mut world, score);
     assert_eq!(rt; world.variable(0), 12);
     Ok(())
 }

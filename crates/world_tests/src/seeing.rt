@@ -1,6 +1,6 @@
 //! What the player sees and touches, in light and in the dark.
 use crate::start::begun;
-use crate::story::{cave, chest, coin, gate, gem, hall, jar, lamp, sack};
+use crate::story::{cave, chest, coin, gate, gem, hall, jar, lamp, sack, table};
 use std::test::Fail;
 use world_meaning::{ObjNo, Rel};
 
@@ -64,5 +64,35 @@ fn light_comes_out_of_an_open_sack(rt: HostRuntime) -> Result<(), Fail> {
     assert!(rt; world.visible_in(light, lamp()));
     assert!(rt; world.touchable_in(light, sack()));
     assert!(rt; world.visible_in(light, gate()));
+    Ok(())
+}
+
+#[test]
+fn light_comes_out_of_closed_glass(rt: HostRuntime) -> Result<(), Fail> {
+    let mut world = begun(rt.alloc())?;
+    world.put(player(), Rel::In, cave())?;
+    world.put(jar(), Rel::In, cave())?;
+    assert!(rt; !world.lit_here());
+    world.put(lamp(), Rel::In, jar())?;
+    assert!(rt; world.lit_here());
+    assert!(rt; world.visible(lamp()));
+    assert!(rt; !world.touchable(lamp()));
+    assert!(rt; world.touchable(jar()));
+    Ok(())
+}
+
+#[test]
+fn closed_containers_hide_what_is_deep_in_them(rt: HostRuntime) -> Result<(), Fail> {
+    let mut world = begun(rt.alloc())?;
+    world.put(jar(), Rel::In, chest())?;
+    world.set_flag(jar(), OPEN, true)?;
+    assert!(rt; !world.visible(gem()));
+    world.set_flag(chest(), OPEN, true)?;
+    assert!(rt; world.visible(gem()));
+    assert!(rt; world.touchable(gem()));
+    world.put(chest(), Rel::On, table())?;
+    assert!(rt; world.touchable(gem()));
+    world.put(table(), Rel::In, cave())?;
+    assert!(rt; !world.visible(gem()));
     Ok(())
 }

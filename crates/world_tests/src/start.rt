@@ -3,7 +3,7 @@ use crate::story::{cave, chest, coin, furnished, gate, gem, hall, jar, lamp};
 use std::alloc::Global;
 use std::rc::Rc;
 use std::test::Fail;
-use world_meaning::{Article, KindNo, ObjNo, Place, Rel};
+use world_meaning::{Article, KindNo, ObjNo, Place, Rel, TextBytes};
 use world_store::World;
 
 /// The player.
@@ -86,6 +86,36 @@ fn worlds_lend_their_story(rt: HostRuntime) -> Result<(), Fail> {
     assert!(rt; world.story().name(jar()) == b"jar".as_slice());
     assert!(rt; world.story().article(jar()) == Article::A);
     assert!(rt; world.story().article(player()) == Article::None);
+    Ok(())
+}
+
+/// Whether two worlds say the same of where objects are, and of each object's properties and number.
+fn agree_on_objects(world: &World, other: &World) -> bool {
+    (0..23u16).map(ObjNo::new).all(|object| {
+        world.holder(object) == other.holder(object)
+            && world.number(object, WEIGHT) == other.number(object, WEIGHT)
+            && (0..11u8).all(|property| world.flag(object, property)
+                == other.flag(object, property))
+    })
+}
+
+#[test]
+fn copies_say_what_their_worlds_say(rt: HostRuntime) -> Result<(), Fail> {
+    let alloc = rt.alloc();
+    let mut world = begun(alloc)?;
+    world.put(coin(), Rel::In, jar())?;
+    world.set_flag(chest(), 0, true)?;
+    world.set_number(coin(), WEIGHT, 8)?;
+    world.set_variable(0, 12)?;
+    let fresh = begun(alloc)?;
+    assert!(rt; !agree_on_objects(&fresh, &world));
+    world.end_story(TextBytes::copied(alloc, b"You won.")?)?;
+    let copy = world.copy(alloc)?;
+    assert!(rt; agree_on_objects(&copy, &world));
+    assert_eq!(rt; copy.variable(0), 12);
+    assert_eq!(rt; copy.variable(1), -5);
+    assert_eq!(rt; copy.turns(), 1);
+    assert!(rt; copy.ended() == Some(b"You won.".as_slice()));
     Ok(())
 }
 

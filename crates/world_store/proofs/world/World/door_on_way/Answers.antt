@@ -1,6 +1,6 @@
 use Rattle.std.proofs.Common.{◌∙◌, ap, sym}
 use Rattle.play_meaning.specs.Worlds.{location_of}
-use Rattle.story_format.specs.InPlay.{door_in, exits_of}
+use Rattle.story_format.specs.InPlay.{door_in}
 use Rattle.world_store.specs.StorySettings.{setting_of}
 use Rattle.world_store.proofs.Views.{beyond_here}
 use Rattle.world_store.proofs.world.World.door_on_way.Goals as goal
@@ -9,6 +9,6 @@ pub returns-then-is_of-2 : goal.returns-then-is_of-2
 unfolding setting_of
 returns-then-is_of-2 c =
     let s = setting_of c.args.self.now.tables in
-    c.door_in.ensures ∙ ap (λ e. door_in e c.args.direction) (c.exits.ensures ∙ ap (λ t. exits_of t c.location-here.result) c.story.ensures)
+    c.door_in.ensures ∙ ap (λ e. door_in e c.args.direction) c.exits.ensures
     ∙ beyond_here s s.door_beyond c.args.direction c.location-here.result (location_of c.args.self.now.world) c.location-here.ensures
     (sym c.if-is_of.ensures) (sym c.if-is_of-2.ensures)
