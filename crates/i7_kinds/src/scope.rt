@@ -89,6 +89,13 @@ impl<'a> Scope<'a> {
         number_in(self.kinds, key)
     }
 
+    /// Whether there is a kind of this name.
+    pub fn has_kind(&self, key: &[u8]) -> bool
+        ensures { result ≡ has_name self.now.kinds key.now }
+    {
+        self.kinds.contains(key)
+    }
+
     /// How many objects there are.
     pub fn count(&self) -> usize
         ensures { result ≡ length self.now.objects }

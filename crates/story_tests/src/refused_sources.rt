@@ -76,6 +76,16 @@ const REFUSED: &[(&str, FaultCode, u32)] = &[
         2,
     ),
     (
+        "The gate is north of the Hall and south of the Yard.\n\"Iron.\"\nThe gate is a room.",
+        FaultCode::WrongKind,
+        3,
+    ),
+    (
+        "The Hall is a frob.\nThe Hall is a room. \"One.\"\nThe description of the Hall is \"Two.\"",
+        FaultCode::Twice,
+        3,
+    ),
+    (
         "The Hall is a room. The gate is a man.\nThe gate is north of the Hall and south of the Yard.",
         FaultCode::WrongKind,
         2,
