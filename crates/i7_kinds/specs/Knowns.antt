@@ -16,8 +16,8 @@ use Rattle.i7_kinds.specs.declared.knowns.Demanded.TheVariants.{Nothing, Deepest
 use Rattle.i7_kinds.specs.declared.grants.Given.{Given}
 use Rattle.i7_kinds.specs.declared.knowns.Known.{Known}
 
--- the names of objects, of kinds and of either-or properties, by number, of each kind the kind above it, which kinds
--- sentences give a property to, and of which objects they demand a door
+-- the names of objects, of kinds, of properties, the either-or ones first, and of variables, by number, of each kind the
+-- kind above it, which kinds sentences give a property to, and of which objects they demand a door
 pub record Scope : Type 0 where
   pub objects : List (List ℕ)
   pub kinds : List (List ℕ)
@@ -25,6 +25,7 @@ pub record Scope : Type 0 where
   pub properties : List (List ℕ)
   pub givens : List Given
   pub doors : List (List ℕ)
+  pub variables : List (List ℕ)
 
 abbrev pub door_kind : ℕ
 door_kind = 3
