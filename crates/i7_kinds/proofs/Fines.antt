@@ -106,7 +106,10 @@ module _ (s : Scope) (n : ℕ) (many : 10 ≤ n) (known_kinds : (kind : List ℕ
       ]
 
   fact_fine : (f : Fact) (knowns : List Known) → is_off s knowns f ≡ false → is_unknown s.kinds f ≡ false → Fine knowns → Fine (with_known s knowns f)
-  fact_fine (Demands d) knowns h k fine o = demand_fine d.object (number_in s.kinds d.kind) knowns (known_kinds d.kind (not_false _ k)) h fine o
+  fact_fine (Demands d) knowns h k fine o =
+      let there = not_false (has_name s.kinds d.kind) k in
+      let apart : is_parted (deepened s knowns d.object (number_in s.kinds d.kind)) ≡ false = rw there at h in
+      rw there (demand_fine d.object (number_in s.kinds d.kind) knowns (known_kinds d.kind there) apart fine o)
   fact_fine (RoomUnlessDoor name) knowns h k fine o = room_fine name knowns h fine o
   fact_fine (Placed p) knowns h k fine o = holder_fine p knowns fine o
   fact_fine _ knowns h k fine o = fine o
@@ -148,7 +151,11 @@ knowns_fine s n claims kinds many h k = claims_fine s n many kinds claims (first
 -- ---- how many are known
 
 fact_length : (s : Scope) (f : Fact) (knowns : List Known) → length (with_known s knowns f) ≡ length knowns
-fact_length s (Demands d) knowns = set_length knowns (number_in s.objects d.object) _
+fact_length s (Demands d) knowns =
+    elim (either (has_name s.kinds d.kind)) [
+      | inl is ↦ rw is (set_length knowns (number_in s.objects d.object) _)
+      | inr isnt ↦ rw isnt refl
+    ]
 fact_length s (RoomUnlessDoor name) knowns =
     elim (either (has_name s.doors name)) [
       | inl is ↦ rw is refl

@@ -163,6 +163,9 @@ names_few s (c ∷ cs) names few h =
 pub variables_few : (claims : List Claim) → too_many_as sort.Variable claims ≡ None → length (names_as sort.Variable claims) ≤ 100
 variables_few claims h = names_few sort.Variable claims [] (omega arith) h
 
+pub numbers_few : (claims : List Claim) → too_many_as sort.Number claims ≡ None → length (names_as sort.Number claims) ≤ 100
+numbers_few claims h = names_few sort.Number claims [] (omega arith) h
+
 pub either_ors_few : (claims : List Claim) → too_many_as sort.EitherOr claims ≡ None → length (names_as sort.EitherOr claims) ≤ 100
 unfolding built_in_either_ors
 either_ors_few claims h = names_few sort.EitherOr claims built_in_either_ors (omega arith) h

@@ -17,6 +17,7 @@ pub mod Setting
 pub mod Placed
 pub mod PlaceScans
 pub mod ValueScans
+pub mod Ranged
 pub mod Readiness
 pub mod FewWords
 mod Quoting

@@ -8,7 +8,7 @@ use Rattle.i7_kinds.specs.KindClaims.{AreSmallKinds, declared_by, givens_by, kin
 use Rattle.i7_kinds.specs.Knowns.{Scope, kind_of, known_at, knowns_of, off_path}
 use Rattle.i7_kinds.specs.Places.{places_by}
 use Rattle.i7_kinds.specs.Scans.{earlier}
-use Rattle.i7_kinds.specs.Sorts.{name_too_many, names_as, too_many_as}
+use Rattle.i7_kinds.specs.Sorts.{name_too_many, names_as, property_names, too_many_as}
 use Rattle.i7_kinds.specs.Grants.{built_in_bases, givens_of}
 use Rattle.i7_kinds.specs.declared.grants.Given.{Given}
 use Rattle.i7_kinds.specs.declared.sorts.Sort.TheVariants as sort
@@ -16,7 +16,7 @@ use Rattle.i7_kinds.proofs.Granting.{flags_counted}
 use Rattle.i7_sentences.specs.declared.sentence.Sentence.{Sentence}
 use Rattle.i7_kinds.specs.Statements.{NameAt, Named, named_by, statement_in}
 use Rattle.i7_kinds.specs.Suits.{first_room, unsuited, with_player}
-use Rattle.i7_kinds.specs.Tales.{faults_of, frame_refusal, limit_refusal, judged, refusal_of, said_by, said_in, scope_of, scope_with, unless_unmeant, unmeant_sentence}
+use Rattle.i7_kinds.specs.Tales.{faults_of, frame_refusal, limit_refusal, judged, refusal_of, said_by, said_in, scope_of, scope_with}
 use Rattle.i7_kinds.specs.declared.claim.Claim.{Claim}
 use Rattle.i7_kinds.specs.declared.knowns.Known.{Known}
 use Rattle.i7_kinds.specs.declared.statements.NumberedSentence.{NumberedSentence}
@@ -105,12 +105,12 @@ named_counted sentences named same = subst (λ (n : Named). length n.keys ≡ 13
 
 -- ---- from the code's names to the sentences'
 
-pub scope_same : (s : Scope) (kinds : List (List ℕ)) (parents : List (Option ℕ)) (claims : List Claim) (objects keys properties : List (List ℕ)) (givens : List Given) (doors : List (List ℕ))
-    → s ≡ record { objects = objects; kinds = kinds; parents = parents; properties = properties; givens = givens; doors = doors } → objects ≡ keys → properties ≡ names_as sort.EitherOr claims → givens ≡ givens_of properties kinds claims → doors ≡ doors_of kinds parents claims
+pub scope_same : (s : Scope) (kinds : List (List ℕ)) (parents : List (Option ℕ)) (claims : List Claim) (objects keys properties : List (List ℕ)) (givens : List Given) (doors variables : List (List ℕ))
+    → s ≡ record { objects = objects; kinds = kinds; parents = parents; properties = properties; givens = givens; doors = doors; variables = variables } → objects ≡ keys → properties ≡ property_names claims → givens ≡ givens_of properties kinds claims → doors ≡ doors_of kinds parents claims → variables ≡ names_as sort.Variable claims
     → s ≡ scope_with kinds parents claims keys
-scope_same s kinds parents claims objects keys properties givens doors h o p g d =
+scope_same s kinds parents claims objects keys properties givens doors variables h o p g d v =
     let given = g ∙ ap (λ (ps : List (List ℕ)). givens_of ps kinds claims) p in
-    h ∙ (λ i. record { objects = o i; kinds = kinds; parents = parents; properties = p i; givens = given i; doors = d i })
+    h ∙ (λ i. record { objects = o i; kinds = kinds; parents = parents; properties = p i; givens = given i; doors = d i; variables = v i })
 
 pub scope_meant : (s : Scope) (kinds : List (List ℕ)) (parents : List (Option ℕ)) (claims : List Claim) (keys : List (List ℕ)) → s ≡ scope_with kinds parents claims keys → kinds ≡ kind_names claims → parents ≡ parents_of kinds claims → s ≡ scope_of claims s.objects
 scope_meant s kinds parents claims keys h named above =
@@ -119,14 +119,12 @@ scope_meant s kinds parents claims keys h named above =
     ∙ ap (λ (ps : List (Option ℕ)). scope_with kinds ps claims s.objects) above
     ∙ ap (λ (names : List (List ℕ)). scope_with names (parents_of names claims) claims s.objects) named
 
-pub said_same : (kinds : List (List ℕ)) (parents : List (Option ℕ)) (claims : List Claim) (sentences : List Sentence) (s : Scope) (statements : List NumberedSentence) (mentions : List NameAt) (line : Option ℕ) (named : Named)
-    → named ≡ named_by sentences → s ≡ scope_with kinds parents claims named.keys → statements ≡ map (statement_in named) sentences → mentions ≡ named.mentions → line ≡ unmeant_sentence sentences → line ≡ None
+pub said_same : (kinds : List (List ℕ)) (parents : List (Option ℕ)) (claims : List Claim) (sentences : List Sentence) (s : Scope) (statements : List NumberedSentence) (mentions : List NameAt) (named : Named)
+    → named ≡ named_by sentences → s ≡ scope_with kinds parents claims named.keys → statements ≡ map (statement_in named) sentences → mentions ≡ named.mentions
     → judged s claims statements mentions ≡ said_in kinds parents claims sentences
-said_same kinds parents claims sentences s statements mentions line named same scope stated mentioned meant none =
+said_same kinds parents claims sentences s statements mentions named same scope stated mentioned =
     let of_names = λ (n : Named). judged (scope_with kinds parents claims n.keys) claims (map (statement_in n) sentences) n.mentions in
-    (λ i. judged (scope i) claims (stated i) (mentioned i))
-    ∙ ap of_names same
-    ∙ sym (ap (λ (l : Option ℕ). unless_unmeant l (of_names (named_by sentences))) (sym meant ∙ none))
+    (λ i. judged (scope i) claims (stated i) (mentioned i)) ∙ ap of_names same
 
 pub said_above : (claims : List Claim) (sentences : List Sentence) (kinds : List (List ℕ)) (parents : List (Option ℕ)) → kinds ≡ kind_names claims → parents ≡ parents_of kinds claims → said_in kinds parents claims sentences ≡ said_by claims sentences
 said_above claims sentences kinds parents named above =

@@ -1,5 +1,5 @@
 -- What sentences claim of names, in small letters: one clause a form.
-use Rattle.std.specs.Prelude.{ℕ, List, [], ◌∷◌, ◌++◌, flat_map, fold, map, Bool, true, Option, Some, None, codes}
+use Rattle.std.specs.Prelude.{ℕ, ℤ, List, [], ◌∷◌, ◌++◌, flat_map, fold, map, true, Option, Some, None, codes, if◌then◌else◌}
 use Rattle.world_meaning.specs.Spelling.{lowered}
 use Rattle.world_meaning.specs.declared.place.Rel.{Rel}
 use Rattle.world_meaning.specs.declared.place.Rel.TheVariants.{In, On, Carried, Worn, Part}
@@ -11,17 +11,20 @@ use Rattle.i7_sentences.specs.declared.sentence.Holder.{Holder}
 use Rattle.i7_sentences.specs.declared.sentence.Sentence.{Sentence}
 use Rattle.i7_kinds.specs.Beings.{names_said}
 use Rattle.i7_kinds.specs.NameScans.{Standings, built_in_standings, with_claim}
+use Rattle.i7_kinds.specs.Standings.{is_number_name, is_variable_name}
 use Rattle.i7_kinds.specs.Statements.{key_of}
 use Rattle.i7_kinds.specs.Plurals.{kind_named}
 use Rattle.i7_kinds.specs.Wording.{usual_said, what_said}
 use Rattle.i7_kinds.specs.declared.wording.What.{What}
 use Rattle.i7_kinds.specs.declared.claim.Claim.{Claim}
 use Rattle.i7_kinds.specs.declared.claim.Fact.{Fact}
-use Rattle.i7_kinds.specs.declared.claim.Fact.TheVariants.{Stands, Rulebook, Lies, CanBe, HasNumber, Demands, RoomUnlessDoor, Between, Placed, Has, Usually, Unread}
+use Rattle.i7_kinds.specs.declared.claim.Fact.TheVariants.{Stands, Rulebook, Lies, CanBe, HasNumber, Demands, RoomUnlessDoor, Between, Placed, Has, Usually, Starts, Unread}
 use Rattle.i7_kinds.specs.declared.claim.Grant.{Grant}
 use Rattle.i7_kinds.specs.declared.claim.Quality.{Quality}
 use Rattle.i7_kinds.specs.declared.claim.Standing.{Standing}
 use Rattle.i7_kinds.specs.declared.claim.Standing.TheVariants as stands
+use Rattle.i7_kinds.specs.declared.claim.Value.{Value}
+use Rattle.i7_kinds.specs.declared.claim.Value.TheVariants.{Truth, Amount}
 
 abbrev pub claimed : Fact → ℕ → Claim
 claimed fact line = record { fact = fact; line = line }
@@ -61,12 +64,12 @@ abbrev pub demands_said : Option (List ℕ) → List Name → ℕ → List Claim
 demands_said None subjects line = []
 demands_said (Some kind) subjects line = map (demands kind line) subjects
 
--- an object has a quality
-abbrev pub has : ℕ → Name → List ℕ → Bool → Claim
-has line name property is_true = claimed (Has (record { object = key_of name.text; property = property; is_true = is_true })) line
+-- a property of an object has a value
+abbrev pub has : ℕ → Name → List ℕ → Value → Claim
+has line name property value = claimed (Has (record { object = key_of name.text; property = property; value = value })) line
 
 abbrev pub has_quality : ℕ → Name → Quality → Claim
-has_quality line name quality = has line name quality.property quality.is_true
+has_quality line name quality = has line name quality.property (Truth quality.is_true)
 
 abbrev pub has_all : List Quality → ℕ → Name → List Claim
 has_all qualities line name = map (has_quality line name) qualities
@@ -80,7 +83,7 @@ abbrev pub worn_claims : Rel → ℕ → Name → List Claim
 worn_claims In line name = []
 worn_claims On line name = []
 worn_claims Carried line name = []
-worn_claims Worn line name = has line name (codes "wearable") true ∷ []
+worn_claims Worn line name = has line name (codes "wearable") (Truth true) ∷ []
 worn_claims Part line name = []
 
 -- what is held is a thing
@@ -111,16 +114,43 @@ abbrev pub kind_or : Option (List ℕ) → List ℕ → List ℕ
 kind_or None name = name
 kind_or (Some kind) name = kind
 
-abbrev pub usual : List ℕ → ℕ → Quality → Claim
-usual kind line quality = claimed (Usually (record { kind = kind; property = quality.property; is_true = quality.is_true })) line
+abbrev pub usual_kind : Standings → Name → List ℕ
+usual_kind known kind = kind_or (kind_named known (key_of kind.text)) (key_of kind.text)
+
+-- a property of objects of a kind usually has a value
+abbrev pub usual : List ℕ → ℕ → List ℕ → Value → Claim
+usual kind line property value = claimed (Usually (record { kind = kind; property = property; value = value })) line
+
+abbrev pub usual_quality : List ℕ → ℕ → Quality → Claim
+usual_quality kind line quality = usual kind line quality.property (Truth quality.is_true)
 
 abbrev pub usual_claims : List ℕ → Option What → List ℕ → ℕ → List Claim
 usual_claims kind None words line = claimed (Unread words) line ∷ []
-usual_claims kind (Some what) words line = map (usual kind line) what.qualities
+usual_claims kind (Some what) words line = map (usual_quality kind line) what.qualities
 
 -- objects of a kind are usually so
 abbrev pub usually_claims : Standings → Name → List ℕ → ℕ → List Claim
-usually_claims known kind words line = usual_claims (kind_or (kind_named known (key_of kind.text)) (key_of kind.text)) (usual_said known words) words line
+usually_claims known kind words line = usual_claims (usual_kind known kind) (usual_said known words) words line
+
+-- ---- numbers
+
+-- a number property of an object is this number; another name says nothing
+abbrev pub number_claim : Standings → Name → Name → ℤ → ℕ → Claim
+number_claim known property object number line =
+    if is_number_name (known (key_of property.text)) then has line object (key_of property.text) (Amount number) else claimed (Unread (key_of property.text)) line
+
+abbrev pub number_claims : Standings → Name → Name → ℤ → ℕ → List Claim
+number_claims known property object number line = named stands.Object line object ∷ number_claim known property object number line ∷ []
+
+-- a number property of objects of a kind is usually this number
+abbrev pub usual_number : Standings → Name → Name → ℤ → ℕ → Claim
+usual_number known property kind number line =
+    if is_number_name (known (key_of property.text)) then usual (usual_kind known kind) line (key_of property.text) (Amount number) else claimed (Unread (key_of property.text)) line
+
+-- a variable starts at this number
+abbrev pub start_claim : Standings → Name → ℤ → ℕ → Claim
+start_claim known variable number line =
+    if is_variable_name (known (key_of variable.text)) then claimed (Starts (record { variable = key_of variable.text; number = number })) line else claimed (Unread (key_of variable.text)) line
 
 -- an object is a room
 abbrev pub room_claims : Name → ℕ → List Claim
@@ -155,6 +185,13 @@ declares_said _ line = []
 abbrev pub declares_in : Sentence → List Claim
 declares_in sentence = declares_said sentence.said sentence.line
 
+-- what a sentence claims of numbers, and else what it declares
+abbrev pub numbers_said : Standings → Assertion → ℕ → List Claim
+numbers_said known (assertion.NumberOf property object number) line = number_claims known property object number line
+numbers_said known (assertion.UsuallyNumber property kind number) line = usual_number known property kind number line ∷ []
+numbers_said known (assertion.VariableIs variable number) line = start_claim known variable number line ∷ []
+numbers_said known said line = declares_said said line
+
 -- what a sentence claims, where each name stands for this
 abbrev pub claims_said : Standings → Assertion → ℕ → List Claim
 claims_said known (assertion.Way way) line = way_claims way.subject way.room line
@@ -163,7 +200,7 @@ claims_said known (assertion.DescriptionOf object text) line = named stands.Obje
 claims_said known (assertion.Are being) line = being_claims known being line
 claims_said known (assertion.Holds holder relation things) line = holding_claims holder relation things line
 claims_said known (assertion.Usually kind adjectives) line = usually_claims known kind adjectives line
-claims_said known said line = declares_said said line
+claims_said known said line = numbers_said known said line
 
 abbrev pub claims_in : Standings → Sentence → List Claim
 claims_in known sentence = claims_said known sentence.said sentence.line

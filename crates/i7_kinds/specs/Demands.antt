@@ -32,7 +32,7 @@ subject_of (numbered.Description text) = None
 subject_of (numbered.Describes o text) = None
 subject_of (numbered.Being o) = Some o
 subject_of (numbered.Way way) = Some way.subject
-subject_of (numbered.Door door) = None
+subject_of (numbered.Door door) = Some door.door
 
 abbrev pub is_room : List (Option ℕ) → List Known → ℕ → Bool
 is_room parents knowns o = is_of parents knowns room_kind o

@@ -1,4 +1,4 @@
--- Which kinds have each either-or property: the built-in ones, and those to which sentences give it.
+-- Which kinds have each property: the built-in ones, and those to which sentences give it.
 use Rattle.std.specs.Prelude.{ℕ, ◌+◌, ◌==◌, List, [], ◌∷◌, ◌++◌, flat_map, map, if◌then◌else◌}
 use Rattle.world_meaning.specs.Declarations.{is_among}
 use Rattle.world_meaning.specs.declared.declared.Granted.{Granted}
@@ -6,7 +6,7 @@ use Rattle.world_meaning.specs.declared.kinds.TheConstants.{PROPERTIES}
 use Rattle.i7_kinds.specs.Statements.{number_in}
 use Rattle.i7_kinds.specs.declared.claim.Claim.{Claim}
 use Rattle.i7_kinds.specs.declared.claim.Fact.{Fact}
-use Rattle.i7_kinds.specs.declared.claim.Fact.TheVariants.{CanBe}
+use Rattle.i7_kinds.specs.declared.claim.Fact.TheVariants.{CanBe, HasNumber}
 use Rattle.i7_kinds.specs.declared.grants.Given.{Given}
 
 -- of each built-in property the kinds that have it
@@ -24,6 +24,7 @@ other_bases (base ∷ bases) = bases
 -- the property and the kind that a fact gives it to, by their numbers
 abbrev pub givens_in : List (List ℕ) → List (List ℕ) → Fact → List Given
 givens_in properties kinds (CanBe g) = record { property = number_in properties g.property; kind = number_in kinds g.kind } ∷ []
+givens_in properties kinds (HasNumber g) = record { property = number_in properties g.property; kind = number_in kinds g.kind } ∷ []
 givens_in properties kinds _ = []
 
 abbrev pub givens_of : List (List ℕ) → List (List ℕ) → List Claim → List Given

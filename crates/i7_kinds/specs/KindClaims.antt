@@ -1,20 +1,20 @@
 -- The kinds of a source: the built-in ones, then the author's in the order of their sentences; and which kinds there
 -- may not be.
-use Rattle.std.specs.Prelude.{◌≡◌, ℕ, ◌+◌, ◌≤◌, Bool, true, false, not, nat_le, List, [], ◌∷◌, ◌++◌, length, fold, map, Option, Some, None, ⊤, ℤ, pos}
-use Rattle.world_meaning.specs.Declarations.{built_in_declared}
+use Rattle.std.specs.Prelude.{◌≡◌, ℕ, ◌+◌, ◌≤◌, Bool, true, false, not, nat_le, List, [], ◌∷◌, ◌++◌, length, fold, map, Option, Some, None, ⊤, ℤ, pos, bytes_eq, if◌then◌else◌}
 use Rattle.world_meaning.specs.Kinds.{Under, built_in_parents, is_under}
 use Rattle.world_meaning.specs.declared.declared.Declared.{Declared}
+use Rattle.world_meaning.specs.declared.declared.Granted.{Granted}
 use Rattle.object_words.specs.Mentions.{mention}
 use Rattle.i7_kinds.specs.Grants.{built_in_bases, flags_from, givens_of}
 use Rattle.i7_kinds.specs.declared.grants.Given.{Given}
 use Rattle.i7_kinds.specs.Scans.{lowest}
-use Rattle.i7_kinds.specs.Sorts.{built_in_kinds, names_as}
+use Rattle.i7_kinds.specs.Sorts.{built_in_kinds, names_as, property_names}
 use Rattle.i7_kinds.specs.declared.sorts.Sort.TheVariants as sort
 use Rattle.i7_kinds.specs.Standings.{has_name}
 use Rattle.i7_kinds.specs.Statements.{number_in}
 use Rattle.i7_kinds.specs.declared.claim.Claim.{Claim}
 use Rattle.i7_kinds.specs.declared.claim.Fact.{Fact}
-use Rattle.i7_kinds.specs.declared.claim.Fact.TheVariants.{Lies, CanBe, HasNumber, Demands, Usually, Unread}
+use Rattle.i7_kinds.specs.declared.claim.Fact.TheVariants.{Lies, CanBe, HasNumber, Demands, Usually, Starts, Unread}
 
 abbrev pub with_kind : List (List ℕ) → Fact → List (List ℕ)
 with_kind names (Lies l) = mention names l.kind
@@ -49,20 +49,37 @@ with_count_of count c = with_count count c.fact
 abbrev pub kind_count : List Claim → ℕ
 kind_count claims = fold with_count_of 10 claims
 
--- each variable starts at 0
-abbrev pub starts_of : List (List ℕ) → List ℤ
-starts_of names = map (λ name. pos 0) names
+abbrev pub start_in : List ℕ → Fact → ℤ → ℤ
+start_in name (Starts v) other = if bytes_eq name v.variable then v.number else other
+start_in name _ other = other
+
+-- a variable starts at what the first sentence says that says it, and else at 0
+abbrev pub start_of : List Claim → List ℕ → ℤ
+start_of [] name = pos 0
+start_of (c ∷ claims) name = start_in name c.fact (start_of claims name)
+
+abbrev pub starts_of : List Claim → List (List ℕ) → List ℤ
+starts_of claims names = map (start_of claims) names
 
 -- what sentences give to kinds
 abbrev pub givens_by : List Claim → List Given
-givens_by claims = givens_of (names_as sort.EitherOr claims) (kind_names claims) claims
+givens_by claims = givens_of (property_names claims) (kind_names claims) claims
+
+-- the either-or properties
+abbrev pub flags_by : List Claim → List Granted
+flags_by claims = flags_from (parents_of (kind_names claims) claims) (givens_by claims) 0 built_in_bases (names_as sort.EitherOr claims)
+
+-- the number properties, whose numbers go on behind those
+abbrev pub numbers_by : List Claim → List Granted
+numbers_by claims = flags_from (parents_of (kind_names claims) claims) (givens_by claims) (length (flags_by claims)) [] (names_as sort.Number claims)
 
 -- what a source declares besides objects
 abbrev pub declared_by : List Claim → Declared
-declared_by claims = record built_in_declared {
+declared_by claims = record {
   kinds = parents_of (kind_names claims) claims;
-  flags = flags_from (parents_of (kind_names claims) claims) (givens_by claims) 0 built_in_bases (names_as sort.EitherOr claims);
-  variables = starts_of (names_as sort.Variable claims);
+  flags = flags_by claims;
+  numbers = numbers_by claims;
+  variables = starts_of claims (names_as sort.Variable claims);
 }
 
 -- ---- refusals

@@ -7,6 +7,7 @@ use Rattle.world_meaning.specs.declared.place.Rel.TheVariants.{In}
 use Rattle.i7_kinds.specs.Numbers.{has_name, number_in}
 use Rattle.i7_kinds.specs.Scans.{lowest}
 use Rattle.i7_kinds.specs.declared.claim.Claim.{Claim}
+use Rattle.i7_kinds.specs.declared.claim.Demand.{Demand}
 use Rattle.i7_kinds.specs.declared.claim.Fact.{Fact}
 use Rattle.i7_kinds.specs.declared.claim.Fact.TheVariants.{Demands, Placed, RoomUnlessDoor}
 use Rattle.i7_kinds.specs.declared.claim.Placing.{Placing}
@@ -15,8 +16,8 @@ use Rattle.i7_kinds.specs.declared.knowns.Demanded.TheVariants.{Nothing, Deepest
 use Rattle.i7_kinds.specs.declared.grants.Given.{Given}
 use Rattle.i7_kinds.specs.declared.knowns.Known.{Known}
 
--- the names of objects, of kinds and of either-or properties, by number, of each kind the kind above it, which kinds
--- sentences give a property to, and of which objects they demand a door
+-- the names of objects, of kinds, of properties, the either-or ones first, and of variables, by number, of each kind the
+-- kind above it, which kinds sentences give a property to, and of which objects they demand a door
 pub record Scope : Type 0 where
   pub objects : List (List ℕ)
   pub kinds : List (List ℕ)
@@ -24,6 +25,7 @@ pub record Scope : Type 0 where
   pub properties : List (List ℕ)
   pub givens : List Given
   pub doors : List (List ℕ)
+  pub variables : List (List ℕ)
 
 abbrev pub door_kind : ℕ
 door_kind = 3
@@ -69,8 +71,12 @@ with_holder s knowns p =
     if is_in p.relation then slice_set knowns (number_in s.objects p.holder) (record (known_at knowns (number_in s.objects p.holder)) { holds = true })
     else knowns
 
+-- a kind is demanded; one that isn't there says nothing
+abbrev pub with_kind : Scope → List Known → Demand → List Known
+with_kind s knowns d = if has_name s.kinds d.kind then with_demand s knowns d.object (number_in s.kinds d.kind) else knowns
+
 abbrev pub with_known : Scope → List Known → Fact → List Known
-with_known s knowns (Demands d) = with_demand s knowns d.object (number_in s.kinds d.kind)
+with_known s knowns (Demands d) = with_kind s knowns d
 with_known s knowns (RoomUnlessDoor object) = with_room s knowns object
 with_known s knowns (Placed p) = with_holder s knowns p
 with_known s knowns _ = knowns
@@ -132,7 +138,7 @@ kinds_known parents knowns = record {
 -- ---- C8: the first demand off the path of the earlier ones
 
 abbrev pub is_off : Scope → List Known → Fact → Bool
-is_off s knowns (Demands d) = is_parted (deepened s knowns d.object (number_in s.kinds d.kind))
+is_off s knowns (Demands d) = has_name s.kinds d.kind && is_parted (deepened s knowns d.object (number_in s.kinds d.kind))
 is_off s knowns (RoomUnlessDoor object) = not (has_name s.doors object) && is_parted (deepened s knowns object room_kind)
 is_off s knowns _ = false
 

@@ -79,6 +79,10 @@ with_claimed s names c = with_name names (claimed_as s c.fact)
 abbrev pub names_as : Sort → List Claim → List (List ℕ)
 names_as s claims = fold (with_claimed s) (built_in_names s) claims
 
+-- the names of the properties: of the either-or ones the first, then those of the number properties
+abbrev pub property_names : List Claim → List (List ℕ)
+property_names claims = fold (with_claimed sort.Number) (names_as sort.EitherOr claims) claims
+
 -- a new name of a sort where there are as many as there may be
 abbrev pub IsTooMany : Sort → List Claim → Fact → Type 0
 IsTooMany s before fact = (name : List ℕ) × (claimed_as s fact ≡ Some name) × (has_name (names_as s before) name ≡ false) × (most_names s ≤ length (names_as s before))

@@ -50,6 +50,20 @@ abbrev pub is_number : Standing → Bool
 is_number stands.Number = true
 is_number _ = false
 
+abbrev pub is_variable : Standing → Bool
+is_variable stands.Variable = true
+is_variable _ = false
+
+-- what is known of a name is that it stands for a number property
+abbrev pub is_number_name : Option Standing → Bool
+is_number_name None = false
+is_number_name (Some standing) = is_number standing
+
+-- or for a variable
+abbrev pub is_variable_name : Option Standing → Bool
+is_variable_name None = false
+is_variable_name (Some standing) = is_variable standing
+
 abbrev pub is_object : Standing → Bool
 is_object stands.Object = true
 is_object _ = false

@@ -1,6 +1,6 @@
 -- What the sentences of a source state, objects by their numbers: 0 the player, 1 to 12 the
 -- directions, then the author's by first mention.
-use Rattle.std.specs.Prelude.{ℕ, Bool, true, false, List, [], ◌∷◌, ◌++◌, map, fold, codes, bytes_eq, if◌then◌else◌}
+use Rattle.std.specs.Prelude.{ℕ, Bool, List, [], ◌∷◌, ◌++◌, map, fold, codes, bytes_eq, if◌then◌else◌}
 use Rattle.std.specs.List.{list_any}
 use Rattle.world_meaning.specs.Spelling.{is_spelled, lowered}
 use Rattle.world_meaning.specs.Directions.{all_directions, direction_name}
@@ -8,7 +8,7 @@ use Rattle.world_meaning.specs.declared.place.Rel.{Rel}
 use Rattle.world_meaning.specs.declared.place.Rel.TheVariants.{In, On, Carried, Worn, Part}
 use Rattle.i7_sentences.specs.declared.name.Name.{Name}
 use Rattle.i7_sentences.specs.declared.sentence.Assertion.{Assertion}
-use Rattle.i7_sentences.specs.declared.sentence.Assertion.TheVariants.{Aside, Description, DescriptionOf, Door, Way, Are, EitherOr, Holds, KindOfKind, Rulebook, Scene, Usually, Variable}
+use Rattle.i7_sentences.specs.declared.sentence.Assertion.TheVariants.{Description, DescriptionOf, Door, Way, Are, Holds, NumberOf}
 use Rattle.i7_sentences.specs.declared.sentence.Sentence.{Sentence}
 use Rattle.i7_sentences.specs.declared.sentence.Side.{Side}
 use Rattle.i7_kinds.specs.Beings.{names_said}
@@ -28,28 +28,12 @@ pub record NameAt : Type 0 where
   pub name : Name
   pub line : ℕ
 
--- what is said has a meaning so far
-abbrev pub is_meant : Assertion → Bool
-is_meant Aside = true
-is_meant (Description text) = true
-is_meant (DescriptionOf object text) = true
-is_meant (Way way) = true
-is_meant (Door door first second) = true
-is_meant (Are being) = true
-is_meant (Rulebook name) = true
-is_meant (Scene name is_recurring) = true
-is_meant (KindOfKind kind parent) = true
-is_meant (Variable name) = true
-is_meant (EitherOr kind first second) = true
-is_meant (Usually kind adjectives) = true
-is_meant (Holds holder relation things) = true
-is_meant _ = false
-
 -- the names that a sentence mentions, in the order of its words
 abbrev pub names_in : Assertion → List Name
 names_in (Are being) = names_said being
 names_in (Way way) = if way.is_room_first then way.room ∷ way.subject ∷ [] else way.subject ∷ way.room ∷ []
 names_in (DescriptionOf object text) = object ∷ []
+names_in (NumberOf property object number) = object ∷ []
 names_in (Door door first second) = door ∷ first.room ∷ second.room ∷ []
 names_in (Holds holder relation things) = holder ∷ things
 names_in _ = []

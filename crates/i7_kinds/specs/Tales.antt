@@ -1,5 +1,5 @@
 -- The tale that a source's sentences mean, or the refusal that stands.
-use Rattle.std.specs.Prelude.{ℕ, ◌+◌, ◌-◌, Bool, not, ◌&&◌, ◌||◌, ◌==◌, nat_lt, List, [], ◌∷◌, ◌++◌, length, map, find, replicate, slice_get, slice_index_or, Option, Some, None, option_map, codes, Result, Ok, Err, if◌then◌else◌}
+use Rattle.std.specs.Prelude.{ℕ, ℤ, pos, ◌+◌, ◌-◌, Bool, not, ◌&&◌, ◌||◌, ◌==◌, nat_lt, List, [], ◌∷◌, ◌++◌, length, map, find, replicate, slice_get, slice_index_or, Option, Some, None, option_map, codes, Result, Ok, Err, if◌then◌else◌}
 use Rattle.std.specs.List.{list_any}
 use Rattle.world_meaning.specs.Directions.{all_directions, direction_name, direction_number}
 use Rattle.world_meaning.specs.declared.article.Article.{Article}
@@ -9,7 +9,7 @@ use Rattle.world_meaning.specs.declared.exits.Exits.{Exits}
 use Rattle.world_meaning.specs.declared.exits.Way.{Way}
 use Rattle.world_meaning.specs.declared.fault.Fault.{Fault}
 use Rattle.world_meaning.specs.declared.fault.FaultCode.{FaultCode}
-use Rattle.world_meaning.specs.declared.fault.FaultCode.TheVariants.{NotUnderstood, Twice, UnknownName, Cycle, WrongKind, TwoPlaces, TooMany, NoRoom}
+use Rattle.world_meaning.specs.declared.fault.FaultCode.TheVariants.{Twice, UnknownName, Cycle, WrongKind, TwoPlaces, TooMany, NoRoom}
 use Rattle.world_meaning.specs.declared.tale.Object.{Object}
 use Rattle.world_meaning.specs.declared.tale.Tale.{Tale}
 use Rattle.world_meaning.specs.Declarations.{is_had}
@@ -31,20 +31,22 @@ use Rattle.i7_kinds.specs.KindClaims.{declared_by, kind_cycle, kind_names, kind_
 use Rattle.i7_kinds.specs.Knowns.{Scope, kinds_of, knowns_of, off_path}
 use Rattle.i7_kinds.specs.Places.{Places, holder_cycle, places_by, second_place}
 use Rattle.i7_kinds.specs.Values.{Values, usual_of, value_twice, values_by}
-use Rattle.i7_kinds.specs.declared.values.Bearer.TheVariants.{Objects, Kinds}
+use Rattle.i7_kinds.specs.declared.values.Bearer.TheVariants.{Objects, Kinds, Variables}
 use Rattle.i7_kinds.specs.Suits.{first_room, unsuited, with_player}
 use Rattle.i7_kinds.specs.declared.knowns.Known.{Known}
 use Rattle.i7_kinds.specs.NameScans.{book_twice, name_twice}
 use Rattle.i7_kinds.specs.declared.claim.Claim.{Claim}
+use Rattle.i7_kinds.specs.declared.claim.Value.{Value}
+use Rattle.i7_kinds.specs.declared.claim.Value.TheVariants.{Truth, Amount}
 use Rattle.i7_kinds.specs.declared.entries.Entry.{Entry}
 use Rattle.i7_kinds.specs.declared.faults.Faults.{Faults}
 use Rattle.i7_kinds.specs.Scans.{earlier}
-use Rattle.i7_kinds.specs.Sorts.{name_too_many, names_as}
+use Rattle.i7_kinds.specs.Sorts.{name_too_many, names_as, property_names}
 use Rattle.i7_kinds.specs.declared.sorts.Sort.TheVariants as sort
 use Rattle.i7_kinds.specs.declared.descriptions.Description.{Description}
 use Rattle.i7_kinds.specs.declared.statements.NumberedSentence.{NumberedSentence}
 use Rattle.i7_kinds.specs.declared.ways.Target.{Target}
-use Rattle.i7_kinds.specs.Statements.{NameAt, is_meant, named_by, stated_by}
+use Rattle.i7_kinds.specs.Statements.{NameAt, named_by, stated_by}
 
 -- C12: the object that is one too many; the player and the directions are among the 1,000
 abbrev pub object_too_many : List NameAt → Option ℕ
@@ -99,6 +101,7 @@ pub record Made : Type 0 where
   pub kinds : List ℕ
   pub places : Places
   pub flags : List Granted
+  pub numbers : List Granted
   pub values : Values
   pub usuals : Values
   pub descriptions : List Description
@@ -128,14 +131,28 @@ exits_by parents statements kind o = if is_under parents kind room_kind then exi
 abbrev pub begins_by_default : List (Option ℕ) → ℕ → ℕ → ℕ → List ℕ → Bool
 begins_by_default parents o kind n true_of = is_under_one parents true_of kind && not ((n == described) && (o == 0))
 
-abbrev pub value_or : Option Bool → Bool → Bool
-value_or None other = other
-value_or (Some value) other = value
+abbrev pub truth_or : Option Value → Bool → Bool
+truth_or (Some (Truth truth)) other = truth
+truth_or _ other = other
+
+abbrev pub amount_or : Option Value → ℤ → ℤ
+amount_or (Some (Amount number)) other = number
+amount_or _ other = other
 
 -- property n of object o is true as the story begins: where a sentence says so, else where it usually is, and else by
 -- default
 abbrev pub begins : Made → ℕ → ℕ → ℕ → List ℕ → Bool
-begins m o kind n true_of = value_or (m.values o n) (value_or (usual_of m.parents m.usuals kind n) (begins_by_default m.parents o kind n true_of))
+begins m o kind n true_of = truth_or (m.values o n) (truth_or (usual_of m.parents m.usuals kind n) (begins_by_default m.parents o kind n true_of))
+
+-- number property n of object o begins with what a sentence says, else with what is usual, and else with 0
+abbrev pub begins_with : Made → ℕ → ℕ → ℕ → ℤ
+begins_with m o kind n = amount_or (m.values o n) (amount_or (usual_of m.parents m.usuals kind n) (pos 0))
+
+-- what those of these properties, counted from n, begin with that an object of a kind has
+abbrev pub numbers_from : Made → ℕ → ℕ → ℕ → List Granted → List ℤ
+numbers_from m o kind n [] = []
+numbers_from m o kind n (number ∷ numbers) =
+    if is_had m.parents kind number then begins_with m o kind n ∷ numbers_from m o kind (n + 1) numbers else numbers_from m o kind (n + 1) numbers
 
 -- those of these properties, counted from n, that an object of a kind has and begins with; the first are true of these
 -- kinds by default
@@ -159,7 +176,7 @@ object_as m kind o e = record {
   place = place_at m.places o;
   exits = exits_by m.parents m.statements kind o;
   properties = properties_from m o kind 0 built_in_truths m.flags;
-  numbers = [];
+  numbers = numbers_from m o kind (length m.flags) m.numbers;
 }
 
 abbrev pub object_of : Made → ℕ → Entry → Object
@@ -187,21 +204,22 @@ scope_with kinds parents claims keys = record {
   objects = keys;
   kinds = kinds;
   parents = parents;
-  properties = names_as sort.EitherOr claims;
-  givens = givens_of (names_as sort.EitherOr claims) kinds claims;
+  properties = property_names claims;
+  givens = givens_of (property_names claims) kinds claims;
   doors = doors_of kinds parents claims;
+  variables = names_as sort.Variable claims;
 }
 
 abbrev pub scope_of : List Claim → List (List ℕ) → Scope
 scope_of claims keys = scope_with (kind_names claims) (parents_of (kind_names claims) claims) claims keys
 
 -- what sentences may not say together, by the lowest lines: C9 of a name that stands for two things, of a rulebook's that
--- is another's, of a second description and of the other value of a property; C7 of a kind that isn't there; C11 of a cycle of kinds or of holders; C8 of
--- demands off one path and of what the kinds don't allow; C10 of an exit's or an object's second place, and of a door
+-- is another's, of a second description and of another value of a property or a variable; C7 of a kind that isn't
+-- there and of words that name nothing; C11 of a cycle of kinds or of holders; C8 of demands off one path and of what the kinds don't allow; C10 of an exit's or an object's second place, and of a door
 -- whose rooms are told again; C12 of a name that is one too many
 abbrev pub faults_of : Scope → List Known → List Claim → List NumberedSentence → Faults
 faults_of s knowns claims statements = record {
-  twice = earlier (name_twice claims) (earlier (book_twice claims) (earlier (second_description (descriptions_of s.parents knowns statements)) (earlier (value_twice Objects s claims) (value_twice Kinds s claims))));
+  twice = earlier (name_twice claims) (earlier (book_twice claims) (earlier (second_description (descriptions_of s.parents knowns statements)) (earlier (value_twice Objects s claims) (earlier (value_twice Kinds s claims) (value_twice Variables s claims)))));
   unknown = unknown_kind s.kinds claims;
   cycle = earlier (kind_cycle s.kinds claims) (holder_cycle s.objects claims);
   wrong = earlier (off_path s claims) (earlier (unsuited s knowns claims) (wrong_kind s.parents knowns statements));
@@ -240,6 +258,7 @@ made_of s knowns claims statements = record {
   kinds = kinds_of knowns;
   places = with_player (places_by s.objects claims) (first_room s.parents knowns);
   flags = (declared_by claims).flags;
+  numbers = (declared_by claims).numbers;
   values = values_by Objects s claims;
   usuals = values_by Kinds s claims;
   descriptions = descriptions_of s.parents knowns statements;
@@ -255,25 +274,9 @@ judged_by s knowns claims statements mentions =
 abbrev pub judged : Scope → List Claim → List NumberedSentence → List NameAt → Result Tale Fault
 judged s claims statements mentions = judged_by s (knowns_of s claims) claims statements mentions
 
-abbrev pub is_unmeant : Sentence → Bool
-is_unmeant sentence = not (is_meant sentence.said)
-
-abbrev pub line_of_sentence : Sentence → ℕ
-line_of_sentence sentence = sentence.line
-
--- C5: the first sentence whose assertion has no meaning yet
-abbrev pub unmeant_sentence : List Sentence → Option ℕ
-unmeant_sentence sentences = option_map line_of_sentence (find is_unmeant sentences)
-
-abbrev pub unless_unmeant : Option ℕ → Result Tale Fault → Result Tale Fault
-unless_unmeant None said = said
-unless_unmeant (Some line) said = Err (record { code = NotUnderstood; line = line })
-
 -- where the kinds have these names and these kinds above them
 abbrev pub said_in : List (List ℕ) → List (Option ℕ) → List Claim → List Sentence → Result Tale Fault
-said_in kinds parents claims sentences =
-    unless_unmeant (unmeant_sentence sentences)
-    (judged (scope_with kinds parents claims (named_by sentences).keys) claims (stated_by sentences) (named_by sentences).mentions)
+said_in kinds parents claims sentences = judged (scope_with kinds parents claims (named_by sentences).keys) claims (stated_by sentences) (named_by sentences).mentions
 
 abbrev pub said_by : List Claim → List Sentence → Result Tale Fault
 said_by claims sentences = said_in (kind_names claims) (parents_of (kind_names claims) claims) claims sentences

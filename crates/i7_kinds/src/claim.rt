@@ -60,20 +60,36 @@ pub struct Quality {
     pub is_true: bool,
 }
 
-/// An object has a quality.
+/// What is said of a property or a variable.
+#[derive(Clone, Copy, Debug, PartialEq, Eq)]
+pub enum Value {
+    /// An either-or property, by its first name, is true or isn't.
+    Truth(bool),
+    /// A number property or a variable is this number.
+    Amount(i32),
+}
+
+/// A property of an object has a value.
 #[derive(Debug, Drop)]
 pub struct Having {
     pub object: TextBytes,
     pub property: TextBytes,
-    pub is_true: bool,
+    pub value: Value,
 }
 
-/// Objects of a kind usually have a quality.
+/// A property of objects of a kind usually has a value.
 #[derive(Debug, Drop)]
 pub struct Usual {
     pub kind: TextBytes,
     pub property: TextBytes,
-    pub is_true: bool,
+    pub value: Value,
+}
+
+/// A variable starts at a number.
+#[derive(Debug, Drop)]
+pub struct Start {
+    pub variable: TextBytes,
+    pub number: i32,
 }
 
 /// What is claimed, names in small letters.
@@ -92,6 +108,7 @@ pub enum Fact {
     Placed(Placing),
     Has(Having),
     Usually(Usual),
+    Starts(Start),
     /// Words that name nothing.
     Unread(TextBytes),
 }

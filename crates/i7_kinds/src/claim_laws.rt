@@ -64,7 +64,7 @@ pub fn doors_twice_are_found()
     ensures { (claims : List Claim) → IsLowest (ShownBy (λ before c. IsToldAgain before c.fact) claims) (door_twice claims) }
 {}
 
-/// The other value of a property of an object, or of what is usual of a kind, is found at its lowest line.
+/// Another value of a property of an object, of what is usual of a kind, or of a variable is found at its lowest line.
 pub fn values_twice_are_found()
     ensures { (bearer : Bearer) (scope : Scope) (claims : List Claim) → IsLowest (ShownBy (λ before c. IsContrary (values_by bearer scope before) (told_by bearer scope c.fact)) claims) (value_twice bearer scope claims) }
 {}

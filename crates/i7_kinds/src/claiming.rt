@@ -13,6 +13,7 @@ use crate::claim::{Claim, Fact, Grant, Lying, Naming, Standing};
 use crate::demanding::{add_held, add_placings, add_what};
 use crate::leading::{add_door, add_way};
 use crate::names::key_of;
+use crate::numbering::add_numbers;
 use crate::standings::{Known, known_after};
 use crate::usuals::add_usually;
 use crate::wording::what_said;
@@ -209,7 +210,7 @@ fn add_being(
 }
 
 /// Adds what a sentence declares besides objects.
-fn add_declares(
+pub fn add_declares(
     alloc: Global,
     claims: &mut Vec<Claim>,
     said: &Assertion,
@@ -292,7 +293,7 @@ fn add_claims(
         Assertion::Usually { kind, adjectives } => {
             add_usually(alloc, known, claims, kind, adjectives.as_slice(), line)
         }
-        _ => add_declares(alloc, claims, said, line),
+        _ => add_numbers(alloc, known, claims, said, line),
     }
 }
 

@@ -1,52 +1,91 @@
 //! What a source declares besides objects.
 ghost use Rattle.std.specs.Prelude.{◌≡◌, ◌≤◌, IfOk, length, map};
-ghost use Rattle.i7_kinds.specs.Grants.{built_in_bases, flags_from, givens_of};
-ghost use Rattle.i7_kinds.specs.Sorts.{names_as};
-ghost use Rattle.i7_kinds.specs.declared.sorts.Sort.TheVariants as sort;
-ghost use Rattle.i7_kinds.specs.KindClaims.{AreSmallKinds, declared_by, kind_names, parents_of, starts_of};
+ghost use Rattle.i7_kinds.specs.Grants.{built_in_bases};
+ghost use Rattle.i7_kinds.specs.KindClaims.{AreSmallKinds, declared_by, flags_by, givens_by, kind_names, numbers_by, parents_of, start_in, start_of, starts_of};
 
 use crate::author_kinds::{kind_nos, parents_of};
-use crate::claim::Claim;
-use crate::grants::{flags_from, givens_of};
-use crate::sorts::{Sort, names_as};
+use crate::claim::{Claim, Fact};
+use crate::grants::{Given, flags_from, givens_of};
+use crate::sorts::{Sort, names_as, property_names};
 use object_words::Strings;
 use std::alloc::{AllocError, Global};
-use world_meaning::{Declared, Granted, KindNo, Listed, PROPERTIES, built_in_declared};
+use world_meaning::{Declared, Granted, KindNo, Listed, PROPERTIES};
 
-/// Each variable starts at 0.
-fn starts_of(alloc: Global, names: &[Vec<u8>]) -> Result<Vec<i32>, AllocError>
-    ensures { IfOk result (λ starts. starts.items ≡ starts_of (map (λ name. name.items) names.now)) }
+/// What a variable starts at: what the first sentence says that says it, and else 0.
+fn start_of(claims: &[Claim], name: &[u8]) -> i32
+    ensures { result ≡ start_of claims.now name.now }
+{
+    let mut rest = claims;
+    while let [claim, after @ ..] = rest {
+        if let Fact::Starts(start) = &claim.fact {
+            if name == start.variable.as_slice() {
+                return start.number;
+            }
+        }
+        rest = after;
+    }
+    0
+}
+
+/// What the variables of these names start at.
+fn starts_of(alloc: Global, claims: &[Claim], names: &[Vec<u8>]) -> Result<Vec<i32>, AllocError>
+    ensures { IfOk result (λ starts. starts.items ≡ starts_of claims.now (map (λ name. name.items) names.now)) }
 {
     let mut starts = Vec::new(alloc);
     let mut rest = names;
-    while let [_, after @ ..] = rest {
-        starts.push(0)?;
+    while let [name, after @ ..] = rest {
+        starts.push(start_of(claims, name.as_slice()))?;
         rest = after;
     }
     Ok(starts)
 }
 
-/// The either-or properties, where the kinds are these and have these names.
+/// What sentences give to kinds of these names.
+fn givens_by(alloc: Global, names: &Strings, claims: &[Claim]) -> Result<Vec<Given>, AllocError>
+    requires { names.now ≡ kind_names claims.now }
+    ensures { IfOk result (λ givens. givens.items ≡ givens_by claims.now) }
+{
+    let properties = property_names(alloc, claims)?;
+    let givens = givens_of(alloc, &properties, names, claims)?;
+    Ok(givens)
+}
+
+/// The either-or properties, where the kinds are these.
 #[tactic(auto, unfolding(crate::specs::Grants::built_in_bases))]
 fn flags_by(
     alloc: Global,
     kinds: &[Option<KindNo>],
-    names: &Strings,
+    givens: &[Given],
     claims: &[Claim],
 ) -> Result<Vec<Granted>, AllocError>
-    requires { length kinds.now ≤ 100 }
-    ensures { IfOk result (λ flags. flags.items ≡ flags_from kinds.now (givens_of (names_as sort.EitherOr claims.now) names.now claims.now) 0 built_in_bases (names_as sort.EitherOr claims.now)) }
+    requires kinds { kinds.now ≡ parents_of (kind_names claims.now) claims.now }
+    requires givens { givens.now ≡ givens_by claims.now }
+    requires short { length kinds.now ≤ 100 }
+    ensures { IfOk result (λ flags. flags.items ≡ flags_by claims.now) }
 {
-    let properties = names_as(alloc, Sort::EitherOr, claims)?;
-    let givens = givens_of(alloc, &properties, names, claims)?;
-    let flags = flags_from(
-        alloc,
-        kinds,
-        givens.as_slice(),
-        &PROPERTIES,
-        properties.as_slice(),
-    )?;
+    let names = names_as(alloc, Sort::EitherOr, claims)?;
+    let flags = flags_from(alloc, kinds, givens, 0, &PROPERTIES, names.as_slice())?;
     Ok(flags)
+}
+
+/// The number properties, where the kinds are these and there are so many either-or properties.
+fn numbers_by(
+    alloc: Global,
+    kinds: &[Option<KindNo>],
+    givens: &[Given],
+    first: usize,
+    claims: &[Claim],
+) -> Result<Vec<Granted>, AllocError>
+    requires kinds { kinds.now ≡ parents_of (kind_names claims.now) claims.now }
+    requires givens { givens.now ≡ givens_by claims.now }
+    requires first { first ≡ length (flags_by claims.now) }
+    requires short { length kinds.now ≤ 100 }
+    requires few { length (flags_by claims.now) ≤ 100 }
+    ensures { IfOk result (λ numbers. numbers.items ≡ numbers_by claims.now) }
+{
+    let names = names_as(alloc, Sort::Number, claims)?;
+    let numbers = flags_from(alloc, kinds, givens, first, &[], names.as_slice())?;
+    Ok(numbers)
 }
 
 /// What a source declares besides objects, where its kinds have these names.
@@ -54,15 +93,21 @@ pub fn declared_by(alloc: Global, names: &Strings, claims: &[Claim]) -> Result<D
     requires named { names.now ≡ kind_names claims.now }
     requires few { AreSmallKinds (parents_of names.now claims.now) }
     requires short { length (parents_of names.now claims.now) ≤ 100 }
+    requires few_flags { length (declared_by claims.now).flags ≤ 100 }
     ensures { IfOk result (λ declared. declared ≡ declared_by claims.now) }
 {
     let parents = parents_of(alloc, names, claims)?;
     let kinds = kind_nos(alloc, parents.as_slice())?;
-    let flags = flags_by(alloc, kinds.as_slice(), names, claims)?;
+    let givens = givens_by(alloc, names, claims)?;
+    let flags = flags_by(alloc, kinds.as_slice(), givens.as_slice(), claims)?;
+    let first = flags.len();
+    let numbers = numbers_by(alloc, kinds.as_slice(), givens.as_slice(), first, claims)?;
     let variables = names_as(alloc, Sort::Variable, claims)?;
-    let mut declared = built_in_declared(alloc)?;
-    declared.kinds = Listed::new(kinds);
-    declared.flags = Listed::new(flags);
-    declared.variables = Listed::new(starts_of(alloc, variables.as_slice())?);
-    Ok(declared)
+    let starts = starts_of(alloc, claims, variables.as_slice())?;
+    Ok(Declared {
+        kinds: Listed::new(kinds),
+        flags: Listed::new(flags),
+        numbers: Listed::new(numbers),
+        variables: Listed::new(starts),
+    })
 }

@@ -2,7 +2,7 @@
 ghost use Rattle.std.specs.Prelude.{◌≡◌, ◌++◌, ◌∷◌, [], Some, flat_map, map, IfOk, OnOk};
 ghost use Rattle.i7_kinds.specs.Claims.{demands, demands_said, has, has_all, has_quality, holder_demands, kind_said, placed, placings_said, qualities_said, what_claims, worn_claims};
 
-use crate::claim::{Claim, Demand, Fact, Having, Placing, Quality};
+use crate::claim::{Claim, Demand, Fact, Having, Placing, Quality, Value};
 use crate::claiming::key_text;
 use crate::wording::What;
 use i7_sentences::{Holder, Name};
@@ -69,16 +69,16 @@ fn add_demands(
     }
 }
 
-/// Adds that a property of an object is true, or that it isn't.
-fn add_having(
+/// Adds that a property of an object has a value.
+pub fn add_having(
     alloc: Global,
     claims: &mut Vec<Claim>,
     name: &Name,
     property: &[u8],
-    is_true: bool,
+    value: Value,
     line: u32,
 ) -> Result<(), AllocError>
-    ensures { OnOk result (claims.new.items ≡ claims.old.items ++ has line name.now property.now is_true ∷ []) }
+    ensures { OnOk result (claims.new.items ≡ claims.old.items ++ has line name.now property.now value ∷ []) }
 {
     let object = key_text(alloc, name)?;
     let property = TextBytes::copied(alloc, property)?;
@@ -86,7 +86,7 @@ fn add_having(
         fact: Fact::Has(Having {
             object,
             property,
-            is_true,
+            value,
         }),
         line,
     })?;
@@ -106,7 +106,8 @@ fn add_qualities(
     let mut rest = qualities;
     while let [quality, after @ ..] = rest {
         let property = quality.property.as_slice();
-        add_having(alloc, claims, name, property, quality.is_true, line)?;
+        let value = Value::Truth(quality.is_true);
+        add_having(alloc, claims, name, property, value, line)?;
         rest = after;
     }
     Ok(())
@@ -173,7 +174,7 @@ fn add_worn(
 {
     match relation {
         Rel::In | Rel::On | Rel::Carried | Rel::Part => Ok(()),
-        Rel::Worn => add_having(alloc, claims, name, b"wearable", true, line),
+        Rel::Worn => add_having(alloc, claims, name, b"wearable", Value::Truth(true), line),
     }
 }
 

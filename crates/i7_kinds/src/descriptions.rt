@@ -25,9 +25,9 @@ pub fn subject_of(fact: &Numbered) -> Option<usize>
 {
     match fact {
         Numbered::Aside | Numbered::Description(_) | Numbered::Describes { .. } => None,
-        Numbered::Door(_) => None,
         Numbered::Being(number) => Some(*number),
         Numbered::Way(way) => Some(way.subject),
+        Numbered::Door(door) => Some(door.door),
     }
 }
 

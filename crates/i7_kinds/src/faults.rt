@@ -13,7 +13,7 @@ ghost use Rattle.i7_kinds.specs.StatedWays.{stated};
 ghost use Rattle.i7_kinds.specs.Suits.{unsuited};
 ghost use Rattle.i7_kinds.specs.Tales.{faults_of};
 ghost use Rattle.i7_kinds.specs.Values.{value_twice};
-ghost use Rattle.i7_kinds.specs.declared.values.Bearer.TheVariants.{Objects, Kinds};
+ghost use Rattle.i7_kinds.specs.declared.values.Bearer.TheVariants.{Objects, Kinds, Variables};
 
 use crate::author_kinds::{kind_cycle, kind_too_many, unknown_kind};
 use crate::claim::Claim;
@@ -69,13 +69,14 @@ fn twice(
     claims: &[Claim],
     descriptions: &Descriptions<'_>,
 ) -> Result<Option<u32>, AllocError>
-    ensures { IfOk result (λ line. line ≡ earlier (name_twice claims.now) (earlier (book_twice claims.now) (earlier (second_description (descriptions_in descriptions.now)) (earlier (value_twice Objects scope.now claims.now) (value_twice Kinds scope.now claims.now))))) }
+    ensures { IfOk result (λ line. line ≡ earlier (name_twice claims.now) (earlier (book_twice claims.now) (earlier (second_description (descriptions_in descriptions.now)) (earlier (value_twice Objects scope.now claims.now) (earlier (value_twice Kinds scope.now claims.now) (value_twice Variables scope.now claims.now)))))) }
 {
     let name = name_twice(alloc, claims)?;
     let book = book_twice(alloc, claims)?;
     let value = value_twice(alloc, Bearer::Objects, scope, claims)?;
     let usual = value_twice(alloc, Bearer::Kinds, scope, claims)?;
-    let said = earlier(descriptions.second(), earlier(value, usual));
+    let start = value_twice(alloc, Bearer::Variables, scope, claims)?;
+    let said = earlier(descriptions.second(), earlier(value, earlier(usual, start)));
     Ok(earlier(name, earlier(book, said)))
 }
 

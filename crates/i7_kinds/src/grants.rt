@@ -1,9 +1,10 @@
-//! Which kinds have each either-or property.
+//! Which kinds have each property.
 ghost use Rattle.std.specs.Prelude.{◌≡◌, ◌≤◌, ◌++◌, IfOk, OnOk, length, map};
 ghost use Rattle.world_meaning.specs.Declarations.{is_among};
 ghost use Rattle.i7_kinds.specs.Grants.{first_base, flag_of, flags_from, givens_in, givens_of, kind_given, kinds_given, other_bases, rising_of};
+ghost use Rattle.i7_kinds.specs.declared.claim.Fact.TheVariants.{CanBe};
 
-use crate::claim::{Claim, Fact};
+use crate::claim::{Claim, Fact, Grant};
 use crate::names::number_in;
 use object_words::Strings;
 use std::alloc::{AllocError, Global};
@@ -16,6 +17,22 @@ pub struct Given {
     pub kind: usize,
 }
 
+/// Adds what a sentence gives to a kind.
+fn add_grant(
+    properties: &Strings,
+    kinds: &Strings,
+    givens: &mut Vec<Given>,
+    grant: &Grant,
+) -> Result<(), AllocError>
+    ensures { OnOk result (givens.new.items ≡ givens.old.items ++ givens_in properties.now kinds.now (CanBe grant.now)) }
+{
+    givens.push(Given {
+        property: number_in(properties, grant.property.as_slice()),
+        kind: number_in(kinds, grant.kind.as_slice()),
+    })?;
+    Ok(())
+}
+
 fn add_given(
     properties: &Strings,
     kinds: &Strings,
@@ -25,13 +42,8 @@ fn add_given(
     ensures { OnOk result (givens.new.items ≡ givens.old.items ++ givens_in properties.now kinds.now fact.now) }
 {
     match fact {
-        Fact::CanBe(grant) => {
-            givens.push(Given {
-                property: number_in(properties, grant.property.as_slice()),
-                kind: number_in(kinds, grant.kind.as_slice()),
-            })?;
-            Ok(())
-        }
+        Fact::CanBe(grant) => add_grant(properties, kinds, givens, grant),
+        Fact::HasNumber(grant) => add_grant(properties, kinds, givens, grant),
         _ => Ok(()),
     }
 }
@@ -151,19 +163,21 @@ fn other_bases<'a, 'b>(rows: &'b [PropertyRow<'a>]) -> &'b [PropertyRow<'a>]
     }
 }
 
-/// The properties of these names; the first ones are those of the rows.
+/// The properties of these names, numbered from `first` on; those with which the list begins are those of the rows.
 pub fn flags_from(
     alloc: Global,
     kinds: &[Option<KindNo>],
     givens: &[Given],
+    first: usize,
     rows: &[PropertyRow<'_>],
     names: &[Vec<u8>],
 ) -> Result<Vec<Granted>, AllocError>
-    requires { length kinds.now ≤ 100 }
-    ensures { IfOk result (λ flags. flags.items ≡ flags_from kinds.now givens.now 0 (map (λ row. row.2.now) rows.now) (map (λ name. name.items) names.now)) }
+    requires few { length kinds.now ≤ 100 }
+    requires low { first ≤ 100 }
+    ensures { IfOk result (λ flags. flags.items ≡ flags_from kinds.now givens.now first (map (λ row. row.2.now) rows.now) (map (λ name. name.items) names.now)) }
 {
     let mut flags = Vec::new(alloc);
-    let mut property = 0;
+    let mut property = first;
     let mut bases = rows;
     let mut rest = names;
     while let [_, after @ ..] = rest {

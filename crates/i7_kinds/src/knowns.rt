@@ -1,10 +1,10 @@
 //! The kinds of objects: the deepest kind that is demanded of each.
 ghost use Rattle.std.specs.Prelude.{◌≡◌, IfOk, length, slice_set};
 ghost use Rattle.world_meaning.specs.Kinds.{direction_kind, person_kind};
-ghost use Rattle.i7_kinds.specs.Knowns.{deepen, deepened, first_knowns, is_of, is_off, is_parted, is_parted_at, kind_by, kind_of, known_as, known_at, knowns_of, off_path, thing_or_container, unknown, with_demand, with_holder, with_known, with_room};
+ghost use Rattle.i7_kinds.specs.Knowns.{deepen, deepened, first_knowns, is_of, is_off, is_parted, is_parted_at, kind_by, kind_of, known_as, known_at, knowns_of, off_path, thing_or_container, unknown, with_demand, with_holder, with_kind, with_known, with_room};
 
 use crate::author_kinds::is_under;
-use crate::claim::{Claim, Fact, Placing};
+use crate::claim::{Claim, Demand, Fact, Placing};
 use crate::names::FIRST_OF_AUTHOR;
 use crate::scans::lower;
 use crate::scope::Scope;
@@ -109,6 +109,16 @@ fn add_demand(scope: &Scope<'_>, knowns: &mut [Known], object: &[u8], kind: usiz
     keep(knowns, number, Known { demanded, holds });
 }
 
+/// Demands a kind; one that isn't there says nothing.
+fn add_kind(scope: &Scope<'_>, knowns: &mut [Known], demand: &Demand)
+    ensures { knowns.new ≡ with_kind scope.now knowns.old demand.now }
+{
+    if scope.has_kind(demand.kind.as_slice()) {
+        let kind = scope.kind(demand.kind.as_slice());
+        add_demand(scope, knowns, demand.object.as_slice(), kind);
+    }
+}
+
 /// Demands a room, unless a door is demanded.
 fn add_room(scope: &Scope<'_>, knowns: &mut [Known], object: &[u8])
     ensures { knowns.new ≡ with_room scope.now knowns.old object.now }
@@ -133,10 +143,7 @@ fn add_fact(scope: &Scope<'_>, knowns: &mut [Known], fact: &Fact)
     ensures { knowns.new ≡ with_known scope.now knowns.old fact.now }
 {
     match fact {
-        Fact::Demands(demand) => {
-            let kind = scope.kind(demand.kind.as_slice());
-            add_demand(scope, knowns, demand.object.as_slice(), kind);
-        }
+        Fact::Demands(demand) => add_kind(scope, knowns, demand),
         Fact::RoomUnlessDoor(object) => add_room(scope, knowns, object.as_slice()),
         Fact::Placed(placing) => add_holder(scope, knowns, placing),
         _ => {}
@@ -172,8 +179,9 @@ fn is_off(scope: &Scope<'_>, knowns: &[Known], fact: &Fact) -> bool
 {
     match fact {
         Fact::Demands(demand) => {
-            let kind = scope.kind(demand.kind.as_slice());
-            parts(scope, knowns, demand.object.as_slice(), kind)
+            let kind = demand.kind.as_slice();
+            let object = demand.object.as_slice();
+            scope.has_kind(kind) && parts(scope, knowns, object, scope.kind(kind))
         }
         Fact::RoomUnlessDoor(object) => {
             let object = object.as_slice();

@@ -140,6 +140,7 @@ fn take_up_all<'a>(
             take_up(alloc, names, second, line)
         }
         Assertion::DescriptionOf { object, .. } => take_up(alloc, names, object, line),
+        Assertion::NumberOf { object, .. } => take_up(alloc, names, object, line),
         Assertion::Door {
             door,
             first,

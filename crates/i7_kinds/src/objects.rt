@@ -12,6 +12,7 @@ ghost use Rattle.i7_kinds.specs.Views.{mentions_of};
 use crate::descriptions::Descriptions;
 use crate::entries::{Entry, entries_of};
 use crate::names::Mention;
+use crate::numbers::numbers_of;
 use crate::properties::properties_of;
 use crate::values::Values;
 use crate::ways::Ways;
@@ -28,6 +29,7 @@ pub struct Makings<'a> {
     pub kinds: &'a [KindNo],
     pub places: &'a [Option<Place>],
     pub flags: &'a [Granted],
+    pub numbers: &'a [Granted],
     pub values: &'a Values,
     pub usuals: &'a Values,
     pub descriptions: &'a Descriptions<'a>,
@@ -150,7 +152,7 @@ fn object_as(
         place: place_at(makings.places, number),
         exits: exits_by(makings, kind, number),
         properties: Listed::new(properties_of(alloc, makings, number, kind)?),
-        numbers: Listed::new(Vec::new(alloc)),
+        numbers: Listed::new(numbers_of(alloc, makings, number, kind)?),
     })
 }
 

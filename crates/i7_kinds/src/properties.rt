@@ -4,8 +4,9 @@ ghost use Rattle.world_meaning.specs.Declarations.{is_had};
 ghost use Rattle.i7_kinds.specs.Grants.{first_base, other_bases};
 ghost use Rattle.i7_kinds.specs.Making.{made_of};
 ghost use Rattle.i7_kinds.specs.Values.{usual_of, value_at};
-ghost use Rattle.i7_kinds.specs.Tales.{begins, begins_by_default, built_in_truths, properties_from, value_or};
+ghost use Rattle.i7_kinds.specs.Tales.{begins, begins_by_default, built_in_truths, properties_from, truth_or};
 
+use crate::claim::Value;
 use crate::objects::Makings;
 use crate::values::{Slot, Values, value_in};
 use std::alloc::{AllocError, Global};
@@ -27,22 +28,22 @@ fn begins_by_default(
     is_under_one(parents, true_of, kind) && !(property == DESCRIBED && object == 0)
 }
 
-fn value_or(value: Option<bool>, other: bool) -> bool
-    ensures { result ≡ value_or value other }
+fn truth_or(value: Option<Value>, other: bool) -> bool
+    ensures { result ≡ truth_or value other }
 {
     match value {
-        None => other,
-        Some(value) => value,
+        Some(Value::Truth(truth)) => truth,
+        _ => other,
     }
 }
 
 /// What is usual of objects of a kind: what is said of the deepest kind.
-fn usual_of(
+pub fn usual_of(
     parents: &[Option<KindNo>],
     usuals: &Values,
     kind: usize,
     property: usize,
-) -> Option<bool>
+) -> Option<Value>
     ensures { result ≡ usual_of parents.now (value_at usuals.now) kind property }
 {
     let mut at = kind;
@@ -82,10 +83,11 @@ fn begins(
         property,
     );
     let other = begins_by_default(makings.parents, object, kind, property, true_of);
-    value_or(value, value_or(usual, other))
+    truth_or(value, truth_or(usual, other))
 }
 
-fn is_had(parents: &[Option<KindNo>], kind: KindNo, flag: &Granted) -> bool
+/// Whether objects of a kind have a property.
+pub fn is_had(parents: &[Option<KindNo>], kind: KindNo, flag: &Granted) -> bool
     ensures { result ≡ is_had parents.now kind flag.now }
 {
     is_under_one(parents, flag.kinds.as_slice(), kind)

@@ -1,5 +1,5 @@
-//! The names of a source's objects, kinds and either-or properties, by number, which kind lies under which, which kinds
-//! sentences give a property to, and of which objects they demand a door.
+//! The names of a source's objects, kinds, properties and variables, by number, which kind lies under which, which
+//! kinds sentences give a property to, and of which objects they demand a door.
 ghost use Rattle.std.specs.Prelude.{◌≡◌};
 
 use crate::author_kinds::is_under;
@@ -8,8 +8,8 @@ use crate::names::number_in;
 use object_words::Strings;
 use std::marker::Model;
 
-/// The names of objects, of kinds and of properties, of each kind the kind above it, the kinds that properties are given
-/// to, and the objects of which doors are demanded.
+/// The names of objects, of kinds and of properties, the either-or ones first, of each kind the kind above it, the
+/// kinds that properties are given to, the objects of which doors are demanded, and the names of variables.
 #[derive(Drop)]
 pub struct Scope<'a> {
     objects: &'a Strings,
@@ -18,6 +18,7 @@ pub struct Scope<'a> {
     properties: &'a Strings,
     givens: &'a [Given],
     doors: &'a Strings,
+    variables: &'a Strings,
 }
 
 impl<'a> Model for Scope<'a> {
@@ -25,7 +26,7 @@ impl<'a> Model for Scope<'a> {
 
     ghost Value = { Names };
 
-    ghost view = { λ s. record { objects = s.objects.now; kinds = s.kinds.now; parents = s.parents.now; properties = s.properties.now; givens = s.givens.now; doors = s.doors.now } };
+    ghost view = { λ s. record { objects = s.objects.now; kinds = s.kinds.now; parents = s.parents.now; properties = s.properties.now; givens = s.givens.now; doors = s.doors.now; variables = s.variables.now } };
 }
 
 impl<'a> Scope<'a> {
@@ -33,7 +34,7 @@ impl<'a> Scope<'a> {
     ghost use Rattle.world_meaning.specs.Kinds.{is_under};
     ghost use Rattle.i7_kinds.specs.Numbers.{has_name, number_in};
 
-    /// Objects of these names, kinds of these, and properties of these.
+    /// Objects of these names, kinds, properties and variables of these.
     pub fn new(
         objects: &'a Strings,
         kinds: &'a Strings,
@@ -41,8 +42,9 @@ impl<'a> Scope<'a> {
         properties: &'a Strings,
         givens: &'a [Given],
         doors: &'a Strings,
+        variables: &'a Strings,
     ) -> Scope<'a>
-        ensures { result ≡ record { objects = objects.now; kinds = kinds.now; parents = parents.now; properties = properties.now; givens = givens.now; doors = doors.now } }
+        ensures { result ≡ record { objects = objects.now; kinds = kinds.now; parents = parents.now; properties = properties.now; givens = givens.now; doors = doors.now; variables = variables.now } }
     {
         Scope {
             objects,
@@ -51,7 +53,15 @@ impl<'a> Scope<'a> {
             properties,
             givens,
             doors,
+            variables,
         }
+    }
+
+    /// The number of the variable of this name.
+    pub fn variable(&self, key: &[u8]) -> usize
+        ensures { result ≡ number_in self.now.variables key.now }
+    {
+        number_in(self.variables, key)
     }
 
     /// The number of the property of this first name.
@@ -87,6 +97,13 @@ impl<'a> Scope<'a> {
         ensures { result ≡ number_in self.now.kinds key.now }
     {
         number_in(self.kinds, key)
+    }
+
+    /// Whether there is a kind of this name.
+    pub fn has_kind(&self, key: &[u8]) -> bool
+        ensures { result ≡ has_name self.now.kinds key.now }
+    {
+        self.kinds.contains(key)
     }
 
     /// How many objects there are.

@@ -1,6 +1,6 @@
 //! The sorts of names, besides kinds, that there may be few of, each sort's names numbered by their first claim.
-ghost use Rattle.std.specs.Prelude.{◌≡◌, IfOk, OnOk, map, option_map};
-ghost use Rattle.i7_kinds.specs.Sorts.{built_in_either_ors, built_in_kinds, built_in_names, claimed_as, is_of, is_too_many, mention_firsts, named_if, most_names, names_as, too_many_as, with_name};
+ghost use Rattle.std.specs.Prelude.{◌≡◌, IfOk, OnOk, fold, map, option_map};
+ghost use Rattle.i7_kinds.specs.Sorts.{built_in_either_ors, built_in_kinds, built_in_names, claimed_as, is_of, is_too_many, mention_firsts, named_if, most_names, names_as, property_names, too_many_as, with_claimed, with_name};
 
 use crate::claim::{Claim, Fact, Standing};
 use crate::scans::lower;
@@ -136,16 +136,38 @@ fn add_name(alloc: Global, names: &mut Strings, name: Option<&[u8]>) -> Result<(
     }
 }
 
+/// Puts the names that are claimed as ones of a sort behind the others.
+fn add_names(
+    alloc: Global,
+    sort: Sort,
+    names: &mut Strings,
+    claims: &[Claim],
+) -> Result<(), AllocError>
+    ensures { OnOk result (names.new ≡ fold (with_claimed sort) names.old claims.now) }
+{
+    let mut rest = claims;
+    while let [claim, after @ ..] = rest {
+        add_name(alloc, names, claimed_as(sort, &claim.fact))?;
+        rest = after;
+    }
+    Ok(())
+}
+
 /// The names that are claimed as ones of a sort, the built-in ones first.
 pub fn names_as(alloc: Global, sort: Sort, claims: &[Claim]) -> Result<Strings, AllocError>
     ensures { IfOk result (λ names. names ≡ names_as sort claims.now) }
 {
     let mut names = built_in_names(alloc, sort)?;
-    let mut rest = claims;
-    while let [claim, after @ ..] = rest {
-        add_name(alloc, &mut names, claimed_as(sort, &claim.fact))?;
-        rest = after;
-    }
+    add_names(alloc, sort, &mut names, claims)?;
+    Ok(names)
+}
+
+/// The names of the properties: of the either-or ones the first, then those of the number properties.
+pub fn property_names(alloc: Global, claims: &[Claim]) -> Result<Strings, AllocError>
+    ensures { IfOk result (λ names. names ≡ property_names claims.now) }
+{
+    let mut names = names_as(alloc, Sort::EitherOr, claims)?;
+    add_names(alloc, Sort::Number, &mut names, claims)?;
     Ok(names)
 }
 

@@ -12,7 +12,7 @@ use world_meaning::{Direction, Rel, TextBytes};
 /// An assertion, objects by their numbers.
 #[derive(Debug, Drop)]
 pub enum Numbered {
-    /// Nothing: a title, a heading, or what has no meaning yet.
+    /// Nothing of ways and texts: a title, a heading, what is declared.
     Aside,
     /// A text as it is printed.
     Description(TextBytes),

@@ -23,13 +23,12 @@ use crate::grants::givens_of;
 use crate::knowns::{Known, knowns_of};
 use crate::limits::{name_too_long, object_too_many, text_too_long};
 use crate::making::{kinds_of, places_in};
-use crate::meant::unmeant_sentence;
 use crate::names::{Mention, names_of};
 use crate::objects::{Makings, objects_of};
 use crate::places::places_by;
 use crate::scans::earlier;
 use crate::scope::Scope;
-use crate::sorts::{Sort, names_as};
+use crate::sorts::{Sort, names_as, property_names};
 use crate::statements::{NumberedSentence, statements_in};
 use crate::suits::{first_room, put_player};
 use crate::values::{Bearer, values_by};
@@ -167,6 +166,7 @@ fn objects_meant(
         kinds: kinds.as_slice(),
         places: places.as_slice(),
         flags: declared.flags.as_slice(),
+        numbers: declared.numbers.as_slice(),
         values: &values,
         usuals: &usuals,
         descriptions,
@@ -221,19 +221,15 @@ fn said_in(
     requires above { parents.now ≡ parents_of kinds.now claims.now }
     ensures { IfOk result (λ said. said ≡ said_in kinds.now parents.now claims.now sentences.now) }
 {
-    if let Some(line) = unmeant_sentence(sentences) {
-        return Ok(Err(Fault {
-            code: FaultCode::NotUnderstood,
-            line,
-        }));
-    }
     let names = names_of(alloc, sentences)?;
     let statements = statements_in(alloc, &names, sentences)?;
-    let properties = names_as(alloc, Sort::EitherOr, claims)?;
+    let properties = property_names(alloc, claims)?;
+    let variables = names_as(alloc, Sort::Variable, claims)?;
     let givens = givens_of(alloc, &properties, kinds, claims)?;
     let given = givens.as_slice();
     let doors = doors_of(alloc, kinds, parents, claims)?;
-    let scope = Scope::new(names.keys(), kinds, parents, &properties, given, &doors);
+    let keys = names.keys();
+    let scope = Scope::new(keys, kinds, parents, &properties, given, &doors, &variables);
     let mentions = names.mentions();
     let said = judged(alloc, &scope, mentions, claims, statements.as_slice())?;
     Ok(said)
@@ -263,8 +259,8 @@ fn tale_said(alloc: Global, sentences: &[Sentence]) -> Result<Result<Tale, Fault
 }
 
 /// The tale that the sentences mean, or the refusal that stands, each code being looked for in the
-/// whole source before the next, at the first sentence that shows it: C5 of what has no meaning yet, C9, C7,
-/// C11, C8, C10, C12 of what is one too many, C13, then C12 of objects' names and of texts. Memory is C14, at line 1.
+/// whole source before the next, at the first sentence that shows it: C9, C7, C11, C8, C10, C12 of what is one too
+/// many, C13, then C12 of objects' names and of texts. Memory is C14, at line 1.
 pub fn tale_of(alloc: Global, sentences: &[Sentence]) -> Result<Tale, Fault>
     ensures told { IfOk result (λ tale. tale_said sentences.now ≡ Ok tale) }
     ensures refused { IfErr result (λ fault. (tale_said sentences.now ≡ Err fault) ⊎ (fault ≡ out_of_memory)) }

@@ -1,10 +1,10 @@
 //! What sentences claim that objects of a kind usually are.
 ghost use Rattle.std.specs.Prelude.{◌≡◌, ◌++◌, ◌∷◌, [], map, IfOk, OnOk};
-ghost use Rattle.i7_kinds.specs.Claims.{claimed, kind_or, usual, usual_claims, usually_claims};
+ghost use Rattle.i7_kinds.specs.Claims.{claimed, kind_or, usual, usual_claims, usual_kind, usual_quality, usually_claims};
 ghost use Rattle.i7_kinds.specs.NameScans.{standing_at};
 ghost use Rattle.i7_kinds.specs.declared.claim.Fact.TheVariants.{Unread};
 
-use crate::claim::{Claim, Fact, Quality, Usual};
+use crate::claim::{Claim, Fact, Quality, Usual, Value};
 use crate::claiming::key_text;
 use crate::plurals::kind_named;
 use crate::standings::Known;
@@ -14,7 +14,7 @@ use std::alloc::{AllocError, Global};
 use world_meaning::TextBytes;
 
 /// Adds that words name nothing.
-fn add_unread(
+pub fn add_unread(
     alloc: Global,
     claims: &mut Vec<Claim>,
     words: &[u8],
@@ -30,24 +30,24 @@ fn add_unread(
     Ok(())
 }
 
-/// Adds that objects of a kind usually have a quality.
-fn add_usual(
+/// Adds that a property of objects of a kind usually has a value.
+pub fn add_usual(
     alloc: Global,
     claims: &mut Vec<Claim>,
     kind: &[u8],
-    quality: &Quality,
+    property: &[u8],
+    value: Value,
     line: u32,
 ) -> Result<(), AllocError>
-    ensures { OnOk result (claims.new.items ≡ claims.old.items ++ usual kind.now line quality.now ∷ []) }
+    ensures { OnOk result (claims.new.items ≡ claims.old.items ++ usual kind.now line property.now value ∷ []) }
 {
     let kind = TextBytes::copied(alloc, kind)?;
-    let property = TextBytes::copied(alloc, quality.property.as_slice())?;
-    let is_true = quality.is_true;
+    let property = TextBytes::copied(alloc, property)?;
     claims.push(Claim {
         fact: Fact::Usually(Usual {
             kind,
             property,
-            is_true,
+            value,
         }),
         line,
     })?;
@@ -61,11 +61,13 @@ fn add_usuals(
     qualities: &[Quality],
     line: u32,
 ) -> Result<(), AllocError>
-    ensures { OnOk result (claims.new.items ≡ claims.old.items ++ map (usual kind.now line) qualities.now) }
+    ensures { OnOk result (claims.new.items ≡ claims.old.items ++ map (usual_quality kind.now line) qualities.now) }
 {
     let mut rest = qualities;
     while let [quality, after @ ..] = rest {
-        add_usual(alloc, claims, kind, quality, line)?;
+        let property = quality.property.as_slice();
+        let value = Value::Truth(quality.is_true);
+        add_usual(alloc, claims, kind, property, value, line)?;
         rest = after;
     }
     Ok(())
@@ -97,6 +99,15 @@ fn kind_or(kind: Option<TextBytes>, name: TextBytes) -> TextBytes
     }
 }
 
+/// The kind of whose objects something is usual.
+pub fn usual_kind(alloc: Global, known: &Known<'_>, kind: &Name) -> Result<TextBytes, AllocError>
+    ensures { IfOk result (λ found. found ≡ usual_kind (standing_at known.now) kind.now) }
+{
+    let name = key_text(alloc, kind)?;
+    let named = kind_named(alloc, known, name.as_slice())?;
+    Ok(kind_or(named, name))
+}
+
 /// Adds what objects of a kind usually are.
 pub fn add_usually(
     alloc: Global,
@@ -108,9 +119,7 @@ pub fn add_usually(
 ) -> Result<(), AllocError>
     ensures { OnOk result (claims.new.items ≡ claims.old.items ++ usually_claims (standing_at known.now) kind.now words.now line) }
 {
-    let name = key_text(alloc, kind)?;
-    let named = kind_named(alloc, known, name.as_slice())?;
-    let kind = kind_or(named, name);
+    let kind = usual_kind(alloc, known, kind)?;
     let what = usual_said(alloc, known, words)?;
     add_all(alloc, claims, kind.as_slice(), &what, words, line)
 }

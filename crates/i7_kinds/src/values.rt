@@ -1,19 +1,24 @@
-//! What sentences say of the either-or properties of objects, or usually of those of kinds, and the lowest line of what
-//! says the other.
+//! What sentences say of the properties of objects, or usually of those of kinds, and of variables, and the lowest
+//! line of what says another value.
 ghost use Rattle.std.specs.Prelude.{◌≡◌, IfOk, OnOk};
-ghost use Rattle.i7_kinds.specs.Values.{is_contrary, is_other, told_by, value_at, value_in, value_twice, values_by, with_slot, with_told};
+ghost use Rattle.i7_kinds.specs.Numbers.{number_in};
+ghost use Rattle.i7_kinds.specs.Values.{is_contrary, is_other, is_same, told_as, told_by, value_at, value_in, value_twice, values_by, with_slot, with_told};
+ghost use Rattle.i7_kinds.specs.declared.claim.Fact.TheVariants.{Usually};
+ghost use Rattle.i7_kinds.specs.declared.claim.Value.TheVariants.{Amount};
+ghost use Rattle.i7_kinds.specs.declared.values.Bearer.TheVariants.{Kinds};
 
-use crate::claim::{Claim, Fact};
+use crate::claim::{Claim, Fact, Having, Start, Usual, Value};
 use crate::scans::lower;
 use crate::scope::Scope;
 use indexmap::IndexMap;
 use std::alloc::{AllocError, Global};
 
-/// Whose properties sentences tell of.
+/// Whose properties sentences tell of; a variable has one, its value.
 #[derive(Clone, Copy, Debug, PartialEq, Eq)]
 pub enum Bearer {
     Objects,
     Kinds,
+    Variables,
 }
 
 /// A property of an object or of a kind, by the numbers of both.
@@ -27,49 +32,75 @@ pub struct Slot {
 #[derive(Clone, Copy, Debug)]
 pub struct Told {
     pub slot: Slot,
-    pub is_true: bool,
+    pub value: Value,
 }
 
 /// What is said first of properties.
-pub type Values = IndexMap<Slot, bool>;
+pub type Values = IndexMap<Slot, Value>;
 
-/// What a fact says of the properties of objects, or of kinds.
+fn told_as(bearer: usize, property: usize, value: Value) -> Told
+    ensures { result ≡ told_as bearer property value }
+{
+    let slot = Slot { bearer, property };
+    Told { slot, value }
+}
+
+fn told_of_object(scope: &Scope<'_>, having: &Having) -> Told
+    ensures { result ≡ told_as (number_in scope.now.objects having.now.object) (number_in scope.now.properties having.now.property) having.now.value }
+{
+    let object = scope.object(having.object.as_slice());
+    let property = scope.property(having.property.as_slice());
+    told_as(object, property, having.value)
+}
+
+/// What is usual of a kind that is there.
+fn told_of_kind(scope: &Scope<'_>, usual: &Usual) -> Option<Told>
+    ensures { result ≡ told_by Kinds scope.now (Usually usual.now) }
+{
+    let name = usual.kind.as_slice();
+    if !scope.has_kind(name) {
+        return None;
+    }
+    let property = scope.property(usual.property.as_slice());
+    Some(told_as(scope.kind(name), property, usual.value))
+}
+
+fn told_of_variable(scope: &Scope<'_>, start: &Start) -> Told
+    ensures { result ≡ told_as (number_in scope.now.variables start.now.variable) 0 (Amount start.now.number) }
+{
+    let variable = scope.variable(start.variable.as_slice());
+    told_as(variable, 0, Value::Amount(start.number))
+}
+
+/// What a fact says of the properties of objects, or of kinds that are there, or of variables.
 fn told_by(bearer: Bearer, scope: &Scope<'_>, fact: &Fact) -> Option<Told>
     ensures { result ≡ told_by bearer scope.now fact.now }
 {
     match bearer {
         Bearer::Objects => match fact {
-            Fact::Has(having) => Some(Told {
-                slot: Slot {
-                    bearer: scope.object(having.object.as_slice()),
-                    property: scope.property(having.property.as_slice()),
-                },
-                is_true: having.is_true,
-            }),
+            Fact::Has(having) => Some(told_of_object(scope, having)),
             _ => None,
         },
         Bearer::Kinds => match fact {
-            Fact::Usually(usual) => Some(Told {
-                slot: Slot {
-                    bearer: scope.kind(usual.kind.as_slice()),
-                    property: scope.property(usual.property.as_slice()),
-                },
-                is_true: usual.is_true,
-            }),
+            Fact::Usually(usual) => told_of_kind(scope, usual),
+            _ => None,
+        },
+        Bearer::Variables => match fact {
+            Fact::Starts(start) => Some(told_of_variable(scope, start)),
             _ => None,
         },
     }
 }
 
 /// What is said of a property.
-pub fn value_in(values: &Values, slot: Slot) -> Option<bool>
+pub fn value_in(values: &Values, slot: Slot) -> Option<Value>
     ensures { result ≡ value_in (value_at values.now) slot }
 {
     values.get(&slot).copied()
 }
 
 /// Keeps what is said, unless something is.
-fn keep(values: &mut Values, slot: Slot, value: bool) -> Result<(), AllocError>
+fn keep(values: &mut Values, slot: Slot, value: Value) -> Result<(), AllocError>
     ensures { OnOk result (value_at values.new ≡ with_slot (value_at values.old) slot value) }
 {
     if values.get(&slot).is_none() {
@@ -83,11 +114,11 @@ fn keep_told(values: &mut Values, told: Option<Told>) -> Result<(), AllocError>
 {
     match told {
         None => Ok(()),
-        Some(told) => keep(values, told.slot, told.is_true),
+        Some(told) => keep(values, told.slot, told.value),
     }
 }
 
-/// What the claims say of the properties of objects, or of kinds.
+/// What the claims say of the properties of objects, or of kinds, or of variables.
 pub fn values_by(
     alloc: Global,
     bearer: Bearer,
@@ -105,26 +136,41 @@ pub fn values_by(
     Ok(values)
 }
 
-fn is_other(first: Option<bool>, value: bool) -> bool
+fn is_same(first: Value, value: Value) -> bool
+    ensures { result ≡ is_same first value }
+{
+    match first {
+        Value::Truth(a) => match value {
+            Value::Truth(b) => { if a { b } else { !b } }
+            Value::Amount(_) => false,
+        },
+        Value::Amount(a) => match value {
+            Value::Truth(_) => false,
+            Value::Amount(b) => a == b,
+        },
+    }
+}
+
+fn is_other(first: Option<Value>, value: Value) -> bool
     ensures { result ≡ is_other first value }
 {
     match first {
         None => false,
-        Some(first) => { if first { !value } else { value } }
+        Some(first) => !is_same(first, value),
     }
 }
 
-/// Whether the other of what is said first is told.
+/// Whether another value than what is said first is told.
 fn is_contrary(values: &Values, told: Option<Told>) -> bool
     ensures { result ≡ is_contrary (value_at values.now) told }
 {
     match told {
         None => false,
-        Some(told) => is_other(value_in(values, told.slot), told.is_true),
+        Some(told) => is_other(value_in(values, told.slot), told.value),
     }
 }
 
-/// The lowest line that says the other of what is said first of a property.
+/// The lowest line that says another value than what is said first of a property.
 pub fn value_twice(
     alloc: Global,
     bearer: Bearer,

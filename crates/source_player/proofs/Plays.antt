@@ -17,6 +17,7 @@ use Rattle.story_format.specs.Spells.{Spells}
 use Rattle.story_format.specs.declared.tables.Tables.{Tables}
 use Rattle.story_file.specs.Compilations.{IsCompiled}
 use Rattle.story_file.proofs.Held.{tale_held}
+use Rattle.story_file.proofs.Ranges.{says_ranged}
 use Rattle.world_store.proofs.TaleGames.{tables_game}
 use Rattle.world_store.specs.StoryGames.{game_of_story}
 use Rattle.source_player.specs.SourceRuns.{BrokeOffGame, LeavesSource, LeavesStory, PlayedGame, PlayedSource, PlayedStory}
@@ -27,7 +28,7 @@ use Rattle.source_player.specs.declared.source_run.SourceRunFault.TheVariants.{S
 pub same_game : (source bytes : List ℕ) (compiled : IsCompiled source bytes) (story : Tables) → Spells bytes story → game_of_story story ≡ game_of_tale compiled.tale
 same_game source bytes compiled story spells =
     let same : story ≡ tables_of compiled.tale = same_story bytes story compiled.tables spells compiled.spells ∙ compiled.tables_are in
-    let held = tale_held compiled.means.sentences compiled.tale compiled.means.meant in
+    let held = tale_held compiled.means.sentences compiled.tale (says_ranged source compiled.means.sentences compiled.means.says) compiled.means.meant in
     ap game_of_story same ∙ ap game_of_plain (tables_game compiled.tale held)
 
 pub played_source : (source bytes : List ℕ) (echo : Bool) (unread rest held now : Option (List ℕ)) (result : Result Ending SourceRunFault) → IsCompiled source bytes → IfOk result (PlayedStory bytes echo (streams_of unread held) (streams_of rest now)) → IfOk result (PlayedSource source echo (streams_of unread held) (streams_of rest now))

@@ -1,6 +1,6 @@
 -- A story file holds the tale that sentences mean.
 use Rattle.std.proofs.Common.{◌≡◌, ℕ, ◌+◌, ◌-◌, ◌<◌, ◌≤◌, Bool, true, false, cond, not, ◌&&◌, ◌||◌, ltb, leb, eqb, List, [], ◌∷◌, ◌++◌, length, map, Option, Some, None, Ok, refl, sym, ap, subst, ◌∙◌, arith, inl, inr, true≢false}
-use Rattle.std.specs.Prelude.{Result, find, is_none, slice_get}
+use Rattle.std.specs.Prelude.{find, is_none, slice_get}
 use Rattle.std.specs.List.{list_all}
 use Rattle.std.specs.Option.{option_map}
 use Rattle.std.proofs.lemmas.Bool.{ltb-false, lt-ltb, le-leb, ne_eqb}
@@ -24,16 +24,16 @@ use Rattle.object_words.specs.Words.{more_words, words_for}
 use Rattle.i7_kinds.specs.Claims.{claims_of}
 use Rattle.i7_kinds.specs.Demands.{descriptions_of, description_of, first_target, implied_in, implied_leads, is_exit, is_wrong, line_at, line_of_description, stated_in, stated_leads, subject_of, target_of, way_back, way_there, way_through, wrong_after, wrong_kind}
 use Rattle.i7_kinds.specs.Firsts.{first_of}
-use Rattle.i7_kinds.specs.KindClaims.{declared_by, kind_cycle, kind_names, kind_too_many, parents_of}
+use Rattle.i7_kinds.specs.KindClaims.{declared_by, kind_cycle, kind_names, kind_too_many, parents_of, starts_of}
 use Rattle.i7_kinds.specs.Knowns.{is_of, is_parted_at, kinds_known, kinds_of, known_at, knowns_of, off_path}
 use Rattle.i7_kinds.specs.Places.{Places, holder_cycle, places_by, put}
 use Rattle.i7_kinds.specs.Scans.{earlier}
-use Rattle.i7_kinds.specs.Sorts.{built_in_either_ors, name_too_many, too_many_as}
+use Rattle.i7_kinds.specs.Sorts.{built_in_either_ors, name_too_many, names_as, too_many_as}
 use Rattle.i7_kinds.specs.Statements.{NameAt, named_by, stated_by}
 use Rattle.i7_kinds.specs.Suits.{first_room, unsuited, with_player}
 use Rattle.i7_kinds.specs.Values.{Values, values_by}
 use Rattle.i7_kinds.specs.declared.values.Bearer.TheVariants as bearer
-use Rattle.i7_kinds.specs.Tales.{Made, author_entry, entries_of, faults_of, frame_refusal, has_long_name, has_long_text, is_too_long, judged_by, limit_refusal, made_of, name_too_long, no_room, object_as, object_of, objects_of, or_refused, refusal_of, scope_of, tale_said, text_too_long, unless_unmeant, unmeant_sentence, way_to}
+use Rattle.i7_kinds.specs.Tales.{Made, author_entry, entries_of, faults_of, frame_refusal, has_long_name, has_long_text, is_too_long, limit_refusal, made_of, name_too_long, no_room, object_as, object_of, objects_of, or_refused, refusal_of, scope_of, tale_said, text_too_long, way_to}
 use Rattle.i7_kinds.specs.declared.claim.Claim.{Claim}
 use Rattle.i7_kinds.specs.declared.descriptions.Description.{Description as Described}
 use Rattle.i7_kinds.specs.declared.entries.Entry.{Entry}
@@ -47,11 +47,12 @@ use Rattle.i7_kinds.specs.declared.ways.Target.{Target}
 use Rattle.i7_kinds.proofs.Bounds.{NoFaults, counted-source, earlier_none, first_none_both, frame_parts, unmapped, unrefused}
 use Rattle.i7_kinds.proofs.Fines.{AreFine, base, kind_few, knowns_counted}
 use Rattle.i7_kinds.proofs.Granting.{either_ors_behind}
-use Rattle.i7_kinds.proofs.KindScans.{either_ors_few, parents_few, variables_few}
+use Rattle.i7_kinds.proofs.KindScans.{either_ors_few, numbers_few, parents_few, variables_few}
 use Rattle.i7_kinds.proofs.Placed.{AreSuited, IsSuited, judged, places_counted, places_suited, places_tree, put_length}
+use Rattle.i7_kinds.proofs.Ranged.{AreRanged, AreRangedSentences, AreRangedValues, said_ranged, source_ranged, starts_in_range}
 use Rattle.i7_kinds.proofs.Readiness.{fine_of}
 use Rattle.i7_kinds.proofs.Rooted.{authors_behind, authors_rooted}
-use Rattle.story_file.proofs.MadeDeclarations.{Behind, behind_of, declared_held, declared_is, declared_with, kinds_many, kinds_with, suited_held}
+use Rattle.story_file.proofs.MadeDeclarations.{Behind, behind_of, declared_held, declared_is, declared_with, kinds_many, kinds_with, starts_counted, suited_held}
 use Rattle.story_file.proofs.MadeObjects.{LeadToRooms, all_lead, all_placed, begins_held, entries_counted, kinds_counted, kinds_held, objects_kinds, objects_places, same_kinds, told}
 use Rattle.story_file.proofs.MadePlaces.{all_suited, all_whole, direction_is, direction_nowhere, kind_known, place_in_room, player_person, tree_with_player}
 use Rattle.story_format.specs.Holding.{has_few_words, has_short_texts, is_short, is_short_or_none, IsHeld}
@@ -284,11 +285,11 @@ limit_parts descriptions mentions none =
     let t = earlier_none (name_too_long mentions) (text_too_long descriptions) (unrefused TooMany (earlier (name_too_long mentions) (text_too_long descriptions)) none) in
     (none_found has_long_name mentions (unmapped line_at (find has_long_name mentions) t.0), none_found has_long_text descriptions (unmapped line_of_description (find has_long_text descriptions) t.1))
 
-sorts_fine : (claims : List Claim) → name_too_many claims ≡ None → (too_many_as sort.EitherOr claims ≡ None) × (too_many_as sort.Variable claims ≡ None)
+sorts_fine : (claims : List Claim) → name_too_many claims ≡ None → (too_many_as sort.EitherOr claims ≡ None) × (too_many_as sort.Number claims ≡ None) × (too_many_as sort.Variable claims ≡ None)
 sorts_fine claims none =
     let a = earlier_none (too_many_as sort.EitherOr claims) _ none in
     let b = earlier_none (too_many_as sort.Number claims) _ a.1 in
-    (a.0, (earlier_none (too_many_as sort.Variable claims) (earlier (too_many_as sort.Rulebook claims) (too_many_as sort.Scene claims)) b.1).0)
+    (a.0, b.0, (earlier_none (too_many_as sort.Variable claims) (earlier (too_many_as sort.Rulebook claims) (too_many_as sort.Scene claims)) b.1).0)
 
 -- what is known of a source without a refusal, its objects' places without the player's
 record Whole (parents : List (Option ℕ)) (knowns : List Known) (places : Places) (room : ℕ) (statements : List NumberedSentence) (count : ℕ) : Type 0 where
@@ -302,7 +303,7 @@ record Whole (parents : List (Option ℕ)) (knowns : List Known) (places : Place
   ways : wrong_kind parents knowns statements ≡ None
 
 abbrev made_with : Declared → List (Option ℕ) → List Known → Places → Values → Values → List Described → List NumberedSentence → Made
-made_with declared parents knowns places values usuals descriptions statements = record { parents = parents; kinds = kinds_of knowns; places = places; flags = declared.flags; values = values; usuals = usuals; descriptions = descriptions; statements = statements }
+made_with declared parents knowns places values usuals descriptions statements = record { parents = parents; kinds = kinds_of knowns; places = places; flags = declared.flags; numbers = declared.numbers; values = values; usuals = usuals; descriptions = descriptions; statements = statements }
 
 stands : (kinds : Kinds) (rooms : List Bool) (place : Option Place) → ((o : ℕ) → kinds.is_room o ≡ is_at rooms o) → IsSuited kinds 0 place → is_none place ≡ false → stands_in_room rooms place ≡ true
 stands kinds rooms None told h k = absurd cc
@@ -317,10 +318,10 @@ put_there (None ∷ places) place le = refl
 put_there (Some p ∷ places) place le = refl
 
 -- with what is declared behind the built-in kinds and properties
-objects_made : (b : Behind) (knowns : List Known) (places : Places) (room : ℕ) (values usuals : Values) (descriptions : List Described) (statements : List NumberedSentence) (mentions : List NameAt) → is_well_declared (declared_with b) ≡ true → Whole (kinds_with b) knowns places room statements (length mentions)
+objects_made : (b : Behind) (knowns : List Known) (places : Places) (room : ℕ) (values usuals : Values) (descriptions : List Described) (statements : List NumberedSentence) (mentions : List NameAt) → is_well_declared (declared_with b) ≡ true → AreRangedValues values → AreRangedValues usuals → Whole (kinds_with b) knowns places room statements (length mentions)
     → IsWellMade (record { declared = declared_with b; objects = objects_of (made_with (declared_with b) (kinds_with b) knowns (put places 0 (place_in_room room)) values usuals descriptions statements) 0 (entries_of mentions) })
 unfolding sorts_of
-objects_made b knowns places room values usuals descriptions statements mentions declared w =
+objects_made b knowns places room values usuals descriptions statements mentions declared ranged usually w =
     let S = kinds_with b in
     let placed = put places 0 (place_in_room room) in
     let m = made_with (declared_with b) S knowns placed values usuals descriptions statements in
@@ -339,7 +340,7 @@ objects_made b knowns places room values usuals descriptions statements mentions
       declared = declared;
       begins = subst (λ (ks : List ℕ). begin_rightly S (sorts_of S ks).rooms (objects_of m 0 entries) ≡ true) (sym kinds_same) begins;
       kinds = subst (λ (ks : List ℕ). list_all (is_kind_below n) ks ≡ true) (sym kinds_same) below;
-      suited = suited_held b m 0 entries (refl, refl);
+      suited = suited_held b m 0 entries (record { parents = refl; flags = refl; numbers = refl; values = ranged; usuals = usually });
       placed = subst (λ (ks : List ℕ). are_well_placed (kinds_told (sorts_of S ks)) 0 (places_in (objects_of m 0 entries)) ≡ true) (sym kinds_same) (subst (λ (ps : Places). are_well_placed (kinds_told (sorts_of S (kinds_of knowns))) 0 ps ≡ true) (sym places_same) where_allowed);
       tree = subst (λ (ps : Places). IsTree (place_at ps)) (sym places_same) (tree_with_player b.kinds n knowns (length mentions) w.counted w.fine places w.suited room w.first (omega (arith, w.many)) w.tree);
       exits = subst (λ (ks : List ℕ). list_all (has_right_exits S (sorts_of S ks)) (objects_of m 0 entries) ≡ true) (sym kinds_same) (all_lead m (sorts_of S (kinds_of knowns)) 0 entries (lead_to_rooms S knowns whole statements w.ways));
@@ -374,10 +375,10 @@ whole_of claims keys statements mentions room counted none first =
 abbrev tale_with : Declared → List (Option ℕ) → List Known → Places → Values → Values → List Described → List NumberedSentence → List NameAt → Tale
 tale_with declared parents knowns places values usuals descriptions statements mentions = record { declared = declared; objects = objects_of (made_with declared parents knowns places values usuals descriptions statements) 0 (entries_of mentions) }
 
-objects_held : (claims : List Claim) (keys : List (List ℕ)) (statements : List NumberedSentence) (mentions : List NameAt) → length keys ≡ 13 + length mentions
+objects_held : (claims : List Claim) (keys : List (List ℕ)) (statements : List NumberedSentence) (mentions : List NameAt) → length keys ≡ 13 + length mentions → AreRanged claims
     → refusal_of (scope_of claims keys) (knowns_of (scope_of claims keys) claims) claims statements mentions ≡ None
     → IsHeld (record { declared = declared_by claims; objects = objects_of (made_of (scope_of claims keys) (knowns_of (scope_of claims keys) claims) claims statements) 0 (entries_of mentions) })
-objects_held claims keys statements mentions counted none =
+objects_held claims keys statements mentions counted ranged none =
     let s = scope_of claims keys in
     let knowns = knowns_of s claims in
     let descriptions = descriptions_of s.parents knowns statements in
@@ -396,24 +397,21 @@ objects_held claims keys statements mentions counted none =
     let few : length (kinds_with behind) ≤ 100 = subst (λ (p : List (Option ℕ)). length p ≤ 100) kinds (parents_few claims many.0) in
     let few_properties : length (built_in_either_ors ++ behind.properties) ≤ 100 = subst (λ (p : List (List ℕ)). length p ≤ 100) (either_ors_behind claims).1 (either_ors_few claims sorts.0) in
     let roots : list_all (is_rooted (kinds_with behind)) behind.kinds ≡ true = subst (λ (p : List (Option ℕ)). list_all (is_rooted p) behind.kinds ≡ true) kinds (authors_rooted claims fine.unknown cycles.0) in
-    let declared = declared_held behind few few_properties (variables_few claims sorts.1) roots in
+    let few_starts : length (starts_of claims (names_as sort.Variable claims)) ≤ 100 = omega (arith, variables_few claims sorts.2, starts_counted claims (names_as sort.Variable claims)) in
+    let declared = declared_held behind few few_properties (numbers_few claims sorts.1) few_starts (starts_in_range claims (names_as sort.Variable claims) ranged) roots in
     let whole = subst (λ (p : List (Option ℕ)). Whole p knowns (places_by keys claims) room.0 statements (length mentions)) kinds w in
     let placed = put (places_by keys claims) 0 (place_in_room room.0) in
     let values = values_by bearer.Objects s claims in
     let usuals = values_by bearer.Kinds s claims in
     let m = made_with (declared_with behind) (kinds_with behind) knowns placed values usuals descriptions statements in
-    let held : IsHeld (tale_with (declared_with behind) (kinds_with behind) knowns placed values usuals descriptions statements mentions) = record { made = objects_made behind knowns (places_by keys claims) room.0 values usuals descriptions statements mentions declared whole; texts = texts_held m mentions limits.0 limits.1; words = words_held m mentions limits.0 } in
+    let held : IsHeld (tale_with (declared_with behind) (kinds_with behind) knowns placed values usuals descriptions statements mentions) = record { made = objects_made behind knowns (places_by keys claims) room.0 values usuals descriptions statements mentions declared (said_ranged bearer.Objects s claims ranged) (said_ranged bearer.Kinds s claims ranged) whole; texts = texts_held m mentions limits.0 limits.1; words = words_held m mentions limits.0 } in
     let declares : declared_with behind ≡ declared_by claims = declared_is claims in
     let where_placed : placed ≡ with_player (places_by keys claims) found = sym (ap (with_player (places_by keys claims)) room.1) in
     subst IsHeld (λ i. tale_with (declares i) (sym kinds i) knowns (where_placed i) values usuals descriptions statements mentions) held
 
-meant_whole : (line : Option ℕ) (said : Result Tale Fault) (tale : Tale) → unless_unmeant line said ≡ Ok tale → said ≡ Ok tale
-meant_whole None said tale meant = meant
-meant_whole (Some line) said tale meant = absurd cc
-
 -- a story file holds the tale that sentences mean
-pub tale_held : (sentences : List Sentence) (tale : Tale) → tale_said sentences ≡ Ok tale → IsHeld tale
-tale_held sentences tale meant =
+pub tale_held : (sentences : List Sentence) (tale : Tale) → AreRangedSentences sentences → tale_said sentences ≡ Ok tale → IsHeld tale
+tale_held sentences tale ranged meant =
     let claims = claims_of sentences in
     let keys = (named_by sentences).keys in
     let s = scope_of claims keys in
@@ -421,5 +419,5 @@ tale_held sentences tale meant =
     let statements = stated_by sentences in
     let mentions = (named_by sentences).mentions in
     let whole : Tale = record { declared = declared_by claims; objects = objects_of (made_of s knowns claims statements) 0 (entries_of mentions) } in
-    let t = meant_none (refusal_of s knowns claims statements mentions) whole tale (meant_whole (unmeant_sentence sentences) (judged_by s knowns claims statements mentions) tale meant) in
-    subst IsHeld t.1 (objects_held claims keys statements mentions (counted-source sentences) t.0)
+    let t = meant_none (refusal_of s knowns claims statements mentions) whole tale meant in
+    subst IsHeld t.1 (objects_held claims keys statements mentions (counted-source sentences) (source_ranged sentences ranged) t.0)

@@ -3,3 +3,4 @@ pub mod MadeDeclarations
 pub mod MadeObjects
 pub mod MadePlaces
 pub mod Outcomes
+pub mod Ranges

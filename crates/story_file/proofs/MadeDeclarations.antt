@@ -1,10 +1,10 @@
 -- What the tale that sentences mean declares is what a story may declare, and its objects have what their kinds have.
-use Rattle.std.proofs.Common.{◌≡◌, ℕ, suc, ◌+◌, ◌≤◌, true, ◌&&◌, leb, List, [], ◌∷◌, ◌++◌, length, Option, refl, sym, ap, arith, ◌∙◌, inl, inr}
+use Rattle.std.proofs.Common.{◌≡◌, ℕ, ℤ, suc, ◌+◌, ◌≤◌, true, ◌&&◌, cond, eqb, leb, List, [], ◌∷◌, ◌++◌, length, Option, refl, sym, ap, arith, ◌∙◌, inl, inr}
 use Rattle.std.specs.List.{list_all}
-use Rattle.std.specs.Prelude.{slice_get}
-use Rattle.std.proofs.lemmas.Bool.{le-leb}
+use Rattle.std.specs.Prelude.{count_by, fold, slice_get}
+use Rattle.std.proofs.lemmas.Bool.{eq-eqb, le-leb}
 use Rattle.world_meaning.proofs.Bools.{both, both_are, either}
-use Rattle.world_meaning.specs.Declarations.{is_had, is_had_at, are_right_grants, are_right_kinds, are_rising, begin_with_kinds, built_in_declared, count_of_numbers, has_properties, has_property, is_number, is_rooted, is_well_declared, suits_kind}
+use Rattle.world_meaning.specs.Declarations.{is_had, is_had_at, are_right_grants, are_right_kinds, are_rising, begin_with_kinds, count_of_numbers, has_properties, has_property, is_number, is_rooted, is_well_declared, suits_kind}
 use Rattle.world_meaning.specs.declared.declared.Declared.{Declared}
 use Rattle.world_meaning.specs.declared.declared.Granted.{Granted}
 use Rattle.world_meaning.specs.Kinds.{built_in_parents}
@@ -15,17 +15,19 @@ use Rattle.i7_kinds.specs.declared.claim.Claim.{Claim}
 use Rattle.i7_kinds.proofs.Granting.{begin_built_in, either_ors_behind, flags_counted, flags_right}
 use Rattle.i7_kinds.specs.Grants.{built_in_bases, first_base, flags_from, other_bases}
 use Rattle.i7_kinds.specs.declared.grants.Given.{Given}
+use Rattle.i7_kinds.proofs.Ranged.{AreRangedValues, numbers_in_range}
 use Rattle.i7_kinds.proofs.Rooted.{authors, authors_behind}
 use Rattle.i7_kinds.specs.declared.entries.Entry.{Entry}
-use Rattle.i7_kinds.specs.Tales.{Made, begins, built_in_truths, kind_at, object_as, object_of, objects_of, properties_from}
+use Rattle.i7_kinds.specs.Tales.{Made, begins, built_in_truths, kind_at, numbers_from, object_as, object_of, objects_of, properties_from}
 use Rattle.i7_kinds.proofs.UnderKinds.{with_others}
 
--- what stands behind the built-in kinds and properties, and the variables
+-- what stands behind the built-in kinds and properties, the names of the number properties, and what variables start at
 pub record Behind : Type 0 where
   pub kinds : List (Option ℕ)
   pub givens : List Given
   pub properties : List (List ℕ)
-  pub variables : List (List ℕ)
+  pub numbers : List (List ℕ)
+  pub starts : List ℤ
 
 abbrev pub kinds_with : Behind → List (Option ℕ)
 kinds_with b = with_others b.kinds
@@ -33,34 +35,35 @@ kinds_with b = with_others b.kinds
 abbrev pub flags_with : Behind → List Granted
 flags_with b = flags_from (kinds_with b) b.givens 0 built_in_bases (built_in_either_ors ++ b.properties)
 
+abbrev pub numbers_with : Behind → List Granted
+numbers_with b = flags_from (kinds_with b) b.givens (length (flags_with b)) [] b.numbers
+
 abbrev pub declared_with : Behind → Declared
-declared_with b = record built_in_declared { kinds = kinds_with b; flags = flags_with b; variables = starts_of b.variables }
+declared_with b = record { kinds = kinds_with b; flags = flags_with b; numbers = numbers_with b; variables = b.starts }
 
 abbrev pub behind_of : List Claim → Behind
 behind_of claims = record {
   kinds = authors (kind_names claims) claims;
   givens = givens_by claims;
   properties = (either_ors_behind claims).0;
-  variables = names_as sort.Variable claims;
+  numbers = names_as sort.Number claims;
+  starts = starts_of claims (names_as sort.Variable claims);
 }
 
 pub declared_is : (claims : List Claim) → declared_with (behind_of claims) ≡ declared_by claims
 declared_is claims =
     let kinds = sym (authors_behind claims) in
     let names = sym (either_ors_behind claims).1 in
-    λ i. record built_in_declared {
+    λ i. record {
       kinds = kinds i;
       flags = flags_from (kinds i) (givens_by claims) 0 built_in_bases (names i);
-      variables = starts_of (names_as sort.Variable claims);
+      numbers = flags_from (kinds i) (givens_by claims) (length (flags_from (kinds i) (givens_by claims) 0 built_in_bases (names i))) [] (names_as sort.Number claims);
+      variables = starts_of claims (names_as sort.Variable claims);
     }
 
-starts_counted : (names : List (List ℕ)) → length (starts_of names) ≡ length names
-starts_counted [] = refl
-starts_counted (name ∷ names) = ap suc (starts_counted names)
-
-starts_right : (names : List (List ℕ)) → list_all is_number (starts_of names) ≡ true
-starts_right [] = refl
-starts_right (name ∷ names) = starts_right names
+pub starts_counted : (claims : List Claim) (names : List (List ℕ)) → length (starts_of claims names) ≡ length names
+starts_counted claims [] = refl
+starts_counted claims (name ∷ names) = ap suc (starts_counted claims names)
 
 others_counted : (others : List (Option ℕ)) → length (built_in_parents ++ others) ≡ 10 + length others
 unfolding built_in_parents
@@ -73,14 +76,16 @@ kinds_right others few roots = rw (le-leb _ _ few) roots
 pub kinds_many : (b : Behind) → 10 ≤ length (kinds_with b)
 kinds_many b = omega (arith, others_counted b.kinds)
 
-pub declared_held : (b : Behind) → length (kinds_with b) ≤ 100 → length (built_in_either_ors ++ b.properties) ≤ 100 → length b.variables ≤ 100 → list_all (is_rooted (kinds_with b)) b.kinds ≡ true → is_well_declared (declared_with b) ≡ true
-unfolding is_well_declared built_in_declared
-declared_held b few few_properties few_variables roots =
+pub declared_held : (b : Behind) → length (kinds_with b) ≤ 100 → length (built_in_either_ors ++ b.properties) ≤ 100 → length b.numbers ≤ 100 → length b.starts ≤ 100 → list_all is_number b.starts ≡ true → list_all (is_rooted (kinds_with b)) b.kinds ≡ true → is_well_declared (declared_with b) ≡ true
+unfolding is_well_declared
+declared_held b few few_properties few_numbers few_variables ranged roots =
     let n = length (kinds_with b) in
     let names = built_in_either_ors ++ b.properties in
     let many = kinds_many b in
     let flags : are_right_grants n (flags_with b) ≡ true = both (leb (length (flags_with b)) 100) _ (le-leb _ _ (omega (arith, few_properties, flags_counted (kinds_with b) many b.givens 0 built_in_bases names))) (flags_right (kinds_with b) many b.givens 0 built_in_bases names) in
-    rw (kinds_right b.kinds few roots, begin_built_in (kinds_with b) many b.givens b.properties, flags, le-leb (length (starts_of b.variables)) 100 (omega (arith, few_variables, starts_counted b.variables))) (starts_right b.variables)
+    let first = length (flags_with b) in
+    let numbers : are_right_grants n (numbers_with b) ≡ true = both (leb (length (numbers_with b)) 100) _ (le-leb _ _ (omega (arith, few_numbers, flags_counted (kinds_with b) many b.givens first [] b.numbers))) (flags_right (kinds_with b) many b.givens first [] b.numbers) in
+    rw (kinds_right b.kinds few roots, begin_built_in (kinds_with b) many b.givens b.properties, flags, numbers, le-leb (length b.starts) 100 few_variables) ranged
 
 -- ---- what an object begins with
 
@@ -108,18 +113,42 @@ properties_had m all o kind n truths (flag ∷ flags) same =
       | inr isnt ↦ rw isnt later
     ]
 
--- what is made of a declaration's kinds and properties
-abbrev pub IsOf : Behind → Made → Type 0
-IsOf b m = (m.parents ≡ kinds_with b) × (m.flags ≡ flags_with b)
+-- it has as many numbers as its kind has number properties, which are counted from k on
+counted_from : (m : Made) (o kind n k : ℕ) (numbers : List Granted) → length (numbers_from m o kind n numbers) + k ≡ fold (λ (count : ℕ) (number : Granted). count + cond (is_had m.parents kind number) 1 0) k numbers
+counted_from m o kind n k [] = omega arith
+counted_from m o kind n k (number ∷ numbers) =
+    elim (either (is_had m.parents kind number)) [
+      | inl is ↦ let later = counted_from m o kind (n + 1) (k + 1) numbers in rw is (omega (arith, later))
+      | inr isnt ↦ let later = counted_from m o kind (n + 1) (k + 0) numbers in rw isnt (omega (arith, later))
+    ]
+
+numbers_counted : (m : Made) (o kind n : ℕ) (numbers : List Granted) → length (numbers_from m o kind n numbers) ≡ count_by (is_had m.parents kind) numbers
+numbers_counted m o kind n numbers =
+    let counted : length (numbers_from m o kind n numbers) + 0 ≡ count_by (is_had m.parents kind) numbers = counted_from m o kind n 0 numbers in
+    omega (arith, counted)
+
+-- what is made of a declaration's kinds and properties, and numbers in range
+pub record IsOf (b : Behind) (m : Made) : Type 0 where
+  pub parents : m.parents ≡ kinds_with b
+  pub flags : m.flags ≡ flags_with b
+  pub numbers : m.numbers ≡ numbers_with b
+  pub values : AreRangedValues m.values
+  pub usuals : AreRangedValues m.usuals
 
 object_suits : (b : Behind) (m : Made) (kind o : ℕ) (entry : Entry) → IsOf b m → suits_kind (declared_with b) (object_as m kind o entry) ≡ true
-unfolding suits_kind has_properties count_of_numbers object_as built_in_declared
+unfolding suits_kind has_properties count_of_numbers object_as
 object_suits b m kind o entry same =
     let found = properties_from m o kind 0 built_in_truths m.flags in
     let has = λ (S : List (Option ℕ)) (flags : List Granted). are_rising 0 found && list_all (has_property S flags kind) found in
     let here : has m.parents m.flags ≡ true = both (are_rising 0 found) _ (properties_rise m o kind 0 0 built_in_truths m.flags (omega arith)) (properties_had m m.flags o kind 0 built_in_truths m.flags (λ i j e. let at : j ≡ i = omega (arith, e) in ap (slice_get m.flags) at)) in
-    let there : has (kinds_with b) (flags_with b) ≡ true = sym (λ i. has (same.0 i) (same.1 i)) ∙ here in
-    both (has (kinds_with b) (flags_with b) && true) true (both (has (kinds_with b) (flags_with b)) true there refl) refl
+    let there : has (kinds_with b) (flags_with b) ≡ true = sym (λ i. has (same.parents i) (same.flags i)) ∙ here in
+    let numbers = numbers_from m o kind (length m.flags) m.numbers in
+    let count = λ (S : List (Option ℕ)) (granted : List Granted). eqb (length numbers) (count_by (is_had S kind) granted) in
+    let counted : count m.parents m.numbers ≡ true = eq-eqb _ _ (numbers_counted m o kind (length m.flags) m.numbers) in
+    let as_many : count (kinds_with b) (numbers_with b) ≡ true = sym (λ i. count (same.parents i) (same.numbers i)) ∙ counted in
+    both (has (kinds_with b) (flags_with b) && count (kinds_with b) (numbers_with b)) (list_all is_number numbers)
+    (both (has (kinds_with b) (flags_with b)) (count (kinds_with b) (numbers_with b)) there as_many)
+    (numbers_in_range m o kind (length m.flags) m.numbers same.values same.usuals)
 
 pub suited_held : (b : Behind) (m : Made) (o : ℕ) (entries : List Entry) → IsOf b m → list_all (suits_kind (declared_with b)) (objects_of m o entries) ≡ true
 suited_held b m o [] same = refl

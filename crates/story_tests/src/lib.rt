@@ -4,6 +4,8 @@
 #[cfg(test)]
 mod damaged_stories;
 #[cfg(test)]
+mod numbered_stories;
+#[cfg(test)]
 mod refused_sources;
 #[cfg(test)]
 mod story_files;

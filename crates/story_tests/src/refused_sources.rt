@@ -76,6 +76,16 @@ const REFUSED: &[(&str, FaultCode, u32)] = &[
         2,
     ),
     (
+        "The gate is north of the Hall and south of the Yard.\n\"Iron.\"\nThe gate is a room.",
+        FaultCode::WrongKind,
+        3,
+    ),
+    (
+        "The Hall is a frob.\nThe Hall is a room. \"One.\"\nThe description of the Hall is \"Two.\"",
+        FaultCode::Twice,
+        3,
+    ),
+    (
         "The Hall is a room. The gate is a man.\nThe gate is north of the Hall and south of the Yard.",
         FaultCode::WrongKind,
         2,
@@ -201,10 +211,81 @@ const REFUSED: &[(&str, FaultCode, u32)] = &[
         FaultCode::NumberOutOfRange,
         1,
     ),
+    (
+        "The Hall is a room.\nThe weight of the ball is 3.",
+        FaultCode::UnknownName,
+        2,
+    ),
+    (
+        "The Hall is a room.\nThe ball is 5.",
+        FaultCode::UnknownName,
+        2,
+    ),
+    (
+        "The Hall is a room.\nThe dark of the Hall is 3.",
+        FaultCode::UnknownName,
+        2,
+    ),
+    (
+        "The Hall is a room.\nThe score is 5.\nThe level is 6.",
+        FaultCode::UnknownName,
+        2,
+    ),
+    (
+        "The Hall is a room. A thing has a number called weight.\nThe weight of a frob is usually 3.\nThe weight of a blob is usually 4.",
+        FaultCode::UnknownName,
+        2,
+    ),
+    (
+        "The Hall is a room. A frob is usually lit.\nA blob is usually unlit.",
+        FaultCode::UnknownName,
+        1,
+    ),
+    (
+        "The Hall is a room. The score is a number that varies.\nThe score is 5.\nThe score is 6.",
+        FaultCode::Twice,
+        3,
+    ),
+    (
+        "The Hall is a room. A thing has a number called weight.\nThe weight of the ball is 1.\nThe weight of the ball is -1.",
+        FaultCode::Twice,
+        3,
+    ),
+    (
+        "The Hall is a room. A thing has a number called weight.\nThe weight of a thing is usually 1.\nThe weight of things is usually 2.",
+        FaultCode::Twice,
+        3,
+    ),
+    (
+        "The Hall is a room. A thing can be heavy.\nA thing has a number called heavy.",
+        FaultCode::Twice,
+        2,
+    ),
+    (
+        "The Hall is a room. A room has a number called size.\nThe size of the ball is 3.",
+        FaultCode::WrongKind,
+        2,
+    ),
+    (
+        "The Hall is a room. A device has a number called size.\nThe size of a thing is usually 3.",
+        FaultCode::WrongKind,
+        2,
+    ),
+    (
+        "The Hall is a room. The score is a number that varies.\nThe score is 5.\n\"Five.\"",
+        FaultCode::WrongKind,
+        3,
+    ),
+    (
+        "The Hall is a room.\nThe score is 2147483648.",
+        FaultCode::NumberOutOfRange,
+        2,
+    ),
 ];
 
 /// Sources that are taken.
 const TAKEN: &[&str] = &[
+    "The Hall is a room. The score is a number that varies.\nThe score is 5. The score is 05.",
     "the HALL IS A Room",
     "The gate is north of the Hall and south of the Yard.\nThe gate is an open door. The knob is part of the gate.",
     "The gate is a door. The Hall is a room.",

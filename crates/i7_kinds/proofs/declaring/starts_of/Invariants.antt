@@ -3,7 +3,7 @@ use Rattle.i7_kinds.specs.KindClaims.{starts_of}
 use Rattle.i7_kinds.proofs.declaring.starts_of.Given as goal
 
 abbrev pub invariant-loop-rest : goal.invariant-loop-rest
-invariant-loop-rest l = l.starts.items ++ starts_of (map (λ name. name.items) l.rest) ≡ starts_of (map (λ name. name.items) l.names)
+invariant-loop-rest l = l.starts.items ++ starts_of l.claims (map (λ name. name.items) l.rest) ≡ starts_of l.claims (map (λ name. name.items) l.names)
 
 abbrev pub decreases-loop-rest : goal.decreases-loop-rest
 decreases-loop-rest l = length l.rest

@@ -33,3 +33,7 @@ declared_by-requires-clause-short c =
 pub objects_meant-requires-clause-few_flags : goal.objects_meant-requires-clause-few_flags
 objects_meant-requires-clause-few_flags c =
     (ready_at c.args.scope.now c.args.claims.now c.args.statements.now _ (mentions_of c.args.mentions.now) _ c.in_ok-ways.ensures (c.as_slice-known.ensures.value ∙ c.in_ok-knowns.ensures) c.requires.scope c.requires.within c.requires.counted (sym c.in_ok-fault.ensures ∙ c.in_default.is)).few_flags
+
+pub declared_by-requires-clause-few_flags : goal.declared_by-requires-clause-few_flags
+declared_by-requires-clause-few_flags c =
+    (ready_at c.args.scope.now c.args.claims.now c.args.statements.now _ (mentions_of c.args.mentions.now) _ c.in_ok-ways.ensures (c.as_slice-known.ensures.value ∙ c.in_ok-knowns.ensures) c.requires.scope c.requires.within c.requires.counted (sym c.in_ok-fault.ensures ∙ c.in_default.is)).few_flags
