@@ -4,5 +4,4 @@ ghost use Rattle.story_code.specs.Laws.{OneCode};
 /// No bytes spell two codes.
 pub fn one_code()
     ensures { OneCode }
-{
-}
+{}

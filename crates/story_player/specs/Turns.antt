@@ -12,7 +12,7 @@ use Rattle.play_meaning.specs.Progress.{Progress, fresh}
 use Rattle.play_meaning.specs.Saying.{name_in}
 use Rattle.play_meaning.specs.Sessions.{Answer, State, abandoned, ends_in_break, keep, played, refuses}
 use Rattle.play_meaning.specs.Settings.{Setting}
-use Rattle.play_meaning.specs.Trees.{Plain}
+use Rattle.play_meaning.specs.declared.naming.Naming.TheVariants.{Plain}
 use Rattle.play_meaning.specs.Turns.{count_turn}
 use Rattle.play_meaning.specs.Values.{beyond}
 use Rattle.play_meaning.specs.Worlds.{World, location_of}

@@ -3,7 +3,7 @@ ghost use Rattle.std.specs.Prelude.{◌≡◌, ◌∷◌, ◌++◌, Some, IfOk, 
 ghost use Rattle.play_meaning.specs.Deeds.{closed_text, description_text, look_text, view_text};
 ghost use Rattle.play_meaning.specs.Saying.{article_of, joint, listed_on, named};
 ghost use Rattle.play_meaning.specs.Sessions.{completed};
-ghost use Rattle.play_meaning.specs.Trees.{CapitalDefinite, Indefinite};
+ghost use Rattle.play_meaning.specs.declared.naming.Naming.TheVariants.{CapitalDefinite, Indefinite};
 ghost use Rattle.world_meaning.specs.Texts.{said};
 ghost use Rattle.world_store.specs.StoryGames.{plain_story};
 ghost use Rattle.world_store.specs.StorySettings.{setting_of};

@@ -1,6 +1,6 @@
 use Rattle.std.proofs.Common.{◌≡◌, ◌++◌, length}
 use Rattle.play_meaning.specs.Saying.{listed_on}
-use Rattle.play_meaning.specs.Trees.{Indefinite}
+use Rattle.play_meaning.specs.declared.naming.Naming.TheVariants.{Indefinite}
 use Rattle.world_store.specs.StorySettings.{setting_of}
 use Rattle.story_player.proofs.telling.say_others.Given as goal
 
