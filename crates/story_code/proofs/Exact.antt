@@ -1,5 +1,5 @@
 -- The two walks accept exactly sound code.
-use Rattle.std.proofs.Common.{◌≡◌, ◌≢◌, ◌↔◌, ℕ, zero, suc, ◌+◌, ◌^◌, ◌<◌, ◌≤◌, ◌==◌, Bool, true, false, ◌&&◌, not, nat_lt, if◌then◌else◌, IsTrue, List, [], ◌∷◌, ◌++◌, length, drop, replicate, Option, Some, None, slice_set, slice_index, refl, sym, ap, ◌∙◌, subst, arith, length-append}
+use Rattle.std.proofs.Common.{◌≡◌, ◌≢◌, ◌↔◌, ℕ, zero, suc, ◌+◌, ◌^◌, ◌<◌, ◌≤◌, ◌==◌, Bool, true, false, ◌&&◌, not, nat_lt, if◌then◌else◌, IsTrue, List, [], ◌∷◌, ◌++◌, length, drop, replicate, MatchOption, Option, Some, None, slice_set, slice_index, refl, sym, ap, ◌∙◌, subst, arith, length-append}
 use Rattle.std.specs.List.{list_all}
 use Rattle.std.proofs.Math.Seq.{drop-append_seam}
 use Rattle.std.proofs.lemmas.List.{get_or-set_other, get_or-set_same}
@@ -14,7 +14,7 @@ use Rattle.story_code.specs.declared.sizes.Sizes.{Sizes}
 use Rattle.story_code.specs.Fronts.{code_in, front, read_on, read_within, with_first}
 use Rattle.story_code.specs.Passes.{Mark, all_meet, behind, if_so, is_bare_in, is_nil, look, marks_from, met, passes, same_loop, way_meets, with_mark}
 use Rattle.story_code.specs.Soundness.{IsSoundCode}
-use Rattle.story_code.specs.Spelling.{Spells, argument_bytes, arguments_bytes, can_spell, spelled, spelling}
+use Rattle.story_code.specs.Spelling.{HasNoFront, IsFront, Spells, argument_bytes, arguments_bytes, can_spell, spelled, spelling}
 use Rattle.story_code.specs.Walks.{bare_scope, checked, filled, filled_meets, fills, goal_met, met_from, scope_of, way_met}
 use Rattle.story_code.proofs.FrontLemmas.{Small, both_are, front_read}
 use Rattle.story_code.proofs.Marking.{Marked, marked}
@@ -261,6 +261,24 @@ spelled_in (suc n) (b ∷ bytes) code small h = by (front (b ∷ bytes)) refl h 
         let gone : drop (size_of i) (b ∷ bytes) ≡ r.rest = ap (drop (size_of i)) r.cut ∙ ap (λ m. drop m (opcode i ∷ (r.args ++ r.rest))) size ∙ drop-append_seam (opcode i ∷ r.args) r.rest in
         first_read i (b ∷ bytes) r.args r.rest n code r.cut said.0 said.1 rest (λ js f. more r.rest js rest f) (read_within n r.rest) refl (ap (λ x. with_first i (read_within n x)) (sym gone) ∙ h)
 
+cut_by : (i : Instruction) (bytes args rest : List ℕ) → bytes ≡ opcode i ∷ (args ++ rest) → (args ≡ arguments_bytes (row_of i).arguments) × (can_spell i ≡ true) → IsFront i bytes
+cut_by i bytes args rest cut said = record { rest = rest; cut = cut ∙ ap (λ xs. opcode i ∷ (xs ++ rest)) said.0; can = said.1 }
+
+-- what is read at the front stands there, and what stands there is read
+pub front_exact : (bytes : List ℕ) (o : Option Instruction) → Small bytes → o ≡ front bytes → MatchOption o (HasNoFront bytes) (λ i. IsFront i bytes)
+front_exact bytes None small e = λ i f. none_some i (e ∙ ap front f.cut ∙ front_spelled i f.rest f.can)
+  where
+    none_some : (i : Instruction) → None ≡ Some i → ⊥
+    none_some i h = cc
+front_exact bytes (Some i) small e =
+    let r = front_read bytes i (sym e) in
+    let all : Small (opcode i ∷ (r.args ++ r.rest)) = subst Small r.cut small in
+    let behind : Small (r.args ++ r.rest) = λ k. all (suc k) in
+    cut_by i bytes r.args r.rest r.cut (r.says.said (small_front r.args r.rest behind))
+
+false_true : false ≡ true → ⊥
+false_true h = cc
+
 pub checked_exact : (z : Sizes) (bytes : List ℕ) (n : ℕ) (b : Bool) → Small bytes → length bytes ≤ n → length bytes < 2 ^ 16 → b ≡ checked z bytes (replicate n 0) → IsTrue b ↔ IsSoundCode z bytes
 unfolding code_in
 checked_exact z bytes n b small short few e = (λ h. to h (code_in bytes) refl, from)
@@ -271,8 +289,7 @@ checked_exact z bytes n b small short few e = (λ h. to h (code_in bytes) refl, 
     to : b ≡ true → (o : Option (List Instruction)) → code_in bytes ≡ o → IsSoundCode z bytes
     to h None k =
         let f = both_are _ _ (sym e ∙ h) in
-        let g : filled_meets z None (fills z 0 (Some (bare [])) None (replicate n 0)) ≡ true = ap (λ o. filled_meets z o (fills z 0 (Some (bare [])) o (replicate n 0))) (sym k) ∙ f.1 in
-        let no : ⊥ = cc in absurd no
+        absurd (false_true (ap (λ o. filled_meets z o (fills z 0 (Some (bare [])) o (replicate n 0))) (sym k) ∙ f.1))
     to h (Some code) k = record {
       short = few;
       code = code;

@@ -80,3 +80,12 @@ can_spell i = list_all can_say (row_of i).arguments
 pub record Spells (bytes : List ℕ) (code : List Instruction) : Type 0 where
   pub whole : bytes ≡ spelling code
   pub each : list_all can_spell code ≡ true
+
+-- the bytes of an instruction stand in front of others
+pub record IsFront (i : Instruction) (bytes : List ℕ) : Type 0 where
+  pub rest : List ℕ
+  pub cut : bytes ≡ spelled i ++ rest
+  pub can : can_spell i ≡ true
+
+abbrev pub HasNoFront : List ℕ → Type 0
+HasNoFront bytes = (i : Instruction) → IsFront i bytes → ⊥

@@ -1,6 +1,7 @@
 //! The instruction at the front of bytes.
-ghost use Rattle.std.specs.Prelude.{◌≡◌};
+ghost use Rattle.std.specs.Prelude.{◌≡◌, MatchOption};
 ghost use Rattle.story_code.specs.Fronts.{by_byte, by_relation, by_word, common_in, count_in, first_with, flag_in, front, front_by, has_byte, has_relation, has_word, integer_in, name_in, names_in, next_in, plain_ones, set_flag_in, try_in, word_of};
+ghost use Rattle.story_code.specs.Spelling.{HasNoFront, IsFront};
 
 use crate::argument::{choice_of, form_of, relation_of, side_of};
 use play_meaning::Instruction;
@@ -239,12 +240,19 @@ fn front_by(byte: u8, rest: &[u8]) -> Option<Instruction>
     }
 }
 
-/// The instruction at the front.
-pub fn front(bytes: &[u8]) -> Option<Instruction>
+/// The instruction at the front, by its byte.
+pub(crate) fn first(bytes: &[u8]) -> Option<Instruction>
     ensures { result ≡ front bytes.now }
 {
     match bytes {
         [] => None,
         [byte, rest @ ..] => front_by(*byte, rest),
     }
+}
+
+/// The instruction whose bytes stand in front of others; none if no instruction's do.
+pub fn front(bytes: &[u8]) -> Option<Instruction>
+    ensures { MatchOption result (HasNoFront bytes.now) (λ i. IsFront i bytes.now) }
+{
+    first(bytes)
 }

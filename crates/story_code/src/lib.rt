@@ -5,6 +5,7 @@ mod argument;
 mod behind;
 mod decoding;
 mod effect;
+mod encoding;
 mod known;
 mod laws;
 mod named;
@@ -14,6 +15,7 @@ mod verified;
 mod verifying;
 
 pub use decoding::front;
+pub use encoding::spell;
 pub use laws::one_code;
 pub use sizes::Sizes;
 pub use verified::Verified;

@@ -7,7 +7,7 @@ ghost use Rattle.story_code.specs.Soundness.{IsSoundCode};
 ghost use Rattle.story_code.specs.Walks.{bare_scope, checked, fills, goal_met, meets, scope_of};
 
 use crate::behind::behind;
-use crate::decoding::front;
+use crate::decoding::first;
 use crate::known::{Known, Loops};
 use crate::row::{size, way};
 use crate::sizes::Sizes;
@@ -69,10 +69,10 @@ fn fill(bytes: &[u8], sizes: &Sizes, table: &mut [u32]) -> bool
     let mut known = Known::new();
     let mut place = 0;
     let mut rest = bytes;
-    while let Some(instruction) = front(rest) {
+    while let Some(instruction) = first(rest) {
         let (_, after) = rest.split_at(size(instruction));
         table[place] = bare_scope(&known);
-        if !behind(&mut known, sizes, place, instruction, front(after)) {
+        if !behind(&mut known, sizes, place, instruction, first(after)) {
             return false;
         }
         place += size(instruction);
@@ -101,12 +101,12 @@ fn meet(bytes: &[u8], sizes: &Sizes, table: &[u32]) -> bool
     let mut known = Known::new();
     let mut place = 0;
     let mut rest = bytes;
-    while let Some(instruction) = front(rest) {
+    while let Some(instruction) = first(rest) {
         let (_, after) = rest.split_at(size(instruction));
         if !is_met(table, place, instruction, &known) {
             return false;
         }
-        if !behind(&mut known, sizes, place, instruction, front(after)) {
+        if !behind(&mut known, sizes, place, instruction, first(after)) {
             return false;
         }
         place += size(instruction);
