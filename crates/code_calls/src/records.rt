@@ -1,5 +1,5 @@
 //! Codes with what they are judged by, one behind the other: a byte for the use (0 a test, 1 a description, 2 a body), one for
-//! the loops around a test, eleven counts and the code's length in two bytes each, and the code.
+//! the loops around a test, eleven counts in two bytes each, the code's length in three, and the code.
 ghost use Rattle.std.specs.Prelude.{◌<◌, ◌≤◌, ◌+◌, ◌≡◌, length, IfSome};
 
 use play_meaning::{Counts, Use};
@@ -59,11 +59,14 @@ fn role(number: u8, loops: u8) -> Use {
 fn code(bytes: &[u8]) -> Option<(&[u8], &[u8])>
     ensures { IfSome result (λ r. length r.1.now < length bytes.now) }
 {
-    let (length, rest) = word(bytes)?;
-    if rest.len() < length as usize {
+    let [high, middle, low, rest @ ..] = bytes else {
+        return None;
+    };
+    let length = u32::from_be_bytes([0, *high, *middle, *low]) as usize;
+    if rest.len() < length {
         return None;
     }
-    Some(rest.split_at(length as usize))
+    Some(rest.split_at(length))
 }
 
 /// What the first code is judged by, the code, and what stands behind it.
