@@ -1,9 +1,9 @@
 //! The bytes of codes.
-ghost use Rattle.std.specs.Prelude.{◌≡◌, ◌++◌, IfOk, OnOk};
+ghost use Rattle.std.specs.Prelude.{◌≡◌, ◌++◌, IfOk, OnOk, true};
 ghost use Rattle.std.specs.List.{list_all};
 ghost use Rattle.play_meaning.specs.Instructions.{row_of};
 ghost use Rattle.play_meaning.specs.Values.{relation_number};
-ghost use Rattle.story_code.specs.Spelling.{Spells, arguments_bytes, choice_number, form_number, side_number, spelled, spelling};
+ghost use Rattle.story_code.specs.Spelling.{Spells, arguments_bytes, can_spell, choice_number, form_number, side_number, spelled, spelling};
 
 use crate::row::opcode;
 use play_meaning::{Asked, Instruction, Naming};
@@ -109,7 +109,8 @@ fn put_arguments(out: &mut Vec<u8>, instruction: Instruction) -> Result<(), Allo
 
 /// Adds an instruction's bytes.
 fn put(out: &mut Vec<u8>, instruction: Instruction) -> Result<(), AllocError>
-    ensures { OnOk result (out.new.items ≡ out.old.items ++ spelled instruction) }
+    ensures bytes { OnOk result (out.new.items ≡ out.old.items ++ spelled instruction) }
+    ensures can { can_spell instruction ≡ true }
 {
     out.push(opcode(instruction))?;
     put_arguments(out, instruction)

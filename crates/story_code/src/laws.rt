@@ -1,7 +1,17 @@
 //! What is known of codes and their bytes.
 ghost use Rattle.story_code.specs.Laws.{OneCode};
+ghost use Rattle.story_code.specs.Soundness.{IsSoundCode};
+
+use crate::verified::Verified;
 
 /// No bytes spell two codes.
 pub fn one_code()
     ensures { OneCode }
 {}
+
+/// Bytes that were kept are a sound code.
+pub fn verified_code_is_sound(code: &Verified)
+    ensures { IsSoundCode code.now.sizes code.now.bytes }
+{
+    let _ = &code.bytes;
+}

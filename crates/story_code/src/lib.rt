@@ -16,7 +16,7 @@ mod verifying;
 
 pub use decoding::front;
 pub use encoding::spell;
-pub use laws::one_code;
+pub use laws::{one_code, verified_code_is_sound};
 pub use sizes::Sizes;
 pub use verified::Verified;
 pub use verifying::verify;

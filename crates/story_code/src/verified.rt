@@ -9,7 +9,7 @@ use std::marker::Model;
 /// Bytes that are a sound code, and what they were judged by.
 #[derive(Debug, Drop)]
 pub struct Verified {
-    bytes: Vec<u8>,
+    pub(crate) bytes: Vec<u8>,
     sizes: Sizes,
 }
 
