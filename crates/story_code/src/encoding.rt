@@ -118,7 +118,7 @@ fn put(out: &mut Vec<u8>, instruction: Instruction) -> Result<(), AllocError>
 
 /// The bytes of a code.
 pub fn spell(alloc: Global, code: &[Instruction]) -> Result<Vec<u8>, AllocError>
-    ensures { IfOk result (λ bytes. bytes.items ≡ spelling code.now) }
+    ensures { IfOk result (λ bytes. Spells bytes.items code.now) }
 {
     let mut bytes = Vec::new(alloc);
     let mut rest = code;
