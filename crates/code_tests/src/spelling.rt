@@ -1,7 +1,9 @@
 //! Each instruction, as the profile spells it, and bytes that spell none.
 use play_meaning::{Asked, Instruction, Naming};
+use std::alloc::{AllocError, Global};
 use std::process::Abort;
-use story_code::front;
+use std::test::Fail;
+use story_code::{front, spell};
 use world_meaning::Rel;
 
 /// An instruction behind which another byte stands.
@@ -143,4 +145,48 @@ fn cut_instructions_are_none(rt: HostRuntime) {
     spells_none(&rt, &[0x22, 0]);
     spells_none(&rt, &[0x23]);
     spells_none(&rt, &[0x35, 0, 0, 0, 0]);
+}
+
+/// The bytes of one instruction.
+fn bytes_of(alloc: Global, instruction: Instruction) -> Result<Vec<u8>, AllocError> {
+    spell(alloc, &[instruction])
+}
+
+#[test]
+fn codes_are_written(rt: HostRuntime) -> Result<(), Fail> {
+    let alloc = rt.alloc();
+    let code = [
+        Instruction::Dark,
+        Instruction::IfZero(7),
+        Instruction::Say(258),
+        Instruction::Done,
+    ];
+    let bytes = spell(alloc, &code)?;
+    assert_eq!(rt;
+        bytes.as_slice(),
+        [0x19, 0x32, 0, 7, 0x22, 1, 2, 0x37].as_slice()
+    );
+    assert!(rt; spell(alloc, &[])?.is_empty());
+    Ok(())
+}
+
+#[test]
+fn arguments_are_written(rt: HostRuntime) -> Result<(), Fail> {
+    let alloc = rt.alloc();
+    let number = bytes_of(alloc, Instruction::Num(-2))?;
+    assert_eq!(rt;
+        number.as_slice(),
+        [0x01, 0xFF, 0xFF, 0xFF, 0xFE].as_slice()
+    );
+    let flag = bytes_of(alloc, Instruction::Flag(5, Asked::IsNotFirst))?;
+    assert_eq!(rt; flag.as_slice(), [0x12, 5, 3].as_slice());
+    let held = bytes_of(alloc, Instruction::PutAt(Rel::Part))?;
+    assert_eq!(rt; held.as_slice(), [0x29, 4].as_slice());
+    let names = bytes_of(alloc, Instruction::Names(Naming::Indefinite, 1, 515))?;
+    assert_eq!(rt; names.as_slice(), [0x21, 3, 1, 2, 3].as_slice());
+    let tried = bytes_of(alloc, Instruction::Try(true, 9))?;
+    assert_eq!(rt; tried.as_slice(), [0x30, 1, 9].as_slice());
+    let next = bytes_of(alloc, Instruction::Next(8, 1, 256))?;
+    assert_eq!(rt; next.as_slice(), [0x35, 8, 0, 1, 1, 0].as_slice());
+    Ok(())
 }
