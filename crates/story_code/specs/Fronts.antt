@@ -16,13 +16,30 @@ use Rattle.play_meaning.specs.declared.naming.Naming.TheVariants.{CapitalDefinit
 -- ---- arguments of one byte
 
 abbrev pub relation_of : ℕ → Option Rel
-relation_of b = if b == 0 then Some In else if b == 1 then Some On else if b == 2 then Some Carried else if b == 3 then Some Worn else if b == 4 then Some Part else None
+relation_of b =
+    if b == 0 then Some In
+    else if b == 1 then Some On
+    else if b == 2 then Some Carried
+    else if b == 3 then Some Worn
+    else if b == 4 then Some Part
+    else None
 
 abbrev pub side_of : ℕ → Option Asked
-side_of b = if b == 0 then Some IsSecond else if b == 1 then Some IsFirst else if b == 2 then Some IsNotSecond else if b == 3 then Some IsNotFirst else None
+side_of b =
+    if b == 0 then Some IsSecond
+    else if b == 1 then Some IsFirst
+    else if b == 2 then Some IsNotSecond
+    else if b == 3 then Some IsNotFirst
+    else None
 
 abbrev pub form_of : ℕ → Option Naming
-form_of b = if b == 0 then Some Plain else if b == 1 then Some Definite else if b == 2 then Some CapitalDefinite else if b == 3 then Some Indefinite else if b == 4 then Some CapitalIndefinite else None
+form_of b =
+    if b == 0 then Some Plain
+    else if b == 1 then Some Definite
+    else if b == 2 then Some CapitalDefinite
+    else if b == 3 then Some Indefinite
+    else if b == 4 then Some CapitalIndefinite
+    else None
 
 abbrev pub choice_of : ℕ → Option Bool
 choice_of b = if b == 0 then Some false else if b == 1 then Some true else None
@@ -34,7 +51,10 @@ first_with b [] = None
 first_with b (i ∷ is) = if opcode i == b then Some i else first_with b is
 
 abbrev pub plain_ones : List Instruction
-plain_ones = Turns ∷ Add ∷ Sub ∷ Mul ∷ Eq ∷ Less ∷ AtMost ∷ Not ∷ And ∷ Or ∷ Noun ∷ Second ∷ Location ∷ Encloses ∷ Visible ∷ Touchable ∷ Dark ∷ HasDescription ∷ Room ∷ Door ∷ Figure ∷ Description ∷ Move ∷ Away ∷ Done ∷ NoDecision ∷ Success ∷ Failure ∷ Answer ∷ []
+plain_ones =
+    Turns ∷ Add ∷ Sub ∷ Mul ∷ Eq ∷ Less ∷ AtMost ∷ Not ∷ And ∷ Or ∷ Noun ∷ Second ∷ Location ∷ Encloses ∷ Visible
+    ∷ Touchable ∷ Dark ∷ HasDescription ∷ Room ∷ Door ∷ Figure ∷ Description ∷ Move ∷ Away ∷ Done ∷ NoDecision
+    ∷ Success ∷ Failure ∷ Answer ∷ []
 
 -- with a number of one byte, of two
 abbrev pub with_byte : ℕ → List Instruction
