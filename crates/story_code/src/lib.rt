@@ -1,4 +1,4 @@
-//! The codes of a story: how their bytes are read, and whether a code is sound.
+//! The codes of a story: how their bytes are read and written, and whether a code is sound.
 #![tactic(auto)]
 
 mod argument;
