@@ -1,9 +1,10 @@
 -- The game of a story file: its rules, scenes and descriptions are codes, and its rulebooks are stored in their order.
 use Rattle.std.specs.Prelude.{ℕ, ◌-◌, Bool, true, false, List, [], map, Option, None, Some, Ok, slice_get, slice_index_or}
 use Rattle.play_meaning.specs.Attempts.{Attempt}
-use Rattle.play_meaning.specs.Codes.{Codes, body_done, description_said, test_of}
+use Rattle.play_meaning.specs.Codes.{Codes, body_done, test_of}
 use Rattle.play_meaning.specs.Doing.{Inner}
 use Rattle.play_meaning.specs.Games.{Game, Question, Reading}
+use Rattle.play_meaning.specs.Grounds.{telling_by}
 use Rattle.play_meaning.specs.Progress.{Done, Progress, goes_on}
 use Rattle.play_meaning.specs.Rules.{Aspect, InOrder, Rule, is_about}
 use Rattle.play_meaning.specs.Saying.{Telling}
@@ -50,12 +51,8 @@ pub record CodedStory : Type 0 where
   pub scenes : List CodedScene
   pub reads : Option Question → (ℕ → Bool) → List ℕ → Reading
 
-abbrev pub said_by_code : Codes → Setting → ActionNow → World → Option ℕ → Attempt (List ℕ)
-said_by_code c s now w None = Ok []
-said_by_code c s now w (Some n) = description_said c (undescribed s) n now w
-
 abbrev pub telling_by_codes : CodedStory → Telling
-telling_by_codes k = record { setting = k.setting; describes = λ o now w. said_by_code k.codes k.setting now w (k.descriptions o) }
+telling_by_codes k = telling_by k.codes k.setting k.descriptions
 
 -- the answer of a test; this, where there is none
 abbrev pub answer_or : Bool → Codes → Setting → ActionNow → World → Option ℕ → Attempt Bool

@@ -13,6 +13,7 @@ pub mod Doing
 pub mod Effects
 pub mod Games
 pub mod Grammar
+pub mod Grounds
 pub mod Instructions
 pub mod Machines
 pub mod Operands

@@ -37,8 +37,8 @@ pub enum Change {
 
 /// Makes a change, for which it takes no memory; one that isn't allowed does nothing.
 pub fn make<G: GroundMut>(ground: &mut G, change: Change)
-    ensures made { G.world ground.new ≡ made (G.setting ground.old) (G.world ground.old) change }
-    ensures setting { G.setting ground.new ≡ G.setting ground.old }
+    ensures made { G.world ground.new ≡ made (G.fixed ground.old).setting (G.world ground.old) change }
+    ensures fixed { G.fixed ground.new ≡ G.fixed ground.old }
 {
     let _ = match change {
         Change::SetFlag {
