@@ -13,6 +13,7 @@ pub mod Reckoning
 pub mod Seen
 pub mod Standing
 pub mod Stated
+pub mod States
 pub mod Straight
 pub mod Translated
 pub mod Unstuck

@@ -12,6 +12,7 @@ use Rattle.play_meaning.specs.SoundCodes.{Branch, Leap, LeapsTo, Opens, Straight
 use Rattle.play_meaning.specs.Progress.{Progress, change, say, spend}
 use Rattle.play_meaning.specs.Saying.{description_in, listed}
 use Rattle.play_meaning.specs.Seeing.{has_light}
+use Rattle.play_meaning.specs.Stands.{is_body}
 use Rattle.play_meaning.specs.SoundRuns.{AlwaysAnswers, AlwaysEnds, IsAbandoned, NeverStuck}
 use Rattle.play_meaning.specs.Values.{in_range}
 use Rattle.play_meaning.specs.Worlds.{end_with, location_of, scene_of, variable_of}
@@ -21,7 +22,7 @@ use Rattle.play_meaning.proofs.Standing.{size_is}
 -- ---- places
 
 -- an instruction stands before the code's end
-inside : (is : List Instruction) (q : ℕ) (i : Instruction) → at_place is q ≡ Some i → q < sizes is
+pub inside : (is : List Instruction) (q : ℕ) (i : Instruction) → at_place is q ≡ Some i → q < sizes is
 inside [] q i e = absurd cc
 inside (j ∷ js) q i e = by_order (cases_lt q (size_of j)) (inside js (q - size_of j) i)
   where
@@ -82,12 +83,7 @@ is_test (Test loops) = true
 is_test Describing = false
 is_test Body = false
 
-abbrev pub is_body : Use → Bool
-is_body (Test loops) = false
-is_body Describing = false
-is_body Body = true
-
-opens_in_bodies : (role : Use) (k : ℕ) → may_hold role (code.Begin k) ≡ true → is_body role ≡ true
+pub opens_in_bodies : (role : Use) (k : ℕ) → may_hold role (code.Begin k) ≡ true → is_body role ≡ true
 unfolding may_hold
 opens_in_bodies (Test loops) k may = absurd cc
 opens_in_bodies Describing k may = absurd cc
@@ -347,7 +343,7 @@ module _ (z : Counts) (role : Use) (c : Labelled) where
     abbrev IsFineAll : Type 0
     IsFineAll = (place : ℕ) (i : Instruction) → at_place c.code place ≡ Some i → IsFine z role c place i
 
-    one_step : IsFineAll → (s : State) → IsPlace c s.place → Many s → Follows s.place (step f c.code s)
+    pub one_step : IsFineAll → (s : State) → IsPlace c s.place → Many s → Follows s.place (step f c.code s)
     one_step fine s there many = subst (λ o. Follows s.place (does_at f s o)) (sym there.1) (keeps s there.0 (fine s.place there.0 there.1) many)
 
     abbrev pub Unstuck : Step → Type 0

@@ -39,6 +39,7 @@ pub mod SoundRuns
 pub mod StandardActions
 pub mod StandardGrammar
 pub mod StandardRules
+pub mod Stands
 pub mod StoryWorlds
 pub mod Tales
 pub mod Transcripts

@@ -43,6 +43,14 @@ description_in strings codes (Some entry) = if entry.description == 65535 then N
 abbrev pub description_of : Tables → ℕ → Option (List ℕ)
 description_of t o = description_in t.strings t.codes (slice_get t.objects o)
 
+abbrev pub description_code_in : Option Entry → Option ℕ
+description_code_in None = None
+description_code_in (Some entry) = if entry.description == 65535 then None else Some entry.description
+
+-- the number of the code that describes an object, where it is described
+abbrev pub description_code_of : Tables → ℕ → Option ℕ
+description_code_of t o = description_code_in (slice_get t.objects o)
+
 -- how many rooms stand before an object
 abbrev pub rooms_before : List (Option ℕ) → List Entry → ℕ → ℕ
 rooms_before parents entries o = count_by (is_room_entry parents) (take o entries)

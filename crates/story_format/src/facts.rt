@@ -2,6 +2,7 @@
 ghost use Rattle.std.specs.Prelude.{◌≡◌, IfOk, count_by, length};
 ghost use Rattle.std.specs.Int.{cast_signed, w32};
 ghost use Rattle.world_meaning.specs.Declarations.{has_property, is_had};
+ghost use Rattle.story_format.specs.Facts.{way_in};
 ghost use Rattle.story_format.specs.InPlay.{article_numbered, article_of, door_in, exits_of, has_flag, has_number, is_of, number_from, start_flags, start_number, start_numbers, start_variables, starts_true};
 ghost use Rattle.story_format.specs.Placed.{places_in};
 ghost use Rattle.story_format.specs.Spells.{IsStory};
@@ -230,6 +231,17 @@ impl Story {
             .map(|variable| variable.start.cast_signed())
             .collect(alloc)
     }
+}
+
+/// The room beyond the way in the direction of a number.
+pub fn way_in(exits: &Option<Exits>, direction: ObjNo) -> Option<ObjNo>
+    ensures { result ≡ way_in exits.now direction }
+{
+    let Some(exits) = exits else {
+        return None;
+    };
+    let way = exits.ways.get(place_of_way(direction))?;
+    way.room
 }
 
 /// The door on the way in the direction of a number.

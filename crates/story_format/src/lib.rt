@@ -28,7 +28,7 @@ mod world_tables;
 mod writing;
 
 pub use fact_laws::stories_begin_in_order;
-pub use facts::door_in;
+pub use facts::{door_in, way_in};
 pub use fault::LoadFault;
 pub use laws::{
     one_fault, one_spelling, one_story, spelled_or_refused, stories_lead_to_rooms, stories_stand,

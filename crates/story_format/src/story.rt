@@ -2,9 +2,10 @@
 ghost use Rattle.std.specs.Prelude.{◌≡◌, ◌≤◌, ◌-◌, map};
 ghost use Rattle.std.specs.List.{list_any};
 ghost use Rattle.std.specs.Option.{option_map};
-ghost use Rattle.story_format.specs.Facts.{description_of, exits_at, name_of, object_count_of, start_of, text_at, way_of, words_of};
+ghost use Rattle.story_format.specs.Facts.{description_code_of, description_of, exits_at, name_of, object_count_of, start_of, text_at, way_of, words_of};
 ghost use Rattle.world_meaning.specs.Spelling.{is_spelled};
 
+use crate::facts::way_in;
 use crate::place::NONE;
 use crate::soundness::string_said;
 use crate::standing::{count_of_rooms, is_room_entry};
@@ -144,18 +145,30 @@ impl Story {
         Some(text_at(self.tables.strings.as_slice(), text))
     }
 
+    /// The number of the code that describes the object, if it is described.
+    pub fn description_code(&self, object: ObjNo) -> Option<u16>
+        ensures { result ≡ description_code_of self.now object }
+    {
+        let entry = self.tables.objects.as_slice().get(object.get() as usize)?;
+        if entry.description == NONE {
+            None
+        } else {
+            Some(entry.description)
+        }
+    }
+
+    /// The string of a number; no bytes where there is no such string.
+    pub fn string(&self, number: u16) -> &[u8]
+        ensures { result.now ≡ text_at self.now.strings number }
+    {
+        text_at(self.tables.strings.as_slice(), number)
+    }
+
     /// The room beyond the way in the direction of that number; no way leads in a direction of the author's.
     pub fn way(&self, room: ObjNo, direction: ObjNo) -> Option<ObjNo>
         ensures { result ≡ way_of self.now room direction }
     {
-        let exits = exits_at(
-            self.tables.world.kinds.as_slice(),
-            self.tables.objects.as_slice(),
-            self.tables.ways.as_slice(),
-            room.get() as usize,
-        )?;
-        let way = exits.ways.get(place_of_way(direction))?;
-        way.room
+        way_in(&self.exits(room), direction)
     }
 
     /// The room in which the player stands as the story begins.

@@ -106,6 +106,7 @@ kept_at_start t story = record {
   here = start_of t;
   room = room_at_start t story;
   player = at_or (places_in t.objects) 0 ∙ player_in_room t story;
+  turns = omega arith;
 }
 
 pub kept_begun : (t u : Tables) (places : List (Option Place)) (flags : List (List Bool)) (numbers : List (List ℤ)) (variables : List ℤ) (scenes : List SceneNow) → u ≡ t
@@ -124,7 +125,7 @@ kept_begun t u places flags numbers variables scenes same p f n v s story =
 -- the player's place, and with it all places
 moved : (t : Tables) (w : World) (places : List (Option Place)) (here : ℕ) → IsKept t w → length places ≡ length w.places → is_of t here room_kind ≡ true
     → place_of places 0 ≡ Some (record { relation = In; holder = here }) → IsKept t (record w { places = places })
-moved t w places here k same room player = record { story = k.story; objects = same ∙ k.objects; flags = k.flags; numbers = k.numbers; variables = k.variables; scenes = k.scenes; here = here; room = room; player = player }
+moved t w places here k same room player = record { story = k.story; objects = same ∙ k.objects; flags = k.flags; numbers = k.numbers; variables = k.variables; scenes = k.scenes; here = here; room = room; player = player; turns = k.turns }
 
 not_none : (places : List (Option Place)) (place : Place) → place_of places 0 ≡ Some place → 0 < length places
 not_none [] place e = absurd (none-some place e)

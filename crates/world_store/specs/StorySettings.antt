@@ -1,8 +1,9 @@
 -- What of a loaded story never changes while it is played, read from its tables.
 use Rattle.std.specs.Prelude.{length, is_some}
+use Rattle.play_meaning.specs.Grounds.{Fixed}
 use Rattle.play_meaning.specs.Settings.{Setting}
 use Rattle.play_meaning.specs.Tales.{depth_of}
-use Rattle.story_format.specs.Facts.{description_of, name_of, way_of}
+use Rattle.story_format.specs.Facts.{description_code_of, description_of, name_of, way_of}
 use Rattle.story_format.specs.InPlay.{article_of, door_in, exits_of, has_flag, has_number, is_of}
 use Rattle.story_format.specs.declared.tables.Tables.{Tables}
 
@@ -19,3 +20,7 @@ setting_of t = record {
   door_beyond = λ room direction. door_in (exits_of t room) direction;
   has_description = λ o. is_some (description_of t o);
 }
+
+-- with its strings, and the codes of descriptions
+abbrev pub fixed_of : Tables → Fixed
+fixed_of t = record { setting = setting_of t; strings = t.strings; descriptions = description_code_of t }

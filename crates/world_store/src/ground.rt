@@ -1,18 +1,19 @@
 //! The world of a story as a ground, which a rule's words are read against and change.
-ghost use Rattle.world_store.specs.StorySettings.{setting_of};
+ghost use Rattle.world_store.specs.StorySettings.{fixed_of};
 
 use crate::World;
 use play_meaning::{Ground, GroundMut, SceneNow, WorldFault};
+use story_format::{door_in, way_in};
 use world_meaning::{Article, KindNo, ObjNo, Place, Rel, TextBytes};
 
 impl Ground for World {
-    ghost setting = { λ w. setting_of w.tables };
+    ghost fixed = { λ w. fixed_of w.tables };
 
     ghost world = { λ w. w.world };
 
     #[tactic(auto, unfolding(crate::specs::StorySettings::setting_of))]
-    fn object_count(&self) -> usize {
-        self.story().object_count()
+    fn object_count(&self) -> u16 {
+        self.story().object_count() as u16
     }
 
     #[tactic(auto, unfolding(crate::specs::StorySettings::setting_of))]
@@ -40,6 +41,24 @@ impl Ground for World {
     #[tactic(auto, unfolding(crate::specs::StorySettings::setting_of))]
     fn has_description(&self, object: ObjNo) -> bool {
         self.story().description(object).is_some()
+    }
+
+    fn description(&self, object: ObjNo) -> Option<u16> {
+        self.story().description_code(object)
+    }
+
+    #[tactic(auto, unfolding(crate::specs::StorySettings::setting_of))]
+    fn room_beyond(&self, room: ObjNo, direction: ObjNo) -> Option<ObjNo> {
+        way_in(&self.exits(room), direction)
+    }
+
+    #[tactic(auto, unfolding(crate::specs::StorySettings::setting_of))]
+    fn door_beyond(&self, room: ObjNo, direction: ObjNo) -> Option<ObjNo> {
+        door_in(&self.exits(room), direction)
+    }
+
+    fn string(&self, string: u16) -> &[u8] {
+        self.story().string(string)
     }
 
     fn holder(&self, object: ObjNo) -> Option<Place> {

@@ -12,7 +12,7 @@ use crate::World;
 use crate::sight::is_in;
 use object_tree::Children;
 use std::alloc::{AllocError, Global};
-use story_format::door_in;
+use story_format::{door_in, way_in};
 use world_meaning::{KindNo, ObjNo};
 
 /// The property that a thing is no part of what is seen at first.
@@ -76,7 +76,7 @@ impl World {
     {
         let here = self.location();
         if self.is_of(direction, KindNo::DIRECTION) && self.is_of(here, KindNo::ROOM) {
-            self.story().way(here, direction)
+            way_in(&self.exits(here), direction)
         } else {
             None
         }

@@ -1,8 +1,9 @@
 //! The world of a story in play: how it begins, its copy, and what is read off it.
-ghost use Rattle.std.specs.Prelude.{◌≡◌, ℕ, IfOk, Some, length, map};
+ghost use Rattle.std.specs.Prelude.{◌≡◌, ◌≤◌, ℕ, IfOk, Some, length, map};
 ghost use Rattle.std.specs.List.{list_any, range_with_len};
 ghost use Rattle.std.specs.Option.{option_map};
 ghost use Rattle.play_meaning.specs.Seeing.{encloses, is_held_by};
+ghost use Rattle.play_meaning.specs.Turns.{most_turns};
 ghost use Rattle.play_meaning.specs.Worlds.{chain, is_true_of, location_of, number_of, place_of, scene_of, variable_of};
 ghost use Rattle.world_meaning.specs.Chains.{IsChain};
 ghost use Rattle.story_format.specs.InPlay.{exits_of, start_flags, start_numbers};
@@ -236,7 +237,8 @@ impl World {
 
     /// The turn count, 1 in the first turn.
     pub fn turns(&self) -> u32
-        ensures { result ≡ self.now.world.turns }
+        ensures count { result ≡ self.now.world.turns }
+        ensures most { result ≤ most_turns }
     {
         self.turns
     }
