@@ -1,15 +1,17 @@
 //! What holds of the codes of trees.
-ghost use Rattle.std.specs.Prelude.{◌≡◌, ℕ, List, []};
-ghost use Rattle.play_meaning.specs.Codes.{RunsTo, test_of};
+ghost use Rattle.std.specs.Prelude.{◌≡◌, ◌<◌, ℕ, false, List, [], length, Option, Some};
+ghost use Rattle.play_meaning.specs.Codes.{RunsTo, start_at, test_of};
 ghost use Rattle.play_meaning.specs.Doing.{Inner, do_body};
-ghost use Rattle.play_meaning.specs.Instructions.{Instruction};
-ghost use Rattle.play_meaning.specs.Operands.{Counts, Describing, Test, Use};
+ghost use Rattle.play_meaning.specs.Instructions.{Instruction, at_place, sizes};
+ghost use Rattle.play_meaning.specs.Machines.{Frame, Goes, State, does};
+ghost use Rattle.play_meaning.specs.Operands.{Counts, Describing, Test, Use, gives};
 ghost use Rattle.play_meaning.specs.Progress.{Progress};
 ghost use Rattle.play_meaning.specs.Saying.{Telling};
 ghost use Rattle.play_meaning.specs.Scoping.{BodyIsWithin, ConditionIsWithin};
 ghost use Rattle.play_meaning.specs.Scripts.{scope_of};
-ghost use Rattle.play_meaning.specs.SoundCodes.{IsSound};
+ghost use Rattle.play_meaning.specs.SoundCodes.{IsSound, loops_around};
 ghost use Rattle.play_meaning.specs.SoundRuns.{AlwaysAnswers, AlwaysEnds, NeverStuck};
+ghost use Rattle.play_meaning.specs.Stands.{Finds, GivesObject, StandsBy, is_body};
 ghost use Rattle.play_meaning.specs.Translation.{translated, translated_condition};
 ghost use Rattle.play_meaning.specs.Trees.{Body, Condition};
 ghost use Rattle.play_meaning.specs.Truth.{truth_in};
@@ -37,4 +39,19 @@ pub fn sound_codes_run()
     ensures unstuck { (z : Counts) (role : Use) (code : List Instruction) → IsSound z role code → NeverStuck code }
     ensures tests { (z : Counts) (loops : ℕ) (code : List Instruction) → IsSound z (Test loops) code → AlwaysAnswers code }
     ensures descriptions { (z : Counts) (code : List Instruction) → IsSound z Describing code → AlwaysEnds code }
+{}
+
+/// What stands where a sound code says so: a run begins so; each instruction then finds its operands, its loops and room
+/// for what it gives; and behind it the state stands again, if an object that it gives has an object's number. What is no
+/// body goes further on with each instruction, and no state stands behind the code's end.
+pub fn runs_stand_where_codes_say()
+    ensures begins { (z : Counts) (role : Use) (code : List Instruction) (sound : IsSound z role code) (loops : List (Option ℕ)) (p : Progress)
+        → length loops ≡ loops_around role → StandsBy sound (start_at loops p) }
+    ensures finds { (z : Counts) (role : Use) (code : List Instruction) (sound : IsSound z role code) (s : State) (i : Instruction)
+        → StandsBy sound s → at_place code s.place ≡ Some i → Finds z role i s }
+    ensures keeps { (z : Counts) (role : Use) (code : List Instruction) (sound : IsSound z role code) (f : Frame) (s t : State) (i : Instruction)
+        → z.objects < 65536 → StandsBy sound s → at_place code s.place ≡ Some i → does f s i ≡ Goes t → GivesObject (gives z i) t.operands → StandsBy sound t }
+    ensures ahead { (z : Counts) (role : Use) (code : List Instruction) (sound : IsSound z role code) (f : Frame) (s t : State) (i : Instruction)
+        → is_body role ≡ false → StandsBy sound s → at_place code s.place ≡ Some i → does f s i ≡ Goes t → s.place < t.place }
+    ensures within { (z : Counts) (role : Use) (code : List Instruction) (sound : IsSound z role code) (s : State) → StandsBy sound s → s.place < sizes code }
 {}
