@@ -17,12 +17,12 @@ returns-then-turns-ge-MOST_TURNS-clause-answer c =
     let k = plain_story c.args.self.now.world.tables in
     let s = state_of c.args.self.now in
     told_as_turn k c.abandoned.result s s c.args.action c.args.self.now.going c.requires.rightly c.directions_are_directions.ensures
-    (over_told k c.abandoned.result s c.args.action c.abandoned.ensures (ap (λ n. nat_lt n 2147483647) (sym c.turns.ensures) ∙ le-ltb c.turns.result 2147483647 c.if-turns-ge-MOST_TURNS.true))
+    (over_told k c.abandoned.result s c.args.action c.abandoned.ensures (ap (λ n. nat_lt n 2147483647) (sym c.turns.ensures.count) ∙ le-ltb c.turns.result 2147483647 c.if-turns-ge-MOST_TURNS.true))
 
 pub next_turn-requires : goal.next_turn-requires
 next_turn-requires c =
     let turns = ap (λ (v : StoryWorld). v.world.turns) c.in-Ok-done.ensures.world ∙ deed_turns (plain_story c.args.self.now.world.tables) c.args.self.now.world.world c.args.action in
-    omega (arith, turns, c.turns.ensures, c.if-turns-ge-MOST_TURNS.false)
+    omega (arith, turns, c.turns.ensures.count, c.if-turns-ge-MOST_TURNS.false)
 
 pub invariant_of-self-in-Ok-done : goal.invariant_of-self-in-Ok-done
 invariant_of-self-in-Ok-done c =
@@ -51,4 +51,4 @@ returns-in-Ok-done-clause-answer c =
     told_as_turn k c.made.result _ s c.args.action session.going c.requires.rightly c.directions_are_directions.ensures
     (kept_told k c.made.result _ s c.args.action (c.made.ensures ∙ ap (λ text. record { text = text; kind = Kept }) c.in-Ok-done.ensures.text)
     (λ i. record { world = world_is i; kept = kept_is i; question = None; ending = c.requires.going i })
-    (ap (λ n. nat_lt n 2147483647) (sym c.turns.ensures) ∙ lt-ltb c.turns.result 2147483647 c.if-turns-ge-MOST_TURNS.false) session.going)
+    (ap (λ n. nat_lt n 2147483647) (sym c.turns.ensures.count) ∙ lt-ltb c.turns.result 2147483647 c.if-turns-ge-MOST_TURNS.false) session.going)
