@@ -122,6 +122,10 @@ fn a_loaded_story_tells_its_descriptions(rt: HostRuntime) -> Result<(), Fail> {
     let story = load(rt.alloc(), story())?;
     assert!(rt; story.description(HALL) == Some(b"A bare hall.".as_slice()));
     assert!(rt; story.description(ObjNo::new(GARDEN)).is_none());
+    assert_eq!(rt; story.description_code(HALL), Some(0));
+    assert_eq!(rt; story.description_code(ObjNo::new(GARDEN)), None);
+    assert!(rt; story.string(32) == b"A bare hall.".as_slice());
+    assert!(rt; story.string(33).is_empty());
     Ok(())
 }
 

@@ -1,9 +1,9 @@
 //! A world as a ground: what generic code reads off it, and each change that is made through it.
 use crate::start::{begun, inside};
-use crate::story::{chest, coin, gate, gem, hall, jar, table};
+use crate::story::{cave, chest, coin, gate, gem, hall, jar, table};
 use play_meaning::{Change, Ground, GroundMut, SceneNow, WorldFault, make};
 use std::test::Fail;
-use world_meaning::{Article, KindNo, ObjNo, Rel, TextBytes};
+use world_meaning::{Article, Direction, KindNo, ObjNo, Rel, TextBytes};
 
 /// The player.
 fn player() -> ObjNo {
@@ -23,6 +23,21 @@ fn is_furnished<G: Ground>(ground: &G) -> bool {
         && !ground.has_flag(hall(), 0)
         && !ground.has_number(hall(), 0)
         && !ground.has_description(hall())
+}
+
+/// Whether the ways of a ground lead through the gate between hall and cave, and nowhere else; and it lends its strings.
+fn is_laid_out<G: Ground>(ground: &G) -> bool {
+    let north = Direction::North.number();
+    let south = Direction::South.number();
+    ground.room_beyond(hall(), north) == Some(cave())
+        && ground.door_beyond(hall(), north) == Some(gate())
+        && ground.room_beyond(cave(), south) == Some(hall())
+        && ground.room_beyond(hall(), south).is_none()
+        && ground.door_beyond(cave(), north).is_none()
+        && ground.room_beyond(jar(), north).is_none()
+        && ground.description(hall()).is_none()
+        && (0..100).any(|number| ground.string(number) == b"jar".as_slice())
+        && ground.string(65_535).is_empty()
 }
 
 /// Whether the world of a ground is the one with which the story begins.
@@ -50,6 +65,7 @@ fn is_lit<G: Ground>(ground: &G) -> bool {
 fn worlds_are_grounds(rt: HostRuntime) -> Result<(), Fail> {
     let world = begun(rt.alloc())?;
     assert!(rt; is_furnished(&world));
+    assert!(rt; is_laid_out(&world));
     assert!(rt; is_begun(&world));
     assert!(rt; is_lit(&world));
     Ok(())
