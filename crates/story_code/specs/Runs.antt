@@ -1,0 +1,76 @@
+-- Runs of a story's codes over a ground: how they stand, and what a step of them comes to.
+use Rattle.std.specs.Prelude.{◌≡◌, ℕ, ℤ, ◌+◌, ◌≤◌, Bool, List, [], map, length, Option, None, Some, Ok, slice_get}
+use Rattle.play_meaning.specs.Attempts.{Attempt}
+use Rattle.play_meaning.specs.Codes.{Codes, frame_of, test_within}
+use Rattle.play_meaning.specs.Doing.{Inner}
+use Rattle.play_meaning.specs.Grounds.{Fixed}
+use Rattle.play_meaning.specs.Instructions.{at_place}
+use Rattle.play_meaning.specs.Machines.{Frame, State}
+use Rattle.play_meaning.specs.Saying.{Telling}
+use Rattle.play_meaning.specs.Worlds.{World}
+use Rattle.play_meaning.specs.declared.action.ActionNow.{ActionNow}
+use Rattle.play_meaning.specs.declared.instruction.Instruction.{Instruction}
+use Rattle.play_meaning.specs.declared.instruction.Instruction.TheVariants.{Count, Names, Next}
+use Rattle.play_meaning.specs.declared.operand.Use.TheVariants.{Describing, Test}
+use Rattle.story_code.specs.Fronts.{code_in}
+use Rattle.story_code.specs.Soundness.{Judged}
+
+-- ---- codes
+
+abbrev pub code_or_none : Option (List Instruction) → List Instruction
+code_or_none None = []
+code_or_none (Some code) = code
+
+-- the code that bytes spell
+abbrev pub code_told : Judged → List Instruction
+code_told j = code_or_none (code_in j.bytes)
+
+abbrev pub codes_of : Fixed → List Judged → Codes
+codes_of fixed judged = record { strings = fixed.strings; codes = map code_told judged }
+
+-- a test inside so many loops
+abbrev pub IsTestAt : List Judged → ℕ → ℕ → Type 0
+IsTestAt judged n loops = (j : Judged) × ((slice_get judged n ≡ Some j) × (j.sizes.role ≡ Test loops))
+
+-- the test that an instruction names is one, inside one loop more than are open
+abbrev pub NamesItsTest : List Judged → Instruction → Type 0
+NamesItsTest judged (Count k test) = IsTestAt judged test (k + 1)
+NamesItsTest judged (Names naming k test) = IsTestAt judged test (k + 1)
+NamesItsTest judged (Next k test exit) = IsTestAt judged test (k + 1)
+NamesItsTest judged i = Unit {0}
+
+-- codes that are sound together: each is judged by its own number among all of them, and names tests for what they are
+pub record AreSoundTogether (judged : List Judged) : Type 0 where
+  pub own : (n : ℕ) (j : Judged) → slice_get judged n ≡ Some j → j.sizes.counts.own ≡ n
+  pub all : (n : ℕ) (j : Judged) → slice_get judged n ≡ Some j → j.sizes.counts.codes ≡ length judged
+  pub tests : (n : ℕ) (j : Judged) → slice_get judged n ≡ Some j → (place : ℕ) (i : Instruction) → at_place (code_told j) place ≡ Some i → NamesItsTest judged i
+
+-- what describes an object is a description's code
+abbrev pub AreDescribedBy : List Judged → Fixed → Type 0
+AreDescribedBy judged fixed = (o n : ℕ) → fixed.descriptions o ≡ Some n → (j : Judged) × ((slice_get judged n ≡ Some j) × (j.sizes.role ≡ Describing))
+
+-- ---- states
+
+pub record Standing : Type 0 where
+  pub code : ℕ
+  pub place : ℕ
+  pub operands : List ℤ
+  pub loops : List (Option ℕ)
+  pub work : ℕ
+
+-- a run that stands so, over a world and behind what it said
+abbrev pub state_in : Standing → World → List ℕ → State
+state_in s w text = record { place = s.place; operands = s.operands; loops = s.loops; progress = record { world = w; text = text; work = s.work } }
+
+-- ---- frames
+
+abbrev pub Describes : Type 0
+Describes = ℕ → ActionNow → World → Attempt (List ℕ)
+
+abbrev pub telling_in : Fixed → Describes → Telling
+telling_in fixed describes = record { setting = fixed.setting; describes = describes }
+
+-- tests that name each other are run so deep at most
+abbrev pub frame_in : Fixed → List Judged → ActionNow → ℕ → Describes → Inner → Frame
+frame_in fixed judged now depth describes inner =
+    frame_of (codes_of fixed judged) (telling_in fixed describes) inner (test_within depth (codes_of fixed judged) (telling_in fixed describes) now) now

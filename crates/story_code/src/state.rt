@@ -1,0 +1,47 @@
+//! Where a run of a code stands.
+ghost use Rattle.std.specs.Prelude.{◌≡◌, []};
+
+use crate::operands::Operands;
+use crate::turning::Turning;
+use std::marker::Model;
+
+/// Where a run of a code stands: the code's number, the place in it, counted in bytes, the operands, the objects of the
+/// open loops and the work done.
+#[derive(Debug, Drop)]
+pub struct RunState {
+    pub(crate) code: u16,
+    pub(crate) place: usize,
+    pub(crate) operands: Operands,
+    pub(crate) loops: Turning,
+    pub(crate) work: u32,
+}
+
+impl Model for RunState {
+    ghost use Rattle.story_code.specs.Runs.{Standing};
+
+    ghost Value = { Standing };
+
+    ghost view = { λ s. record { code = s.code; place = s.place; operands = s.operands; loops = s.loops; work = s.work } };
+}
+
+impl RunState {
+    /// The beginning of a code, by its number, behind so much work: at place 0, with no operand and no loop.
+    pub fn new(code: u16, work: u32) -> RunState
+        ensures { result ≡ record { code = code; place = 0; operands = []; loops = []; work = work } }
+    {
+        RunState {
+            code,
+            place: 0,
+            operands: Operands::new(),
+            loops: Turning::new(),
+            work,
+        }
+    }
+
+    /// The work done.
+    pub fn work(&self) -> u32
+        ensures { result ≡ self.now.work }
+    {
+        self.work
+    }
+}
