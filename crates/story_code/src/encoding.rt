@@ -11,7 +11,7 @@ use std::alloc::{AllocError, Global};
 use world_meaning::Rel;
 
 /// The number of a relation.
-fn relation_number(relation: Rel) -> u8
+pub(crate) fn relation_number(relation: Rel) -> u8
     ensures { result ≡ relation_number relation }
 {
     match relation {

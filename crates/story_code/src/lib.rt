@@ -2,6 +2,7 @@
 #![tactic(auto)]
 
 mod argument;
+mod asking;
 mod behind;
 mod decoding;
 mod effect;

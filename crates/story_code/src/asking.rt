@@ -1,0 +1,267 @@
+//! What instructions give that ask of a world.
+ghost use Rattle.std.specs.Prelude.{◌≡◌, ◌==◌, ◌&&◌};
+ghost use Rattle.std.specs.Ordering.{int_eq};
+ghost use Rattle.play_meaning.specs.Machines.{holder_by, is_asked, truth_number};
+ghost use Rattle.play_meaning.specs.Seeing.{encloses};
+ghost use Rattle.play_meaning.specs.Settings.{direction_kind, room_kind};
+ghost use Rattle.play_meaning.specs.Truth.{of_both, of_some};
+ghost use Rattle.play_meaning.specs.Values.{beyond, is_held, number_at, relation_number};
+ghost use Rattle.play_meaning.specs.Worlds.{location_of};
+ghost use Rattle.story_code.specs.Asking.{beyond_in, calculated, holds_of, known, object_known, of_numbers, of_objects};
+
+use crate::encoding::relation_number;
+use crate::number::{is_true, truth_number};
+use crate::turning::Turning;
+use play_meaning::{ActionNow, Asked, Ground, Instruction};
+use world_meaning::{KindNo, ObjNo, Rel};
+
+/// A number or a truth, of no operand.
+pub fn known<G: Ground>(ground: &G, instruction: Instruction) -> i32
+    ensures { result ≡ known (G.fixed ground.now).setting (G.world ground.now) instruction }
+{
+    match instruction {
+        Instruction::Num(number) => number,
+        Instruction::Var(variable) => ground.variable(variable),
+        Instruction::Turns => ground.turns() as i32,
+        Instruction::Dark => truth_number(!ground.lit_here()),
+        Instruction::Happens(scene) => truth_number(ground.scene(scene).happens),
+        _ => 0,
+    }
+}
+
+/// What the player is in.
+fn location<G: Ground>(ground: &G) -> Option<ObjNo>
+    ensures { result ≡ location_of (G.world ground.now) }
+{
+    Some(ground.holder(ObjNo::new(0))?.holder)
+}
+
+/// An object, of no operand.
+pub fn object_known<G: Ground>(
+    ground: &G,
+    now: &ActionNow,
+    loops: &Turning,
+    instruction: Instruction,
+) -> Option<ObjNo>
+    ensures { result ≡ object_known (G.world ground.now) now.now loops.now instruction }
+{
+    match instruction {
+        Instruction::Noun => now.noun,
+        Instruction::Second => now.second,
+        Instruction::Location => location(ground),
+        Instruction::Loop(number) => loops.at(number),
+        _ => None,
+    }
+}
+
+/// An object's number in a number property; 0 for nothing, and where its kind lacks that.
+fn number_at<G: Ground>(ground: &G, property: u8, object: Option<ObjNo>) -> i32
+    ensures { result ≡ number_at (G.fixed ground.now).setting (G.world ground.now) property object }
+{
+    match object {
+        Some(object) if ground.has_number(object, property) => ground.number(object, property),
+        _ => 0,
+    }
+}
+
+/// Whether a property is asked so of an object rightly: one that its kind lacks is neither true nor false.
+#[tactic(auto, unfolding(play_meaning::specs::Values::is_so))]
+fn is_asked<G: Ground>(ground: &G, property: u8, asked: Asked, object: ObjNo) -> bool
+    ensures { result ≡ is_asked (G.fixed ground.now).setting (G.world ground.now) property asked object }
+{
+    let is_had = ground.has_flag(object, property);
+    let value = ground.flag(object, property);
+    match asked {
+        Asked::IsFirst => is_had && value,
+        Asked::IsSecond => is_had && !value,
+        Asked::IsNotFirst => !(is_had && value),
+        Asked::IsNotSecond => !(is_had && !value),
+    }
+}
+
+/// Whether an object is what an instruction asks.
+fn holds_of<G: Ground>(ground: &G, instruction: Instruction, object: ObjNo) -> bool
+    ensures { result ≡ holds_of (G.fixed ground.now).setting (G.world ground.now) instruction object }
+{
+    match instruction {
+        Instruction::Flag(property, asked) => is_asked(ground, property, asked, object),
+        Instruction::Kind(kind) => ground.is_of(object, KindNo::new(kind)),
+        Instruction::Visible => ground.visible(object),
+        Instruction::Touchable => ground.touchable(object),
+        Instruction::HasDescription => ground.has_description(object),
+        _ => false,
+    }
+}
+
+/// Whether something is what an instruction asks; nothing isn't.
+pub fn holds_of_some<G: Ground>(
+    ground: &G,
+    instruction: Instruction,
+    object: Option<ObjNo>,
+) -> i32
+    ensures { result ≡ truth_number (of_some object (holds_of (G.fixed ground.now).setting (G.world ground.now) instruction)) }
+{
+    match object {
+        Some(object) => truth_number(holds_of(ground, instruction, object)),
+        None => truth_number(false),
+    }
+}
+
+/// What holds an object so; nothing where nothing does.
+pub fn holder_by<G: Ground>(ground: &G, relation: Rel, object: Option<ObjNo>) -> Option<ObjNo>
+    ensures { result ≡ holder_by (G.fixed ground.now).setting (G.world ground.now) relation object }
+{
+    let place = ground.holder(object?)?;
+    if is_so_held(place.relation, relation) && place.holder.get() < ground.object_count() {
+        Some(place.holder)
+    } else {
+        None
+    }
+}
+
+/// Whether two relations are the same.
+fn is_so_held(relation: Rel, other: Rel) -> bool
+    ensures { result ≡ (relation_number relation == relation_number other) }
+{
+    relation_number(relation) == relation_number(other)
+}
+
+/// Whether an object is held so by something; nothing holds nothing.
+fn is_held<G: Ground>(ground: &G, relation: Rel, holder: Option<ObjNo>, object: ObjNo) -> bool
+    ensures { result ≡ is_held (G.world ground.now) relation holder object }
+{
+    let Some(holder) = holder else {
+        return false;
+    };
+    match ground.holder(object) {
+        Some(place) => is_so_held(place.relation, relation) && place.holder.get() == holder.get(),
+        None => false,
+    }
+}
+
+/// A truth, of two numbers or truths.
+pub fn of_numbers(instruction: Instruction, a: i32, b: i32) -> i32
+    ensures { result ≡ of_numbers instruction a b }
+{
+    match instruction {
+        Instruction::Eq => truth_number(is_same(a, b)),
+        Instruction::Less => truth_number(a < b),
+        Instruction::AtMost => truth_number(a <= b),
+        Instruction::And => truth_number(is_true(a) && is_true(b)),
+        Instruction::Or => truth_number(is_true(a) || is_true(b)),
+        _ => 0,
+    }
+}
+
+/// Whether two numbers are the same.
+fn is_same(a: i32, b: i32) -> bool
+    ensures { result ≡ int_eq a b }
+{
+    a == b
+}
+
+/// Whether something holds something, at any depth.
+fn encloses<G: Ground>(ground: &G, holder: Option<ObjNo>, object: Option<ObjNo>) -> bool
+    ensures { result ≡ of_both holder object (encloses (G.world ground.now)) }
+{
+    match holder {
+        None => false,
+        Some(holder) => match object {
+            None => false,
+            Some(object) => ground.encloses(holder, object),
+        },
+    }
+}
+
+/// Whether something is held so by something.
+fn is_some_held<G: Ground>(
+    ground: &G,
+    relation: Rel,
+    object: Option<ObjNo>,
+    holder: Option<ObjNo>,
+) -> bool
+    ensures { result ≡ of_some object (is_held (G.world ground.now) relation holder) }
+{
+    match object {
+        None => false,
+        Some(object) => is_held(ground, relation, holder, object),
+    }
+}
+
+/// A truth, of two objects.
+pub fn of_objects<G: Ground>(
+    ground: &G,
+    instruction: Instruction,
+    a: Option<ObjNo>,
+    b: Option<ObjNo>,
+) -> i32
+    ensures { result ≡ of_objects (G.world ground.now) instruction a b }
+{
+    match instruction {
+        Instruction::Held(relation) => truth_number(is_some_held(ground, relation, a, b)),
+        Instruction::Encloses => truth_number(encloses(ground, a, b)),
+        _ => 0,
+    }
+}
+
+/// Whether a direction and a room are what they are to be.
+fn is_way<G: Ground>(ground: &G, direction: ObjNo, room: ObjNo) -> bool
+    ensures { result ≡ ((G.fixed ground.now).setting.is_of direction direction_kind && (G.fixed ground.now).setting.is_of room room_kind) }
+{
+    ground.is_of(direction, KindNo::DIRECTION) && ground.is_of(room, KindNo::ROOM)
+}
+
+/// The room that lies in a direction from a room.
+fn room_beyond<G: Ground>(ground: &G, direction: Option<ObjNo>, room: Option<ObjNo>) -> Option<ObjNo>
+    ensures { result ≡ beyond (G.fixed ground.now).setting (G.fixed ground.now).setting.room_beyond direction room }
+{
+    let direction = direction?;
+    let room = room?;
+    if is_way(ground, direction, room) {
+        ground.room_beyond(room, direction)
+    } else {
+        None
+    }
+}
+
+/// The door on the way in a direction from a room.
+fn door_beyond<G: Ground>(ground: &G, direction: Option<ObjNo>, room: Option<ObjNo>) -> Option<ObjNo>
+    ensures { result ≡ beyond (G.fixed ground.now).setting (G.fixed ground.now).setting.door_beyond direction room }
+{
+    let direction = direction?;
+    let room = room?;
+    if is_way(ground, direction, room) {
+        ground.door_beyond(room, direction)
+    } else {
+        None
+    }
+}
+
+/// A place, of a direction and a room.
+pub fn beyond_in<G: Ground>(
+    ground: &G,
+    instruction: Instruction,
+    direction: Option<ObjNo>,
+    room: Option<ObjNo>,
+) -> Option<ObjNo>
+    ensures { result ≡ beyond_in (G.fixed ground.now).setting instruction direction room }
+{
+    match instruction {
+        Instruction::Room => room_beyond(ground, direction, room),
+        Instruction::Door => door_beyond(ground, direction, room),
+        _ => None,
+    }
+}
+
+/// A sum, a difference, a product.
+pub fn calculated(instruction: Instruction, a: i32, b: i32) -> i64
+    ensures { result ≡ calculated instruction a b }
+{
+    let (a, b) = (i64::from(a), i64::from(b));
+    match instruction {
+        Instruction::Add => a + b,
+        Instruction::Sub => a - b,
+        Instruction::Mul => a * b,
+        _ => 0,
+    }
+}
