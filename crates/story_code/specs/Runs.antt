@@ -1,19 +1,25 @@
 -- Runs of a story's codes over a ground: how they stand, and what a step of them comes to.
-use Rattle.std.specs.Prelude.{◌≡◌, ℕ, ℤ, ◌+◌, ◌≤◌, Bool, List, [], map, length, Option, None, Some, Ok, slice_get}
+use Rattle.std.specs.Prelude.{◌≡◌, ◌≢◌, ℕ, suc, ℤ, ◌+◌, ◌<◌, ◌≤◌, Bool, true, List, [], ◌∷◌, map, length, Option, None, Some, is_some, slice_get}
 use Rattle.play_meaning.specs.Attempts.{Attempt}
 use Rattle.play_meaning.specs.Codes.{Codes, frame_of, test_within}
 use Rattle.play_meaning.specs.Doing.{Inner}
 use Rattle.play_meaning.specs.Grounds.{Fixed}
-use Rattle.play_meaning.specs.Instructions.{at_place}
-use Rattle.play_meaning.specs.Machines.{Frame, State}
+use Rattle.play_meaning.specs.Instructions.{at_place, row_of, size_of}
+use Rattle.play_meaning.specs.Machines.{Abandons, Answers, Frame, Goes, Leaves, State, Step, does}
 use Rattle.play_meaning.specs.Saying.{Telling}
+use Rattle.play_meaning.specs.Stands.{HasOnTop, taken_by}
 use Rattle.play_meaning.specs.Worlds.{World}
 use Rattle.play_meaning.specs.declared.action.ActionNow.{ActionNow}
 use Rattle.play_meaning.specs.declared.instruction.Instruction.{Instruction}
-use Rattle.play_meaning.specs.declared.instruction.Instruction.TheVariants.{Count, Names, Next}
+use Rattle.play_meaning.specs.declared.instruction.Instruction.TheVariants.{Count, Names, Next, Num}
 use Rattle.play_meaning.specs.declared.operand.Use.TheVariants.{Describing, Test}
+use Rattle.play_meaning.specs.declared.outcome.Flow.TheVariants.{GoesOn}
+use Rattle.world_meaning.specs.declared.session.Abandon.{Abandon}
+use Rattle.world_meaning.specs.declared.session.Abandon.TheVariants.{Memory}
 use Rattle.story_code.specs.Fronts.{code_in}
 use Rattle.story_code.specs.Soundness.{Judged}
+use Rattle.story_code.specs.declared.came.Came.{Came}
+use Rattle.story_code.specs.declared.came.Came.TheVariants.{Answered, Left, On}
 
 -- ---- codes
 
@@ -62,6 +68,12 @@ pub record Standing : Type 0 where
 abbrev pub state_in : Standing → World → List ℕ → State
 state_in s w text = record { place = s.place; operands = s.operands; loops = s.loops; progress = record { world = w; text = text; work = s.work } }
 
+abbrev pub over : ℤ → Standing → Standing
+over a s = record s { operands = a ∷ s.operands }
+
+abbrev pub behind : Instruction → Standing → Standing
+behind i s = record s { place = s.place + size_of i }
+
 -- ---- frames
 
 abbrev pub Describes : Type 0
@@ -74,3 +86,37 @@ telling_in fixed describes = record { setting = fixed.setting; describes = descr
 abbrev pub frame_in : Fixed → List Judged → ActionNow → ℕ → Describes → Inner → Frame
 frame_in fixed judged now depth describes inner =
     frame_of (codes_of fixed judged) (telling_in fixed describes) inner (test_within depth (codes_of fixed judged) (telling_in fixed describes) now) now
+
+-- ---- what an instruction finds
+
+abbrev pub gives_one : Instruction → Bool
+gives_one (Num n) = true
+gives_one i = is_some (row_of i).gives
+
+-- what it takes is there, and room for what it gives
+pub record IsServed (i : Instruction) (s : Standing) : Type 0 where
+  pub place : s.place < 65536
+  pub many : length (taken_by i) ≤ length s.operands
+  pub operands : HasOnTop (taken_by i) s.operands
+  pub room : gives_one i ≡ true → length s.operands < 64 + length (taken_by i)
+
+-- ---- instructions that read
+
+abbrev pub step_to : Came → State → Step
+step_to On s = Goes s
+step_to Left s = Leaves GoesOn s.progress
+step_to (Answered truth) s = Answers truth
+
+-- what an instruction does, whatever describes and whatever is tried, with tests run deep enough for those that the code
+-- names
+abbrev pub DoesSo : Fixed → List Judged → ActionNow → World → Instruction → Standing → List ℕ → Step → Type 0
+DoesSo fixed judged now w i s text step =
+    (depth : ℕ) (describes : Describes) (inner : Inner) → length judged ≤ s.code + suc depth → does (frame_in fixed judged now depth describes inner) (state_in s w text) i ≡ step
+
+-- an instruction led there
+abbrev pub Leads : Fixed → List Judged → ActionNow → World → Instruction → Standing → List ℕ → Came → Standing → List ℕ → Type 0
+Leads fixed judged now w i s text came t said = DoesSo fixed judged now w i s text (step_to came (state_in t w said))
+
+-- it broke play off, unless memory lacked
+abbrev pub BreaksOff : Fixed → List Judged → ActionNow → World → Instruction → Standing → List ℕ → Abandon → Type 0
+BreaksOff fixed judged now w i s text reason = reason ≢ Memory → DoesSo fixed judged now w i s text (Abandons reason)

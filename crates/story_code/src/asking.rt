@@ -55,7 +55,7 @@ pub fn object_known<G: Ground>(
 }
 
 /// An object's number in a number property; 0 for nothing, and where its kind lacks that.
-fn number_at<G: Ground>(ground: &G, property: u8, object: Option<ObjNo>) -> i32
+pub fn number_at<G: Ground>(ground: &G, property: u8, object: Option<ObjNo>) -> i32
     ensures { result ≡ number_at (G.fixed ground.now).setting (G.world ground.now) property object }
 {
     match object {

@@ -4,6 +4,7 @@
 mod argument;
 mod asking;
 mod behind;
+mod came;
 mod decoding;
 mod effect;
 mod encoding;
@@ -12,6 +13,7 @@ mod laws;
 mod named;
 mod number;
 mod operands;
+mod reading;
 mod row;
 mod sizes;
 mod state;

@@ -1,8 +1,11 @@
 //! Where a run of a code stands.
-ghost use Rattle.std.specs.Prelude.{◌≡◌, []};
+ghost use Rattle.std.specs.Prelude.{◌≡◌, ◌<◌, [], length};
+ghost use Rattle.story_code.specs.Runs.{behind, over};
 
 use crate::operands::Operands;
+use crate::row::size;
 use crate::turning::Turning;
+use play_meaning::Instruction;
 use std::marker::Model;
 
 /// Where a run of a code stands: the code's number, the place in it, counted in bytes, the operands, the objects of the
@@ -36,6 +39,30 @@ impl RunState {
             loops: Turning::new(),
             work,
         }
+    }
+
+    /// Takes the last operand.
+    pub(crate) fn take(&mut self) -> i32
+        requires { 0 < length self.old.operands }
+        ensures { self.old ≡ over result self.new }
+    {
+        self.operands.pop()
+    }
+
+    /// One operand more.
+    pub(crate) fn push(&mut self, operand: i32)
+        requires { length self.old.operands < 64 }
+        ensures { self.new ≡ over operand self.old }
+    {
+        self.operands.push(operand);
+    }
+
+    /// Goes on behind an instruction.
+    pub(crate) fn pass(&mut self, instruction: Instruction)
+        requires { self.old.place < 65536 }
+        ensures { self.new ≡ behind instruction self.old }
+    {
+        self.place += size(instruction);
     }
 
     /// The work done.

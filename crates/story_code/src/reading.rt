@@ -1,0 +1,48 @@
+//! Instructions that read: each does what it means, over any ground.
+ghost use Rattle.std.specs.Prelude.{◌≡◌, ℕ, List, MatchResult};
+ghost use Rattle.play_meaning.specs.Machines.{does};
+ghost use Rattle.story_code.specs.Runs.{BreaksOff, IsServed, Leads};
+ghost use Rattle.story_code.specs.Soundness.{Judged};
+
+use crate::asking::{
+    beyond_in, calculated, holder_by, holds_of_some, known, number_at, object_known, of_numbers,
+    of_objects,
+};
+use crate::came::Came;
+use crate::number::{in_range, is_true, object_at, object_number, truth_number};
+use crate::state::RunState;
+use crate::verified::Verified;
+use play_meaning::{ActionNow, Ground, Instruction};
+use world_meaning::Abandon;
+
+/// Does an instruction that takes no operand and gives a number, a truth or an object.
+#[tactic(auto, unfolding(play_meaning::specs::Machines::does))]
+fn ask_nothing<G: Ground>(
+    ground: &G,
+    codes: &[Verified],
+    now: &ActionNow,
+    state: &mut RunState,
+    instruction: Instruction,
+) -> Result<Came, Abandon>
+    requires { IsServed instruction state.old }
+    ensures { (text : List ℕ) → MatchResult result (λ came. Leads (G.fixed ground.now) codes.now now.now (G.world ground.now) instruction state.old text came state.new text)
+        (BreaksOff (G.fixed ground.now) codes.now now.now (G.world ground.now) instruction state.old text) }
+{
+    match instruction {
+        Instruction::Num(_)
+        | Instruction::Var(_)
+        | Instruction::Turns
+        | Instruction::Dark
+        | Instruction::Happens(_) => state.push(known(ground, instruction)),
+        Instruction::Noun
+        | Instruction::Second
+        | Instruction::Location
+        | Instruction::Loop(_) => {
+            let object = object_known(ground, now, &state.loops, instruction);
+            state.push(object_number(object));
+        }
+        _ => return Err(Abandon::Memory),
+    }
+    state.pass(instruction);
+    Ok(Came::On)
+}
