@@ -46,3 +46,87 @@ fn ask_nothing<G: Ground>(
     state.pass(instruction);
     Ok(Came::On)
 }
+
+/// Does an instruction that takes at most one operand and gives a number, a truth or an object.
+#[tactic(auto, unfolding(play_meaning::specs::Machines::does))]
+fn ask_one<G: Ground>(
+    ground: &G,
+    codes: &[Verified],
+    now: &ActionNow,
+    state: &mut RunState,
+    instruction: Instruction,
+) -> Result<Came, Abandon>
+    requires { IsServed instruction state.old }
+    ensures { (text : List ℕ) → MatchResult result (λ came. Leads (G.fixed ground.now) codes.now now.now (G.world ground.now) instruction state.old text came state.new text)
+        (BreaksOff (G.fixed ground.now) codes.now now.now (G.world ground.now) instruction state.old text) }
+{
+    match instruction {
+        Instruction::Prop(property) => {
+            let object = object_at(state.take());
+            state.push(number_at(ground, property, object));
+        }
+        Instruction::Not => {
+            let truth = is_true(state.take());
+            state.push(truth_number(!truth));
+        }
+        Instruction::Flag(_, _)
+        | Instruction::Kind(_)
+        | Instruction::Visible
+        | Instruction::Touchable
+        | Instruction::HasDescription => {
+            let object = object_at(state.take());
+            state.push(holds_of_some(ground, instruction, object));
+        }
+        Instruction::Holder(relation) => {
+            let object = object_at(state.take());
+            state.push(object_number(holder_by(ground, relation, object)));
+        }
+        _ => return Ok(ask_nothing(ground, codes, now, state, instruction)?),
+    }
+    state.pass(instruction);
+    Ok(Came::On)
+}
+
+/// Does an instruction that gives a number, a truth or an object and runs no test.
+#[tactic(auto, unfolding(play_meaning::specs::Machines::does))]
+fn ask<G: Ground>(
+    ground: &G,
+    codes: &[Verified],
+    now: &ActionNow,
+    state: &mut RunState,
+    instruction: Instruction,
+) -> Result<Came, Abandon>
+    requires { IsServed instruction state.old }
+    ensures { (text : List ℕ) → MatchResult result (λ came. Leads (G.fixed ground.now) codes.now now.now (G.world ground.now) instruction state.old text came state.new text)
+        (BreaksOff (G.fixed ground.now) codes.now now.now (G.world ground.now) instruction state.old text) }
+{
+    match instruction {
+        Instruction::Eq
+        | Instruction::Less
+        | Instruction::AtMost
+        | Instruction::And
+        | Instruction::Or => {
+            let b = state.take();
+            let a = state.take();
+            state.push(of_numbers(instruction, a, b));
+        }
+        Instruction::Held(_) | Instruction::Encloses => {
+            let b = object_at(state.take());
+            let a = object_at(state.take());
+            state.push(of_objects(ground, instruction, a, b));
+        }
+        Instruction::Room | Instruction::Door => {
+            let room = object_at(state.take());
+            let direction = object_at(state.take());
+            state.push(object_number(beyond_in(ground, instruction, direction, room)));
+        }
+        Instruction::Add | Instruction::Sub | Instruction::Mul => {
+            let b = state.take();
+            let a = state.take();
+            state.push(in_range(calculated(instruction, a, b))?);
+        }
+        _ => return Ok(ask_one(ground, codes, now, state, instruction)?),
+    }
+    state.pass(instruction);
+    Ok(Came::On)
+}
