@@ -285,8 +285,8 @@ unfolding limit_refusal
 limit_parts claims descriptions mentions none =
     let others = earlier (text_too_long descriptions) (longer_name 65535 claims) in
     let names = earlier_none (name_too_long mentions) others (unrefused TooMany (earlier (name_too_long mentions) others) none) in
-    let t = (names.0, (earlier_none (text_too_long descriptions) (longer_name 65535 claims) names.1).0) in
-    (none_found has_long_name mentions (unmapped line_at (find has_long_name mentions) t.0), none_found has_long_text descriptions (unmapped line_of_description (find has_long_text descriptions) t.1))
+    let texts = earlier_none (text_too_long descriptions) (longer_name 65535 claims) names.1 in
+    (none_found has_long_name mentions (unmapped line_at (find has_long_name mentions) names.0), none_found has_long_text descriptions (unmapped line_of_description (find has_long_text descriptions) texts.0))
 
 sorts_fine : (claims : List Claim) → name_too_many claims ≡ None → (too_many_as sort.EitherOr claims ≡ None) × (too_many_as sort.Number claims ≡ None) × (too_many_as sort.Variable claims ≡ None)
 sorts_fine claims none =
