@@ -20,4 +20,7 @@ pub mod ValueScans
 pub mod Ranged
 pub mod Readiness
 pub mod FewWords
+pub mod Columns
+pub mod Lengths
+pub mod LongNames
 mod Quoting

@@ -8,10 +8,12 @@ pub mod Firsts
 pub mod Grants
 pub mod KindClaims
 pub mod Knowns
+pub mod LongNames
 pub mod Making
 pub mod NameScans
 pub mod Numbers
 pub mod Places
+pub mod Phrases
 pub mod Plurals
 pub mod Quotes
 pub mod Scans

@@ -1,5 +1,5 @@
 -- The scans for names that stand for two things.
-use Rattle.std.specs.Prelude.{ℕ, Bool, false, not, List, Option, Some, None, fold, bytes_eq, option_copied}
+use Rattle.std.specs.Prelude.{◌≡◌, ℕ, ◌<◌, max, Bool, false, not, List, length, Option, Some, None, fold, bytes_eq, option_copied}
 use Rattle.std.specs.Borrow.{Bor}
 use Rattle.indexmap.specs.IndexMap.{IndexMap, get_by}
 use Rattle.object_words.specs.Mentions.{mention}
@@ -28,6 +28,21 @@ with_fact known _ = known
 
 abbrev pub with_claim : Standings → Claim → Standings
 with_claim known c = with_fact known c.fact
+
+-- no longer name stands for anything
+abbrev pub IsShort : ℕ → Standings → Type 0
+IsShort most known = (name : List ℕ) → most < length name → known name ≡ None
+
+-- the most bytes of a name so far
+abbrev pub longer : ℕ → Naming → ℕ
+longer most n = max most (length n.name)
+
+abbrev pub longer_fact : ℕ → Fact → ℕ
+longer_fact most (Stands n) = longer most n
+longer_fact most _ = most
+
+abbrev pub longer_claim : ℕ → Claim → ℕ
+longer_claim most c = longer_fact most c.fact
 
 abbrev pub clashes : Option Standing → Standing → Bool
 clashes None said = false

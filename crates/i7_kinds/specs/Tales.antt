@@ -29,6 +29,7 @@ use Rattle.i7_kinds.specs.Doors.{door_twice, doors_of}
 use Rattle.i7_kinds.specs.Firsts.{first_of}
 use Rattle.i7_kinds.specs.KindClaims.{declared_by, kind_cycle, kind_names, kind_too_many, parents_of, unknown_kind}
 use Rattle.i7_kinds.specs.Knowns.{Scope, kinds_of, knowns_of, off_path}
+use Rattle.i7_kinds.specs.LongNames.{longer_name}
 use Rattle.i7_kinds.specs.Places.{Places, holder_cycle, places_by, second_place}
 use Rattle.i7_kinds.specs.Values.{Values, usual_of, value_twice, values_by}
 use Rattle.i7_kinds.specs.declared.values.Bearer.TheVariants.{Objects, Kinds, Variables}
@@ -239,13 +240,13 @@ frame_refusal faults mentions room =
     (refusal_at NoRoom (no_room room)))))))
 
 -- what is too long
-unfoldable pub limit_refusal : List Description → List NameAt → Option Fault
-limit_refusal descriptions mentions = refusal_at TooMany (earlier (name_too_long mentions) (text_too_long descriptions))
+unfoldable pub limit_refusal : List Claim → List Description → List NameAt → Option Fault
+limit_refusal claims descriptions mentions = refusal_at TooMany (earlier (name_too_long mentions) (earlier (text_too_long descriptions) (longer_name 65535 claims)))
 
 abbrev pub refusal_of : Scope → List Known → List Claim → List NumberedSentence → List NameAt → Option Fault
 refusal_of s knowns claims statements mentions =
     first_of (frame_refusal (faults_of s knowns claims statements) mentions (first_room s.parents knowns))
-    (limit_refusal (descriptions_of s.parents knowns statements) mentions)
+    (limit_refusal claims (descriptions_of s.parents knowns statements) mentions)
 
 abbrev pub or_refused : Option Fault → Tale → Result Tale Fault
 or_refused None tale = Ok tale

@@ -1,45 +1,10 @@
 -- What words say that something is, by what each name stands for: either-or properties, and then perhaps a kind.
-use Rattle.std.specs.Prelude.{ℕ, Bool, true, false, not, ◌&&◌, ◌||◌, ◌==◌, List, [], ◌∷◌, ◌++◌, Option, Some, None, codes, if◌then◌else◌}
-use Rattle.world_meaning.specs.Spelling.{is_spelled, lowered}
+use Rattle.std.specs.Prelude.{ℕ, Bool, true, false, not, ◌&&◌, ◌||◌, List, [], ◌∷◌, ◌++◌, length, get_or, Option, Some, None, is_some, codes, if◌then◌else◌}
+use Rattle.world_meaning.specs.Spelling.{lowered}
 use Rattle.i7_kinds.specs.NameScans.{Standings}
-use Rattle.i7_kinds.specs.Plurals.{kind_named}
+use Rattle.i7_kinds.specs.Phrases.{is_blank, is_phrase, kind_said, phrase_said}
 use Rattle.i7_kinds.specs.declared.claim.Quality.{Quality}
-use Rattle.i7_kinds.specs.declared.claim.Standing.{Standing}
-use Rattle.i7_kinds.specs.declared.claim.Standing.TheVariants as stands
 use Rattle.i7_kinds.specs.declared.wording.What.{What}
-
-abbrev pub is_blank : ℕ → Bool
-is_blank b = b == 32
-
-abbrev pub is_article : List ℕ → Bool
-is_article word = is_spelled word (codes "a") || is_spelled word (codes "an") || is_spelled word (codes "the") || is_spelled word (codes "some")
-
--- what a name says: a property's first name that it is true, its second that it isn't
-abbrev pub quality_by : Standing → List ℕ → Option Quality
-quality_by (stands.First second) name = Some (record { property = name; is_true = true })
-quality_by (stands.Second first) name = Some (record { property = first; is_true = false })
-quality_by _ name = None
-
-abbrev pub quality_in : Option Standing → List ℕ → Option Quality
-quality_in None name = None
-quality_in (Some standing) name = quality_by standing name
-
--- behind `not` the other is said
-abbrev pub said_of : Bool → Quality → Quality
-said_of is_denied quality = if is_denied then record quality { is_true = not quality.is_true } else quality
-
--- how far words are cut: the words of a name so far, whether it stands behind `not` or behind an article, and the
--- qualities before it; whether `and` joins names, and whether one is due
-pub record Cut : Type 0 where
-  pub front : List ℕ
-  pub is_denied : Bool
-  pub is_articled : Bool
-  pub qualities : List Quality
-  pub is_joined : Bool
-  pub is_due : Bool
-
-abbrev pub uncut : Bool → Cut
-uncut is_joined = record { front = []; is_denied = false; is_articled = false; qualities = []; is_joined = is_joined; is_due = true }
 
 abbrev pub is_empty : List ℕ → Bool
 is_empty [] = true
@@ -50,67 +15,85 @@ abbrev pub is_end : List ℕ → Bool
 is_end [] = true
 is_end (b ∷ bytes) = is_blank b
 
-abbrev pub is_and : Cut → Bool
-is_and cut = not cut.is_due && is_spelled cut.front (codes "and")
+-- ---- whether words can be cut into names, told for each count of bytes that are left of them
 
-abbrev pub is_not : Cut → Bool
-is_not cut = cut.is_due && not cut.is_denied && is_spelled cut.front (codes "not")
+abbrev pub looked : List Bool → ℕ → Bool
+looked column left = get_or column left false
 
-abbrev pub is_one_article : Cut → Bool
-is_one_article cut = cut.is_due && not cut.is_articled && is_article cut.front
+-- the bytes in front are a name, and those behind it can be cut
+abbrev pub ends_name : Standings → Bool → List Bool → List ℕ → List ℕ → Bool
+ends_name known is_joined column front after = is_end after && looked column (length after) && is_phrase known is_joined front
 
-abbrev pub with_quality : Option Quality → Cut → Cut
-with_quality None cut = cut
-with_quality (Some quality) cut = record cut {
-  front = [];
-  is_denied = false;
-  is_articled = false;
-  qualities = cut.qualities ++ said_of cut.is_denied quality ∷ [];
-  is_due = not cut.is_joined;
-}
+-- the bytes in front, with some of these, are one
+abbrev pub some_name : Standings → Bool → List Bool → List ℕ → List ℕ → Bool
+some_name known is_joined column front [] = false
+some_name known is_joined column front (b ∷ bytes) = ends_name known is_joined column (front ++ b ∷ []) bytes || some_name known is_joined column (front ++ b ∷ []) bytes
 
-abbrev pub quality_due : Standings → Cut → Option Quality
-quality_due known cut = if cut.is_due then quality_in (known cut.front) cut.front else None
+unfoldable pub can_begin : Standings → Bool → List Bool → List ℕ → Bool
+can_begin known is_joined column words = is_some (kind_said known is_joined words) || some_name known is_joined column [] words
 
--- a word has ended
-abbrev pub ended : Standings → Cut → Cut
-ended known cut =
-    if is_and cut then record cut { front = []; is_due = true }
-    else (if is_not cut then record cut { front = []; is_denied = true; is_articled = false }
-    else (if is_one_article cut then record cut { front = []; is_articled = true } else with_quality (quality_due known cut) cut))
+abbrev pub can_cut : Standings → Bool → List Bool → List ℕ → Bool
+can_cut known is_joined column [] = true
+can_cut known is_joined column (b ∷ bytes) = if is_blank b then looked column (length bytes) else can_begin known is_joined column (b ∷ bytes)
+
+abbrev pub column_of : Standings → Bool → List ℕ → List Bool
+column_of known is_joined [] = true ∷ []
+column_of known is_joined (b ∷ bytes) = column_of known is_joined bytes ++ can_cut known is_joined (column_of known is_joined bytes) (b ∷ bytes) ∷ []
+
+-- ---- how words are cut from left to right
+
+-- the bytes of a name so far, and the qualities before it
+pub record Cut : Type 0 where
+  pub front : List ℕ
+  pub qualities : List Quality
+
+abbrev pub uncut : Cut
+uncut = record { front = []; qualities = [] }
+
+abbrev pub with_quality : Cut → Option Quality → Cut
+with_quality cut None = cut
+with_quality cut (Some quality) = record { front = []; qualities = cut.qualities ++ quality ∷ [] }
 
 abbrev pub with_byte : Cut → ℕ → Cut
 with_byte cut b = record cut { front = cut.front ++ b ∷ [] }
 
--- one byte more, with those behind it
-abbrev pub taken : Standings → Cut → ℕ → List ℕ → Cut
-taken known cut b after =
-    if is_empty cut.front && is_blank b then cut else (if is_end after then ended known (with_byte cut b) else with_byte cut b)
+-- a name ends where those behind it can be cut
+abbrev pub ended : Standings → Bool → List Bool → Cut → List ℕ → Cut
+ended known is_joined column cut after =
+    if is_end after && looked column (length after) then with_quality cut (phrase_said known is_joined cut.front) else cut
 
--- a kind that is all the rest of the words, not behind `not`
-abbrev pub kind_at : Standings → Cut → List ℕ → Option (List ℕ)
-kind_at known cut rest = if is_empty cut.front && not cut.is_denied && not cut.is_joined then kind_named known rest else None
+-- one byte more, with those behind it
+abbrev pub taken : Standings → Bool → List Bool → Cut → ℕ → List ℕ → Cut
+taken known is_joined column cut b after = if is_empty cut.front && is_blank b then cut else ended known is_joined column (with_byte cut b) after
+
+-- a kind that is all the rest of the words
+abbrev pub kind_at : Standings → Bool → Cut → List ℕ → Option (List ℕ)
+kind_at known is_joined cut words = if is_empty cut.front && not (is_end words) then kind_said known is_joined words else None
 
 abbrev pub with_kind : Cut → Option (List ℕ) → Option What → Option What
 with_kind cut None other = other
 with_kind cut (Some kind) other = Some (record { qualities = cut.qualities; kind = Some kind })
 
--- nothing is begun, and behind `and` there is a name
-abbrev pub is_whole : Cut → Bool
-is_whole cut = is_empty cut.front && not cut.is_denied && not cut.is_articled && not (cut.is_joined && cut.is_due)
-
 abbrev pub finished : Cut → Option What
-finished cut = if is_whole cut then Some (record { qualities = cut.qualities; kind = None }) else None
+finished cut = if is_empty cut.front then Some (record { qualities = cut.qualities; kind = None }) else None
 
--- names from left to right, each the shortest that says something, but a kind that is all the rest goes first
-abbrev pub cut_words : Standings → Cut → List ℕ → Option What
-cut_words known cut [] = finished cut
-cut_words known cut (b ∷ bytes) = with_kind cut (kind_at known cut (b ∷ bytes)) (cut_words known (taken known cut b bytes) bytes)
+abbrev pub cut_words : Standings → Bool → List Bool → Cut → List ℕ → Option What
+cut_words known is_joined column cut [] = finished cut
+cut_words known is_joined column cut (b ∷ bytes) =
+    with_kind cut (kind_at known is_joined cut (b ∷ bytes)) (cut_words known is_joined column (taken known is_joined column cut b bytes) bytes)
+
+abbrev pub cut_by : Standings → Bool → List Bool → List ℕ → Option What
+cut_by known is_joined column words = if looked column (length words) then cut_words known is_joined column uncut words else None
+
+-- names from left to right, each the shortest behind which the rest can be cut, but a kind that is all the rest goes
+-- first
+unfoldable pub cut : Standings → Bool → List ℕ → Option What
+cut known is_joined words = cut_by known is_joined (column_of known is_joined words) words
 
 -- what words say, if they can be cut into names
 abbrev pub what_said : Standings → List ℕ → Option What
-what_said known words = cut_words known (uncut false) (lowered words)
+what_said known words = cut known false (lowered words)
 
 -- what words behind `usually` say, names joined by `and`
 abbrev pub usual_said : Standings → List ℕ → Option What
-usual_said known words = cut_words known (uncut true) (lowered words)
+usual_said known words = cut known true (codes "and " ++ lowered words)

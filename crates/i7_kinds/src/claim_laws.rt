@@ -3,6 +3,7 @@ ghost use Rattle.std.specs.Prelude.{ℕ, Decides, List, Option};
 ghost use Rattle.i7_kinds.specs.Doors.{IsDoorDemanded, IsToldAgain, door_twice, doors_of};
 ghost use Rattle.i7_kinds.specs.Numbers.{has_name};
 ghost use Rattle.i7_kinds.specs.KindClaims.{IsCycle, IsKindTooMany, IsUnknown, kind_cycle, kind_too_many, unknown_kind};
+ghost use Rattle.i7_kinds.specs.LongNames.{IsLonger, longer_name};
 ghost use Rattle.i7_kinds.specs.NameScans.{book_twice, name_twice};
 ghost use Rattle.i7_kinds.specs.Places.{IsHolderCycle, IsSecond, holder_cycle, second_place};
 ghost use Rattle.i7_kinds.specs.Scans.{IsLowest, ShownBy};
@@ -42,6 +43,11 @@ pub fn cycles_are_found()
 /// A kind that is one too many is found at its lowest line.
 pub fn kinds_too_many_are_found()
     ensures { (claims : List Claim) → IsLowest (ShownBy (λ before c. IsKindTooMany before c.fact) claims) (kind_too_many claims) }
+{}
+
+/// A name with more bytes than this is found at its lowest line.
+pub fn longer_names_are_found()
+    ensures { (most : ℕ) (claims : List Claim) → IsLowest (ShownBy (λ before c. IsLonger most c.fact) claims) (longer_name most claims) }
 {}
 
 /// A second place of an object is found at its lowest line.

@@ -3,7 +3,7 @@ ghost use Rattle.std.specs.Prelude.{◌≡◌, ◌++◌, ◌∷◌, [], flat_map
 ghost use Rattle.world_meaning.specs.Spelling.{lowered as small};
 ghost use Rattle.i7_kinds.specs.Beings.{holders_in};
 ghost use Rattle.i7_kinds.specs.Claims.{being_claims, claimed, claims_in, claims_of, claims_said, declares_in, declares_said, either_or, grant_of, holding_claims, known_by, lies, named};
-ghost use Rattle.i7_kinds.specs.NameScans.{standing_at};
+ghost use Rattle.i7_kinds.specs.NameScans.{IsShort, standing_at};
 ghost use Rattle.i7_kinds.specs.Statements.{key_of};
 ghost use Rattle.i7_kinds.specs.declared.claim.Fact.TheVariants.{CanBe, HasNumber, Rulebook};
 ghost use Rattle.i7_kinds.specs.declared.claim.Standing.TheVariants as stands;
@@ -14,7 +14,7 @@ use crate::demanding::{add_held, add_placings, add_what};
 use crate::leading::{add_door, add_way};
 use crate::names::key_of;
 use crate::numbering::add_numbers;
-use crate::standings::{Known, known_after};
+use crate::standings::{Known, known_after, longest_name};
 use crate::usuals::add_usually;
 use crate::wording::what_said;
 use i7_sentences::{Assertion, Being, Holder, Name, Sentence};
@@ -194,17 +194,19 @@ fn add_holder(
 fn add_being(
     alloc: Global,
     known: &Known<'_>,
+    most: usize,
     claims: &mut Vec<Claim>,
     being: &Being,
     line: u32,
 ) -> Result<(), AllocError>
+    requires short { IsShort most (standing_at known.now) }
     ensures { OnOk result (claims.new.items ≡ claims.old.items ++ being_claims (standing_at known.now) being.now line) }
 {
     let subjects = being.subjects.as_slice();
     add_objects(alloc, claims, subjects, line)?;
     add_holder(alloc, claims, &being.place, line)?;
     let words = being.what.as_slice();
-    let what = what_said(alloc, known, words)?;
+    let what = what_said(alloc, known, most, words)?;
     add_what(alloc, claims, &what, words, subjects, line)?;
     add_placings(alloc, claims, &being.place, subjects, line)
 }
@@ -268,10 +270,12 @@ fn add_holding(
 fn add_claims(
     alloc: Global,
     known: &Known<'_>,
+    most: usize,
     claims: &mut Vec<Claim>,
     said: &Assertion,
     line: u32,
 ) -> Result<(), AllocError>
+    requires short { IsShort most (standing_at known.now) }
     ensures { OnOk result (claims.new.items ≡ claims.old.items ++ claims_said (standing_at known.now) said.now line) }
 {
     match said {
@@ -284,14 +288,22 @@ fn add_claims(
         Assertion::DescriptionOf { object, .. } => {
             add_naming(alloc, claims, object, Standing::Object, line)
         }
-        Assertion::Are(being) => add_being(alloc, known, claims, being, line),
+        Assertion::Are(being) => add_being(alloc, known, most, claims, being, line),
         Assertion::Holds {
             holder,
             relation,
             things,
         } => add_holding(alloc, claims, holder, *relation, things.as_slice(), line),
         Assertion::Usually { kind, adjectives } => {
-            add_usually(alloc, known, claims, kind, adjectives.as_slice(), line)
+            add_usually(
+                alloc,
+                known,
+                most,
+                claims,
+                kind,
+                adjectives.as_slice(),
+                line,
+            )
         }
         _ => add_numbers(alloc, known, claims, said, line),
     }
@@ -301,14 +313,23 @@ fn add_claims(
 fn claims_with(
     alloc: Global,
     known: &Known<'_>,
+    most: usize,
     sentences: &[Sentence],
 ) -> Result<Vec<Claim>, AllocError>
+    requires short { IsShort most (standing_at known.now) }
     ensures { IfOk result (λ claims. claims.items ≡ flat_map (claims_in (standing_at known.now)) sentences.now) }
 {
     let mut claims = Vec::new(alloc);
     let mut rest = sentences;
     while let [sentence, after @ ..] = rest {
-        add_claims(alloc, known, &mut claims, &sentence.said, sentence.line)?;
+        add_claims(
+            alloc,
+            known,
+            most,
+            &mut claims,
+            &sentence.said,
+            sentence.line,
+        )?;
         rest = after;
     }
     Ok(claims)
@@ -322,6 +343,7 @@ pub fn claims_of(alloc: Global, sentences: &[Sentence]) -> Result<Vec<Claim>, Al
     let namings = built_in_namings(alloc)?;
     let declares = declares_of(alloc, sentences)?;
     let known = known_after(alloc, namings.as_slice(), declares.as_slice())?;
-    let claims = claims_with(alloc, &known, sentences)?;
+    let most = longest_name(namings.as_slice(), declares.as_slice());
+    let claims = claims_with(alloc, &known, most, sentences)?;
     Ok(claims)
 }

@@ -24,6 +24,7 @@ mod names;
 mod numbering;
 mod numbers;
 mod objects;
+mod phrases;
 mod places;
 mod plurals;
 mod properties;
@@ -43,8 +44,8 @@ mod wording;
 
 pub use claim_laws::{
     books_twice_are_found, cycles_are_found, doors_are_those_demanded, doors_twice_are_found,
-    holder_cycles_are_found, kinds_too_many_are_found, names_too_many_are_found,
-    names_twice_are_found, second_places_are_found, unknown_kinds_are_found,
-    values_twice_are_found,
+    holder_cycles_are_found, kinds_too_many_are_found, longer_names_are_found,
+    names_too_many_are_found, names_twice_are_found, second_places_are_found,
+    unknown_kinds_are_found, values_twice_are_found,
 };
 pub use tale::tale_of;

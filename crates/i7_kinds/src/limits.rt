@@ -1,11 +1,14 @@
 //! The limits of a tale: objects, words of a name, bytes of a name or a text.
 ghost use Rattle.std.specs.Prelude.{◌≡◌, IfOk, count_by};
 ghost use Rattle.object_words.specs.Words.{is_blank};
+ghost use Rattle.i7_kinds.specs.LongNames.{is_longer, longer_name};
 ghost use Rattle.i7_kinds.specs.Tales.{is_too_long, name_too_long, object_too_many, text_too_long};
 ghost use Rattle.i7_kinds.specs.Views.{mentions_of};
 
+use crate::claim::{Claim, Fact};
 use crate::descriptions::Description;
 use crate::names::{FIRST_OF_AUTHOR, Mention};
+use crate::scans::lower;
 use object_words::words_for;
 use std::alloc::{AllocError, Global};
 
@@ -16,7 +19,7 @@ const MOST_OBJECTS: usize = 1000;
 const MOST_WORDS: usize = 32;
 
 /// The most bytes of a name or a text.
-const MOST_BYTES: usize = 65_535;
+pub const MOST_BYTES: usize = 65_535;
 
 /// The line of the mention that is one object too many.
 pub fn object_too_many(mentions: &[Mention<'_>]) -> Option<u32>
@@ -77,4 +80,28 @@ pub fn text_too_long(descriptions: &[Description<'_>]) -> Option<u32>
         rest = after;
     }
     None
+}
+
+/// Whether a name is told that has more bytes than this.
+fn is_longer(most: usize, fact: &Fact) -> bool
+    ensures { result ≡ is_longer most fact.now }
+{
+    match fact {
+        Fact::Stands(naming) => naming.name.as_slice().len() > most,
+        Fact::Rulebook(name) => name.as_slice().len() > most,
+        _ => false,
+    }
+}
+
+/// The lowest line of a name, of whatever it stands for, with more bytes than this.
+pub fn longer_name(most: usize, claims: &[Claim]) -> Option<u32>
+    ensures { result ≡ longer_name most claims.now }
+{
+    let mut found = None;
+    let mut rest = claims;
+    while let [claim, after @ ..] = rest {
+        found = lower(is_longer(most, &claim.fact), claim.line, found);
+        rest = after;
+    }
+    found
 }

@@ -1,6 +1,6 @@
 //! What names stand for, and the names that stand for two things.
 ghost use Rattle.std.specs.Prelude.{◌≡◌, IfOk, OnOk, None, fold, option_copied};
-ghost use Rattle.i7_kinds.specs.NameScans.{book_twice, clashes, is_book_twice, is_twice, name_twice, no_standings, shows_twice, standing_at, with_book, with_claim, with_fact, with_naming};
+ghost use Rattle.i7_kinds.specs.NameScans.{IsShort, book_twice, clashes, is_book_twice, is_twice, longer, longer_claim, longer_fact, name_twice, no_standings, shows_twice, standing_at, with_book, with_claim, with_fact, with_naming};
 ghost use Rattle.i7_kinds.specs.Scans.{lowest};
 ghost use Rattle.i7_kinds.specs.Standings.{is_second_of, suits, suits_first, suits_second};
 
@@ -127,6 +127,53 @@ fn keep_facts<'a>(known: &mut Known<'a>, claims: &'a [Claim]) -> Result<(), Allo
         rest = after;
     }
     Ok(())
+}
+
+fn longer(most: usize, naming: &Naming) -> usize
+    ensures { result ≡ longer most naming.now }
+{
+    most.max(naming.name.as_slice().len())
+}
+
+fn longest_naming(most: usize, namings: &[Naming]) -> usize
+    ensures { result ≡ fold longer most namings.now }
+{
+    let mut longest = most;
+    let mut rest = namings;
+    while let [naming, after @ ..] = rest {
+        longest = longer(longest, naming);
+        rest = after;
+    }
+    longest
+}
+
+fn longer_fact(most: usize, fact: &Fact) -> usize
+    ensures { result ≡ longer_fact most fact.now }
+{
+    match fact {
+        Fact::Stands(naming) => longer(most, naming),
+        _ => most,
+    }
+}
+
+fn longest_claim(most: usize, claims: &[Claim]) -> usize
+    ensures { result ≡ fold longer_claim most claims.now }
+{
+    let mut longest = most;
+    let mut rest = claims;
+    while let [claim, after @ ..] = rest {
+        longest = longer_fact(longest, &claim.fact);
+        rest = after;
+    }
+    longest
+}
+
+/// The most bytes of a name that stands for something by the namings or by the claims.
+#[tactic(auto, using(crate::proofs::Lengths::names_are_short))]
+pub fn longest_name(namings: &[Naming], claims: &[Claim]) -> usize
+    ensures { IsShort result (fold with_claim (fold with_naming no_standings namings.now) claims.now) }
+{
+    longest_claim(longest_naming(0, namings), claims)
 }
 
 /// What each name stands for by the namings, and then by the claims.

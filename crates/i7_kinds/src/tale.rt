@@ -21,7 +21,7 @@ use crate::doors::doors_of;
 use crate::faults::{Faults, faults_of};
 use crate::grants::givens_of;
 use crate::knowns::{Known, knowns_of};
-use crate::limits::{name_too_long, object_too_many, text_too_long};
+use crate::limits::{MOST_BYTES, longer_name, name_too_long, object_too_many, text_too_long};
 use crate::making::{kinds_of, places_in};
 use crate::names::{Mention, names_of};
 use crate::objects::{Makings, objects_of};
@@ -90,14 +90,16 @@ fn frame_refusal(faults: Faults, mentions: &[Mention<'_>], room: Option<usize>) 
 #[tactic(auto, unfolding(crate::specs::Tales::limit_refusal))]
 fn limit_refusal(
     alloc: Global,
+    claims: &[Claim],
     mentions: &[Mention<'_>],
     descriptions: &Descriptions<'_>,
 ) -> Result<Option<Fault>, AllocError>
-    ensures { IfOk result (λ refusal. refusal ≡ limit_refusal (descriptions_in descriptions.now) (mentions_of mentions.now)) }
+    ensures { IfOk result (λ refusal. refusal ≡ limit_refusal claims.now (descriptions_in descriptions.now) (mentions_of mentions.now)) }
 {
     let name = name_too_long(alloc, mentions)?;
     let text = text_too_long(descriptions.all());
-    Ok(refusal_at(FaultCode::TooMany, earlier(name, text)))
+    let other = longer_name(MOST_BYTES, claims);
+    Ok(refusal_at(FaultCode::TooMany, earlier(name, earlier(text, other))))
 }
 
 /// The refusal that stands, if there is one.
@@ -117,7 +119,7 @@ fn refusal_of(
     let room = first_room(scope.parents(), knowns);
     match frame_refusal(faults, mentions, room) {
         Some(fault) => Ok(Some(fault)),
-        None => limit_refusal(alloc, mentions, descriptions),
+        None => limit_refusal(alloc, claims, mentions, descriptions),
     }
 }
 
@@ -260,7 +262,7 @@ fn tale_said(alloc: Global, sentences: &[Sentence]) -> Result<Result<Tale, Fault
 
 /// The tale that the sentences mean, or the refusal that stands, each code being looked for in the
 /// whole source before the next, at the first sentence that shows it: C9, C7, C11, C8, C10, C12 of what is one too
-/// many, C13, then C12 of objects' names and of texts. Memory is C14, at line 1.
+/// many, C13, then C12 of names and of texts that are too long. Memory is C14, at line 1.
 pub fn tale_of(alloc: Global, sentences: &[Sentence]) -> Result<Tale, Fault>
     ensures told { IfOk result (λ tale. tale_said sentences.now ≡ Ok tale) }
     ensures refused { IfErr result (λ fault. (tale_said sentences.now ≡ Err fault) ⊎ (fault ≡ out_of_memory)) }

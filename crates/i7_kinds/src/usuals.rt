@@ -1,7 +1,7 @@
 //! What sentences claim that objects of a kind usually are.
 ghost use Rattle.std.specs.Prelude.{◌≡◌, ◌++◌, ◌∷◌, [], map, IfOk, OnOk};
 ghost use Rattle.i7_kinds.specs.Claims.{claimed, kind_or, usual, usual_claims, usual_kind, usual_quality, usually_claims};
-ghost use Rattle.i7_kinds.specs.NameScans.{standing_at};
+ghost use Rattle.i7_kinds.specs.NameScans.{IsShort, standing_at};
 ghost use Rattle.i7_kinds.specs.declared.claim.Fact.TheVariants.{Unread};
 
 use crate::claim::{Claim, Fact, Quality, Usual, Value};
@@ -112,14 +112,16 @@ pub fn usual_kind(alloc: Global, known: &Known<'_>, kind: &Name) -> Result<TextB
 pub fn add_usually(
     alloc: Global,
     known: &Known<'_>,
+    most: usize,
     claims: &mut Vec<Claim>,
     kind: &Name,
     words: &[u8],
     line: u32,
 ) -> Result<(), AllocError>
+    requires short { IsShort most (standing_at known.now) }
     ensures { OnOk result (claims.new.items ≡ claims.old.items ++ usually_claims (standing_at known.now) kind.now words.now line) }
 {
     let kind = usual_kind(alloc, known, kind)?;
-    let what = usual_said(alloc, known, words)?;
+    let what = usual_said(alloc, known, most, words)?;
     add_all(alloc, claims, kind.as_slice(), &what, words, line)
 }

@@ -1,14 +1,14 @@
 //! What words say that something is: either-or properties, and then perhaps a kind.
-ghost use Rattle.std.specs.Prelude.{◌≡◌, IfOk, option_copied};
-ghost use Rattle.i7_kinds.specs.NameScans.{standing_at};
-ghost use Rattle.i7_kinds.specs.Wording.{cut_words, is_article, is_end, quality_in, said_of, uncut, usual_said, what_said};
+ghost use Rattle.std.specs.Prelude.{◌≡◌, [], IfOk};
+ghost use Rattle.i7_kinds.specs.NameScans.{IsShort, standing_at};
+ghost use Rattle.i7_kinds.specs.Wording.{can_begin, can_cut, column_of, cut, cut_words, ends_name, is_end, looked, some_name, uncut, usual_said, what_said};
 
-use crate::claim::{Quality, Standing};
-use crate::plurals::kind_named;
-use crate::standings::{Known, standing_of};
+use crate::claim::Quality;
+use crate::phrases::{is_phrase, is_too_long, kind_said, phrase_said};
+use crate::standings::Known;
 use std::alloc::{AllocError, Global};
 use std::marker::Model;
-use world_meaning::{Listed, TextBytes, is_spelled, lowered};
+use world_meaning::{Listed, TextBytes, lowered};
 
 /// What words say: either-or properties, in order, and a kind, if they name one.
 #[derive(Debug, Drop)]
@@ -20,62 +20,9 @@ pub struct What {
 /// How far words are cut into names.
 #[derive(Drop)]
 struct Cutting {
-    /// The words of a name so far.
+    /// The bytes of a name so far.
     front: Vec<u8>,
-    /// Whether it stands behind `not`.
-    is_denied: bool,
-    /// Whether it stands behind an article.
-    is_articled: bool,
     qualities: Vec<Quality>,
-    /// Whether `and` joins names.
-    is_joined: bool,
-    /// Whether a name is due.
-    is_due: bool,
-}
-
-fn is_article(word: &[u8]) -> bool
-    ensures { result ≡ is_article word.now }
-{
-    is_spelled(word, b"a")
-        || is_spelled(word, b"an")
-        || is_spelled(word, b"the")
-        || is_spelled(word, b"some")
-}
-
-fn quality(alloc: Global, property: &[u8], is_true: bool) -> Result<Quality, AllocError>
-    ensures { IfOk result (λ quality. quality ≡ record { property = property.now; is_true = is_true }) }
-{
-    let property = TextBytes::copied(alloc, property)?;
-    Ok(Quality { property, is_true })
-}
-
-/// What a name says, if it is a property's: the first that it is true, the second that it isn't.
-fn quality_in(
-    alloc: Global,
-    standing: Option<&Standing>,
-    name: &[u8],
-) -> Result<Option<Quality>, AllocError>
-    ensures { IfOk result (λ quality. quality ≡ quality_in (option_copied standing.entry) name.now) }
-{
-    match standing {
-        Some(Standing::First(_)) => Ok(Some(quality(alloc, name, true)?)),
-        Some(Standing::Second(first)) => Ok(Some(quality(alloc, first.as_slice(), false)?)),
-        _ => Ok(None),
-    }
-}
-
-/// Behind `not` the other is said.
-fn said_of(is_denied: bool, quality: Quality) -> Quality
-    ensures { result ≡ said_of is_denied quality }
-{
-    if is_denied {
-        Quality {
-            property: quality.property,
-            is_true: !quality.is_true,
-        }
-    } else {
-        quality
-    }
 }
 
 /// Whether a word ends before these bytes.
@@ -88,95 +35,172 @@ fn is_end(after: &[u8]) -> bool
     }
 }
 
+/// Whether words of which so many bytes are left can be cut, by the column that tells it.
+fn looked(column: &[bool], left: usize) -> bool
+    ensures { result ≡ looked column.now left }
+{
+    column.get(left).copied().unwrap_or(false)
+}
+
+/// Whether the bytes in front are a name, and those behind it can be cut.
+fn ends_name(
+    known: &Known<'_>,
+    is_joined: bool,
+    column: &[bool],
+    front: &[u8],
+    after: &[u8],
+) -> bool
+    ensures { result ≡ ends_name (standing_at known.now) is_joined column.now front.now after.now }
+{
+    is_end(after) && looked(column, after.len()) && is_phrase(known, is_joined, front)
+}
+
+/// Whether a name stands at the words' front behind which the rest can be cut.
+fn some_name(
+    alloc: Global,
+    known: &Known<'_>,
+    most: usize,
+    is_joined: bool,
+    column: &[bool],
+    words: &[u8],
+) -> Result<bool, AllocError>
+    requires short { IsShort most (standing_at known.now) }
+    ensures { IfOk result (λ is. is ≡ some_name (standing_at known.now) is_joined column.now [] words.now) }
+{
+    let mut front = Vec::new(alloc);
+    let mut rest = words;
+    while let [byte, after @ ..] = rest {
+        if is_too_long(most, front.as_slice()) {
+            return Ok(false);
+        }
+        front.push(*byte)?;
+        if ends_name(known, is_joined, column, front.as_slice(), after) {
+            return Ok(true);
+        }
+        rest = after;
+    }
+    Ok(false)
+}
+
+/// Whether words that begin with a name can be cut, by the column for their ends.
+#[tactic(auto, unfolding(crate::specs::Wording::can_begin))]
+fn can_begin(
+    alloc: Global,
+    known: &Known<'_>,
+    most: usize,
+    is_joined: bool,
+    column: &[bool],
+    words: &[u8],
+) -> Result<bool, AllocError>
+    requires short { IsShort most (standing_at known.now) }
+    ensures { IfOk result (λ can. can ≡ can_begin (standing_at known.now) is_joined column.now words.now) }
+{
+    let kind = kind_said(alloc, known, most, is_joined, words)?;
+    if kind.is_some() {
+        return Ok(true);
+    }
+    some_name(alloc, known, most, is_joined, column, words)
+}
+
+/// Whether words can be cut, by the column for their ends.
+fn can_cut(
+    alloc: Global,
+    known: &Known<'_>,
+    most: usize,
+    is_joined: bool,
+    column: &[bool],
+    words: &[u8],
+) -> Result<bool, AllocError>
+    requires short { IsShort most (standing_at known.now) }
+    ensures { IfOk result (λ can. can ≡ can_cut (standing_at known.now) is_joined column.now words.now) }
+{
+    match words {
+        [] => Ok(true),
+        [byte, after @ ..] => {
+            if *byte == b' ' {
+                Ok(looked(column, after.len()))
+            } else {
+                can_begin(alloc, known, most, is_joined, column, words)
+            }
+        }
+    }
+}
+
+/// Of each count of bytes that are left, whether they can be cut.
+fn column_of(
+    alloc: Global,
+    known: &Known<'_>,
+    most: usize,
+    is_joined: bool,
+    words: &[u8],
+) -> Result<Vec<bool>, AllocError>
+    requires short { IsShort most (standing_at known.now) }
+    ensures { IfOk result (λ column. column.items ≡ column_of (standing_at known.now) is_joined words.now) }
+{
+    let mut column = Vec::with_capacity(alloc, words.len() + 1)?;
+    column.push(true)?;
+    let mut place = words.len();
+    while place > 0 {
+        place -= 1;
+        let (_, rest) = words.split_at(place);
+        match rest {
+            [] => return Ok(column),
+            [_, ..] => {
+                let can = can_cut(alloc, known, most, is_joined, column.as_slice(), rest)?;
+                column.push(can)?;
+            }
+        }
+    }
+    Ok(column)
+}
+
 impl Model for Cutting {
     ghost use Rattle.i7_kinds.specs.Wording.{Cut};
 
     ghost Value = { Cut };
 
-    ghost view = { λ c. record { front = c.front.items; is_denied = c.is_denied; is_articled = c.is_articled; qualities = c.qualities.items; is_joined = c.is_joined; is_due = c.is_due } };
+    ghost view = { λ c. record { front = c.front.items; qualities = c.qualities.items } };
 }
 
 impl Cutting {
-    ghost use Rattle.std.specs.Prelude.{◌∷◌, ◌++◌, [], OnOk};
-    ghost use Rattle.i7_kinds.specs.Wording.{ended, finished, is_and, is_not, is_one_article, is_whole, kind_at, quality_due, taken, with_byte, with_quality};
+    ghost use Rattle.std.specs.Prelude.{[], OnOk};
+    ghost use Rattle.i7_kinds.specs.Wording.{ended, finished, kind_at, taken, with_quality};
 
-    fn new(alloc: Global, is_joined: bool) -> Cutting
-        ensures { result ≡ uncut is_joined }
+    fn new(alloc: Global) -> Cutting
+        ensures { result ≡ uncut }
     {
         Cutting {
             front: Vec::new(alloc),
-            is_denied: false,
-            is_articled: false,
             qualities: Vec::new(alloc),
-            is_joined,
-            is_due: true,
         }
-    }
-
-    fn is_and(&self) -> bool
-        ensures { result ≡ is_and self.now }
-    {
-        !self.is_due && is_spelled(self.front.as_slice(), b"and")
-    }
-
-    fn is_not(&self) -> bool
-        ensures { result ≡ is_not self.now }
-    {
-        self.is_due && !self.is_denied && is_spelled(self.front.as_slice(), b"not")
-    }
-
-    fn is_one_article(&self) -> bool
-        ensures { result ≡ is_one_article self.now }
-    {
-        self.is_due && !self.is_articled && is_article(self.front.as_slice())
     }
 
     /// Takes up what a whole name says.
     fn take_quality(&mut self, alloc: Global, quality: Option<Quality>) -> Result<(), AllocError>
-        ensures { OnOk result (self.new ≡ with_quality quality self.old) }
+        ensures { OnOk result (self.new ≡ with_quality self.old quality) }
     {
         if let Some(quality) = quality {
-            self.qualities.push(said_of(self.is_denied, quality))?;
+            self.qualities.push(quality)?;
             self.front = Vec::new(alloc);
-            self.is_denied = false;
-            self.is_articled = false;
-            self.is_due = !self.is_joined;
         }
         Ok(())
     }
 
-    /// What the name says, if one is due.
-    fn quality_due(&self, alloc: Global, known: &Known<'_>) -> Result<Option<Quality>, AllocError>
-        ensures { IfOk result (λ quality. quality ≡ quality_due (standing_at known.now) self.now) }
+    /// Ends a name, where those behind it can be cut.
+    fn end_name(
+        &mut self,
+        alloc: Global,
+        known: &Known<'_>,
+        is_joined: bool,
+        column: &[bool],
+        after: &[u8],
+    ) -> Result<(), AllocError>
+        ensures { OnOk result (self.new ≡ ended (standing_at known.now) is_joined column.now self.old after.now) }
     {
-        if !self.is_due {
-            return Ok(None);
-        }
-        let name = self.front.as_slice();
-        quality_in(alloc, standing_of(known, name), name)
-    }
-
-    /// Ends a word.
-    fn end_word(&mut self, alloc: Global, known: &Known<'_>) -> Result<(), AllocError>
-        ensures { OnOk result (self.new ≡ ended (standing_at known.now) self.old) }
-    {
-        if self.is_and() {
-            self.front = Vec::new(alloc);
-            self.is_due = true;
+        if !is_end(after) || !looked(column, after.len()) {
             return Ok(());
         }
-        if self.is_not() {
-            self.front = Vec::new(alloc);
-            self.is_denied = true;
-            self.is_articled = false;
-            return Ok(());
-        }
-        if self.is_one_article() {
-            self.front = Vec::new(alloc);
-            self.is_articled = true;
-            return Ok(());
-        }
-        let quality = self.quality_due(alloc, known)?;
+        let quality = phrase_said(alloc, known, is_joined, self.front.as_slice())?;
         self.take_quality(alloc, quality)
     }
 
@@ -185,20 +209,18 @@ impl Cutting {
         &mut self,
         alloc: Global,
         known: &Known<'_>,
+        is_joined: bool,
+        column: &[bool],
         byte: u8,
         after: &[u8],
     ) -> Result<(), AllocError>
-        ensures { OnOk result (self.new ≡ taken (standing_at known.now) self.old byte after.now) }
+        ensures { OnOk result (self.new ≡ taken (standing_at known.now) is_joined column.now self.old byte after.now) }
     {
         if self.front.is_empty() && byte == b' ' {
             return Ok(());
         }
         self.front.push(byte)?;
-        if is_end(after) {
-            self.end_word(alloc, known)
-        } else {
-            Ok(())
-        }
+        self.end_name(alloc, known, is_joined, column, after)
     }
 
     /// The kind that all the rest of the words name.
@@ -206,31 +228,24 @@ impl Cutting {
         &self,
         alloc: Global,
         known: &Known<'_>,
-        rest: &[u8],
+        most: usize,
+        is_joined: bool,
+        words: &[u8],
     ) -> Result<Option<TextBytes>, AllocError>
-        ensures { IfOk result (λ kind. kind ≡ kind_at (standing_at known.now) self.now rest.now) }
+        requires short { IsShort most (standing_at known.now) }
+        ensures { IfOk result (λ kind. kind ≡ kind_at (standing_at known.now) is_joined self.now words.now) }
     {
-        if self.front.is_empty() && !self.is_denied && !self.is_joined {
-            kind_named(alloc, known, rest)
+        if self.front.is_empty() && !is_end(words) {
+            kind_said(alloc, known, most, is_joined, words)
         } else {
             Ok(None)
         }
     }
 
-    /// Whether nothing is begun, and behind `and` there is a name.
-    fn is_whole(&self) -> bool
-        ensures { result ≡ is_whole self.now }
-    {
-        self.front.is_empty()
-            && !self.is_denied
-            && !self.is_articled
-            && !(self.is_joined && self.is_due)
-    }
-
     fn finished(self) -> Option<What>
         ensures { result ≡ finished self }
     {
-        if self.is_whole() {
+        if self.front.is_empty() {
             Some(What {
                 qualities: Listed::new(self.qualities),
                 kind: None,
@@ -241,47 +256,80 @@ impl Cutting {
     }
 }
 
-/// Cuts words into names from left to right, each the shortest that says something; but a kind that is all the rest
-/// goes first.
+/// Cuts words into names from left to right, each the shortest behind which the rest can be cut, by the column that
+/// tells it; but a kind that is all the rest goes first.
 fn cut_words(
     alloc: Global,
     known: &Known<'_>,
+    most: usize,
     is_joined: bool,
+    column: &[bool],
     words: &[u8],
 ) -> Result<Option<What>, AllocError>
-    ensures { IfOk result (λ what. what ≡ cut_words (standing_at known.now) (uncut is_joined) words.now) }
+    requires short { IsShort most (standing_at known.now) }
+    ensures { IfOk result (λ what. what ≡ cut_words (standing_at known.now) is_joined column.now uncut words.now) }
 {
-    let mut cutting = Cutting::new(alloc, is_joined);
+    let mut cutting = Cutting::new(alloc);
     let mut rest = words;
     while let [byte, after @ ..] = rest {
-        if let Some(kind) = cutting.kind_at(alloc, known, rest)? {
+        if let Some(kind) = cutting.kind_at(alloc, known, most, is_joined, rest)? {
             return Ok(Some(What {
                 qualities: Listed::new(cutting.qualities),
                 kind: Some(kind),
             }));
         }
-        cutting.take(alloc, known, *byte, after)?;
+        cutting.take(alloc, known, is_joined, column, *byte, after)?;
         rest = after;
     }
     Ok(cutting.finished())
 }
 
 /// What words say, if they can be cut into names.
-pub fn what_said(alloc: Global, known: &Known<'_>, words: &[u8]) -> Result<Option<What>, AllocError>
+#[tactic(auto, unfolding(crate::specs::Wording::cut))]
+fn cut(
+    alloc: Global,
+    known: &Known<'_>,
+    most: usize,
+    is_joined: bool,
+    words: &[u8],
+) -> Result<Option<What>, AllocError>
+    requires short { IsShort most (standing_at known.now) }
+    ensures { IfOk result (λ what. what ≡ cut (standing_at known.now) is_joined words.now) }
+{
+    let column = column_of(alloc, known, most, is_joined, words)?;
+    if !looked(column.as_slice(), words.len()) {
+        return Ok(None);
+    }
+    let what = cut_words(alloc, known, most, is_joined, column.as_slice(), words)?;
+    Ok(what)
+}
+
+/// What words say that something is, where no name has more bytes than this.
+pub fn what_said(
+    alloc: Global,
+    known: &Known<'_>,
+    most: usize,
+    words: &[u8],
+) -> Result<Option<What>, AllocError>
+    requires short { IsShort most (standing_at known.now) }
     ensures { IfOk result (λ what. what ≡ what_said (standing_at known.now) words.now) }
 {
     let words = lowered(alloc, words)?;
-    cut_words(alloc, known, false, words.as_slice())
+    cut(alloc, known, most, false, words.as_slice())
 }
 
 /// What words behind `usually` say, names joined by `and`.
 pub fn usual_said(
     alloc: Global,
     known: &Known<'_>,
+    most: usize,
     words: &[u8],
 ) -> Result<Option<What>, AllocError>
+    requires short { IsShort most (standing_at known.now) }
     ensures { IfOk result (λ what. what ≡ usual_said (standing_at known.now) words.now) }
 {
-    let words = lowered(alloc, words)?;
-    cut_words(alloc, known, true, words.as_slice())
+    let lowered = lowered(alloc, words)?;
+    let mut words = Vec::from_slice(alloc, b"and ")?;
+    words.extend_from_slice(lowered.as_slice())?;
+    cut(alloc, known, most, true, words.as_slice())
 }

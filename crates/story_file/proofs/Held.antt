@@ -33,6 +33,7 @@ use Rattle.i7_kinds.specs.Statements.{NameAt, named_by, stated_by}
 use Rattle.i7_kinds.specs.Suits.{first_room, unsuited, with_player}
 use Rattle.i7_kinds.specs.Values.{Values, values_by}
 use Rattle.i7_kinds.specs.declared.values.Bearer.TheVariants as bearer
+use Rattle.i7_kinds.specs.LongNames.{longer_name}
 use Rattle.i7_kinds.specs.Tales.{Made, author_entry, entries_of, faults_of, frame_refusal, has_long_name, has_long_text, is_too_long, limit_refusal, made_of, name_too_long, no_room, object_as, object_of, objects_of, or_refused, refusal_of, scope_of, tale_said, text_too_long, way_to}
 use Rattle.i7_kinds.specs.declared.claim.Claim.{Claim}
 use Rattle.i7_kinds.specs.declared.descriptions.Description.{Description as Described}
@@ -279,11 +280,13 @@ meant_none : (refusal : Option Fault) (t tale : Tale) → or_refused refusal t �
 meant_none None t tale h = (refl, cc)
 meant_none (Some fault) t tale h = absurd cc
 
-limit_parts : (descriptions : List Described) (mentions : List NameAt) → limit_refusal descriptions mentions ≡ None → (list_all has_short_name mentions ≡ true) × (list_all (λ d. not (has_long_text d)) descriptions ≡ true)
+limit_parts : (claims : List Claim) (descriptions : List Described) (mentions : List NameAt) → limit_refusal claims descriptions mentions ≡ None → (list_all has_short_name mentions ≡ true) × (list_all (λ d. not (has_long_text d)) descriptions ≡ true)
 unfolding limit_refusal
-limit_parts descriptions mentions none =
-    let t = earlier_none (name_too_long mentions) (text_too_long descriptions) (unrefused TooMany (earlier (name_too_long mentions) (text_too_long descriptions)) none) in
-    (none_found has_long_name mentions (unmapped line_at (find has_long_name mentions) t.0), none_found has_long_text descriptions (unmapped line_of_description (find has_long_text descriptions) t.1))
+limit_parts claims descriptions mentions none =
+    let others = earlier (text_too_long descriptions) (longer_name 65535 claims) in
+    let names = earlier_none (name_too_long mentions) others (unrefused TooMany (earlier (name_too_long mentions) others) none) in
+    let texts = earlier_none (text_too_long descriptions) (longer_name 65535 claims) names.1 in
+    (none_found has_long_name mentions (unmapped line_at (find has_long_name mentions) names.0), none_found has_long_text descriptions (unmapped line_of_description (find has_long_text descriptions) texts.0))
 
 sorts_fine : (claims : List Claim) → name_too_many claims ≡ None → (too_many_as sort.EitherOr claims ≡ None) × (too_many_as sort.Number claims ≡ None) × (too_many_as sort.Variable claims ≡ None)
 sorts_fine claims none =
@@ -384,13 +387,13 @@ objects_held claims keys statements mentions counted ranged none =
     let descriptions = descriptions_of s.parents knowns statements in
     let faults = faults_of s knowns claims statements in
     let found = first_room s.parents knowns in
-    let t = first_none_both (frame_refusal faults mentions found) (limit_refusal descriptions mentions) none in
+    let t = first_none_both (frame_refusal faults mentions found) (limit_refusal claims descriptions mentions) none in
     let fine = frame_parts faults mentions found t.0 in
     let room = some_room found fine.roomy in
     let w = whole_of claims keys statements mentions room.0 counted fine room.1 in
     let many = earlier_none (kind_too_many claims) (name_too_many claims) fine.too_many in
     let cycles = earlier_none (kind_cycle (kind_names claims) claims) (holder_cycle keys claims) fine.cycle in
-    let limits = limit_parts descriptions mentions t.1 in
+    let limits = limit_parts claims descriptions mentions t.1 in
     let sorts = sorts_fine claims many.1 in
     let behind = behind_of claims in
     let kinds = authors_behind claims in

@@ -4,7 +4,8 @@ use Rattle.i7_kinds.specs.Wording.{cut_words, uncut}
 use Rattle.i7_kinds.proofs.wording.cut_words.Given as goal
 
 abbrev pub invariant-loop-rest : goal.invariant-loop-rest
-invariant-loop-rest l = cut_words (standing_at l.known) l.cutting l.rest ≡ cut_words (standing_at l.known) (uncut l.is_joined) l.words
+invariant-loop-rest l =
+    cut_words (standing_at l.known) l.is_joined l.column l.cutting l.rest ≡ cut_words (standing_at l.known) l.is_joined l.column uncut l.words
 
 abbrev pub decreases-loop-rest : goal.decreases-loop-rest
 decreases-loop-rest l = length l.rest
