@@ -15,4 +15,5 @@ pub mod Reserved
 pub mod Seams
 pub mod Sources
 pub mod Tags
+pub mod TextPieces
 pub mod Words
