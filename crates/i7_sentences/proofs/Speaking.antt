@@ -165,38 +165,97 @@ side_there (token ∷ next ∷ third ∷ more) is = absurd (false-true is)
 
 all_speak : Each (Each Speaks) all_forms
 unfolding all_forms assertion_of
-all_speak =
-    ((one _ form.Description (λ a is plain. described_said (plain_text a) (text_plain a is plain)), tt),
-    ((λ letters are. never, tt),
-    ((λ letters are. never, tt),
-    ((λ letters are. never, tt),
-    ((λ letters are. never, tt),
-    ((λ letters are. never, tt),
-    ((λ letters are. never, tt),
-    ((λ letters are. never, tt),
-    ((λ letters are. never, (λ letters are. never, tt)),
-    ((λ letters are. never, (λ letters are. never, tt)),
-    ((λ letters are. never, (λ letters are. never, tt)),
-    ((λ letters are. never, (λ letters are. never, tt)),
-    ((λ letters are. never, (λ letters are. never, tt)),
-    ((λ letters are. never, (λ letters are. never, tt)),
-    ((λ letters are. never, (λ letters are. never, (λ letters are. never, tt))),
-    ((λ letters are. never, (λ letters are. never, (λ letters are. never, tt))),
-    ((one _ form.Rulebook (λ a is plain. refl), tt),
-    ((one _ form.Scene (λ a is plain. refl), (one _ form.RecurringScene (λ a is plain. refl), tt)),
-    ((two _ _ form.KindOfKind (λ a b first second plain. refl), tt),
-    ((two _ _ form.CanBe (λ a b first second plain. refl), (three _ _ _ form.CanBeEither (λ a b c first second third plain. refl), tt)),
-    ((two _ _ form.NumberProperty (λ a b first second plain. refl), tt),
-    ((two _ _ form.Usually (λ a b first second plain. refl), (three _ _ _ form.UsuallyNumber (λ a b c first second third plain. refl), tt)),
-    ((one _ form.Variable (λ a is plain. refl), tt),
-    ((two _ _ form.DescriptionOf (λ a b first second plain. object_said a (plain_text b) (text_plain b second plain)), (three _ _ _ form.DescriptionOf (λ a b c first second third plain. object_said b (plain_text c) (text_plain c third plain)), tt)),
-    ((three _ _ _ form.NumberOf (λ a b c first second third plain. refl), tt),
-    ((five _ _ _ _ _ form.DoorTo (λ a b c d e side other. door_said a c e (side_direction b) (side_direction d) (side_there b side) (side_there d other)), (three _ _ _ form.WayTo (λ a b c first side third plain. way_said a (side_direction b) c false (side_there b side)), (three _ _ _ form.WayFrom (λ a b c side second third plain. way_said c (side_direction a) b true (side_there a side)), tt))),
-    ((two _ _ (form.Holds Rel.Carried) (λ a b first second plain. refl), (two _ _ (form.Holds Rel.Worn) (λ a b first second plain. refl), (two _ _ (form.Holds Rel.In) (λ a b first second plain. refl), (two _ _ (form.Holds Rel.On) (λ a b first second plain. refl), tt)))),
-    ((two _ _ form.VariableIs (λ a b first second plain. refl), (two _ _ (form.Held Rel.In) (λ a b first second plain. refl), (two _ _ (form.Held Rel.On) (λ a b first second plain. refl), (two _ _ (form.Held Rel.Carried) (λ a b first second plain. refl), (two _ _ (form.Held Rel.Worn) (λ a b first second plain. refl), (two _ _ (form.Held Rel.Part) (λ a b first second plain. refl), tt)))))),
-    ((three _ _ _ (form.WhatHeld Rel.In) (λ a b c first second third plain. refl), (three _ _ _ (form.WhatHeld Rel.On) (λ a b c first second third plain. refl), (three _ _ _ (form.WhatHeld Rel.Carried) (λ a b c first second third plain. refl), (three _ _ _ (form.WhatHeld Rel.Worn) (λ a b c first second third plain. refl), (three _ _ _ (form.WhatHeld Rel.Part) (λ a b c first second third plain. refl), tt))))),
-    ((two _ _ form.Is (λ a b first second plain. refl), tt),
-    tt))))))))))))))))))))))))))))))
+all_speak = (
+  (one _ form.Description (λ a is plain. described_said (plain_text a) (text_plain a is plain)), tt),
+  (
+    (λ letters are. never, tt),
+    (
+      (λ letters are. never, tt),
+      (
+        (λ letters are. never, tt),
+        (
+          (λ letters are. never, tt),
+          (
+            (λ letters are. never, tt),
+            (
+              (λ letters are. never, tt),
+              (
+                (λ letters are. never, tt),
+                (
+                  (λ letters are. never, (λ letters are. never, tt)),
+                  (
+                    (λ letters are. never, (λ letters are. never, tt)),
+                    (
+                      (λ letters are. never, (λ letters are. never, tt)),
+                      (
+                        (λ letters are. never, (λ letters are. never, tt)),
+                        (
+                          (λ letters are. never, (λ letters are. never, tt)),
+                          (
+                            (λ letters are. never, (λ letters are. never, tt)),
+                            (
+                              (λ letters are. never, (λ letters are. never, (λ letters are. never, tt))),
+                              (
+                                (λ letters are. never, (λ letters are. never, (λ letters are. never, tt))),
+                                (
+                                  (one _ form.Rulebook (λ a is plain. refl), tt),
+                                  (
+                                    (one _ form.Scene (λ a is plain. refl), (one _ form.RecurringScene (λ a is plain. refl), tt)),
+                                    (
+                                      (two _ _ form.KindOfKind (λ a b first second plain. refl), tt),
+                                      (
+                                        (two _ _ form.CanBe (λ a b first second plain. refl), (three _ _ _ form.CanBeEither (λ a b c first second third plain. refl), tt)),
+                                        (
+                                          (two _ _ form.NumberProperty (λ a b first second plain. refl), tt),
+                                          (
+                                            (two _ _ form.Usually (λ a b first second plain. refl), (three _ _ _ form.UsuallyNumber (λ a b c first second third plain. refl), tt)),
+                                            (
+                                              (one _ form.Variable (λ a is plain. refl), tt),
+                                              (
+                                                (two _ _ form.DescriptionOf (λ a b first second plain. object_said a (plain_text b) (text_plain b second plain)), (three _ _ _ form.DescriptionOf (λ a b c first second third plain. object_said b (plain_text c) (text_plain c third plain)), tt)),
+                                                (
+                                                  (three _ _ _ form.NumberOf (λ a b c first second third plain. refl), tt),
+                                                  (
+                                                    (five _ _ _ _ _ form.DoorTo (λ a b c d e side other. door_said a c e (side_direction b) (side_direction d) (side_there b side) (side_there d other)), (three _ _ _ form.WayTo (λ a b c first side third plain. way_said a (side_direction b) c false (side_there b side)), (three _ _ _ form.WayFrom (λ a b c side second third plain. way_said c (side_direction a) b true (side_there a side)), tt))),
+                                                    (
+                                                      (two _ _ (form.Holds Rel.Carried) (λ a b first second plain. refl), (two _ _ (form.Holds Rel.Worn) (λ a b first second plain. refl), (two _ _ (form.Holds Rel.In) (λ a b first second plain. refl), (two _ _ (form.Holds Rel.On) (λ a b first second plain. refl), tt)))),
+                                                      (
+                                                        (two _ _ form.VariableIs (λ a b first second plain. refl), (two _ _ (form.Held Rel.In) (λ a b first second plain. refl), (two _ _ (form.Held Rel.On) (λ a b first second plain. refl), (two _ _ (form.Held Rel.Carried) (λ a b first second plain. refl), (two _ _ (form.Held Rel.Worn) (λ a b first second plain. refl), (two _ _ (form.Held Rel.Part) (λ a b first second plain. refl), tt)))))),
+                                                        (
+                                                          (three _ _ _ (form.WhatHeld Rel.In) (λ a b c first second third plain. refl), (three _ _ _ (form.WhatHeld Rel.On) (λ a b c first second third plain. refl), (three _ _ _ (form.WhatHeld Rel.Carried) (λ a b c first second third plain. refl), (three _ _ _ (form.WhatHeld Rel.Worn) (λ a b c first second third plain. refl), (three _ _ _ (form.WhatHeld Rel.Part) (λ a b c first second third plain. refl), tt))))),
+                                                          (
+                                                            (two _ _ form.Is (λ a b first second plain. refl), tt),
+                                                            tt,
+                                                          ),
+                                                        ),
+                                                      ),
+                                                    ),
+                                                  ),
+                                                ),
+                                              ),
+                                            ),
+                                          ),
+                                        ),
+                                      ),
+                                    ),
+                                  ),
+                                ),
+                              ),
+                            ),
+                          ),
+                        ),
+                      ),
+                    ),
+                  ),
+                ),
+              ),
+            ),
+          ),
+        ),
+      ),
+    ),
+  ),
+)
 
 speaks : (tokens : List Token) (variant : Variant) (letters : List (List Token)) → IsReading all_forms tokens variant letters → is_asserting variant.form ≡ true → IsPlain tokens → IsSaid variant.form letters
 speaks tokens variant letters reading asserts plain =

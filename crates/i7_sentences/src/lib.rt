@@ -35,8 +35,8 @@ pub use cut::HEADINGS;
 pub use form::{FORMS, Form, Piece};
 pub use keyword::{ARTICLES, KEYWORDS, Keyword, RESERVED};
 pub use laws::{
-    cut_is_exact, forms_that_fit_speak, one_list_of_sentences, one_reading, one_refusal, read_or_unread,
-    spelled_or_refused,
+    cut_is_exact, forms_that_fit_speak, one_list_of_sentences, one_reading, one_refusal,
+    read_or_unread, spelled_or_refused,
 };
 pub use name::{Name, NameArticle};
 pub use names::Names;

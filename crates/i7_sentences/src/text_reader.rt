@@ -216,5 +216,9 @@ pub fn read_text(alloc: Global, text: &[u8]) -> Result<Option<TextPieces>, Alloc
         return Ok(None);
     }
     let pieces = text_pieces(alloc, text)?;
-    Ok(if ifs_end(pieces.as_slice()) { Some(pieces) } else { None })
+    Ok(if ifs_end(pieces.as_slice()) {
+        Some(pieces)
+    } else {
+        None
+    })
 }

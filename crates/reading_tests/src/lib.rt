@@ -7,3 +7,5 @@ mod cutting;
 mod lexing;
 #[cfg(test)]
 mod sentences;
+#[cfg(test)]
+mod texts;
