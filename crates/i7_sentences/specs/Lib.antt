@@ -1,4 +1,5 @@
 pub mod Automata
+pub mod Bodies
 pub mod BracketedWords
 pub mod Classes
 pub mod Cuts

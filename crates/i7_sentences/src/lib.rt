@@ -5,6 +5,7 @@
 #![tactic(auto)]
 
 mod assertion;
+mod body;
 mod brackets;
 mod class;
 mod cut;
@@ -30,6 +31,7 @@ mod text_reader;
 mod word;
 mod word_list;
 
+pub use body::{PhraseLine, PhraseMark, phrases_of};
 pub use class::{Class, PHRASES, State};
 pub use cut::HEADINGS;
 pub use form::{FORMS, Form, Piece};
