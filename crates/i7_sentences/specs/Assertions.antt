@@ -210,6 +210,7 @@ is_asserting form.ListedFirst = false
 is_asserting form.ListedLast = false
 is_asserting form.NotListed = false
 is_asserting form.Action = false
+is_asserting (form.Phrase phrase) = false
 is_asserting _ = true
 
 -- no text with a bracket that opens

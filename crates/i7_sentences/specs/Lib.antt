@@ -1,5 +1,6 @@
 pub mod Automata
 pub mod Bodies
+pub mod BodyOrder
 pub mod BracketedWords
 pub mod Classes
 pub mod Cuts
@@ -9,6 +10,7 @@ pub mod Keywords
 pub mod Literals
 pub mod Matching
 pub mod Names
+pub mod PhraseForms
 pub mod Pieces
 pub mod Read
 pub mod Assertions

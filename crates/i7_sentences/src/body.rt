@@ -106,7 +106,7 @@ fn comma_len(tokens: &[Token]) -> usize
 }
 
 /// Whether the word is spelled so.
-fn is_spelled_so(token: &Token, word: &[u8]) -> bool
+pub fn is_spelled_so(token: &Token, word: &[u8]) -> bool
     ensures { result ≡ is_spelled_so token.now word.now }
 {
     is_spelled(word_of(token), word)
@@ -202,7 +202,7 @@ fn mark_behind(run: &[Token]) -> PhraseMark
 }
 
 /// Whether there is no mark.
-fn is_no_mark(mark: PhraseMark) -> bool
+pub fn is_no_mark(mark: PhraseMark) -> bool
     ensures { result ≡ is_no_mark mark }
 {
     match mark {
@@ -223,7 +223,7 @@ fn unmarked(run: &[Token]) -> &[Token]
 }
 
 /// Whether nothing in front of the mark is no phrase.
-fn is_pause(mark: PhraseMark) -> bool
+pub fn is_pause(mark: PhraseMark) -> bool
     ensures { result ≡ is_pause mark }
 {
     match mark {

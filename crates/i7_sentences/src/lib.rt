@@ -6,6 +6,7 @@
 
 mod assertion;
 mod body;
+mod body_order;
 mod brackets;
 mod class;
 mod cut;
@@ -20,6 +21,7 @@ mod matcher;
 mod name;
 mod names;
 mod part;
+mod phrase_form;
 mod reader;
 mod reading;
 mod reserved;
@@ -32,6 +34,7 @@ mod word;
 mod word_list;
 
 pub use body::{PhraseLine, PhraseMark, phrases_of};
+pub use body_order::body_fault;
 pub use class::{Class, PHRASES, State};
 pub use cut::HEADINGS;
 pub use form::{FORMS, Form, Piece};
@@ -43,6 +46,7 @@ pub use laws::{
 pub use name::{Name, NameArticle};
 pub use names::Names;
 pub use part::{Part, PartKind};
+pub use phrase_form::{PHRASE_FORMS, PhraseForm, form_of};
 pub use reader::read;
 pub use sentence::{Assertion, Being, Holder, Sentence, Side, Way};
 pub use text_piece::{TextPiece, TextPieces};

@@ -1,6 +1,8 @@
-//! Tests of what the lexer and the reader of sentences answer.
+//! Tests of what the lexer and the readers of sentences, texts and bodies answer.
 #![tactic(auto)]
 
+#[cfg(test)]
+mod bodies;
 #[cfg(test)]
 mod cutting;
 #[cfg(test)]
