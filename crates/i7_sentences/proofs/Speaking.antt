@@ -9,14 +9,14 @@ use Rattle.world_meaning.specs.declared.place.Rel.TheVariants as Rel
 use Rattle.i7_lexer.specs.declared.token.Token.{Token}
 use Rattle.i7_lexer.specs.declared.token.TokenKind.{TokenKind}
 use Rattle.i7_lexer.specs.declared.token.TokenKind.TheVariants.{Text, Word as AWord, Mark}
-use Rattle.i7_sentences.specs.Assertions.{assertion_of, described, described_object, direction_at, door_between, is_asserting, is_plain, is_unbracketed, is_unbracketed_kind, plain_text, plain_text_in, side_direction, side_of, way_assertion}
-use Rattle.i7_sentences.specs.Classes.{IsOf, is_direction, is_behind, is_side, is_vertical}
+use Rattle.i7_sentences.specs.Assertions.{assertion_of, described, described_object, door_between, is_asserting, is_unbracketed, is_unbracketed_kind, plain_text, plain_text_in, side_direction, side_of, way_assertion}
+use Rattle.i7_sentences.specs.Classes.{IsOf, is_direction, is_behind, is_vertical}
 use Rattle.i7_sentences.specs.Cuts.{Piece as Part}
 use Rattle.i7_sentences.specs.Forms.{Fits, IsReading, Variant, all_forms}
 use Rattle.i7_sentences.specs.Keywords.{is_sign}
 use Rattle.i7_sentences.specs.Read.{aside}
 use Rattle.i7_sentences.specs.Reserved.{has_reserved_among}
-use Rattle.i7_sentences.specs.Sources.{Reads, Says, SaysNothing}
+use Rattle.i7_sentences.specs.Sources.{Says, SaysNothing}
 use Rattle.i7_sentences.specs.Words.{direction_named, is_text_kind, word_of}
 use Rattle.i7_sentences.specs.declared.class.Class.{Class}
 use Rattle.i7_sentences.specs.declared.class.Class.TheVariants as class
@@ -25,10 +25,8 @@ use Rattle.i7_sentences.specs.declared.form.Form.TheVariants as form
 use Rattle.i7_sentences.specs.declared.form.Piece.{Piece}
 use Rattle.i7_sentences.specs.declared.form.Piece.TheVariants.{Word, Letter}
 use Rattle.i7_sentences.specs.declared.keyword.Keyword.TheVariants as keyword
-use Rattle.i7_sentences.specs.declared.part.PartKind.{PartKind}
 use Rattle.i7_sentences.specs.declared.part.PartKind.TheVariants.{Title, Heading, Sentence as Said}
 use Rattle.i7_sentences.specs.declared.sentence.Assertion.{Assertion}
-use Rattle.i7_sentences.specs.declared.sentence.Side.{Side}
 use Rattle.i7_sentences.proofs.Lists.{false-true}
 
 abbrev Each : {X : Type 0} → (X → Type 0) → List X → Type 0

@@ -1,10 +1,9 @@
 -- The first part of a text, and the first word between brackets.
-use Rattle.std.proofs.Common.{◌≡◌, ℕ, ◌+◌, ◌<◌, ◌≤◌, Bool, true, false, not, ◌&&◌, List, [], ◌∷◌, ◌++◌, length, map, refl, ap, sym, ◌∙◌, append_assoc, arith}
+use Rattle.std.proofs.Common.{◌≡◌, ℕ, ◌<◌, ◌≤◌, Bool, true, false, not, ◌&&◌, List, [], ◌∷◌, ◌++◌, length, refl, ap, ◌∙◌, append_assoc, arith}
 use Rattle.std.specs.List.{after_first, before_first, flat_map, list_all, position_or_len, slice_split}
 use Rattle.std.proofs.lemmas.List.Splits.{slice_split_first}
-use Rattle.i7_sentences.specs.BracketedWords.{ended, is_byte, is_gap, words_in}
+use Rattle.i7_sentences.specs.BracketedWords.{ended, is_byte, is_gap}
 use Rattle.i7_sentences.specs.TextPieces.{are_brackets_read, closed_parts, has_opening, is_bracket_read, last_of, open_part, part_pieces, print_of, run_word, text_pieces, words_of}
-use Rattle.i7_sentences.specs.declared.text_piece.TextPiece.{TextPiece}
 use Rattle.i7_sentences.proofs.Bracketing.{ended_more, one_part, split_some}
 
 pub words_first : (bytes : List ℕ) → position_or_len is_gap bytes < length bytes

@@ -2,7 +2,7 @@
 use Rattle.std.specs.Prelude.{ℕ, ◌-◌, ◌==◌, nat_lt, Bool, true, false, not, ◌&&◌, ◌||◌, List, [], ◌∷◌, ◌++◌, codes, drop, length, take, Option, Some, None, if◌then◌else◌}
 use Rattle.std.specs.List.{before_first, position_or_len}
 use Rattle.i7_lexer.specs.declared.token.Token.{Token}
-use Rattle.i7_sentences.specs.Bodies.{Phrase, body_lines, is_no_mark, is_pause, is_spelled_so}
+use Rattle.i7_sentences.specs.Bodies.{Phrase, is_no_mark, is_pause, is_spelled_so}
 use Rattle.i7_sentences.specs.PhraseForms.{form_of}
 use Rattle.i7_sentences.specs.declared.body.PhraseMark.{PhraseMark}
 use Rattle.i7_sentences.specs.declared.body.PhraseMark.TheVariants.{Semicolon, Stop, Colon, Comma, Nothing}

@@ -1,5 +1,5 @@
 //! A rule's body, cut into its phrases.
-ghost use Rattle.std.specs.Prelude.{◌≡◌, ◌≤◌, fold, length, IfOk, OnOk};
+ghost use Rattle.std.specs.Prelude.{◌≡◌, ◌≤◌, length, IfOk, OnOk};
 ghost use Rattle.i7_sentences.specs.Bodies.{body_lines, comma_len, ends_phrase, head_len, indent_at, indent_before, indent_behind, is_comma, is_empty_run, is_no_mark, is_nothing, is_pause, is_same_phrase, is_semicolon, is_spelled_so, lines_of, mark_at, mark_behind, mark_of, opens_inline, phrase_in, phrase_of, phrases_of, unmarked, with_piece, with_run};
 ghost use Rattle.i7_sentences.specs.Read.{line_in};
 ghost use Rattle.i7_sentences.specs.Cuts.{cut, opens_nothing};

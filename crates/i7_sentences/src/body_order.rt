@@ -2,7 +2,7 @@
 ghost use Rattle.std.specs.Prelude.{◌≡◌, ◌≤◌, length, IfOk, OnOk};
 ghost use Rattle.std.specs.List.{position_or_len};
 ghost use Rattle.i7_sentences.specs.Bodies.{phrase_of, phrases_of};
-ghost use Rattle.i7_sentences.specs.BodyOrder.{after_phrase, block_at, blocks_after, body_fault, fault_from, fault_line, is_after_then, is_allowed, is_at_least, is_awaiting, is_colon_mark, is_comma_mark, is_deeper, is_done, is_due, is_if_form, is_instead, is_semicolon_mark, is_simple, is_then, kind_after, line_due, opens_block, opens_head, place_of, shape_of, stands_as, start, without_instead};
+ghost use Rattle.i7_sentences.specs.BodyOrder.{after_phrase, block_at, blocks_after, body_fault, fault_line, is_after_then, is_allowed, is_at_least, is_awaiting, is_colon_mark, is_comma_mark, is_deeper, is_done, is_due, is_if_form, is_instead, is_semicolon_mark, is_simple, is_then, kind_after, line_due, opens_block, opens_head, place_of, shape_of, stands_as, without_instead};
 
 use crate::body::{PhraseLine, PhraseMark, is_no_mark, is_pause, is_spelled_so};
 use crate::phrase_form::{PhraseForm, form_of};

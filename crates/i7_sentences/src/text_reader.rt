@@ -1,9 +1,8 @@
 //! Reading a text: its pieces, if its brackets and its ifs are understood.
-ghost use Rattle.std.specs.Prelude.{◌≡◌, not, ◌||◌, ◌<◌, ◌++◌, [], ◌∷◌, Some, None, length, if◌then◌else◌, ◌&&◌, IfOk, MatchOption, OnOk};
+ghost use Rattle.std.specs.Prelude.{◌≡◌, not, ◌||◌, ◌<◌, ◌++◌, [], Some, None, length, if◌then◌else◌, ◌&&◌, IfOk, MatchOption, OnOk};
 ghost use Rattle.std.specs.List.{list_all, list_any};
 ghost use Rattle.i7_lexer.specs.Bytes.{is_letter};
-ghost use Rattle.i7_sentences.specs.BracketedWords.{is_byte};
-ghost use Rattle.i7_sentences.specs.TextPieces.{are_brackets_read, begins_word, has_opening, is_bracket_read, is_if, is_of_words, is_text_read, is_word_or_blank, part_pieces, piece_of, print_of, printed, printed_byte, printed_from, text_pieces};
+ghost use Rattle.i7_sentences.specs.TextPieces.{are_brackets_read, begins_word, has_opening, is_bracket_read, is_if, is_of_words, is_text_read, is_word_or_blank, part_pieces, piece_of, print_of, printed, printed_byte, text_pieces};
 
 use crate::brackets::{behind_opening, in_front_of_opening, parted_at};
 use crate::text_ifs::ifs_end;
