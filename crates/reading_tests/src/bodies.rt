@@ -30,7 +30,10 @@ fn add_phrase(alloc: Global, text: &mut String, phrase: &PhraseLine<'_>) -> Resu
 /// The phrases of a rule, whose head has two words and a colon or a comma, and what its body's fault is.
 fn told(alloc: Global, source: &str) -> Result<String, Fail> {
     let lexed = lex(alloc, source.as_bytes()).map_err(|_| AllocError)?;
-    let (_, body) = lexed.tokens().split_at(3);
+    let body = match lexed.tokens() {
+        [_, _, _, body @ ..] => body,
+        _ => &[],
+    };
     let phrases = phrases_of(alloc, body)?;
     let mut text = String::new(alloc);
     for phrase in phrases.as_slice() {
