@@ -4,11 +4,11 @@ use Rattle.std.specs.List.{after_first, before_first, position_or_len, slice_spl
 use Rattle.std.proofs.lemmas.List.Splits.{length-slice_split, slice_split_first}
 use Rattle.i7_sentences.specs.BracketedWords.{bracketed, ended, is_byte}
 
-ended_more : (part : List ℕ) (parts : List (List ℕ)) → 0 < length parts → ended (part ∷ parts) ≡ part ∷ ended parts
+pub ended_more : (part : List ℕ) (parts : List (List ℕ)) → 0 < length parts → ended (part ∷ parts) ≡ part ∷ ended parts
 ended_more part [] some = absurd (omega (arith, some))
 ended_more part (next ∷ parts) some = refl
 
-split_some : (p : ℕ → Bool) (xs : List ℕ) → 0 < length (slice_split p xs)
+pub split_some : (p : ℕ → Bool) (xs : List ℕ) → 0 < length (slice_split p xs)
 split_some p xs = let parts = length-slice_split p xs in omega (arith, parts)
 
 pub bracketed_first : (text : List ℕ) → position_or_len (is_byte 93) text < length text
@@ -18,7 +18,7 @@ bracketed_first text ends =
     let more = ended_more (before_first (is_byte 93) text) (slice_split (is_byte 93) (after_first (is_byte 93) text)) (split_some (is_byte 93) (after_first (is_byte 93) text)) in
     ap (map (after_first (is_byte 91))) (parts ∙ more)
 
-one_part : (p : ℕ → Bool) (xs : List ℕ) → length xs ≤ position_or_len p xs → slice_split p xs ≡ xs ∷ []
+pub one_part : (p : ℕ → Bool) (xs : List ℕ) → length xs ≤ position_or_len p xs → slice_split p xs ≡ xs ∷ []
 one_part p [] ends = refl
 one_part p (x ∷ xs) ends =
     let Goal : Bool → Type 0 = λ stops. p x ≡ stops → slice_split p (x ∷ xs) ≡ (x ∷ xs) ∷ []

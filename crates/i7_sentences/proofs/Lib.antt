@@ -12,7 +12,9 @@ pub mod Lowest
 pub mod Missing
 pub mod Naming
 pub mod Sameness
-pub mod Spelling
 pub mod Seams
+pub mod Speaking
+pub mod Spelling
+pub mod Telling
 pub mod Understanding
 pub mod Verdicts

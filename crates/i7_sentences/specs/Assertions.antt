@@ -189,3 +189,35 @@ assertion_of (form.Held relation) letters = held relation letters
 assertion_of (form.WhatHeld relation) letters = what_held relation letters
 assertion_of form.Is letters = are letters
 assertion_of _ letters = None
+
+-- the forms that are read so far: neither rules, actions, understandings, listings nor a scene's begin and end
+abbrev pub is_asserting : Form → Bool
+is_asserting form.Understand = false
+is_asserting form.BeforeRule = false
+is_asserting form.InsteadRule = false
+is_asserting form.CheckRule = false
+is_asserting form.CarryOutRule = false
+is_asserting form.AfterRule = false
+is_asserting form.ReportRule = false
+is_asserting form.EveryTurnRule = false
+is_asserting form.PlayBeginsRule = false
+is_asserting form.SceneBeginsRule = false
+is_asserting form.SceneEndsRule = false
+is_asserting form.OwnRule = false
+is_asserting form.SceneBegins = false
+is_asserting form.SceneEnds = false
+is_asserting form.ListedFirst = false
+is_asserting form.ListedLast = false
+is_asserting form.NotListed = false
+is_asserting form.Action = false
+is_asserting (form.Phrase phrase) = false
+is_asserting _ = true
+
+-- no text with a bracket that opens
+abbrev pub is_unbracketed_kind : TokenKind → Bool
+is_unbracketed_kind (Text text) = is_plain text
+is_unbracketed_kind (Word word) = true
+is_unbracketed_kind (Mark mark) = true
+
+abbrev pub is_unbracketed : Token → Bool
+is_unbracketed token = is_unbracketed_kind token.kind

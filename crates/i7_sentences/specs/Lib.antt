@@ -1,4 +1,6 @@
 pub mod Automata
+pub mod Bodies
+pub mod BodyOrder
 pub mod BracketedWords
 pub mod Classes
 pub mod Cuts
@@ -8,6 +10,7 @@ pub mod Keywords
 pub mod Literals
 pub mod Matching
 pub mod Names
+pub mod PhraseForms
 pub mod Pieces
 pub mod Read
 pub mod Assertions
@@ -15,4 +18,5 @@ pub mod Reserved
 pub mod Seams
 pub mod Sources
 pub mod Tags
+pub mod TextPieces
 pub mod Words

@@ -15,11 +15,12 @@ fn place_of(byte: u8, bytes: &[u8]) -> usize
 }
 
 /// The bytes in front of the first such byte, and those behind it; none where there is none.
-fn parted_at(byte: u8, bytes: &[u8]) -> Option<(&[u8], &[u8])>
+pub fn parted_at(byte: u8, bytes: &[u8]) -> Option<(&[u8], &[u8])>
     ensures { MatchOption result (length bytes.now ≤ position_or_len (is_byte byte) bytes.now) (λ parts.
         (position_or_len (is_byte byte) bytes.now < length bytes.now)
         × (parts.0.now ≡ before_first (is_byte byte) bytes.now)
-        × (parts.1.now ≡ after_first (is_byte byte) bytes.now)) }
+        × (parts.1.now ≡ after_first (is_byte byte) bytes.now)
+        × (length parts.1.now < length bytes.now)) }
 {
     let (front, rest) = bytes.split_at(place_of(byte, bytes));
     match rest {
@@ -29,13 +30,21 @@ fn parted_at(byte: u8, bytes: &[u8]) -> Option<(&[u8], &[u8])>
 }
 
 /// The bytes behind the first `[`; none without one.
-fn behind_opening(bytes: &[u8]) -> &[u8]
+pub fn behind_opening(bytes: &[u8]) -> &[u8]
     ensures { result.now ≡ after_first (is_byte 91) bytes.now }
 {
     match parted_at(b'[', bytes) {
         None => &[],
         Some((_, behind)) => behind,
     }
+}
+
+/// The bytes in front of the first `[`; all of them without one.
+pub fn in_front_of_opening(bytes: &[u8]) -> &[u8]
+    ensures { result.now ≡ before_first (is_byte 91) bytes.now }
+{
+    let (front, _) = bytes.split_at(place_of(b'[', bytes));
+    front
 }
 
 /// What stands between brackets up to the first `]`, and the bytes behind that.
@@ -51,7 +60,7 @@ fn first_bracketed(text: &[u8]) -> Option<(&[u8], &[u8])>
 }
 
 /// Whether the byte is of no word.
-fn is_gap(byte: u8) -> bool
+pub fn is_gap(byte: u8) -> bool
     ensures { result ≡ is_gap byte }
 {
     !is_letter(byte)

@@ -61,7 +61,7 @@ fn is_heading(paragraph: &[Token]) -> bool
 }
 
 /// Whether the token is this mark.
-fn is_mark(byte: u8, token: &Token) -> bool
+pub fn is_mark(byte: u8, token: &Token) -> bool
     ensures { result ≡ is_mark_kind byte token.now.kind }
 {
     match &token.kind {
@@ -71,14 +71,14 @@ fn is_mark(byte: u8, token: &Token) -> bool
 }
 
 /// Whether the token is a full stop.
-fn is_full_stop(token: &Token) -> bool
+pub fn is_full_stop(token: &Token) -> bool
     ensures { result ≡ is_full_stop token.now }
 {
     is_mark(b'.', token)
 }
 
 /// Whether the token is a colon.
-fn is_colon(token: &Token) -> bool
+pub fn is_colon(token: &Token) -> bool
     ensures { result ≡ is_colon token.now }
 {
     is_mark(b':', token)
@@ -112,7 +112,7 @@ fn has_final_end(text: &[u8]) -> bool
 }
 
 /// Whether the token is a text that ends as a sentence does.
-fn ends_sentence(token: &Token) -> bool
+pub fn ends_sentence(token: &Token) -> bool
     ensures { result ≡ ends_sentence_kind token.now.kind }
 {
     match &token.kind {
@@ -132,7 +132,7 @@ fn is_capitalised(word: &[u8]) -> bool
 }
 
 /// Whether a sentence may begin with this token behind a text: a text, or a word with a capital.
-fn may_begin(token: &Token) -> bool
+pub fn may_begin(token: &Token) -> bool
     ensures { result ≡ may_begin_kind token.now.kind }
 {
     match &token.kind {

@@ -1,6 +1,6 @@
 //! The sentence forms as data, the lowest first.
 use crate::form::Piece::{Letter, Word};
-use crate::{Class, Keyword};
+use crate::{Class, Keyword, PhraseForm};
 use world_meaning::Rel;
 
 /// A piece of a sentence form.
@@ -75,6 +75,8 @@ pub enum Form {
     WhatHeld(Rel),
     /// `the hall is a dark room`
     Is,
+    /// A phrase of a rule's body, which is no sentence.
+    Phrase(PhraseForm),
 }
 
 const WORDS: Piece = Letter(Class::Words);

@@ -1,10 +1,12 @@
 //! Laws of the definitions that the reader is proved against.
-ghost use Rattle.std.specs.Prelude.{◌≡◌, ◌≢◌, ◌⊎◌, Bool, List};
+ghost use Rattle.std.specs.Prelude.{◌≡◌, ◌≢◌, ◌⊎◌, Bool, true, List};
+ghost use Rattle.std.specs.List.{list_all};
 ghost use Rattle.i7_lexer.specs.declared.token.Token.{Token};
-ghost use Rattle.i7_sentences.specs.Cuts.{cut};
-ghost use Rattle.i7_sentences.specs.Forms.{IsReading, IsUnread, Variant};
+ghost use Rattle.i7_sentences.specs.Assertions.{is_asserting, is_unbracketed};
+ghost use Rattle.i7_sentences.specs.Cuts.{Piece, cut};
+ghost use Rattle.i7_sentences.specs.Forms.{IsReading, IsUnread, Variant, all_forms};
 ghost use Rattle.i7_sentences.specs.Seams.{IsCut};
-ghost use Rattle.i7_sentences.specs.Sources.{HasSentences, IsRefused};
+ghost use Rattle.i7_sentences.specs.Sources.{HasSentences, IsRefused, SaysNothing};
 ghost use Rattle.i7_sentences.specs.declared.sentence.Sentence.{Sentence};
 ghost use Rattle.world_meaning.specs.declared.fault.Fault.{Fault};
 ghost use Rattle.world_meaning.specs.declared.fault.FaultCode.TheVariants.{Memory};
@@ -41,4 +43,10 @@ pub fn one_refusal()
 pub fn spelled_or_refused()
     ensures one { (tokens : List Token) → ((sentences : List Sentence) × HasSentences tokens sentences) ⊎ ((fault : Fault) × (fault.code ≢ Memory) × IsRefused tokens fault) }
     ensures never_both { (tokens : List Token) (sentences : List Sentence) (fault : Fault) → HasSentences tokens sentences → fault.code ≢ Memory → IsRefused tokens fault → ⊥ }
+{}
+
+/// A form that is part of the language says something wherever it is the reading of a part, so that the part
+/// is a sentence or has a reserved word in a name, but for a text with a bracket that opens.
+pub fn forms_that_fit_speak()
+    ensures { (part : Piece) (variant : Variant) (letters : List (List Token)) → IsReading all_forms part.tokens variant letters → is_asserting variant.form ≡ true → list_all is_unbracketed part.tokens ≡ true → SaysNothing part → ⊥ }
 {}

@@ -5,6 +5,8 @@
 #![tactic(auto)]
 
 mod assertion;
+mod body;
+mod body_order;
 mod brackets;
 mod class;
 mod cut;
@@ -19,23 +21,34 @@ mod matcher;
 mod name;
 mod names;
 mod part;
+mod phrase_form;
 mod reader;
 mod reading;
 mod reserved;
 mod sentence;
 mod tagged;
+mod text_ifs;
+mod text_piece;
+mod text_reader;
 mod word;
+mod word_list;
 
+pub use body::{PhraseLine, PhraseMark, phrases_of};
+pub use body_order::body_fault;
 pub use class::{Class, PHRASES, State};
 pub use cut::HEADINGS;
 pub use form::{FORMS, Form, Piece};
 pub use keyword::{ARTICLES, KEYWORDS, Keyword, RESERVED};
 pub use laws::{
-    cut_is_exact, one_list_of_sentences, one_reading, one_refusal, read_or_unread,
-    spelled_or_refused,
+    cut_is_exact, forms_that_fit_speak, one_list_of_sentences, one_reading, one_refusal,
+    read_or_unread, spelled_or_refused,
 };
 pub use name::{Name, NameArticle};
 pub use names::Names;
 pub use part::{Part, PartKind};
+pub use phrase_form::{PHRASE_FORMS, PhraseForm, form_of};
 pub use reader::read;
 pub use sentence::{Assertion, Being, Holder, Sentence, Side, Way};
+pub use text_piece::{TextPiece, TextPieces};
+pub use text_reader::read_text;
+pub use word_list::WordList;

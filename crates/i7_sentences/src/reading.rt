@@ -124,7 +124,7 @@ fn best_fit<'a, 'b>(
 }
 
 /// The best fit of the lowest of these forms that fits.
-fn lowest_fit<'a, 'b>(
+pub fn lowest_fit<'a, 'b>(
     alloc: Global,
     forms: &[&[(Form, &'static [Piece])]],
     signs: &[Keyword],

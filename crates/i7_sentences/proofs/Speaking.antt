@@ -1,0 +1,276 @@
+-- A form that is read says something wherever it fits.
+use Rattle.std.proofs.Common.{◌≡◌, ℕ, Bool, true, false, not, ◌&&◌, ◌||◌, List, [], ◌∷◌, ◌++◌, refl, ap, sym, ◌∙◌, subst}
+use Rattle.std.specs.Prelude.{Option, Some, None, is_some, if◌then◌else◌}
+use Rattle.std.specs.List.{list_all}
+use Rattle.std.proofs.lemmas.List.Folds.{list_all-append}
+use Rattle.world_meaning.specs.declared.direction.Direction.{Direction}
+use Rattle.world_meaning.specs.declared.direction.Direction.TheVariants.{Up, Down}
+use Rattle.world_meaning.specs.declared.place.Rel.TheVariants as Rel
+use Rattle.i7_lexer.specs.declared.token.Token.{Token}
+use Rattle.i7_lexer.specs.declared.token.TokenKind.{TokenKind}
+use Rattle.i7_lexer.specs.declared.token.TokenKind.TheVariants.{Text, Word as AWord, Mark}
+use Rattle.i7_sentences.specs.Assertions.{assertion_of, described, described_object, door_between, is_asserting, is_unbracketed, is_unbracketed_kind, plain_text, plain_text_in, side_direction, side_of, way_assertion}
+use Rattle.i7_sentences.specs.Classes.{IsOf, is_direction, is_behind, is_vertical}
+use Rattle.i7_sentences.specs.Cuts.{Piece as Part}
+use Rattle.i7_sentences.specs.Forms.{Fits, IsReading, Variant, all_forms}
+use Rattle.i7_sentences.specs.Keywords.{is_sign}
+use Rattle.i7_sentences.specs.Read.{aside}
+use Rattle.i7_sentences.specs.Reserved.{has_reserved_among}
+use Rattle.i7_sentences.specs.Sources.{Says, SaysNothing}
+use Rattle.i7_sentences.specs.Words.{direction_named, is_text_kind, word_of}
+use Rattle.i7_sentences.specs.declared.class.Class.{Class}
+use Rattle.i7_sentences.specs.declared.class.Class.TheVariants as class
+use Rattle.i7_sentences.specs.declared.form.Form.{Form}
+use Rattle.i7_sentences.specs.declared.form.Form.TheVariants as form
+use Rattle.i7_sentences.specs.declared.form.Piece.{Piece}
+use Rattle.i7_sentences.specs.declared.form.Piece.TheVariants.{Word, Letter}
+use Rattle.i7_sentences.specs.declared.keyword.Keyword.TheVariants as keyword
+use Rattle.i7_sentences.specs.declared.part.PartKind.TheVariants.{Title, Heading, Sentence as Said}
+use Rattle.i7_sentences.specs.declared.sentence.Assertion.{Assertion}
+use Rattle.i7_sentences.proofs.Lists.{false-true}
+
+abbrev Each : {X : Type 0} → (X → Type 0) → List X → Type 0
+Each P [] = Unit {0}
+Each P (x ∷ xs) = P x × Each P xs
+
+each_there : {X : Type 0} (P : X → Type 0) (xs : List X) (x : X) (more : List X) → Each P (xs ++ x ∷ more) → P x
+each_there P [] x more each = each.0
+each_there P (y ∷ xs) x more each = each_there P xs x more each.1
+
+-- the classes of the letters among pieces
+abbrev classes_of : List Piece → List Class
+classes_of [] = []
+classes_of (Word keyword ∷ pieces) = classes_of pieces
+classes_of (Letter class ∷ pieces) = class ∷ classes_of pieces
+
+abbrev IsPlain : List Token → Type 0
+IsPlain tokens = list_all is_unbracketed tokens ≡ true
+
+record IsFirst (class : Class) (letter : List Token) (Others : Type 0) : Type 0 where
+  of_class : IsOf class letter
+  plain : IsPlain letter
+  others : Others
+
+-- letters of these classes, in whose texts no bracket opens
+abbrev AreOf : List Class → List (List Token) → Type 0
+AreOf [] [] = Unit {0}
+AreOf [] (letter ∷ letters) = ⊥
+AreOf (class ∷ classes) [] = ⊥
+AreOf (class ∷ classes) (letter ∷ letters) = IsFirst class letter (AreOf classes letters)
+
+both : (a b : Bool) → (a && b) ≡ true → (a ≡ true) × (b ≡ true)
+both true true is = (refl, refl)
+both true false is = absurd (false-true is)
+both false b is = absurd (false-true is)
+
+plain_parts : (xs ys tokens : List Token) → tokens ≡ xs ++ ys → IsPlain tokens → IsPlain xs × IsPlain ys
+plain_parts xs ys tokens parts plain = both (list_all is_unbracketed xs) (list_all is_unbracketed ys) (sym (list_all-append is_unbracketed xs ys) ∙ ap (list_all is_unbracketed) (sym parts) ∙ plain)
+
+letters_are : (pieces : List Piece) (tokens : List Token) (letters : List (List Token)) → Fits pieces tokens letters → IsPlain tokens → AreOf (classes_of pieces) letters
+letters_are [] tokens letters fits plain = subst (AreOf []) (sym fits.1) tt
+letters_are (Word keyword ∷ pieces) tokens letters fits plain =
+    letters_are pieces fits.rest letters fits.behind (plain_parts (fits.word ∷ []) fits.rest tokens fits.parts plain).1
+letters_are (Letter class ∷ pieces) tokens letters fits plain =
+    let plains = plain_parts fits.words fits.rest tokens fits.parts plain in
+    subst (AreOf (class ∷ classes_of pieces)) (sym fits.keeps) (record { of_class = fits.is_of_class; plain = plains.0; others = letters_are pieces fits.rest fits.others fits.behind plains.1 })
+
+abbrev IsSaid : Form → List (List Token) → Type 0
+IsSaid form letters = is_some (assertion_of form letters) ≡ true
+
+abbrev SpeaksOf : Form → List Class → Type 0
+SpeaksOf form classes = (letters : List (List Token)) → AreOf classes letters → is_asserting form ≡ true → IsSaid form letters
+
+abbrev Speaks : Variant → Type 0
+Speaks variant = SpeaksOf variant.form (classes_of variant.pieces)
+
+never : {P : Type 0} → false ≡ true → P
+never e = absurd (false-true e)
+
+one : (first : Class) (form : Form) → ((a : List Token) → IsOf first a → IsPlain a → IsSaid form (a ∷ [])) → SpeaksOf form (first ∷ [])
+one first form says [] are asserts = absurd are
+one first form says (a ∷ []) are asserts = says a are.of_class are.plain
+one first form says (a ∷ b ∷ more) are asserts = absurd are.others
+
+two : (first second : Class) (form : Form) → ((a b : List Token) → IsOf first a → IsOf second b → IsPlain b → IsSaid form (a ∷ b ∷ [])) → SpeaksOf form (first ∷ second ∷ [])
+two first second form says [] are asserts = absurd are
+two first second form says (a ∷ []) are asserts = absurd are.others
+two first second form says (a ∷ b ∷ []) are asserts = says a b are.of_class are.others.of_class are.others.plain
+two first second form says (a ∷ b ∷ c ∷ more) are asserts = absurd are.others.others
+
+three : (first second third : Class) (form : Form) → ((a b c : List Token) → IsOf first a → IsOf second b → IsOf third c → IsPlain c → IsSaid form (a ∷ b ∷ c ∷ [])) → SpeaksOf form (first ∷ second ∷ third ∷ [])
+three first second third form says [] are asserts = absurd are
+three first second third form says (a ∷ []) are asserts = absurd are.others
+three first second third form says (a ∷ b ∷ []) are asserts = absurd are.others.others
+three first second third form says (a ∷ b ∷ c ∷ []) are asserts = says a b c are.of_class are.others.of_class are.others.others.of_class are.others.others.plain
+three first second third form says (a ∷ b ∷ c ∷ d ∷ more) are asserts = absurd are.others.others.others
+
+five : (first second third fourth fifth : Class) (form : Form) → ((a b c d e : List Token) → IsOf second b → IsOf fourth d → IsSaid form (a ∷ b ∷ c ∷ d ∷ e ∷ [])) → SpeaksOf form (first ∷ second ∷ third ∷ fourth ∷ fifth ∷ [])
+five first second third fourth fifth form says [] are asserts = absurd are
+five first second third fourth fifth form says (a ∷ []) are asserts = absurd are.others
+five first second third fourth fifth form says (a ∷ b ∷ []) are asserts = absurd are.others.others
+five first second third fourth fifth form says (a ∷ b ∷ c ∷ []) are asserts = absurd are.others.others.others
+five first second third fourth fifth form says (a ∷ b ∷ c ∷ d ∷ []) are asserts = absurd are.others.others.others.others
+five first second third fourth fifth form says (a ∷ b ∷ c ∷ d ∷ e ∷ []) are asserts = says a b c d e are.others.of_class are.others.others.others.of_class
+five first second third fourth fifth form says (a ∷ b ∷ c ∷ d ∷ e ∷ f ∷ more) are asserts = absurd are.others.others.others.others.others
+
+-- a text in which no bracket opens is one that describes
+plain_kind : (kind : TokenKind) → is_text_kind kind ≡ true → is_unbracketed_kind kind ≡ true → is_some (plain_text_in kind) ≡ true
+plain_kind (Text text) is plain = rw plain refl
+plain_kind (AWord word) is plain = absurd (false-true is)
+plain_kind (Mark mark) is plain = absurd (false-true is)
+
+text_plain : (words : List Token) → IsOf class.Text words → IsPlain words → is_some (plain_text words) ≡ true
+text_plain words is plain =
+    ap (λ tokens. is_some (plain_text tokens)) is.alone
+    ∙ plain_kind is.token.kind is.passes (both (is_unbracketed is.token) true (ap (list_all is_unbracketed) (sym is.alone) ∙ plain)).0
+
+described_said : (text : Option (List ℕ)) → is_some text ≡ true → is_some (described text) ≡ true
+described_said None is = is
+described_said (Some text) is = refl
+
+object_said : (object : List Token) (text : Option (List ℕ)) → is_some text ≡ true → is_some (described_object object text) ≡ true
+object_said object None is = is
+object_said object (Some text) is = refl
+
+way_said : (subject : List Token) (direction : Option Direction) (room : List Token) (first : Bool) → is_some direction ≡ true → is_some (way_assertion subject direction room first) ≡ true
+way_said subject None room first is = is
+way_said subject (Some direction) room first is = refl
+
+door_said : (door room behind : List Token) (side other : Option Direction) → is_some side ≡ true → is_some other ≡ true → is_some (door_between door (side_of side room) (side_of other behind)) ≡ true
+door_said door room behind None other is also = absurd (false-true is)
+door_said door room behind (Some side) None is also = absurd (false-true also)
+door_said door room behind (Some side) (Some other) is also = refl
+
+-- a side has a direction
+vertical_there : (above below : Bool) (named : Option Direction) → (above || below) ≡ true → is_some (if above then Some Up else (if below then Some Down else named)) ≡ true
+vertical_there true below named is = refl
+vertical_there false true named is = refl
+vertical_there false false named is = absurd (false-true is)
+
+named_there : (above below : Bool) (named : Option Direction) → is_some named ≡ true → is_some (if above then Some Up else (if below then Some Down else named)) ≡ true
+named_there true below named is = refl
+named_there false true named is = refl
+named_there false false named is = is
+
+side_there : (words : List Token) → IsOf class.Side words → is_some (side_direction words) ≡ true
+unfolding is_vertical is_direction
+side_there [] is = absurd (false-true is)
+side_there (token ∷ []) is = vertical_there (is_sign keyword.Above token) (is_sign keyword.Below token) (direction_named (word_of token)) is
+side_there (token ∷ next ∷ []) is =
+    let found = both (not (is_vertical token) && is_direction token) (is_behind token next) is in
+    named_there (is_sign keyword.Above token) (is_sign keyword.Below token) (direction_named (word_of token)) (both (not (is_vertical token)) (is_direction token) found.0).1
+side_there (token ∷ next ∷ third ∷ more) is = absurd (false-true is)
+
+all_speak : Each (Each Speaks) all_forms
+unfolding all_forms assertion_of
+all_speak = (
+  (one _ form.Description (λ a is plain. described_said (plain_text a) (text_plain a is plain)), tt),
+  (
+    (λ letters are. never, tt),
+    (
+      (λ letters are. never, tt),
+      (
+        (λ letters are. never, tt),
+        (
+          (λ letters are. never, tt),
+          (
+            (λ letters are. never, tt),
+            (
+              (λ letters are. never, tt),
+              (
+                (λ letters are. never, tt),
+                (
+                  (λ letters are. never, (λ letters are. never, tt)),
+                  (
+                    (λ letters are. never, (λ letters are. never, tt)),
+                    (
+                      (λ letters are. never, (λ letters are. never, tt)),
+                      (
+                        (λ letters are. never, (λ letters are. never, tt)),
+                        (
+                          (λ letters are. never, (λ letters are. never, tt)),
+                          (
+                            (λ letters are. never, (λ letters are. never, tt)),
+                            (
+                              (λ letters are. never, (λ letters are. never, (λ letters are. never, tt))),
+                              (
+                                (λ letters are. never, (λ letters are. never, (λ letters are. never, tt))),
+                                (
+                                  (one _ form.Rulebook (λ a is plain. refl), tt),
+                                  (
+                                    (one _ form.Scene (λ a is plain. refl), (one _ form.RecurringScene (λ a is plain. refl), tt)),
+                                    (
+                                      (two _ _ form.KindOfKind (λ a b first second plain. refl), tt),
+                                      (
+                                        (two _ _ form.CanBe (λ a b first second plain. refl), (three _ _ _ form.CanBeEither (λ a b c first second third plain. refl), tt)),
+                                        (
+                                          (two _ _ form.NumberProperty (λ a b first second plain. refl), tt),
+                                          (
+                                            (two _ _ form.Usually (λ a b first second plain. refl), (three _ _ _ form.UsuallyNumber (λ a b c first second third plain. refl), tt)),
+                                            (
+                                              (one _ form.Variable (λ a is plain. refl), tt),
+                                              (
+                                                (two _ _ form.DescriptionOf (λ a b first second plain. object_said a (plain_text b) (text_plain b second plain)), (three _ _ _ form.DescriptionOf (λ a b c first second third plain. object_said b (plain_text c) (text_plain c third plain)), tt)),
+                                                (
+                                                  (three _ _ _ form.NumberOf (λ a b c first second third plain. refl), tt),
+                                                  (
+                                                    (five _ _ _ _ _ form.DoorTo (λ a b c d e side other. door_said a c e (side_direction b) (side_direction d) (side_there b side) (side_there d other)), (three _ _ _ form.WayTo (λ a b c first side third plain. way_said a (side_direction b) c false (side_there b side)), (three _ _ _ form.WayFrom (λ a b c side second third plain. way_said c (side_direction a) b true (side_there a side)), tt))),
+                                                    (
+                                                      (two _ _ (form.Holds Rel.Carried) (λ a b first second plain. refl), (two _ _ (form.Holds Rel.Worn) (λ a b first second plain. refl), (two _ _ (form.Holds Rel.In) (λ a b first second plain. refl), (two _ _ (form.Holds Rel.On) (λ a b first second plain. refl), tt)))),
+                                                      (
+                                                        (two _ _ form.VariableIs (λ a b first second plain. refl), (two _ _ (form.Held Rel.In) (λ a b first second plain. refl), (two _ _ (form.Held Rel.On) (λ a b first second plain. refl), (two _ _ (form.Held Rel.Carried) (λ a b first second plain. refl), (two _ _ (form.Held Rel.Worn) (λ a b first second plain. refl), (two _ _ (form.Held Rel.Part) (λ a b first second plain. refl), tt)))))),
+                                                        (
+                                                          (three _ _ _ (form.WhatHeld Rel.In) (λ a b c first second third plain. refl), (three _ _ _ (form.WhatHeld Rel.On) (λ a b c first second third plain. refl), (three _ _ _ (form.WhatHeld Rel.Carried) (λ a b c first second third plain. refl), (three _ _ _ (form.WhatHeld Rel.Worn) (λ a b c first second third plain. refl), (three _ _ _ (form.WhatHeld Rel.Part) (λ a b c first second third plain. refl), tt))))),
+                                                          (
+                                                            (two _ _ form.Is (λ a b first second plain. refl), tt),
+                                                            tt,
+                                                          ),
+                                                        ),
+                                                      ),
+                                                    ),
+                                                  ),
+                                                ),
+                                              ),
+                                            ),
+                                          ),
+                                        ),
+                                      ),
+                                    ),
+                                  ),
+                                ),
+                              ),
+                            ),
+                          ),
+                        ),
+                      ),
+                    ),
+                  ),
+                ),
+              ),
+            ),
+          ),
+        ),
+      ),
+    ),
+  ),
+)
+
+speaks : (tokens : List Token) (variant : Variant) (letters : List (List Token)) → IsReading all_forms tokens variant letters → is_asserting variant.form ≡ true → IsPlain tokens → IsSaid variant.form letters
+speaks tokens variant letters reading asserts plain =
+    let form = each_there (Each Speaks) reading.lower reading.variants reading.higher (subst (Each (Each Speaks)) reading.place all_speak) in
+    let own = each_there Speaks reading.fit.before variant reading.fit.after (subst (Each Speaks) reading.fit.place form) in
+    own letters (letters_are variant.pieces tokens letters reading.fit.fits plain) asserts
+
+pub never_silent : (part : Part) (variant : Variant) (letters : List (List Token)) → IsReading all_forms part.tokens variant letters → is_asserting variant.form ≡ true → IsPlain part.tokens → SaysNothing part → ⊥
+never_silent part variant letters reading asserts plain =
+    (elim part.kind as (λ kind. ((heard : _) → Says kind part.tokens heard → ⊥) → ⊥) [
+      | Title ↦ λ none. none aside refl
+      | Heading ↦ λ none. none aside refl
+      | Said ↦ λ none.
+          let Goal : Option Assertion → Type 0 = λ said. assertion_of variant.form letters ≡ said → is_some said ≡ true → ⊥ in
+          (elim (assertion_of variant.form letters) as Goal [
+            | None ↦ λ is there. false-true there
+            | Some said ↦ λ is there. none (record { said = said; has_reserved_name = has_reserved_among variant.pieces letters })
+                (record { variant = variant; letters = letters; reading = reading; makes = is; reserves = refl })
+          ]) refl (speaks part.tokens variant letters reading asserts plain)
+    ])

@@ -1,0 +1,142 @@
+-- What a text says, piece by piece.
+use Rattle.std.specs.Prelude.{ℕ, ◌==◌, Bool, true, false, not, ◌&&◌, ◌||◌, List, [], ◌∷◌, ◌++◌, map, Option, Some, None, if◌then◌else◌}
+use Rattle.std.specs.List.{after_first, before_first, flat_map, list_all, list_any, slice_split}
+use Rattle.world_meaning.specs.Spelling.{is_spelled}
+use Rattle.i7_lexer.specs.Bytes.{is_letter}
+use Rattle.i7_sentences.specs.BracketedWords.{ended, is_byte, words_in}
+use Rattle.i7_sentences.specs.declared.text_reader.TheConstants.{APOSTROPHE, LINE_BREAK, PARAGRAPH_BREAK, OTHERWISE, END_IF, IF}
+use Rattle.i7_sentences.specs.declared.text_piece.TextPiece.{TextPiece}
+use Rattle.i7_sentences.specs.declared.text_piece.TextPiece.TheVariants.{Printed, Substitution, If, Otherwise, EndIf}
+use Rattle.i7_sentences.specs.declared.text_ifs.IfPlace.{IfPlace}
+use Rattle.i7_sentences.specs.declared.text_ifs.IfPlace.TheVariants.{Outside, Then, Else}
+
+abbrev pub begins_word : List ℕ → Bool
+begins_word [] = false
+begins_word (b ∷ bytes) = is_letter b
+
+-- a single quote is an apostrophe between two bytes of a word, and a double quote at the word's edge
+abbrev pub printed_byte : Bool → ℕ → List ℕ → ℕ
+printed_byte is_behind b bytes = if b == 39 then (if is_behind && begins_word bytes then 39 else 34) else b
+
+abbrev pub printed_from : Bool → List ℕ → List ℕ
+printed_from is_behind [] = []
+printed_from is_behind (b ∷ bytes) = printed_byte is_behind b bytes ∷ printed_from (is_letter b) bytes
+
+-- the bytes that these bytes of a text, which stand outside brackets, print
+abbrev pub printed : List ℕ → List ℕ
+printed bytes = printed_from false bytes
+
+abbrev pub run_word : List ℕ → List (List ℕ)
+run_word [] = []
+run_word (b ∷ bytes) = (b ∷ bytes) ∷ []
+
+-- the words among bytes
+abbrev pub words_of : List ℕ → List (List ℕ)
+words_of bytes = flat_map run_word (words_in bytes)
+
+abbrev pub are_spelled : List (List ℕ) → List (List ℕ) → Bool
+are_spelled [] [] = true
+are_spelled [] (spelling ∷ spellings) = false
+are_spelled (word ∷ words) [] = false
+are_spelled (word ∷ words) (spelling ∷ spellings) = is_spelled word spelling && are_spelled words spellings
+
+abbrev pub behind_first : List (List ℕ) → List (List ℕ)
+behind_first [] = []
+behind_first (word ∷ words) = words
+
+abbrev pub is_if : List (List ℕ) → Bool
+is_if [] = false
+is_if (word ∷ words) = is_spelled word IF.now
+
+-- what words between brackets are
+unfoldable pub piece_of : List (List ℕ) → TextPiece
+piece_of words =
+    if are_spelled words (map (λ word. word.now) APOSTROPHE) then Printed (39 ∷ [])
+    else (if are_spelled words (map (λ word. word.now) LINE_BREAK) then Printed (10 ∷ [])
+    else (if are_spelled words (map (λ word. word.now) PARAGRAPH_BREAK) then Printed (10 ∷ 10 ∷ [])
+    else (if are_spelled words (map (λ word. word.now) OTHERWISE) then Otherwise
+    else (if are_spelled words (map (λ word. word.now) END_IF) then EndIf
+    else (if is_if words then If (behind_first words) else Substitution words)))))
+
+abbrev pub has_opening : List ℕ → Bool
+has_opening part = list_any (is_byte 91) part
+
+-- what bytes outside brackets say
+abbrev pub print_of : List ℕ → List TextPiece
+print_of [] = []
+print_of (b ∷ bytes) = Printed (printed (b ∷ bytes)) ∷ []
+
+-- What a part says that ends at a `]`: what is in front of its `[` is printed, and the words between the two are a piece; without a `[` the
+-- `]` is itself.
+abbrev pub part_pieces : List ℕ → List TextPiece
+part_pieces part =
+    if has_opening part then print_of (before_first (is_byte 91) part) ++ piece_of (words_of (after_first (is_byte 91) part)) ∷ []
+    else print_of part ++ Printed (93 ∷ []) ∷ []
+
+-- the last of some parts
+abbrev pub last_of : List (List ℕ) → List ℕ
+last_of [] = []
+last_of (part ∷ []) = part
+last_of (part ∷ next ∷ parts) = last_of (next ∷ parts)
+
+-- the parts of a text that end at a `]`, and what stands behind the last of these
+abbrev pub closed_parts : List ℕ → List (List ℕ)
+closed_parts text = ended (slice_split (is_byte 93) text)
+
+abbrev pub open_part : List ℕ → List ℕ
+open_part text = last_of (slice_split (is_byte 93) text)
+
+-- the pieces of a text
+abbrev pub text_pieces : List ℕ → List TextPiece
+text_pieces text = flat_map part_pieces (closed_parts text) ++ print_of (open_part text)
+
+abbrev pub is_word_or_blank : ℕ → Bool
+is_word_or_blank b = is_letter b || b == 32 || b == 9 || b == 10
+
+-- between brackets stand words and blanks alone, at least one word
+unfoldable pub is_of_words : List ℕ → Bool
+is_of_words bytes = list_any is_letter bytes && list_all is_word_or_blank bytes
+
+unfoldable pub is_bracket_read : List ℕ → Bool
+is_bracket_read part = not (has_opening part) || is_of_words (after_first (is_byte 91) part)
+
+-- each `[` has its `]`, and between them stand words
+abbrev pub are_brackets_read : List ℕ → Bool
+are_brackets_read text = list_all is_bracket_read (closed_parts text) && not (has_opening (open_part text))
+
+-- where a text stands behind one more piece, if it may stand there: an if ends at its `[end if]`, perhaps behind one `[otherwise]`, and none
+-- stands in another
+abbrev pub if_step : IfPlace → TextPiece → Option IfPlace
+if_step Outside (Printed bytes) = Some Outside
+if_step Outside (Substitution words) = Some Outside
+if_step Outside (If condition) = Some Then
+if_step Outside Otherwise = None
+if_step Outside EndIf = None
+if_step Then (Printed bytes) = Some Then
+if_step Then (Substitution words) = Some Then
+if_step Then (If condition) = None
+if_step Then Otherwise = Some Else
+if_step Then EndIf = Some Outside
+if_step Else (Printed bytes) = Some Else
+if_step Else (Substitution words) = Some Else
+if_step Else (If condition) = None
+if_step Else Otherwise = None
+if_step Else EndIf = Some Outside
+
+abbrev pub is_outside : IfPlace → Bool
+is_outside Outside = true
+is_outside Then = false
+is_outside Else = false
+
+abbrev pub then_closes : Option IfPlace → (IfPlace → Bool) → Bool
+then_closes None closes = false
+then_closes (Some place) closes = closes place
+
+-- whether the ifs of these pieces end, from a place on
+abbrev pub ifs_end : IfPlace → List TextPiece → Bool
+ifs_end place [] = is_outside place
+ifs_end place (piece ∷ pieces) = then_closes (if_step place piece) (λ after. ifs_end after pieces)
+
+-- a text that is understood
+abbrev pub is_text_read : List ℕ → Bool
+is_text_read text = are_brackets_read text && ifs_end Outside (text_pieces text)

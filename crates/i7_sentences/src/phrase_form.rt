@@ -1,0 +1,191 @@
+//! The forms of phrases as data, in the table of which the first that fits is meant.
+ghost use Rattle.std.specs.Prelude.{◌≡◌, option_map, IfOk};
+ghost use Rattle.i7_sentences.specs.Found.{found_in};
+ghost use Rattle.i7_sentences.specs.Matching.{lowest_fit};
+ghost use Rattle.i7_sentences.specs.PhraseForms.{form_found, form_of, is_phrase_form, phrase_forms};
+
+use crate::form::Piece::{Letter, Word};
+use crate::matcher::signs_of;
+use crate::reading::{Reading, lowest_fit};
+use crate::tagged::{Tagged, with_tags};
+use crate::{Class, Form, Keyword, Piece};
+use i7_lexer::Token;
+use std::alloc::{AllocError, Global};
+
+/// What a phrase is, by its shape.
+#[derive(Clone, Copy, Debug, PartialEq, Eq)]
+pub enum PhraseForm {
+    Say,
+    Now,
+    Move,
+    Increase,
+    Decrease,
+    Try,
+    TrySilently,
+    Follow,
+    RuleSucceeds,
+    RuleFails,
+    MakeNoDecision,
+    ContinueAction,
+    StopAction,
+    EndStory,
+    EndStoryFinally,
+    EndStorySaying,
+    If,
+    OtherwiseIf,
+    Otherwise,
+    Repeat,
+}
+
+const WORDS: Piece = Letter(Class::Words);
+
+const TEXT: Piece = Letter(Class::Text);
+
+const NOW: Piece = Word(Keyword::Now);
+
+const RULE: Piece = Word(Keyword::Rule);
+
+const THE: Piece = Word(Keyword::The);
+
+const ACTION: Piece = Word(Keyword::Action);
+
+const END: Piece = Word(Keyword::End);
+
+const STORY: Piece = Word(Keyword::Story);
+
+const BY: Piece = Word(Keyword::By);
+
+const IF: Piece = Word(Keyword::If);
+
+const OTHERWISE: Piece = Word(Keyword::Otherwise);
+
+/// The forms of phrases.
+pub const PHRASE_FORMS: [&[(Form, &[Piece])]; 20] = [
+    &[(Form::Phrase(PhraseForm::Say), &[Word(Keyword::Say), TEXT])],
+    &[
+        (
+            Form::Phrase(PhraseForm::Now),
+            &[NOW, WORDS, Word(Keyword::Is), WORDS],
+        ),
+        (
+            Form::Phrase(PhraseForm::Now),
+            &[NOW, WORDS, Word(Keyword::Carries), WORDS],
+        ),
+        (
+            Form::Phrase(PhraseForm::Now),
+            &[NOW, WORDS, Word(Keyword::Wears), WORDS],
+        ),
+    ],
+    &[(
+        Form::Phrase(PhraseForm::Move),
+        &[Word(Keyword::Move), WORDS, Word(Keyword::To), WORDS],
+    )],
+    &[(
+        Form::Phrase(PhraseForm::Increase),
+        &[Word(Keyword::Increase), WORDS, BY, WORDS],
+    )],
+    &[(
+        Form::Phrase(PhraseForm::Decrease),
+        &[Word(Keyword::Decrease), WORDS, BY, WORDS],
+    )],
+    &[(Form::Phrase(PhraseForm::Try), &[Word(Keyword::Try), WORDS])],
+    &[(
+        Form::Phrase(PhraseForm::TrySilently),
+        &[Word(Keyword::Silently), Word(Keyword::Try), WORDS],
+    )],
+    &[(
+        Form::Phrase(PhraseForm::Follow),
+        &[Word(Keyword::Follow), WORDS, Word(Keyword::Rules)],
+    )],
+    &[(
+        Form::Phrase(PhraseForm::RuleSucceeds),
+        &[RULE, Word(Keyword::Succeeds)],
+    )],
+    &[(
+        Form::Phrase(PhraseForm::RuleFails),
+        &[RULE, Word(Keyword::Fails)],
+    )],
+    &[(
+        Form::Phrase(PhraseForm::MakeNoDecision),
+        &[
+            Word(Keyword::Make),
+            Word(Keyword::No),
+            Word(Keyword::Decision),
+        ],
+    )],
+    &[(
+        Form::Phrase(PhraseForm::ContinueAction),
+        &[Word(Keyword::Continue), THE, ACTION],
+    )],
+    &[(
+        Form::Phrase(PhraseForm::StopAction),
+        &[Word(Keyword::Stop), THE, ACTION],
+    )],
+    &[(Form::Phrase(PhraseForm::EndStory), &[END, THE, STORY])],
+    &[(
+        Form::Phrase(PhraseForm::EndStoryFinally),
+        &[END, THE, STORY, Word(Keyword::Finally)],
+    )],
+    &[(
+        Form::Phrase(PhraseForm::EndStorySaying),
+        &[END, THE, STORY, Word(Keyword::Saying), TEXT],
+    )],
+    &[(Form::Phrase(PhraseForm::If), &[IF, WORDS])],
+    &[(
+        Form::Phrase(PhraseForm::OtherwiseIf),
+        &[OTHERWISE, IF, WORDS],
+    )],
+    &[(Form::Phrase(PhraseForm::Otherwise), &[OTHERWISE])],
+    &[(
+        Form::Phrase(PhraseForm::Repeat),
+        &[
+            Word(Keyword::Repeat),
+            Word(Keyword::With),
+            WORDS,
+            Word(Keyword::Running),
+            Word(Keyword::Through),
+            WORDS,
+        ],
+    )],
+];
+
+/// The phrase's form, if a form is one of a phrase.
+fn is_phrase_form(form: Form) -> Option<PhraseForm>
+    ensures { result ≡ is_phrase_form form }
+{
+    match form {
+        Form::Phrase(phrase) => Some(phrase),
+        _ => None,
+    }
+}
+
+/// The phrase's form that a reading has.
+fn form_found(reading: Option<Reading<'_, '_>>) -> Option<PhraseForm>
+    ensures { result ≡ form_found (option_map found_in reading.entry) }
+{
+    match reading {
+        None => None,
+        Some(found) => is_phrase_form(found.form),
+    }
+}
+
+/// The first of the forms of phrases that fits the words.
+#[tactic(auto, unfolding(crate::specs::PhraseForms::phrase_forms))]
+fn phrase_reading<'a, 'b>(
+    alloc: Global,
+    tokens: &'a [Tagged<'b>],
+) -> Result<Option<Reading<'a, 'b>>, AllocError>
+    ensures { IfOk result (λ found. option_map found_in found ≡ lowest_fit phrase_forms tokens.now) }
+{
+    let signs = signs_of(alloc, tokens)?;
+    Ok(lowest_fit(alloc, &PHRASE_FORMS, signs.as_slice(), tokens)?)
+}
+
+/// What a phrase is by its shape, without its mark and a closing `instead`; none where no form fits.
+pub fn form_of(alloc: Global, tokens: &[Token]) -> Result<Option<PhraseForm>, AllocError>
+    ensures { IfOk result (λ form. form ≡ form_of tokens.now) }
+{
+    let words = with_tags(alloc, tokens)?;
+    let found = phrase_reading(alloc, words.as_slice())?;
+    Ok(form_found(found))
+}
