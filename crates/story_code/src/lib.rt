@@ -11,6 +11,7 @@ mod encoding;
 mod known;
 mod laws;
 mod named;
+mod naming;
 mod number;
 mod operands;
 mod reading;
