@@ -281,11 +281,13 @@ behind_given : (given : Option Sort) (wanted sorts : List Sort) (left : Option (
     → AreOf sorts ops → Behind given wanted ops after
 behind_given given wanted sorts None after ops e takes_off are = no_rest given after e
 behind_given given wanted sorts (Some rest) after ops e takes_off are =
-    let taken = takes_off rest refl ops are in
-    (taken.0, (
-      λ some. omega (arith, room_for given rest after e some, many_of rest (drop (length wanted) ops) taken.1, length-drop (length wanted) ops),
-      λ stack left served. given_on given rest after (drop (length wanted) ops) stack e taken.1 left served,
-    ))
+    let taken = takes_off rest refl ops are in (
+      taken.0,
+      (
+        λ some. omega (arith, room_for given rest after e some, many_of rest (drop (length wanted) ops) taken.1, length-drop (length wanted) ops),
+        λ stack left served. given_on given rest after (drop (length wanted) ops) stack e taken.1 left served,
+      ),
+    )
 
 num_gives : (z : Counts) → z.objects < 65536 → (n : ℤ) → (sort : Sort) × ((gives z (code.Num n) ≡ Some sort) × Serves sort n)
 num_gives z few n = by n (is_object z n) refl
@@ -293,6 +295,7 @@ num_gives z few n = by n (is_object z n) refl
     small : (n : ℤ) → is_object z n ≡ true → is_object_number n ≡ true
     small (pos m) is = lt-ltb m 65536 (omega (arith, few, ltb-true m z.objects is))
     small (negsuc m) is = is
+
     by : (n : ℤ) (b : Bool) → is_object z n ≡ b → (sort : Sort) × (((if b then Some NumberOrObject else Some Number) ≡ Some sort) × Serves sort n)
     by n true is = (NumberOrObject, (refl, small n is))
     by n false is = (Number, (refl, tt))
@@ -397,8 +400,10 @@ module _ {z : Counts} {role : Use} {is : List Instruction} (sound : IsSound z ro
       where
         named_loop : (depth : ℕ) → names_what_is_there z depth (code.Next k test exit) ≡ true → (k + 1 == depth) ≡ true
         named_loop depth named = (and_parts (k + 1 == depth) _ named).0
+
         no_loop : {A : Type 0} {loop : OpenLoop} (loops outer : List OpenLoop) → loops ≡ [] → loops ≡ loop ∷ outer → A
         no_loop loops outer none some = absurd cc
+
         either_way : (outer : List OpenLoop) → LeadsTo c exit (bare outer) → LeadsTo c (s.place + 6) (bare (sound.at s.place).loops)
             → ((t.place ≡ exit) × (t.loops ≡ take k s.loops)) ⊎ ((t.place ≡ s.place + 6) × ((o : ℕ) × (t.loops ≡ with_object s.loops k o)))
             → AreOf [] t.operands → length s.loops ≡ k + 1 → k + 1 ≡ loops_around role + length (sound.at s.place).loops → length (sound.at s.place).loops ≡ suc (length outer)
@@ -420,8 +425,10 @@ module _ {z : Counts} {role : Use} {is : List Instruction} (sound : IsSound z ro
       where
         topped : Topped s n (does f s (code.Num n))
         topped = refl
+
         given_there : (t : State) → does f s (code.Num n) ≡ Goes t → t.operands ≡ n ∷ s.operands
         given_there t e = subst (Topped s n) e topped
+
         pushed_number : (sort : Sort) → Straightly f s 0 (Some sort) (code.Num n) (does f s (code.Num n))
         pushed_number sort = pushed f s (code.Num n) sort n
 

@@ -94,11 +94,7 @@ fn holds_of<G: Ground>(ground: &G, instruction: Instruction, object: ObjNo) -> b
 }
 
 /// Whether something is what an instruction asks; nothing isn't.
-pub fn holds_of_some<G: Ground>(
-    ground: &G,
-    instruction: Instruction,
-    object: Option<ObjNo>,
-) -> i32
+pub fn holds_of_some<G: Ground>(ground: &G, instruction: Instruction, object: Option<ObjNo>) -> i32
     ensures { result ≡ truth_number (of_some object (holds_of (G.fixed ground.now).setting (G.world ground.now) instruction)) }
 {
     match object {
@@ -212,7 +208,11 @@ fn is_way<G: Ground>(ground: &G, direction: ObjNo, room: ObjNo) -> bool
 }
 
 /// The room that lies in a direction from a room.
-fn room_beyond<G: Ground>(ground: &G, direction: Option<ObjNo>, room: Option<ObjNo>) -> Option<ObjNo>
+fn room_beyond<G: Ground>(
+    ground: &G,
+    direction: Option<ObjNo>,
+    room: Option<ObjNo>,
+) -> Option<ObjNo>
     ensures { result ≡ beyond (G.fixed ground.now).setting (G.fixed ground.now).setting.room_beyond direction room }
 {
     let direction = direction?;
@@ -225,7 +225,11 @@ fn room_beyond<G: Ground>(ground: &G, direction: Option<ObjNo>, room: Option<Obj
 }
 
 /// The door on the way in a direction from a room.
-fn door_beyond<G: Ground>(ground: &G, direction: Option<ObjNo>, room: Option<ObjNo>) -> Option<ObjNo>
+fn door_beyond<G: Ground>(
+    ground: &G,
+    direction: Option<ObjNo>,
+    room: Option<ObjNo>,
+) -> Option<ObjNo>
     ensures { result ≡ beyond (G.fixed ground.now).setting (G.fixed ground.now).setting.door_beyond direction room }
 {
     let direction = direction?;

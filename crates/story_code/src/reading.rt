@@ -34,10 +34,7 @@ fn ask_nothing<G: Ground>(
         | Instruction::Turns
         | Instruction::Dark
         | Instruction::Happens(_) => state.push(known(ground, instruction)),
-        Instruction::Noun
-        | Instruction::Second
-        | Instruction::Location
-        | Instruction::Loop(_) => {
+        Instruction::Noun | Instruction::Second | Instruction::Location | Instruction::Loop(_) => {
             let object = object_known(ground, now, &state.loops, instruction);
             state.push(object_number(object));
         }
