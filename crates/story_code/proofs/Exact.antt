@@ -192,7 +192,7 @@ arguments_size : (args : List Argument) → length (arguments_bytes args) ≡ wi
 arguments_size [] = refl
 arguments_size (a ∷ more) = omega (arith, length-append (argument_bytes a) (arguments_bytes more), argument_size a, arguments_size more)
 
-spelled_size : (i : Instruction) → length (spelled i) ≡ size_of i
+pub spelled_size : (i : Instruction) → length (spelled i) ≡ size_of i
 spelled_size i = omega (arith, arguments_size (row_of i).arguments)
 
 -- a code is read from its spelling
@@ -206,11 +206,11 @@ read_spelled (suc n) (i ∷ is) le can =
     ap (λ o. read_on o (λ j. read_within n (drop (size_of j) (spelled i ++ spelling is)))) (front_spelled i (spelling is) c.0)
     ∙ ap (λ bytes. with_first i (read_within n bytes)) gone ∙ ap (with_first i) (read_spelled n is le' c.1)
 
-spelling_size : (code : List Instruction) → length (spelling code) ≡ sizes code
+pub spelling_size : (code : List Instruction) → length (spelling code) ≡ sizes code
 spelling_size [] = refl
 spelling_size (i ∷ is) = omega (arith, length-append (spelled i) (spelling is), spelled_size i, spelling_size is)
 
-spells_in : (bytes : List ℕ) (code : List Instruction) → Spells bytes code → code_in bytes ≡ Some code
+pub spells_in : (bytes : List ℕ) (code : List Instruction) → Spells bytes code → code_in bytes ≡ Some code
 unfolding code_in
 spells_in bytes code s =
     let le : sizes code ≤ length bytes = omega (arith, ap length s.whole, spelling_size code) in

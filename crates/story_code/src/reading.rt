@@ -1,6 +1,9 @@
 //! Instructions that read: each does what it means, over any ground.
-ghost use Rattle.std.specs.Prelude.{◌≡◌, ℕ, List, MatchResult};
+ghost use Rattle.std.specs.Prelude.{◌≡◌, ℕ, List, MatchResult, OnOk};
 ghost use Rattle.play_meaning.specs.Machines.{does};
+ghost use Rattle.play_meaning.specs.Operands.{gives};
+ghost use Rattle.play_meaning.specs.Stands.{GivesObject};
+ghost use Rattle.play_meaning.specs.declared.operand.Counts.{Counts};
 ghost use Rattle.story_code.specs.Runs.{BreaksOff, IsServed, Leads};
 ghost use Rattle.story_code.specs.Soundness.{Judged};
 
@@ -25,8 +28,9 @@ fn ask_nothing<G: Ground>(
     instruction: Instruction,
 ) -> Result<Came, Abandon>
     requires { IsServed instruction state.old }
-    ensures { (text : List ℕ) → MatchResult result (λ came. Leads (G.fixed ground.now) codes.now now.now (G.world ground.now) instruction state.old text came state.new text)
+    ensures step { (text : List ℕ) → MatchResult result (λ came. Leads (G.fixed ground.now) codes.now now.now (G.world ground.now) instruction state.old text came state.new text)
         (BreaksOff (G.fixed ground.now) codes.now now.now (G.world ground.now) instruction state.old text) }
+    ensures small { (z : Counts) → OnOk result (GivesObject (gives z instruction) state.new.operands) }
 {
     match instruction {
         Instruction::Num(_)
@@ -54,8 +58,9 @@ fn ask_one<G: Ground>(
     instruction: Instruction,
 ) -> Result<Came, Abandon>
     requires { IsServed instruction state.old }
-    ensures { (text : List ℕ) → MatchResult result (λ came. Leads (G.fixed ground.now) codes.now now.now (G.world ground.now) instruction state.old text came state.new text)
+    ensures step { (text : List ℕ) → MatchResult result (λ came. Leads (G.fixed ground.now) codes.now now.now (G.world ground.now) instruction state.old text came state.new text)
         (BreaksOff (G.fixed ground.now) codes.now now.now (G.world ground.now) instruction state.old text) }
+    ensures small { (z : Counts) → OnOk result (GivesObject (gives z instruction) state.new.operands) }
 {
     match instruction {
         Instruction::Prop(property) => {
@@ -94,8 +99,9 @@ fn ask<G: Ground>(
     instruction: Instruction,
 ) -> Result<Came, Abandon>
     requires { IsServed instruction state.old }
-    ensures { (text : List ℕ) → MatchResult result (λ came. Leads (G.fixed ground.now) codes.now now.now (G.world ground.now) instruction state.old text came state.new text)
+    ensures step { (text : List ℕ) → MatchResult result (λ came. Leads (G.fixed ground.now) codes.now now.now (G.world ground.now) instruction state.old text came state.new text)
         (BreaksOff (G.fixed ground.now) codes.now now.now (G.world ground.now) instruction state.old text) }
+    ensures small { (z : Counts) → OnOk result (GivesObject (gives z instruction) state.new.operands) }
 {
     match instruction {
         Instruction::Eq
