@@ -1,5 +1,5 @@
 pub mod Exact
-pub mod Fetching
+pub mod Fetched
 pub mod FrontLemmas
 pub mod Marking
 pub mod Passing

@@ -1,13 +1,14 @@
 -- Runs of a story's codes over a ground: how they stand, and what a step of them comes to.
-use Rattle.std.specs.Prelude.{◌≡◌, ◌≢◌, ℕ, suc, ℤ, ◌+◌, ◌<◌, ◌≤◌, Bool, true, List, [], ◌∷◌, map, length, Option, None, Some, is_some, slice_get}
-use Rattle.play_meaning.specs.Attempts.{Attempt}
+use Rattle.std.specs.Prelude.{◌≡◌, ◌≢◌, ℕ, zero, suc, ℤ, ◌+◌, ◌<◌, ◌≤◌, Bool, true, false, List, [], ◌∷◌, ◌++◌, map, length, Option, None, Some, Ok, is_some, slice_get, slice_index_or}
+use Rattle.play_meaning.specs.Attempts.{Attempt, next}
 use Rattle.play_meaning.specs.Codes.{Codes, frame_of, test_within}
 use Rattle.play_meaning.specs.Doing.{Inner}
 use Rattle.play_meaning.specs.Grounds.{Fixed}
 use Rattle.play_meaning.specs.Instructions.{at_place, row_of, size_of}
 use Rattle.play_meaning.specs.Machines.{Abandons, Answers, Frame, Goes, Leaves, State, Step, does}
 use Rattle.play_meaning.specs.Saying.{Telling}
-use Rattle.play_meaning.specs.Stands.{HasOnTop, taken_by}
+use Rattle.play_meaning.specs.SoundCodes.{IsSound}
+use Rattle.play_meaning.specs.Stands.{HasOnTop, StandsBy, is_body, taken_by}
 use Rattle.play_meaning.specs.Worlds.{World}
 use Rattle.play_meaning.specs.declared.action.ActionNow.{ActionNow}
 use Rattle.play_meaning.specs.declared.instruction.Instruction.{Instruction}
@@ -120,3 +121,50 @@ Leads fixed judged now w i s text came t said = DoesSo fixed judged now w i s te
 -- it broke play off, unless memory lacked
 abbrev pub BreaksOff : Fixed → List Judged → ActionNow → World → Instruction → Standing → List ℕ → Abandon → Type 0
 BreaksOff fixed judged now w i s text reason = reason ≢ Memory → DoesSo fixed judged now w i s text (Abandons reason)
+
+-- ---- tests
+
+-- what a test answers, run deep enough for it and those that it names
+abbrev pub TestIs : Fixed → List Judged → ActionNow → World → ℕ → List (Option ℕ) → Attempt Bool → Type 0
+TestIs fixed judged now w n loops answer =
+    (depth : ℕ) (describes : Describes) → length judged ≤ n + depth → test_within depth (codes_of fixed judged) (telling_in fixed describes) now n loops w ≡ answer
+
+-- whether an object passes a test that a code names, inside these loops
+abbrev pub passes_in : Fixed → List Judged → ActionNow → World → ℕ → Describes → ℕ → List (Option ℕ) → ℕ → Attempt Bool
+passes_in fixed judged now w depth describes test outer o = test_within depth (codes_of fixed judged) (telling_in fixed describes) now test (outer ++ Some o ∷ []) w
+
+-- how many of so many objects from this number on pass
+abbrev pub counted_if : Bool → ℕ → ℕ
+counted_if true n = suc n
+counted_if false n = n
+
+abbrev pub count_passing : (ℕ → Attempt Bool) → ℕ → ℕ → Attempt ℕ
+count_passing test zero o = Ok 0
+count_passing test (suc left) o = next (test o) (λ is. next (count_passing test left (o + 1)) (λ n. Ok (counted_if is n)))
+
+-- a test inside one loop more than these, named by a code before it
+pub record IsNamedTest (judged : List Judged) (code : ℕ) (outer : ℕ) (test : ℕ) : Type 0 where
+  pub few : outer < 9
+  pub later : code < test
+  pub there : IsTestAt judged test (outer + 1)
+
+-- the test that an instruction runs
+abbrev pub RunsItsTest : List Judged → Standing → Instruction → Type 0
+RunsItsTest judged s (Count k test) = (k ≡ length s.loops) × IsNamedTest judged s.code (length s.loops) test
+RunsItsTest judged s (Names naming k test) = (k ≡ length s.loops) × IsNamedTest judged s.code (length s.loops) test
+RunsItsTest judged s (Next k test exit) = (k + 1 ≡ length s.loops) × IsNamedTest judged s.code k test
+RunsItsTest judged s i = Unit {0}
+
+-- ---- runs that stand
+
+-- a run of a test or a description that stands as its code's labels say
+pub record MayRead (judged : List Judged) (s : Standing) : Type 0 where
+  pub code : Judged
+  pub there : slice_get judged s.code ≡ Some code
+  pub reads : is_body code.sizes.role ≡ false
+  pub few : code.sizes.counts.objects < 65536
+  pub sound : IsSound code.sizes.counts code.sizes.role (code_told code)
+  pub stands : (w : World) (text : List ℕ) → StandsBy sound (state_in s w text)
+
+abbrev pub code_at : List Judged → ℕ → List Instruction
+code_at judged n = slice_index_or (map code_told judged) n []

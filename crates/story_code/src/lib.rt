@@ -8,6 +8,7 @@ mod came;
 mod decoding;
 mod effect;
 mod encoding;
+mod fetching;
 mod known;
 mod laws;
 mod named;

@@ -41,6 +41,19 @@ impl RunState {
         }
     }
 
+    /// The beginning of a test, by its number, with these objects of the open loops.
+    pub(crate) fn inside(code: u16, loops: Turning) -> RunState
+        ensures { result ≡ record { code = code; place = 0; operands = []; loops = loops; work = 0 } }
+    {
+        RunState {
+            code,
+            place: 0,
+            operands: Operands::new(),
+            loops,
+            work: 0,
+        }
+    }
+
     /// Takes the last operand.
     pub(crate) fn take(&mut self) -> i32
         requires { 0 < length self.old.operands }

@@ -1,5 +1,5 @@
 //! The objects of a run's open loops.
-ghost use Rattle.std.specs.Prelude.{◌≡◌, ◌++◌, ◌<◌, ◌≤◌, [], ◌∷◌, None, length, slice_index_or, take};
+ghost use Rattle.std.specs.Prelude.{◌≡◌, ◌++◌, ◌<◌, ◌≤◌, [], ◌∷◌, None, Some, length, slice_index_or, take};
 
 use arrayvec::ArrayVec;
 use std::marker::Model;
@@ -9,7 +9,7 @@ use world_meaning::ObjNo;
 const MOST_LOOPS: usize = 9;
 
 /// The objects of the open loops, the outermost first; none before a loop's first turn.
-#[derive(Clone, Debug, Drop)]
+#[derive(Debug, Drop)]
 pub struct Turning {
     kept: ArrayVec<Option<ObjNo>, MOST_LOOPS>,
 }
@@ -56,6 +56,27 @@ impl Turning {
         ensures { self.new ≡ self.old ++ object ∷ [] }
     {
         self.kept.push(object);
+    }
+
+    /// The same.
+    pub(crate) fn copied(&self) -> Turning
+        ensures { result ≡ self.now }
+    {
+        let mut copy = Turning::new();
+        for object in self.kept.as_slice() {
+            copy.push(*object);
+        }
+        copy
+    }
+
+    /// These and one more.
+    pub(crate) fn with(&self, object: ObjNo) -> Turning
+        requires { length self.now < 9 }
+        ensures { result ≡ self.now ++ Some object ∷ [] }
+    {
+        let mut more = self.copied();
+        more.push(Some(object));
+        more
     }
 
     /// The outermost ones alone, so many of them.

@@ -1,5 +1,5 @@
 -- The instruction at a place of a code stands in front of the bytes from there on.
-use Rattle.std.proofs.Common.{◌≡◌, ◌∙◌, ◌++◌, ap, ℕ, suc, ◌+◌, ◌-◌, ◌<◌, true, inl, inr, List, [], ◌∷◌, length, drop, refl, Some, arith}
+use Rattle.std.proofs.Common.{◌≡◌, ◌∙◌, ◌++◌, ap, sym, ℕ, suc, ◌+◌, ◌-◌, ◌<◌, true, inl, inr, List, [], ◌∷◌, length, drop, refl, Some, arith}
 use Rattle.std.specs.List.{list_all}
 use Rattle.play_meaning.specs.Instructions.{at_place, size_of, sizes}
 use Rattle.play_meaning.specs.declared.instruction.Instruction.{Instruction}
@@ -7,6 +7,7 @@ use Rattle.story_code.specs.Fronts.{code_in, front}
 use Rattle.story_code.specs.Runs.{code_or_none, code_told}
 use Rattle.story_code.specs.Soundness.{IsSoundCode, Judged}
 use Rattle.story_code.specs.Spelling.{Spells, can_spell, spelled, spelling}
+use Rattle.play_meaning.proofs.Unstuck.{inside}
 use Rattle.story_code.proofs.Exact.{spelled_size, spelling_size, spells_in}
 use Rattle.story_code.proofs.FrontLemmas.{both_are}
 use Rattle.story_code.proofs.Places.{at_cases}
@@ -37,3 +38,9 @@ told j s = ap code_or_none (spells_in j.bytes s.code s.spells)
 
 pub long : (j : Judged) (s : IsSoundCode j.sizes j.bytes) → sizes s.code < 65536
 long j s = omega (arith, s.short, ap length s.spells.whole, spelling_size s.code)
+
+-- where an instruction stands, its bytes do
+pub found : (j : Judged) → IsSoundCode j.sizes j.bytes → (place : ℕ) (i : Instruction) → at_place (code_told j) place ≡ Some i → (place < length j.bytes) × (front (drop place j.bytes) ≡ Some i)
+found j s place i at =
+    let there : at_place s.code place ≡ Some i = ap (λ code. at_place code place) (sym (told j s)) ∙ at in
+    (omega (arith, inside s.code place i there, ap length s.spells.whole, spelling_size s.code), fetched j.bytes s.code s.spells place i there)
