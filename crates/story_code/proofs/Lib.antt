@@ -6,6 +6,7 @@ pub mod Passing
 pub mod Places
 pub mod Rooms
 pub mod Sounding
+pub mod Served
 pub mod SpelledFronts
 pub mod Stacks
 pub mod Truths

@@ -168,3 +168,15 @@ pub record MayRead (judged : List Judged) (s : Standing) : Type 0 where
 
 abbrev pub code_at : List Judged → ℕ → List Instruction
 code_at judged n = slice_index_or (map code_told judged) n []
+
+-- the instruction at which a run stands, what it takes and the test that it runs
+pub record IsFetched (judged : List Judged) (s : Standing) (i : Instruction) : Type 0 where
+  pub at : at_place (code_at judged s.code) s.place ≡ Some i
+  pub served : IsServed i s
+  pub tests : RunsItsTest judged s i
+
+-- behind an instruction that leads on the run stands again, further on in the same code
+pub record LeadsOn (judged : List Judged) (s t : Standing) : Type 0 where
+  pub stands : MayRead judged t
+  pub same : t.code ≡ s.code
+  pub further : s.place < t.place

@@ -1,10 +1,12 @@
 //! The instruction at which a run stands.
-ghost use Rattle.std.specs.Prelude.{◌≡◌, Some};
+ghost use Rattle.std.specs.Prelude.{◌≡◌, Some, MatchOption, slice_get};
+ghost use Rattle.std.specs.Option.{option_map};
 ghost use Rattle.play_meaning.specs.Instructions.{at_place};
 ghost use Rattle.play_meaning.specs.declared.instruction.Instruction.{Instruction};
-ghost use Rattle.story_code.specs.Runs.{code_told};
+ghost use Rattle.story_code.specs.Runs.{AreSoundTogether, IsFetched, MayRead, code_told};
 
 use crate::decoding::first;
+use crate::state::RunState;
 use crate::verified::Verified;
 use play_meaning::Instruction;
 
@@ -18,4 +20,25 @@ fn instruction_at(code: &Verified, place: usize) -> Option<Instruction>
     }
     let (_, rest) = bytes.split_at(place);
     first(rest)
+}
+
+/// The code of a number.
+pub fn code_at(codes: &[Verified], number: u16) -> Option<&Verified>
+    ensures { option_map (λ code. code.now) result ≡ slice_get codes.now number }
+{
+    codes.get(usize::from(number))
+}
+
+/// The instruction at which a run of a test or a description stands.
+pub fn fetch(codes: &[Verified], state: &RunState) -> Option<Instruction>
+    requires sound { AreSoundTogether codes.now }
+    requires stands { MayRead codes.now state.now }
+    ensures { MatchOption result ⊥ (IsFetched codes.now state.now) }
+{
+    let code = code_at(codes, state.code)?;
+    let _ = &code.bytes;
+    if state.loops.len() > 9 {
+        return None;
+    }
+    instruction_at(code, state.place)
 }
