@@ -1,3 +1,4 @@
+pub mod Answered
 pub mod Exact
 pub mod Fetched
 pub mod FrontLemmas

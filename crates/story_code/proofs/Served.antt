@@ -173,7 +173,7 @@ module _ (judged : List Judged) (s : Standing) (z : Counts) (own : z.own ≡ s.c
   runs_its_test nine code.Failure named there = tt
   runs_its_test nine code.Answer named there = tt
 
-told_at : (judged : List Judged) (n : ℕ) (j : Judged) → slice_get judged n ≡ Some j → code_at judged n ≡ code_told j
+pub told_at : (judged : List Judged) (n : ℕ) (j : Judged) → slice_get judged n ≡ Some j → code_at judged n ≡ code_told j
 told_at [] n j there = absurd cc
 told_at (k ∷ judged) zero j there = let same : k ≡ j = cc in ap code_told same
 told_at (k ∷ judged) (suc n) j there = told_at judged n j there

@@ -5,4 +5,5 @@ pub mod Passes
 pub mod Runs
 pub mod Soundness
 pub mod Spelling
+pub mod Testing
 pub mod Walks

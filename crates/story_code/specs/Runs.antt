@@ -18,7 +18,7 @@ use Rattle.play_meaning.specs.declared.outcome.Flow.TheVariants.{GoesOn}
 use Rattle.world_meaning.specs.declared.session.Abandon.{Abandon}
 use Rattle.world_meaning.specs.declared.session.Abandon.TheVariants.{Memory}
 use Rattle.story_code.specs.Fronts.{code_in}
-use Rattle.story_code.specs.Soundness.{Judged}
+use Rattle.story_code.specs.Soundness.{IsSoundCode, Judged}
 use Rattle.story_code.specs.declared.came.Came.{Came}
 use Rattle.story_code.specs.declared.came.Came.TheVariants.{Answered, Left, On}
 
@@ -46,8 +46,11 @@ NamesItsTest judged (Names naming k test) = IsTestAt judged test (k + 1)
 NamesItsTest judged (Next k test exit) = IsTestAt judged test (k + 1)
 NamesItsTest judged i = Unit {0}
 
--- codes that are sound together: each is judged by its own number among all of them, and names tests for what they are
+-- codes that are sound together: each is sound, judged by its own number among all of them and by no more objects than have
+-- numbers, and names tests for what they are
 pub record AreSoundTogether (judged : List Judged) : Type 0 where
+  pub sound : (n : ℕ) (j : Judged) → slice_get judged n ≡ Some j → IsSoundCode j.sizes j.bytes
+  pub few : (n : ℕ) (j : Judged) → slice_get judged n ≡ Some j → j.sizes.counts.objects < 65536
   pub own : (n : ℕ) (j : Judged) → slice_get judged n ≡ Some j → j.sizes.counts.own ≡ n
   pub all : (n : ℕ) (j : Judged) → slice_get judged n ≡ Some j → j.sizes.counts.codes ≡ length judged
   pub tests : (n : ℕ) (j : Judged) → slice_get judged n ≡ Some j → (place : ℕ) (i : Instruction) → at_place (code_told j) place ≡ Some i → NamesItsTest judged i

@@ -30,6 +30,7 @@ fn ask_nothing<G: Ground>(
     requires { IsServed instruction state.old }
     ensures step { (text : List ℕ) → MatchResult result (λ came. Leads (G.fixed ground.now) codes.now now.now (G.world ground.now) instruction state.old text came state.new text)
         (BreaksOff (G.fixed ground.now) codes.now now.now (G.world ground.now) instruction state.old text) }
+    ensures same { state.new.code ≡ state.old.code }
     ensures small { (z : Counts) → OnOk result (GivesObject (gives z instruction) state.new.operands) }
 {
     match instruction {
@@ -60,6 +61,7 @@ fn ask_one<G: Ground>(
     requires { IsServed instruction state.old }
     ensures step { (text : List ℕ) → MatchResult result (λ came. Leads (G.fixed ground.now) codes.now now.now (G.world ground.now) instruction state.old text came state.new text)
         (BreaksOff (G.fixed ground.now) codes.now now.now (G.world ground.now) instruction state.old text) }
+    ensures same { state.new.code ≡ state.old.code }
     ensures small { (z : Counts) → OnOk result (GivesObject (gives z instruction) state.new.operands) }
 {
     match instruction {
@@ -91,7 +93,7 @@ fn ask_one<G: Ground>(
 
 /// Does an instruction that gives a number, a truth or an object and runs no test.
 #[tactic(auto, unfolding(play_meaning::specs::Machines::does))]
-fn ask<G: Ground>(
+pub fn ask<G: Ground>(
     ground: &G,
     codes: &[Verified],
     now: &ActionNow,
@@ -101,6 +103,7 @@ fn ask<G: Ground>(
     requires { IsServed instruction state.old }
     ensures step { (text : List ℕ) → MatchResult result (λ came. Leads (G.fixed ground.now) codes.now now.now (G.world ground.now) instruction state.old text came state.new text)
         (BreaksOff (G.fixed ground.now) codes.now now.now (G.world ground.now) instruction state.old text) }
+    ensures same { state.new.code ≡ state.old.code }
     ensures small { (z : Counts) → OnOk result (GivesObject (gives z instruction) state.new.operands) }
 {
     match instruction {

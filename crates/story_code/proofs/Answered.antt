@@ -1,0 +1,159 @@
+-- Runs of tests come to their answers, and the objects that pass are counted.
+use Rattle.std.proofs.Common.{◌≡◌, ◌∙◌, ap, sym, subst, ℕ, zero, suc, ◌+◌, ◌-◌, ◌<◌, ◌≤◌, Bool, true, false, List, [], ◌∷◌, ◌++◌, length, take, refl, Option, Some, Ok, Err, ℤ, pos, arith}
+use Rattle.std.specs.List.{range_with_len}
+use Rattle.std.specs.Prelude.{slice_get}
+use Rattle.play_meaning.specs.Attempts.{Attempt, next}
+use Rattle.play_meaning.specs.Codes.{answered, no_inner, start_at, test_within}
+use Rattle.play_meaning.specs.Grounds.{Fixed}
+use Rattle.play_meaning.specs.Instructions.{at_place, sizes}
+use Rattle.play_meaning.specs.Machines.{Abandons, Answers, Frame, Goes, Leaves, State, Step, Stuck, does, does_at, goes_further, joined_if, passing, pushes, run, unless_abandoned}
+use Rattle.play_meaning.specs.Operands.{gives}
+use Rattle.play_meaning.specs.SoundCodes.{IsSound, loops_around}
+use Rattle.play_meaning.specs.Stands.{GivesObject, is_body}
+use Rattle.play_meaning.specs.Worlds.{World}
+use Rattle.play_meaning.specs.declared.action.ActionNow.{ActionNow}
+use Rattle.play_meaning.specs.declared.instruction.Instruction.{Instruction}
+use Rattle.play_meaning.specs.declared.operand.Use.TheVariants.{Test}
+use Rattle.play_meaning.proofs.States.{begins, within}
+use Rattle.world_meaning.specs.declared.session.Abandon.{Abandon}
+use Rattle.story_code.specs.Runs.{AreSoundTogether, Describes, DoesSo, IsFetched, IsTestAt, LeadsOn, MayRead, Standing, TestIs, code_at, code_told, codes_of, count_passing, counted_if, frame_in, state_in, telling_in}
+use Rattle.story_code.specs.Soundness.{Judged}
+use Rattle.story_code.specs.Testing.{ComesTo, IsRunning, begun}
+use Rattle.story_code.proofs.Fetched.{told}
+use Rattle.story_code.proofs.Served.{leads_on, told_at}
+
+there_long : (judged : List Judged) (n : ℕ) (j : Judged) → slice_get judged n ≡ Some j → n < length judged
+there_long [] n j there = absurd cc
+there_long (k ∷ judged) zero j there = omega arith
+there_long (k ∷ judged) (suc n) j there = omega (arith, there_long judged n j there)
+
+pub test_there : (judged : List Judged) (number loops : ℕ) → IsTestAt judged number loops → number < length judged
+test_there judged number loops there = there_long judged number there.0 there.1.0
+
+-- ---- a run of a test
+
+module _ (fixed : Fixed) (judged : List Judged) (now : ActionNow) (w : World) (number : ℕ) (loops : List (Option ℕ)) where
+  abbrev Running : Standing → Type 0
+  Running s = IsRunning fixed judged now w number loops s
+
+  abbrev frame : ℕ → Describes → Frame
+  frame depth describes = frame_in fixed judged now depth describes no_inner
+
+  pub begins_so : AreSoundTogether judged → IsTestAt judged number (length loops) → Running (begun number loops)
+  begins_so together there =
+      let j = there.0 in
+      let kept = together.sound number j there.1.0 in
+      let whole : IsSound j.sizes.counts j.sizes.role (code_told j) = subst (λ is. IsSound j.sizes.counts j.sizes.role is) (sym (told j kept)) kept.sound in
+      let around : length loops ≡ loops_around j.sizes.role = sym (ap loops_around there.1.1) in
+      record {
+        stands = record {
+          code = j;
+          there = there.1.0;
+          reads = ap is_body there.1.1;
+          few = together.few number j there.1.0;
+          sound = whole;
+          stands = λ v text. begins whole loops (record { world = v; text = text; work = 0 }) around;
+        };
+        same = refl;
+        comes = λ depth describes enough. (0, (omega arith, λ n. let none : 0 + n ≡ n = omega arith in ap (λ m. run (frame depth describes) (code_at judged number) m (state_in (begun number loops) w [])) none));
+      }
+
+  -- one instruction of the code
+  one_step : (s : Standing) (i : Instruction) → Running s → IsFetched judged s i → (depth : ℕ) (describes : Describes) (n : ℕ) (st : Step) → does (frame depth describes) (state_in s w []) i ≡ st
+      → run (frame depth describes) (code_at judged number) (suc n) (state_in s w []) ≡ goes_further (run (frame depth describes) (code_at judged number) n) st
+  unfolding run
+  one_step s i runs fetched depth describes n st does_so =
+      let at : at_place (code_at judged number) s.place ≡ Some i = ap (λ c. at_place (code_at judged c) s.place) (sym runs.same) ∙ fetched.at in
+      ap (λ o. goes_further (run (frame depth describes) (code_at judged number) n) (does_at (frame depth describes) (state_in s w []) o)) at
+      ∙ ap (goes_further (run (frame depth describes) (code_at judged number) n)) does_so
+
+  enough_here : (s : Standing) → Running s → (depth : ℕ) → length judged ≤ number + suc depth → length judged ≤ s.code + suc depth
+  enough_here s runs depth enough = omega (arith, runs.same, enough)
+
+  pub goes_on : (s t : Standing) (i : Instruction) → Running s → IsFetched judged s i → LeadsOn judged s t → DoesSo fixed judged now w i s [] (Goes (state_in t w [])) → Running t
+  goes_on s t i runs fetched leads does_so = record {
+    stands = leads.stands;
+    same = leads.same ∙ runs.same;
+    comes = λ depth describes enough.
+        let before = runs.comes depth describes enough in
+        let step = does_so depth describes no_inner (enough_here s runs depth enough) in
+        (suc before.0, (omega (arith, before.1.0, leads.further), λ n.
+          let count : suc before.0 + n ≡ before.0 + suc n = omega arith in
+          ap (λ m. run (frame depth describes) (code_at judged number) m (state_in (begun number loops) w [])) count
+          ∙ before.1.1 (suc n) ∙ one_step s i runs fetched depth describes n (Goes (state_in t w [])) step));
+  }
+
+  abbrev pub IsLast : Step → Type 0
+  IsLast (Goes s) = ⊥
+  IsLast st = Unit {0}
+
+  last_stays : (more : State → Step) (st : Step) → IsLast st → goes_further more st ≡ st
+  last_stays more (Goes s) last = absurd last
+  last_stays more (Leaves flow p) last = refl
+  last_stays more (Answers truth) last = refl
+  last_stays more (Abandons reason) last = refl
+  last_stays more Stuck last = refl
+
+  pub comes_to_answer : (s : Standing) (i : Instruction) (st : Step) → Running s → IsFetched judged s i → IsLast st → IsTestAt judged number (length loops) → DoesSo fixed judged now w i s [] st
+      → TestIs fixed judged now w number loops (answered st)
+  unfolding test_within
+  comes_to_answer s i st runs fetched last there does_so zero describes enough = absurd (omega (arith, enough, test_there judged number (length loops) there))
+  comes_to_answer s i st runs fetched last there does_so (suc depth) describes enough =
+      let before = runs.comes depth describes enough in
+      let step = does_so depth describes no_inner (enough_here s runs depth enough) in
+      let code = code_at judged number in
+      let inside : s.place < sizes (code_told runs.stands.code) = within runs.stands.sound (state_in s w []) (runs.stands.stands w []) in
+      let whole : code ≡ code_told runs.stands.code = ap (code_at judged) (sym runs.same) ∙ told_at judged s.code runs.stands.code runs.stands.there in
+      let n = sizes code - suc before.0 in
+      let count : sizes code ≡ before.0 + suc n = omega (arith, before.1.0, inside, ap sizes whole) in
+      ap answered (ap (λ m. run (frame depth describes) code m (state_in (begun number loops) w [])) count ∙ before.1.1 (suc n) ∙ one_step s i runs fetched depth describes n st step
+        ∙ last_stays (run (frame depth describes) code n) st last)
+
+-- ---- objects that pass
+
+module _ (f : ℕ → Attempt Bool) (all : ℕ) (whole : Attempt ℕ) where
+  -- so many are counted before this number
+  abbrev pub Counted : ℕ → ℕ → Type 0
+  Counted count n = next (count_passing f (all - n) n) (λ m. Ok (count + m)) ≡ whole
+
+  left_is : (n : ℕ) → n < all → count_passing f (all - n) n ≡ next (f n) (λ is. next (count_passing f (all - suc n) (n + 1)) (λ m. Ok (counted_if is m)))
+  left_is n less = let left : all - n ≡ suc (all - suc n) = omega (arith, less) in ap (λ k. count_passing f k n) left
+
+  one_more : (truth : Bool) (count : ℕ) (rest : Attempt ℕ) → next (next rest (λ m. Ok (counted_if truth m))) (λ m. Ok (count + m)) ≡ next rest (λ m. Ok (counted_if truth count + m))
+  one_more truth count (Err reason) = refl
+  one_more true count (Ok m) = let same : count + suc m ≡ suc count + m = omega arith in ap Ok same
+  one_more false count (Ok m) = refl
+
+  pub counted_on : (truth : Bool) (count n : ℕ) → n < all → f n ≡ Ok truth → Counted count n → Counted (counted_if truth count) (suc n)
+  counted_on truth count n less is so_far =
+      let next_one : n + 1 ≡ suc n = omega arith in
+      ap (λ k. next (count_passing f (all - suc n) k) (λ m. Ok (counted_if truth count + m))) (sym next_one)
+      ∙ sym (one_more truth count (count_passing f (all - suc n) (n + 1)))
+      ∙ ap (λ a. next (next a (λ is. next (count_passing f (all - suc n) (n + 1)) (λ m. Ok (counted_if is m)))) (λ m. Ok (count + m))) (sym is)
+      ∙ ap (λ a. next a (λ m. Ok (count + m))) (sym (left_is n less)) ∙ so_far
+
+  pub counted_broken : (reason : Abandon) (count n : ℕ) → n < all → f n ≡ Err reason → Counted count n → whole ≡ Err reason
+  counted_broken reason count n less is so_far =
+      sym so_far ∙ ap (λ a. next a (λ m. Ok (count + m))) (left_is n less)
+      ∙ ap (λ a. next (next a (λ is. next (count_passing f (all - suc n) (n + 1)) (λ m. Ok (counted_if is m)))) (λ m. Ok (count + m))) is
+
+  pub counted_all : (count n : ℕ) → all ≤ n → Counted count n → whole ≡ Ok count
+  counted_all count n over so_far =
+      let none : all - n ≡ 0 = omega (arith, over) in
+      let same : count + 0 ≡ count = omega arith in
+      sym so_far ∙ ap (λ k. next (count_passing f k n) (λ m. Ok (count + m))) none ∙ ap Ok same
+
+-- counting is taking the length of the list
+pub counts_passing : (f : ℕ → Attempt Bool) (left o : ℕ) → count_passing f left o ≡ next (passing f (range_with_len o left)) (λ objects. Ok (length objects))
+counts_passing f zero o = refl
+counts_passing f (suc left) o =
+    ap (λ a. next (f o) (λ is. next a (λ n. Ok (counted_if is n)))) (counts_passing f left (o + 1)) ∙ by (f o) (passing f (range_with_len (o + 1) left))
+  where
+    long : (is : Bool) (objects : List ℕ) → counted_if is (length objects) ≡ length (joined_if is o objects)
+    long true objects = refl
+    long false objects = refl
+    by : (a : Attempt Bool) (rest : Attempt (List ℕ)) → next a (λ is. next (next rest (λ objects. Ok (length objects))) (λ n. Ok (counted_if is n)))
+        ≡ next (next a (λ is. next rest (λ passed. Ok (joined_if is o passed)))) (λ objects. Ok (length objects))
+    by (Err reason) rest = refl
+    by (Ok is) (Err reason) = refl
+    by (Ok is) (Ok objects) = ap Ok (long is objects)

@@ -1,0 +1,100 @@
+//! Tests: what they answer, and which objects pass one.
+ghost use Rattle.std.specs.Prelude.{◌≡◌, ◌≢◌, ◌+◌, ◌-◌, ◌<◌, ◌≤◌, ℕ, List, Err, Ok, MatchResult, OnOk, length};
+ghost use Rattle.play_meaning.specs.Machines.{does};
+ghost use Rattle.play_meaning.specs.Operands.{gives};
+ghost use Rattle.play_meaning.specs.Stands.{GivesObject};
+ghost use Rattle.play_meaning.specs.declared.operand.Counts.{Counts};
+ghost use Rattle.story_code.specs.Runs.{AreSoundTogether, BreaksOff, Describes, IsNamedTest, IsServed, IsTestAt, Leads, RunsItsTest, TestIs, count_passing, passes_in};
+ghost use Rattle.world_meaning.specs.declared.session.Abandon.TheVariants.{Memory};
+
+use crate::came::Came;
+use crate::fetching::fetch;
+use crate::number::is_true;
+use crate::reading::ask;
+use crate::state::RunState;
+use crate::turning::Turning;
+use crate::verified::Verified;
+use play_meaning::{ActionNow, Ground, Instruction};
+use world_meaning::{Abandon, ObjNo};
+
+/// What a test answers, with these objects of the open loops.
+#[cycle(testing)]
+pub fn answer<G: Ground>(
+    ground: &G,
+    codes: &[Verified],
+    now: &ActionNow,
+    number: u16,
+    loops: Turning,
+) -> Result<bool, Abandon>
+    requires sound { AreSoundTogether codes.now }
+    requires there { IsTestAt codes.now number (length loops) }
+    ensures { MatchResult result (λ truth. TestIs (G.fixed ground.now) codes.now now.now (G.world ground.now) number loops (Ok truth))
+        (λ reason. reason ≢ Memory → TestIs (G.fixed ground.now) codes.now now.now (G.world ground.now) number loops (Err reason)) }
+{
+    let mut state = RunState::inside(number, loops);
+    while let Some(instruction) = fetch(codes, &state) {
+        match ask_in_test(ground, codes, now, &mut state, instruction)? {
+            Came::On => {}
+            Came::Left => return Ok(false),
+            Came::Answered(truth) => return Ok(truth),
+        }
+    }
+    Ok(false)
+}
+
+/// Does an instruction of a test.
+#[cycle(testing)]
+#[tactic(auto, unfolding(play_meaning::specs::Machines::does))]
+pub fn ask_in_test<G: Ground>(
+    ground: &G,
+    codes: &[Verified],
+    now: &ActionNow,
+    state: &mut RunState,
+    instruction: Instruction,
+) -> Result<Came, Abandon>
+    requires sound { AreSoundTogether codes.now }
+    requires served { IsServed instruction state.old }
+    requires tests { RunsItsTest codes.now state.old instruction }
+    ensures step { (text : List ℕ) → MatchResult result (λ came. Leads (G.fixed ground.now) codes.now now.now (G.world ground.now) instruction state.old text came state.new text)
+        (BreaksOff (G.fixed ground.now) codes.now now.now (G.world ground.now) instruction state.old text) }
+    ensures small { (z : Counts) → OnOk result (GivesObject (gives z instruction) state.new.operands) }
+    ensures same { state.new.code ≡ state.old.code }
+{
+    match instruction {
+        Instruction::Count(_, test) => {
+            let count = count_in(ground, codes, now, state, test)?;
+            state.push(i32::from(count));
+            state.pass(instruction);
+            Ok(Came::On)
+        }
+        Instruction::Answer => Ok(Came::Answered(is_true(state.take()))),
+        _ => Ok(ask(ground, codes, now, state, instruction)?),
+    }
+}
+
+/// How many objects pass a test that a code names.
+#[cycle(testing)]
+fn count_in<G: Ground>(
+    ground: &G,
+    codes: &[Verified],
+    now: &ActionNow,
+    state: &RunState,
+    test: u16,
+) -> Result<u16, Abandon>
+    requires sound { AreSoundTogether codes.now }
+    requires named { IsNamedTest codes.now state.now.code (length state.now.loops) test }
+    ensures { MatchResult result
+        (λ count. (depth : ℕ) (describes : Describes) → length codes.now ≤ test + depth
+            → count_passing (passes_in (G.fixed ground.now) codes.now now.now (G.world ground.now) depth describes test state.now.loops) (G.fixed ground.now).setting.count 0 ≡ Ok count)
+        (λ reason. reason ≢ Memory → (depth : ℕ) (describes : Describes) → length codes.now ≤ test + depth
+            → count_passing (passes_in (G.fixed ground.now) codes.now now.now (G.world ground.now) depth describes test state.now.loops) (G.fixed ground.now).setting.count 0 ≡ Err reason) }
+{
+    let mut count = 0;
+    for number in 0..ground.object_count() {
+        let loops = state.loops.with(ObjNo::new(number));
+        if answer(ground, codes, now, test, loops)? {
+            count += 1;
+        }
+    }
+    Ok(count)
+}
