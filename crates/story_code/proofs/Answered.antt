@@ -1,7 +1,9 @@
 -- Runs of tests come to their answers, and the objects that pass are counted.
-use Rattle.std.proofs.Common.{◌≡◌, ◌∙◌, ap, sym, subst, ℕ, zero, suc, ◌+◌, ◌-◌, ◌<◌, ◌≤◌, Bool, true, false, List, [], ◌∷◌, ◌++◌, length, take, refl, Option, Some, Ok, Err, ℤ, pos, arith}
+use Rattle.std.proofs.Common.{◌≡◌, ◌∙◌, ap, sym, subst, ℕ, zero, suc, ◌+◌, ◌-◌, ◌<◌, ◌≤◌, Bool, true, false, List, [], ◌∷◌, ◌++◌, length, take, refl, Option, Some, Ok, Err, ℤ, pos, of_z, to_z, w32, arith}
+use lib.Signed.{mag}
+use mir.ValLaws.{to_z-of_z}
 use Rattle.std.specs.List.{range_with_len}
-use Rattle.std.specs.Prelude.{slice_get}
+use Rattle.std.specs.Prelude.{◌≢◌, MatchResult, OnOk, Result, slice_get}
 use Rattle.play_meaning.specs.Attempts.{Attempt, next}
 use Rattle.play_meaning.specs.Codes.{answered, no_inner, start_at, test_within}
 use Rattle.play_meaning.specs.Grounds.{Fixed}
@@ -13,11 +15,17 @@ use Rattle.play_meaning.specs.Stands.{GivesObject, is_body}
 use Rattle.play_meaning.specs.Worlds.{World}
 use Rattle.play_meaning.specs.declared.action.ActionNow.{ActionNow}
 use Rattle.play_meaning.specs.declared.instruction.Instruction.{Instruction}
+use Rattle.play_meaning.specs.declared.operand.Counts.{Counts}
 use Rattle.play_meaning.specs.declared.operand.Use.TheVariants.{Test}
+use Rattle.play_meaning.specs.declared.instruction.Instruction.TheVariants.{Count}
+use Rattle.play_meaning.specs.declared.outcome.Flow.TheVariants.{GoesOn}
 use Rattle.play_meaning.proofs.States.{begins, within}
 use Rattle.world_meaning.specs.declared.session.Abandon.{Abandon}
-use Rattle.story_code.specs.Runs.{AreSoundTogether, Describes, DoesSo, IsFetched, IsTestAt, LeadsOn, MayRead, Standing, TestIs, code_at, code_told, codes_of, count_passing, counted_if, frame_in, state_in, telling_in}
+use Rattle.world_meaning.specs.declared.session.Abandon.TheVariants.{Memory}
+use Rattle.story_code.specs.Runs.{AreSoundTogether, BreaksOff, Describes, DoesSo, IsFetched, IsTestAt, Leads, LeadsOn, MayRead, RunsItsTest, Standing, TestIs, behind, code_at, code_told, codes_of, count_passing, counted_if, frame_in, over, passes_in, state_in, telling_in}
 use Rattle.story_code.specs.Soundness.{Judged}
+use Rattle.story_code.specs.declared.came.Came.{Came}
+use Rattle.story_code.specs.declared.came.Came.TheVariants.{Answered, Left, On}
 use Rattle.story_code.specs.Testing.{ComesTo, IsRunning, begun}
 use Rattle.story_code.proofs.Fetched.{told}
 use Rattle.story_code.proofs.Served.{leads_on, told_at}
@@ -70,6 +78,17 @@ module _ (fixed : Fixed) (judged : List Judged) (now : ActionNow) (w : World) (n
   enough_here : (s : Standing) → Running s → (depth : ℕ) → length judged ≤ number + suc depth → length judged ≤ s.code + suc depth
   enough_here s runs depth enough = omega (arith, runs.same, enough)
 
+  unsaid : Describes
+  unsaid o n v = Ok []
+
+  pub leads_so : (s t : Standing) (i : Instruction) → Running s → IsFetched judged s i → DoesSo fixed judged now w i s [] (Goes (state_in t w []))
+      → ((z : Counts) → GivesObject (gives z i) t.operands) → t.code ≡ s.code → LeadsOn judged s t
+  leads_so s t i runs fetched does_so small same =
+      let may = runs.stands in
+      let at : at_place (code_told may.code) s.place ≡ Some i = ap (λ is. at_place is s.place) (sym (told_at judged s.code may.code may.there)) ∙ fetched.at in
+      let enough : length judged ≤ s.code + suc (length judged) = omega arith in
+      leads_on judged s t i may (frame (length judged) unsaid) w w [] [] at (does_so (length judged) unsaid no_inner enough) (small may.code.sizes.counts) same
+
   pub goes_on : (s t : Standing) (i : Instruction) → Running s → IsFetched judged s i → LeadsOn judged s t → DoesSo fixed judged now w i s [] (Goes (state_in t w [])) → Running t
   goes_on s t i runs fetched leads does_so = record {
     stands = leads.stands;
@@ -109,6 +128,37 @@ module _ (fixed : Fixed) (judged : List Judged) (now : ActionNow) (w : World) (n
       ap answered (ap (λ m. run (frame depth describes) code m (state_in (begun number loops) w [])) count ∙ before.1.1 (suc n) ∙ one_step s i runs fetched depth describes n st step
         ∙ last_stays (run (frame depth describes) code n) st last)
 
+  -- what an instruction came to
+  pub on_step : (s t : Standing) (i : Instruction) (result : Result Came Abandon) → Running s → IsFetched judged s i
+      → MatchResult result (λ came. Leads fixed judged now w i s [] came t []) (BreaksOff fixed judged now w i s []) → ((z : Counts) → OnOk result (GivesObject (gives z i) t.operands)) → t.code ≡ s.code → result ≡ Ok On
+      → Running t × (65536 - t.place < 65536 - s.place)
+  on_step s t i result runs fetched step small same is =
+      let leads : Leads fixed judged now w i s [] On t [] = subst (λ r. MatchResult r (λ came. Leads fixed judged now w i s [] came t []) (BreaksOff fixed judged now w i s [])) is step in
+      let given : (z : Counts) → GivesObject (gives z i) t.operands = λ z. subst (λ r. OnOk r (GivesObject (gives z i) t.operands)) is (small z) in
+      let on = leads_so s t i runs fetched leads given same in
+      (goes_on s t i runs fetched on leads, omega (arith, on.further, fetched.served.place))
+
+  pub left_step : (s t : Standing) (i : Instruction) (result : Result Came Abandon) → Running s → IsFetched judged s i
+      → MatchResult result (λ came. Leads fixed judged now w i s [] came t []) (BreaksOff fixed judged now w i s []) → IsTestAt judged number (length loops) → result ≡ Ok Left
+      → TestIs fixed judged now w number loops (Ok false)
+  left_step s t i result runs fetched step there is =
+      let leads : Leads fixed judged now w i s [] Left t [] = subst (λ r. MatchResult r (λ came. Leads fixed judged now w i s [] came t []) (BreaksOff fixed judged now w i s [])) is step in
+      comes_to_answer s i (Leaves GoesOn (record { world = w; text = []; work = t.work })) runs fetched tt there leads
+
+  pub answered_step : (s t : Standing) (i : Instruction) (result : Result Came Abandon) (truth : Bool) → Running s → IsFetched judged s i
+      → MatchResult result (λ came. Leads fixed judged now w i s [] came t []) (BreaksOff fixed judged now w i s []) → IsTestAt judged number (length loops) → result ≡ Ok (Answered truth)
+      → TestIs fixed judged now w number loops (Ok truth)
+  answered_step s t i result truth runs fetched step there is =
+      let leads : Leads fixed judged now w i s [] (Answered truth) t [] = subst (λ r. MatchResult r (λ came. Leads fixed judged now w i s [] came t []) (BreaksOff fixed judged now w i s [])) is step in
+      comes_to_answer s i (Answers truth) runs fetched tt there leads
+
+  pub broken_step : (s t : Standing) (i : Instruction) (result : Result Came Abandon) (reason : Abandon) → Running s → IsFetched judged s i
+      → MatchResult result (λ came. Leads fixed judged now w i s [] came t []) (BreaksOff fixed judged now w i s []) → IsTestAt judged number (length loops) → result ≡ Err reason → reason ≢ Memory
+      → TestIs fixed judged now w number loops (Err reason)
+  broken_step s t i result reason runs fetched step there is granted =
+      let breaks : BreaksOff fixed judged now w i s [] reason = subst (λ r. MatchResult r (λ came. Leads fixed judged now w i s [] came t []) (BreaksOff fixed judged now w i s [])) is step in
+      comes_to_answer s i (Abandons reason) runs fetched tt there (breaks granted)
+
 -- ---- objects that pass
 
 module _ (f : ℕ → Attempt Bool) (all : ℕ) (whole : Attempt ℕ) where
@@ -132,6 +182,11 @@ module _ (f : ℕ → Attempt Bool) (all : ℕ) (whole : Attempt ℕ) where
       ∙ ap (λ a. next (next a (λ is. next (count_passing f (all - suc n) (n + 1)) (λ m. Ok (counted_if is m)))) (λ m. Ok (count + m))) (sym is)
       ∙ ap (λ a. next a (λ m. Ok (count + m))) (sym (left_is n less)) ∙ so_far
 
+  pub counted_next : (truth : Bool) (count n after : ℕ) → after ≡ counted_if truth count → n < all → f n ≡ Ok truth → Counted count n → Counted after (n + 1)
+  counted_next truth count n after e less is so_far =
+      let next_one : suc n ≡ n + 1 = omega arith in
+      subst (λ k. Counted after k) next_one (subst (λ k. Counted k (suc n)) (sym e) (counted_on truth count n less is so_far))
+
   pub counted_broken : (reason : Abandon) (count n : ℕ) → n < all → f n ≡ Err reason → Counted count n → whole ≡ Err reason
   counted_broken reason count n less is so_far =
       sym so_far ∙ ap (λ a. next a (λ m. Ok (count + m))) (left_is n less)
@@ -142,6 +197,10 @@ module _ (f : ℕ → Attempt Bool) (all : ℕ) (whole : Attempt ℕ) where
       let none : all - n ≡ 0 = omega (arith, over) in
       let same : count + 0 ≡ count = omega arith in
       sym so_far ∙ ap (λ k. next (count_passing f k n) (λ m. Ok (count + m))) none ∙ ap Ok same
+
+pub counted_least : (truth : Bool) (count n after : ℕ) → after ≡ counted_if truth count → count ≤ n → after ≤ n + 1
+counted_least true count n after e le = omega (arith, e, le)
+counted_least false count n after e le = omega (arith, e, le)
 
 -- counting is taking the length of the list
 pub counts_passing : (f : ℕ → Attempt Bool) (left o : ℕ) → count_passing f left o ≡ next (passing f (range_with_len o left)) (λ objects. Ok (length objects))
@@ -157,3 +216,56 @@ counts_passing f (suc left) o =
     by (Err reason) rest = refl
     by (Ok is) (Err reason) = refl
     by (Ok is) (Ok objects) = ap Ok (long is objects)
+
+-- ---- counting as an instruction
+
+pub read_back : (z : ℤ) → mag z < 2147483648 → to_z w32 (of_z w32 z) ≡ z
+read_back z small = to_z-of_z w32 z (record { sfits = small })
+
+take_all : {A : Type 0} (xs : List A) → take (length xs) xs ≡ xs
+take_all [] = refl
+take_all (x ∷ xs) = ap (λ l. x ∷ l) (take_all xs)
+
+module _ (fixed : Fixed) (judged : List Judged) (now : ActionNow) (w : World) (s : Standing) (k test : ℕ) (runs : RunsItsTest judged s (Count k test)) where
+  abbrev Passes : ℕ → Describes → ℕ → Attempt Bool
+  Passes depth describes o = passes_in fixed judged now w depth describes test s.loops o
+
+  deep_enough : (depth : ℕ) → length judged ≤ s.code + suc depth → length judged ≤ test + depth
+  deep_enough depth enough = omega (arith, enough, runs.1.later)
+
+  same_loops : (depth : ℕ) (describes : Describes)
+      → passing (λ o. test_within depth (codes_of fixed judged) (telling_in fixed describes) now test (take k s.loops ++ Some o ∷ []) w) (range_with_len 0 fixed.setting.count)
+      ≡ passing (Passes depth describes) (range_with_len 0 fixed.setting.count)
+  same_loops depth describes =
+      let all : take k s.loops ≡ s.loops = ap (λ n. take n s.loops) runs.0 ∙ take_all s.loops in
+      ap (λ outer. passing (λ o. test_within depth (codes_of fixed judged) (telling_in fixed describes) now test (outer ++ Some o ∷ []) w) (range_with_len 0 fixed.setting.count)) all
+
+  number_pushed : (state : State) (count : ℕ) (objects : Attempt (List ℕ)) → next objects (λ os. Ok (length os)) ≡ Ok count
+      → unless_abandoned objects (λ os. pushes (Count k test) state state.operands (pos (length os))) ≡ pushes (Count k test) state state.operands (pos count)
+  number_pushed state count (Err reason) is = absurd cc
+  number_pushed state count (Ok os) is = let same : length os ≡ count = cc in ap (λ n. pushes (Count k test) state state.operands (pos n)) same
+
+  abandoned_with : (state : State) (reason : Abandon) (objects : Attempt (List ℕ)) → next objects (λ os. Ok (length os)) ≡ Err reason
+      → unless_abandoned objects (λ os. pushes (Count k test) state state.operands (pos (length os))) ≡ Abandons reason
+  abandoned_with state reason (Err other) is = let same : other ≡ reason = cc in ap Abandons same
+  abandoned_with state reason (Ok os) is = absurd cc
+
+  abbrev Counts_to : Attempt ℕ → Type 0
+  Counts_to whole = (depth : ℕ) (describes : Describes) → length judged ≤ test + depth → count_passing (Passes depth describes) fixed.setting.count 0 ≡ whole
+
+  counted_there : (whole : Attempt ℕ) → Counts_to whole → (depth : ℕ) (describes : Describes) → length judged ≤ s.code + suc depth
+      → next (passing (λ o. test_within depth (codes_of fixed judged) (telling_in fixed describes) now test (take k s.loops ++ Some o ∷ []) w) (range_with_len 0 fixed.setting.count)) (λ os. Ok (length os)) ≡ whole
+  counted_there whole counts depth describes enough =
+      ap (λ objects. next objects (λ os. Ok (length os))) (same_loops depth describes) ∙ sym (counts_passing (Passes depth describes) fixed.setting.count 0) ∙ counts depth describes (deep_enough depth enough)
+
+  pub count_step : (t : Standing) (count : ℕ) (a : ℤ) → a ≡ pos count → t ≡ behind (Count k test) (over a s) → Counts_to (Ok count) → (text : List ℕ)
+      → Leads fixed judged now w (Count k test) s text On t text
+  unfolding does
+  count_step t count a is there counts text depth describes inner enough =
+      number_pushed (state_in s w text) count _ (counted_there (Ok count) counts depth describes enough)
+      ∙ ap (λ n. Goes (state_in (behind (Count k test) (over n s)) w text)) (sym is) ∙ ap (λ x. Goes (state_in x w text)) (sym there)
+
+  pub count_broken : (reason : Abandon) → (reason ≢ Memory → Counts_to (Err reason)) → (text : List ℕ) → BreaksOff fixed judged now w (Count k test) s text reason
+  unfolding does
+  count_broken reason counts text granted depth describes inner enough =
+      abandoned_with (state_in s w text) reason _ (counted_there (Err reason) (counts granted) depth describes enough)

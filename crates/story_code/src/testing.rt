@@ -4,7 +4,7 @@ ghost use Rattle.play_meaning.specs.Machines.{does};
 ghost use Rattle.play_meaning.specs.Operands.{gives};
 ghost use Rattle.play_meaning.specs.Stands.{GivesObject};
 ghost use Rattle.play_meaning.specs.declared.operand.Counts.{Counts};
-ghost use Rattle.story_code.specs.Runs.{AreSoundTogether, BreaksOff, Describes, IsNamedTest, IsServed, IsTestAt, Leads, RunsItsTest, TestIs, count_passing, passes_in};
+ghost use Rattle.story_code.specs.Runs.{AreSoundTogether, BreaksOff, Describes, IsNamedTest, IsServed, IsTestAt, Leads, RunsItsTest, TestIs, count_passing, counted_if, passes_in};
 ghost use Rattle.world_meaning.specs.declared.session.Abandon.TheVariants.{Memory};
 
 use crate::came::Came;
@@ -33,10 +33,11 @@ pub fn answer<G: Ground>(
 {
     let mut state = RunState::inside(number, loops);
     while let Some(instruction) = fetch(codes, &state) {
-        match ask_in_test(ground, codes, now, &mut state, instruction)? {
-            Came::On => {}
-            Came::Left => return Ok(false),
-            Came::Answered(truth) => return Ok(truth),
+        match ask_in_test(ground, codes, now, &mut state, instruction) {
+            Ok(Came::On) => {}
+            Ok(Came::Left) => return Ok(false),
+            Ok(Came::Answered(truth)) => return Ok(truth),
+            Err(reason) => return Err(reason),
         }
     }
     Ok(false)
@@ -61,15 +62,25 @@ pub fn ask_in_test<G: Ground>(
     ensures same { state.new.code ≡ state.old.code }
 {
     match instruction {
-        Instruction::Count(_, test) => {
-            let count = count_in(ground, codes, now, state, test)?;
-            state.push(i32::from(count));
-            state.pass(instruction);
-            Ok(Came::On)
-        }
+        Instruction::Count(_, test) => match count_in(ground, codes, now, state, test) {
+            Ok(count) => {
+                state.push(i32::from(count));
+                state.pass(instruction);
+                Ok(Came::On)
+            }
+            Err(reason) => Err(reason),
+        },
         Instruction::Answer => Ok(Came::Answered(is_true(state.take()))),
         _ => Ok(ask(ground, codes, now, state, instruction)?),
     }
+}
+
+/// One more, if so.
+fn counted_if(is: bool, count: u16) -> u16
+    requires { count < 65535 }
+    ensures { result ≡ counted_if is count }
+{
+    if is { count + 1 } else { count }
 }
 
 /// How many objects pass a test that a code names.
@@ -92,8 +103,9 @@ fn count_in<G: Ground>(
     let mut count = 0;
     for number in 0..ground.object_count() {
         let loops = state.loops.with(ObjNo::new(number));
-        if answer(ground, codes, now, test, loops)? {
-            count += 1;
+        match answer(ground, codes, now, test, loops) {
+            Ok(passes) => count = counted_if(passes, count),
+            Err(reason) => return Err(reason),
         }
     }
     Ok(count)
