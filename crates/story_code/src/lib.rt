@@ -19,6 +19,7 @@ mod reading;
 mod row;
 mod sizes;
 mod state;
+mod telling;
 mod testing;
 mod turning;
 mod verified;

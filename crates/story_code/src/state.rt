@@ -78,6 +78,13 @@ impl RunState {
         self.place += size(instruction);
     }
 
+    /// Goes on at a place.
+    pub(crate) fn leap(&mut self, place: usize)
+        ensures { self.new ≡ record self.old { place = place } }
+    {
+        self.place = place;
+    }
+
     /// The work done.
     pub fn work(&self) -> u32
         ensures { result ≡ self.now.work }
