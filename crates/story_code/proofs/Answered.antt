@@ -26,7 +26,7 @@ use Rattle.story_code.specs.Runs.{AreSoundTogether, BreaksOff, Describes, DoesSo
 use Rattle.story_code.specs.Soundness.{Judged}
 use Rattle.story_code.specs.declared.came.Came.{Came}
 use Rattle.story_code.specs.declared.came.Came.TheVariants.{Answered, Left, On}
-use Rattle.story_code.specs.Testing.{ComesTo, IsRunning, begun}
+use Rattle.story_code.specs.Testing.{ComesTo, EndsSo, IsLast, IsRunning, begun}
 use Rattle.story_code.proofs.Fetched.{told}
 use Rattle.story_code.proofs.Served.{leads_on, told_at}
 
@@ -38,73 +38,59 @@ there_long (k ∷ judged) (suc n) j there = omega (arith, there_long judged n j 
 pub test_there : (judged : List Judged) (number loops : ℕ) → IsTestAt judged number loops → number < length judged
 test_there judged number loops there = there_long judged number there.0 there.1.0
 
--- ---- a run of a test
+-- ---- a run of a test or a description
 
-module _ (fixed : Fixed) (judged : List Judged) (now : ActionNow) (w : World) (number : ℕ) (loops : List (Option ℕ)) where
-  abbrev Running : Standing → Type 0
-  Running s = IsRunning fixed judged now w number loops s
+module _ (fixed : Fixed) (judged : List Judged) (now : ActionNow) (w : World) (start : Standing) (from : List ℕ) where
+  abbrev Running : Standing → List ℕ → Type 0
+  Running s text = IsRunning fixed judged now w start from s text
 
   abbrev frame : ℕ → Describes → Frame
   frame depth describes = frame_in fixed judged now depth describes no_inner
 
-  pub begins_so : AreSoundTogether judged → IsTestAt judged number (length loops) → Running (begun number loops)
-  begins_so together there =
-      let j = there.0 in
-      let kept = together.sound number j there.1.0 in
-      let whole : IsSound j.sizes.counts j.sizes.role (code_told j) = subst (λ is. IsSound j.sizes.counts j.sizes.role is) (sym (told j kept)) kept.sound in
-      let around : length loops ≡ loops_around j.sizes.role = sym (ap loops_around there.1.1) in
-      record {
-        stands = record {
-          code = j;
-          there = there.1.0;
-          reads = ap is_body there.1.1;
-          few = together.few number j there.1.0;
-          sound = whole;
-          stands = λ v text. begins whole loops (record { world = v; text = text; work = 0 }) around;
-        };
-        same = refl;
-        comes = λ depth describes enough. (0, (omega arith, λ n. let none : 0 + n ≡ n = omega arith in ap (λ m. run (frame depth describes) (code_at judged number) m (state_in (begun number loops) w [])) none));
-      }
+  abbrev code : List Instruction
+  code = code_at judged start.code
+
+  pub stays : MayRead judged start → Running start from
+  stays may = record {
+    stands = may;
+    same = refl;
+    comes = λ depth describes enough. (0, (omega arith, λ n. let none : 0 + n ≡ n = omega arith in ap (λ m. run (frame depth describes) code m (state_in start w from)) none));
+  }
 
   -- one instruction of the code
-  one_step : (s : Standing) (i : Instruction) → Running s → IsFetched judged s i → (depth : ℕ) (describes : Describes) (n : ℕ) (st : Step) → does (frame depth describes) (state_in s w []) i ≡ st
-      → run (frame depth describes) (code_at judged number) (suc n) (state_in s w []) ≡ goes_further (run (frame depth describes) (code_at judged number) n) st
+  one_step : (s : Standing) (text : List ℕ) (i : Instruction) → Running s text → IsFetched judged s i → (depth : ℕ) (describes : Describes) (n : ℕ) (st : Step)
+      → does (frame depth describes) (state_in s w text) i ≡ st → run (frame depth describes) code (suc n) (state_in s w text) ≡ goes_further (run (frame depth describes) code n) st
   unfolding run
-  one_step s i runs fetched depth describes n st does_so =
-      let at : at_place (code_at judged number) s.place ≡ Some i = ap (λ c. at_place (code_at judged c) s.place) (sym runs.same) ∙ fetched.at in
-      ap (λ o. goes_further (run (frame depth describes) (code_at judged number) n) (does_at (frame depth describes) (state_in s w []) o)) at
-      ∙ ap (goes_further (run (frame depth describes) (code_at judged number) n)) does_so
+  one_step s text i runs fetched depth describes n st does_so =
+      let at : at_place code s.place ≡ Some i = ap (λ c. at_place (code_at judged c) s.place) (sym runs.same) ∙ fetched.at in
+      ap (λ o. goes_further (run (frame depth describes) code n) (does_at (frame depth describes) (state_in s w text) o)) at ∙ ap (goes_further (run (frame depth describes) code n)) does_so
 
-  enough_here : (s : Standing) → Running s → (depth : ℕ) → length judged ≤ number + suc depth → length judged ≤ s.code + suc depth
-  enough_here s runs depth enough = omega (arith, runs.same, enough)
+  enough_here : (s : Standing) (text : List ℕ) → Running s text → (depth : ℕ) → length judged ≤ start.code + suc depth → length judged ≤ s.code + suc depth
+  enough_here s text runs depth enough = omega (arith, runs.same, enough)
 
   unsaid : Describes
   unsaid o n v = Ok []
 
-  pub leads_so : (s t : Standing) (i : Instruction) → Running s → IsFetched judged s i → DoesSo fixed judged now w i s [] (Goes (state_in t w []))
+  leads_so : (s t : Standing) (text said : List ℕ) (i : Instruction) → Running s text → IsFetched judged s i → DoesSo fixed judged now w i s text (Goes (state_in t w said))
       → ((z : Counts) → GivesObject (gives z i) t.operands) → t.code ≡ s.code → LeadsOn judged s t
-  leads_so s t i runs fetched does_so small same =
+  leads_so s t text said i runs fetched does_so small same =
       let may = runs.stands in
       let at : at_place (code_told may.code) s.place ≡ Some i = ap (λ is. at_place is s.place) (sym (told_at judged s.code may.code may.there)) ∙ fetched.at in
       let enough : length judged ≤ s.code + suc (length judged) = omega arith in
-      leads_on judged s t i may (frame (length judged) unsaid) w w [] [] at (does_so (length judged) unsaid no_inner enough) (small may.code.sizes.counts) same
+      leads_on judged s t i may (frame (length judged) unsaid) w w text said at (does_so (length judged) unsaid no_inner enough) (small may.code.sizes.counts) same
 
-  pub goes_on : (s t : Standing) (i : Instruction) → Running s → IsFetched judged s i → LeadsOn judged s t → DoesSo fixed judged now w i s [] (Goes (state_in t w [])) → Running t
-  goes_on s t i runs fetched leads does_so = record {
+  goes_on : (s t : Standing) (text said : List ℕ) (i : Instruction) → Running s text → IsFetched judged s i → LeadsOn judged s t → DoesSo fixed judged now w i s text (Goes (state_in t w said)) → Running t said
+  goes_on s t text said i runs fetched leads does_so = record {
     stands = leads.stands;
     same = leads.same ∙ runs.same;
     comes = λ depth describes enough.
         let before = runs.comes depth describes enough in
-        let step = does_so depth describes no_inner (enough_here s runs depth enough) in
+        let step = does_so depth describes no_inner (enough_here s text runs depth enough) in
         (suc before.0, (omega (arith, before.1.0, leads.further), λ n.
           let count : suc before.0 + n ≡ before.0 + suc n = omega arith in
-          ap (λ m. run (frame depth describes) (code_at judged number) m (state_in (begun number loops) w [])) count
-          ∙ before.1.1 (suc n) ∙ one_step s i runs fetched depth describes n (Goes (state_in t w [])) step));
+          ap (λ m. run (frame depth describes) code m (state_in start w from)) count
+          ∙ before.1.1 (suc n) ∙ one_step s text i runs fetched depth describes n (Goes (state_in t w said)) step));
   }
-
-  abbrev pub IsLast : Step → Type 0
-  IsLast (Goes s) = ⊥
-  IsLast st = Unit {0}
 
   last_stays : (more : State → Step) (st : Step) → IsLast st → goes_further more st ≡ st
   last_stays more (Goes s) last = absurd last
@@ -113,51 +99,67 @@ module _ (fixed : Fixed) (judged : List Judged) (now : ActionNow) (w : World) (n
   last_stays more (Abandons reason) last = refl
   last_stays more Stuck last = refl
 
-  pub comes_to_answer : (s : Standing) (i : Instruction) (st : Step) → Running s → IsFetched judged s i → IsLast st → IsTestAt judged number (length loops) → DoesSo fixed judged now w i s [] st
-      → TestIs fixed judged now w number loops (answered st)
-  unfolding test_within
-  comes_to_answer s i st runs fetched last there does_so zero describes enough = absurd (omega (arith, enough, test_there judged number (length loops) there))
-  comes_to_answer s i st runs fetched last there does_so (suc depth) describes enough =
+  comes_to_end : (s : Standing) (text : List ℕ) (i : Instruction) (st : Step) → Running s text → IsFetched judged s i → IsLast st → DoesSo fixed judged now w i s text st → EndsSo fixed judged now w start from st
+  comes_to_end s text i st runs fetched last does_so depth describes enough steps many =
       let before = runs.comes depth describes enough in
-      let step = does_so depth describes no_inner (enough_here s runs depth enough) in
-      let code = code_at judged number in
-      let inside : s.place < sizes (code_told runs.stands.code) = within runs.stands.sound (state_in s w []) (runs.stands.stands w []) in
+      let step = does_so depth describes no_inner (enough_here s text runs depth enough) in
+      let inside : s.place < sizes (code_told runs.stands.code) = within runs.stands.sound (state_in s w text) (runs.stands.stands w text) in
       let whole : code ≡ code_told runs.stands.code = ap (code_at judged) (sym runs.same) ∙ told_at judged s.code runs.stands.code runs.stands.there in
-      let n = sizes code - suc before.0 in
-      let count : sizes code ≡ before.0 + suc n = omega (arith, before.1.0, inside, ap sizes whole) in
-      ap answered (ap (λ m. run (frame depth describes) code m (state_in (begun number loops) w [])) count ∙ before.1.1 (suc n) ∙ one_step s i runs fetched depth describes n st step
-        ∙ last_stays (run (frame depth describes) code n) st last)
+      let n = steps - suc before.0 in
+      let count : steps ≡ before.0 + suc n = omega (arith, before.1.0, inside, ap sizes whole, many) in
+      ap (λ m. run (frame depth describes) code m (state_in start w from)) count ∙ before.1.1 (suc n) ∙ one_step s text i runs fetched depth describes n st step
+      ∙ last_stays (run (frame depth describes) code n) st last
 
   -- what an instruction came to
-  pub on_step : (s t : Standing) (i : Instruction) (result : Result Came Abandon) → Running s → IsFetched judged s i
-      → MatchResult result (λ came. Leads fixed judged now w i s [] came t []) (BreaksOff fixed judged now w i s []) → ((z : Counts) → OnOk result (GivesObject (gives z i) t.operands)) → t.code ≡ s.code → result ≡ Ok On
-      → Running t × (65536 - t.place < 65536 - s.place)
-  on_step s t i result runs fetched step small same is =
-      let leads : Leads fixed judged now w i s [] On t [] = subst (λ r. MatchResult r (λ came. Leads fixed judged now w i s [] came t []) (BreaksOff fixed judged now w i s [])) is step in
+  abbrev Came_to : Standing → List ℕ → Instruction → Standing → List ℕ → Result Came Abandon → Type 0
+  Came_to s text i t said result = MatchResult result (λ came. Leads fixed judged now w i s text came t said) (BreaksOff fixed judged now w i s text)
+
+  pub on_step : (s t : Standing) (text said : List ℕ) (i : Instruction) (result : Result Came Abandon) → Running s text → IsFetched judged s i → Came_to s text i t said result
+      → ((z : Counts) → OnOk result (GivesObject (gives z i) t.operands)) → t.code ≡ s.code → result ≡ Ok On → Running t said × (65536 - t.place < 65536 - s.place)
+  on_step s t text said i result runs fetched step small same is =
+      let leads : Leads fixed judged now w i s text On t said = subst (Came_to s text i t said) is step in
       let given : (z : Counts) → GivesObject (gives z i) t.operands = λ z. subst (λ r. OnOk r (GivesObject (gives z i) t.operands)) is (small z) in
-      let on = leads_so s t i runs fetched leads given same in
-      (goes_on s t i runs fetched on leads, omega (arith, on.further, fetched.served.place))
+      let on = leads_so s t text said i runs fetched leads given same in
+      (goes_on s t text said i runs fetched on leads, omega (arith, on.further, fetched.served.place))
 
-  pub left_step : (s t : Standing) (i : Instruction) (result : Result Came Abandon) → Running s → IsFetched judged s i
-      → MatchResult result (λ came. Leads fixed judged now w i s [] came t []) (BreaksOff fixed judged now w i s []) → IsTestAt judged number (length loops) → result ≡ Ok Left
-      → TestIs fixed judged now w number loops (Ok false)
-  left_step s t i result runs fetched step there is =
-      let leads : Leads fixed judged now w i s [] Left t [] = subst (λ r. MatchResult r (λ came. Leads fixed judged now w i s [] came t []) (BreaksOff fixed judged now w i s [])) is step in
-      comes_to_answer s i (Leaves GoesOn (record { world = w; text = []; work = t.work })) runs fetched tt there leads
+  pub left_step : (s t : Standing) (text said : List ℕ) (i : Instruction) (result : Result Came Abandon) → Running s text → IsFetched judged s i → Came_to s text i t said result → result ≡ Ok Left
+      → EndsSo fixed judged now w start from (Leaves GoesOn (state_in t w said).progress)
+  left_step s t text said i result runs fetched step is = comes_to_end s text i (Leaves GoesOn (state_in t w said).progress) runs fetched tt (subst (Came_to s text i t said) is step)
 
-  pub answered_step : (s t : Standing) (i : Instruction) (result : Result Came Abandon) (truth : Bool) → Running s → IsFetched judged s i
-      → MatchResult result (λ came. Leads fixed judged now w i s [] came t []) (BreaksOff fixed judged now w i s []) → IsTestAt judged number (length loops) → result ≡ Ok (Answered truth)
-      → TestIs fixed judged now w number loops (Ok truth)
-  answered_step s t i result truth runs fetched step there is =
-      let leads : Leads fixed judged now w i s [] (Answered truth) t [] = subst (λ r. MatchResult r (λ came. Leads fixed judged now w i s [] came t []) (BreaksOff fixed judged now w i s [])) is step in
-      comes_to_answer s i (Answers truth) runs fetched tt there leads
+  pub answered_step : (s t : Standing) (text said : List ℕ) (i : Instruction) (result : Result Came Abandon) (truth : Bool) → Running s text → IsFetched judged s i → Came_to s text i t said result
+      → result ≡ Ok (Answered truth) → EndsSo fixed judged now w start from (Answers truth)
+  answered_step s t text said i result truth runs fetched step is = comes_to_end s text i (Answers truth) runs fetched tt (subst (Came_to s text i t said) is step)
 
-  pub broken_step : (s t : Standing) (i : Instruction) (result : Result Came Abandon) (reason : Abandon) → Running s → IsFetched judged s i
-      → MatchResult result (λ came. Leads fixed judged now w i s [] came t []) (BreaksOff fixed judged now w i s []) → IsTestAt judged number (length loops) → result ≡ Err reason → reason ≢ Memory
-      → TestIs fixed judged now w number loops (Err reason)
-  broken_step s t i result reason runs fetched step there is granted =
-      let breaks : BreaksOff fixed judged now w i s [] reason = subst (λ r. MatchResult r (λ came. Leads fixed judged now w i s [] came t []) (BreaksOff fixed judged now w i s [])) is step in
-      comes_to_answer s i (Abandons reason) runs fetched tt there (breaks granted)
+  pub broken_step : (s t : Standing) (text said : List ℕ) (i : Instruction) (result : Result Came Abandon) (reason : Abandon) → Running s text → IsFetched judged s i → Came_to s text i t said result
+      → result ≡ Err reason → reason ≢ Memory → EndsSo fixed judged now w start from (Abandons reason)
+  broken_step s t text said i result reason runs fetched step is granted = comes_to_end s text i (Abandons reason) runs fetched tt (subst (Came_to s text i t said) is step granted)
+
+-- ---- tests
+
+begun_is : (judged : List Judged) (number : ℕ) (loops : List (Option ℕ)) → AreSoundTogether judged → IsTestAt judged number (length loops) → MayRead judged (begun number loops)
+begun_is judged number loops together there =
+    let j = there.0 in
+    let kept = together.sound number j there.1.0 in
+    let whole : IsSound j.sizes.counts j.sizes.role (code_told j) = subst (λ is. IsSound j.sizes.counts j.sizes.role is) (sym (told j kept)) kept.sound in
+    let around : length loops ≡ loops_around j.sizes.role = sym (ap loops_around there.1.1) in
+    record {
+      code = j;
+      there = there.1.0;
+      reads = ap is_body there.1.1;
+      few = together.few number j there.1.0;
+      sound = whole;
+      stands = λ v text. begins whole loops (record { world = v; text = text; work = 0 }) around;
+    }
+
+module _ (fixed : Fixed) (judged : List Judged) (now : ActionNow) (w : World) (number : ℕ) (loops : List (Option ℕ)) where
+  pub begins_so : AreSoundTogether judged → IsTestAt judged number (length loops) → IsRunning fixed judged now w (begun number loops) [] (begun number loops) []
+  begins_so together there = stays fixed judged now w (begun number loops) [] (begun_is judged number loops together there)
+
+  -- a test answers what its run ends in
+  pub answers_so : (st : Step) → IsTestAt judged number (length loops) → EndsSo fixed judged now w (begun number loops) [] st → TestIs fixed judged now w number loops (answered st)
+  unfolding test_within
+  answers_so st there ends zero describes enough = absurd (omega (arith, enough, test_there judged number (length loops) there))
+  answers_so st there ends (suc depth) describes enough = ap answered (ends depth describes enough (sizes (code_at judged number)) (omega arith))
 
 -- ---- objects that pass
 

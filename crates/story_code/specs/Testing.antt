@@ -2,7 +2,8 @@
 use Rattle.std.specs.Prelude.{◌≡◌, ℕ, suc, ◌+◌, ◌≤◌, List, [], Option, length}
 use Rattle.play_meaning.specs.Codes.{no_inner}
 use Rattle.play_meaning.specs.Grounds.{Fixed}
-use Rattle.play_meaning.specs.Machines.{Frame, State, run}
+use Rattle.play_meaning.specs.Instructions.{sizes}
+use Rattle.play_meaning.specs.Machines.{Frame, Goes, State, Step, run}
 use Rattle.play_meaning.specs.Worlds.{World}
 use Rattle.play_meaning.specs.declared.action.ActionNow.{ActionNow}
 use Rattle.play_meaning.specs.declared.instruction.Instruction.{Instruction}
@@ -16,9 +17,18 @@ ComesTo f code a b = (k : ℕ) × ((k + a.place ≤ b.place) × ((n : ℕ) → r
 abbrev pub begun : ℕ → List (Option ℕ) → Standing
 begun number loops = record { code = number; place = 0; operands = []; loops = loops; work = 0 }
 
--- a test has come so far
-pub record IsRunning (fixed : Fixed) (judged : List Judged) (now : ActionNow) (w : World) (number : ℕ) (loops : List (Option ℕ)) (s : Standing) : Type 0 where
+-- a run of a test or a description has come so far, from where it stood and behind what it said then
+pub record IsRunning (fixed : Fixed) (judged : List Judged) (now : ActionNow) (w : World) (start : Standing) (from : List ℕ) (s : Standing) (text : List ℕ) : Type 0 where
   pub stands : MayRead judged s
-  pub same : s.code ≡ number
-  pub comes : (depth : ℕ) (describes : Describes) → length judged ≤ number + suc depth
-      → ComesTo (frame_in fixed judged now depth describes no_inner) (code_at judged number) (state_in (begun number loops) w []) (state_in s w [])
+  pub same : s.code ≡ start.code
+  pub comes : (depth : ℕ) (describes : Describes) → length judged ≤ start.code + suc depth
+      → ComesTo (frame_in fixed judged now depth describes no_inner) (code_at judged start.code) (state_in start w from) (state_in s w text)
+
+abbrev pub IsLast : Step → Type 0
+IsLast (Goes s) = ⊥
+IsLast st = Unit {0}
+
+-- a run ends so, within as many instructions as there are bytes from where it stood
+abbrev pub EndsSo : Fixed → List Judged → ActionNow → World → Standing → List ℕ → Step → Type 0
+EndsSo fixed judged now w start from end = (depth : ℕ) (describes : Describes) → length judged ≤ start.code + suc depth → (steps : ℕ) → sizes (code_at judged start.code) ≤ start.place + steps
+    → run (frame_in fixed judged now depth describes no_inner) (code_at judged start.code) steps (state_in start w from) ≡ end

@@ -1,55 +1,60 @@
 use Rattle.std.proofs.Common.{◌≡◌, ◌∙◌, ap, sym, subst, ◌+◌, ◌≤◌, ◌++◌, ℕ, List, [], ◌∷◌, length, Some, Ok, Err, of_z, to_z, w32, arith}
 use Rattle.std.specs.Prelude.{◌≢◌, MatchOption, MatchResult, true, false}
 use Rattle.world_meaning.specs.declared.session.Abandon.TheVariants.{Memory}
+use Rattle.play_meaning.specs.Machines.{Abandons, Answers, Leaves}
 use Rattle.play_meaning.specs.declared.instruction.Instruction.{Instruction}
+use Rattle.play_meaning.specs.declared.outcome.Flow.TheVariants.{GoesOn}
 use Rattle.play_meaning.specs.declared.instruction.Instruction.TheVariants.{Count}
-use Rattle.story_code.specs.Runs.{BreaksOff, Describes, IsFetched, Leads, RunsItsTest, Standing, count_passing, TestIs, behind, over, passes_in}
+use Rattle.story_code.specs.Runs.{BreaksOff, Describes, IsFetched, Leads, RunsItsTest, Standing, count_passing, TestIs, behind, over, passes_in, state_in}
 use Rattle.story_code.specs.declared.came.Came.TheVariants.{On}
-use Rattle.story_code.specs.Testing.{IsRunning}
-use Rattle.story_code.proofs.Answered.{answered_step, begins_so, broken_step, counted_broken, counted_least, counted_next, count_broken, count_step, left_step, on_step, read_back}
+use Rattle.story_code.specs.Testing.{IsRunning, begun}
+use Rattle.story_code.proofs.Answered.{answered_step, answers_so, begins_so, broken_step, counted_broken, counted_least, counted_next, count_broken, count_step, left_step, on_step, read_back}
 use Rattle.story_code.proofs.testing.+testing.Goals as goal
 
 pub answer-loop-instruction-init : goal.answer-loop-instruction-init
 answer-loop-instruction-init g t c =
     let fixed = g.G.Ground.fixed c.args.ground.now in
     let w = g.G.Ground.world c.args.ground.now in
-    subst (λ (s : Standing). IsRunning fixed c.args.codes.now c.args.now.now w c.args.number c.args.loops s) (sym c.inside-state.ensures)
+    subst (λ (s : Standing). IsRunning fixed c.args.codes.now c.args.now.now w (begun c.args.number c.args.loops) [] s []) (sym c.inside-state.ensures)
     (begins_so fixed c.args.codes.now c.args.now.now w c.args.number c.args.loops c.requires.sound c.requires.there)
 
 pub answer-loop-instruction-smaller : goal.answer-loop-instruction-smaller
 answer-loop-instruction-smaller g t c =
     let s = c.loop-instruction.state in
     let fetched = subst (λ o. MatchOption o ⊥ (IsFetched c.args.codes.now s)) c.in-Some.is c.fetch.ensures in
-    (on_step (g.G.Ground.fixed c.args.ground.now) c.args.codes.now c.args.now.now (g.G.Ground.world c.args.ground.now) c.args.number c.args.loops s c.ask_in_test.new.state c.in-Some.instruction
+    (on_step (g.G.Ground.fixed c.args.ground.now) c.args.codes.now c.args.now.now (g.G.Ground.world c.args.ground.now) (begun c.args.number c.args.loops) [] s c.ask_in_test.new.state [] [] c.in-Some.instruction
       c.ask_in_test.result c.loop-instruction.invariant fetched (c.ask_in_test.ensures.step []) c.ask_in_test.ensures.small c.ask_in_test.ensures.same (c.in-Ok-On.is ∙ ap Ok c.in-Ok-On.field-0-is)).1
 
 pub answer-loop-instruction-preserved : goal.answer-loop-instruction-preserved
 answer-loop-instruction-preserved g t c =
     let s = c.loop-instruction.state in
     let fetched = subst (λ o. MatchOption o ⊥ (IsFetched c.args.codes.now s)) c.in-Some.is c.fetch.ensures in
-    (on_step (g.G.Ground.fixed c.args.ground.now) c.args.codes.now c.args.now.now (g.G.Ground.world c.args.ground.now) c.args.number c.args.loops s c.ask_in_test.new.state c.in-Some.instruction
+    (on_step (g.G.Ground.fixed c.args.ground.now) c.args.codes.now c.args.now.now (g.G.Ground.world c.args.ground.now) (begun c.args.number c.args.loops) [] s c.ask_in_test.new.state [] [] c.in-Some.instruction
       c.ask_in_test.result c.loop-instruction.invariant fetched (c.ask_in_test.ensures.step []) c.ask_in_test.ensures.small c.ask_in_test.ensures.same (c.in-Ok-On.is ∙ ap Ok c.in-Ok-On.field-0-is)).0
 
 pub answer-returns-in-Ok-Left : goal.answer-returns-in-Ok-Left
 answer-returns-in-Ok-Left g t c =
     let s = c.loop-instruction.state in
     let fetched = subst (λ o. MatchOption o ⊥ (IsFetched c.args.codes.now s)) c.in-Some.is c.fetch.ensures in
-    left_step (g.G.Ground.fixed c.args.ground.now) c.args.codes.now c.args.now.now (g.G.Ground.world c.args.ground.now) c.args.number c.args.loops s c.ask_in_test.new.state c.in-Some.instruction
-    c.ask_in_test.result c.loop-instruction.invariant fetched (c.ask_in_test.ensures.step []) c.requires.there (c.in-Ok-Left.is ∙ ap Ok c.in-Ok-Left.field-0-is)
+    answers_so (g.G.Ground.fixed c.args.ground.now) c.args.codes.now c.args.now.now (g.G.Ground.world c.args.ground.now) c.args.number c.args.loops (Leaves GoesOn (state_in c.ask_in_test.new.state (g.G.Ground.world c.args.ground.now) []).progress) c.requires.there
+    (left_step (g.G.Ground.fixed c.args.ground.now) c.args.codes.now c.args.now.now (g.G.Ground.world c.args.ground.now) (begun c.args.number c.args.loops) [] s c.ask_in_test.new.state [] [] c.in-Some.instruction
+    c.ask_in_test.result c.loop-instruction.invariant fetched (c.ask_in_test.ensures.step []) (c.in-Ok-Left.is ∙ ap Ok c.in-Ok-Left.field-0-is))
 
 pub answer-returns-in-Ok-Answered : goal.answer-returns-in-Ok-Answered
 answer-returns-in-Ok-Answered g t c =
     let s = c.loop-instruction.state in
     let fetched = subst (λ o. MatchOption o ⊥ (IsFetched c.args.codes.now s)) c.in-Some.is c.fetch.ensures in
-    answered_step (g.G.Ground.fixed c.args.ground.now) c.args.codes.now c.args.now.now (g.G.Ground.world c.args.ground.now) c.args.number c.args.loops s c.ask_in_test.new.state c.in-Some.instruction
-    c.ask_in_test.result c.in-Ok-Answered.truth c.loop-instruction.invariant fetched (c.ask_in_test.ensures.step []) c.requires.there (c.in-Ok-Answered.is ∙ ap Ok c.in-Ok-Answered.field-0-is)
+    answers_so (g.G.Ground.fixed c.args.ground.now) c.args.codes.now c.args.now.now (g.G.Ground.world c.args.ground.now) c.args.number c.args.loops (Answers c.in-Ok-Answered.truth) c.requires.there
+    (answered_step (g.G.Ground.fixed c.args.ground.now) c.args.codes.now c.args.now.now (g.G.Ground.world c.args.ground.now) (begun c.args.number c.args.loops) [] s c.ask_in_test.new.state [] [] c.in-Some.instruction
+    c.ask_in_test.result c.in-Ok-Answered.truth c.loop-instruction.invariant fetched (c.ask_in_test.ensures.step []) (c.in-Ok-Answered.is ∙ ap Ok c.in-Ok-Answered.field-0-is))
 
 pub answer-returns-in-Err : goal.answer-returns-in-Err
-answer-returns-in-Err g t c =
+answer-returns-in-Err g t c granted =
     let s = c.loop-instruction.state in
     let fetched = subst (λ o. MatchOption o ⊥ (IsFetched c.args.codes.now s)) c.in-Some.is c.fetch.ensures in
-    broken_step (g.G.Ground.fixed c.args.ground.now) c.args.codes.now c.args.now.now (g.G.Ground.world c.args.ground.now) c.args.number c.args.loops s c.ask_in_test.new.state c.in-Some.instruction
-    c.ask_in_test.result c.in-Err.reason c.loop-instruction.invariant fetched (c.ask_in_test.ensures.step []) c.requires.there c.in-Err.is
+    answers_so (g.G.Ground.fixed c.args.ground.now) c.args.codes.now c.args.now.now (g.G.Ground.world c.args.ground.now) c.args.number c.args.loops (Abandons c.in-Err.reason) c.requires.there
+    (broken_step (g.G.Ground.fixed c.args.ground.now) c.args.codes.now c.args.now.now (g.G.Ground.world c.args.ground.now) (begun c.args.number c.args.loops) [] s c.ask_in_test.new.state [] [] c.in-Some.instruction
+    c.ask_in_test.result c.in-Err.reason c.loop-instruction.invariant fetched (c.ask_in_test.ensures.step []) c.in-Err.is granted)
 
 pub ask_in_test-returns-in-Ok-clause-step : goal.ask_in_test-returns-in-Ok-clause-step
 ask_in_test-returns-in-Ok-clause-step g t c text =

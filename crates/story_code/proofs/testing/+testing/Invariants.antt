@@ -1,6 +1,6 @@
-use Rattle.std.proofs.Common.{◌+◌, ◌-◌, ◌*◌, ◌≤◌, ℕ, length}
+use Rattle.std.proofs.Common.{◌+◌, ◌-◌, ◌*◌, ◌≤◌, ℕ, [], length}
 use Rattle.story_code.specs.Runs.{Describes, count_passing, passes_in}
-use Rattle.story_code.specs.Testing.{IsRunning}
+use Rattle.story_code.specs.Testing.{IsRunning, begun}
 use Rattle.story_code.proofs.Answered.{Counted}
 use Rattle.story_code.proofs.testing.+testing.Given as goal
 
@@ -15,7 +15,7 @@ abbrev pub decreases-count_in : goal.decreases-count_in
 decreases-count_in g l = 3 * (length l.codes.now - l.state.now.code) - 2
 
 abbrev pub invariant-answer-loop-instruction : goal.invariant-answer-loop-instruction
-invariant-answer-loop-instruction g l = IsRunning (g.G.Ground.fixed l.ground) l.codes l.now (g.G.Ground.world l.ground) l.number l.fn.loops l.state
+invariant-answer-loop-instruction g l = IsRunning (g.G.Ground.fixed l.ground) l.codes l.now (g.G.Ground.world l.ground) (begun l.number l.fn.loops) [] l.state []
 
 abbrev pub decreases-answer-loop-instruction : goal.decreases-answer-loop-instruction
 decreases-answer-loop-instruction g l = 65536 - l.state.place
