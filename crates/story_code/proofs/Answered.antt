@@ -224,7 +224,7 @@ counts_passing f (suc left) o =
 pub read_back : (z : ℤ) → mag z < 2147483648 → to_z w32 (of_z w32 z) ≡ z
 read_back z small = to_z-of_z w32 z (record { sfits = small })
 
-take_all : {A : Type 0} (xs : List A) → take (length xs) xs ≡ xs
+pub take_all : {A : Type 0} (xs : List A) → take (length xs) xs ≡ xs
 take_all [] = refl
 take_all (x ∷ xs) = ap (λ l. x ∷ l) (take_all xs)
 

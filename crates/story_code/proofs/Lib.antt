@@ -2,6 +2,7 @@ pub mod Answered
 pub mod Exact
 pub mod Fetched
 pub mod FrontLemmas
+pub mod Listed
 pub mod Marking
 pub mod Passing
 pub mod Places

@@ -145,6 +145,10 @@ abbrev pub count_passing : (ℕ → Attempt Bool) → ℕ → ℕ → Attempt �
 count_passing test zero o = Ok 0
 count_passing test (suc left) o = next (test o) (λ is. next (count_passing test left (o + 1)) (λ n. Ok (counted_if is n)))
 
+abbrev pub kept_if : Bool → List ℕ → ℕ → List ℕ
+kept_if true kept o = kept ++ o ∷ []
+kept_if false kept o = kept
+
 -- a test inside one loop more than these, named by a code before it
 pub record IsNamedTest (judged : List Judged) (code : ℕ) (outer : ℕ) (test : ℕ) : Type 0 where
   pub few : outer < 9

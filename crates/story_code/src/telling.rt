@@ -7,6 +7,7 @@ ghost use Rattle.play_meaning.specs.declared.operand.Counts.{Counts};
 ghost use Rattle.story_code.specs.Runs.{AreSoundTogether, BreaksOff, IsServed, Leads, RunsItsTest};
 
 use crate::came::Came;
+use crate::listing::{Listing, say_passing};
 use crate::naming::{say, say_figure, say_name};
 use crate::number::{is_true, object_at};
 use crate::state::RunState;
@@ -79,6 +80,15 @@ pub fn describe<G: Ground>(
         }
         Instruction::Jump(place) => {
             state.leap(usize::from(place));
+            Ok(Came::On)
+        }
+        Instruction::Names(naming, number, test) => {
+            let listing = Listing {
+                naming,
+                number,
+                test,
+            };
+            say_passing(alloc, ground, codes, now, state, text, listing)?;
             Ok(Came::On)
         }
         Instruction::Done => Ok(Came::Left),

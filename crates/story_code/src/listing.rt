@@ -1,0 +1,98 @@
+//! The objects that pass a test, and their names.
+ghost use Rattle.std.specs.Prelude.{◌≡◌, ◌≢◌, ◌+◌, ◌≤◌, ℕ, Err, Ok, MatchResult, OnErr, OnOk, length};
+ghost use Rattle.std.specs.List.{range_with_len};
+ghost use Rattle.play_meaning.specs.Machines.{passing};
+ghost use Rattle.play_meaning.specs.declared.instruction.Instruction.TheVariants.{Names};
+ghost use Rattle.story_code.specs.Runs.{AreSoundTogether, BreaksOff, Describes, IsNamedTest, IsServed, Leads, RunsItsTest, kept_if, passes_in};
+ghost use Rattle.story_code.specs.declared.came.Came.TheVariants.{On};
+ghost use Rattle.world_meaning.specs.declared.session.Abandon.TheVariants.{Memory};
+
+use crate::naming::say_listed;
+use crate::state::RunState;
+use crate::testing::answer;
+use crate::verified::Verified;
+use play_meaning::{ActionNow, Ground, Instruction, Naming};
+use std::alloc::Global;
+use world_meaning::{Abandon, ObjNo};
+
+/// How the objects are listed that pass a test, and the loop that it opens.
+#[derive(Clone, Copy, Debug)]
+pub struct Listing {
+    pub naming: Naming,
+    pub number: u8,
+    pub test: u16,
+}
+
+/// Keeps one object more, if so.
+fn keep_if(kept: &mut Vec<ObjNo>, is: bool, object: ObjNo) -> Result<(), Abandon>
+    ensures kept { OnOk result (kept.new.items ≡ kept_if is kept.old.items object) }
+    ensures refused { OnErr result (result ≡ Err Memory) }
+{
+    if !is {
+        return Ok(());
+    }
+    match kept.push(object) {
+        Ok(()) => Ok(()),
+        Err(_) => Err(Abandon::Memory),
+    }
+}
+
+/// The objects that pass a test that a code names, by rising number.
+fn passing_in<G: Ground>(
+    alloc: Global,
+    ground: &G,
+    codes: &[Verified],
+    now: &ActionNow,
+    state: &RunState,
+    test: u16,
+) -> Result<Vec<ObjNo>, Abandon>
+    requires sound { AreSoundTogether codes.now }
+    requires named { IsNamedTest codes.now state.now.code (length state.now.loops) test }
+    ensures { MatchResult result
+        (λ objects. (depth : ℕ) (describes : Describes) → length codes.now ≤ test + depth
+            → passing (passes_in (G.fixed ground.now) codes.now now.now (G.world ground.now) depth describes test state.now.loops) (range_with_len 0 (G.fixed ground.now).setting.count) ≡ Ok objects.items)
+        (λ reason. reason ≢ Memory → (depth : ℕ) (describes : Describes) → length codes.now ≤ test + depth
+            → passing (passes_in (G.fixed ground.now) codes.now now.now (G.world ground.now) depth describes test state.now.loops) (range_with_len 0 (G.fixed ground.now).setting.count) ≡ Err reason) }
+{
+    let mut objects = Vec::new(alloc);
+    for number in 0..ground.object_count() {
+        let object = ObjNo::new(number);
+        match answer(ground, codes, now, test, state.loops.with(object)) {
+            Ok(passes) => keep_if(&mut objects, passes, object)?,
+            Err(reason) => return Err(reason),
+        }
+    }
+    Ok(objects)
+}
+
+/// Says the names of the objects that pass a test.
+pub fn say_passing<G: Ground>(
+    alloc: Global,
+    ground: &G,
+    codes: &[Verified],
+    now: &ActionNow,
+    state: &mut RunState,
+    text: &mut Vec<u8>,
+    listing: Listing,
+) -> Result<(), Abandon>
+    requires sound { AreSoundTogether codes.now }
+    requires served { IsServed (Names listing.naming listing.number listing.test) state.old }
+    requires tests { RunsItsTest codes.now state.old (Names listing.naming listing.number listing.test) }
+    ensures step { MatchResult result (λ said. Leads (G.fixed ground.now) codes.now now.now (G.world ground.now) (Names listing.naming listing.number listing.test) state.old text.old.items On state.new text.new.items)
+        (BreaksOff (G.fixed ground.now) codes.now now.now (G.world ground.now) (Names listing.naming listing.number listing.test) state.old text.old.items) }
+    ensures same { state.new.code ≡ state.old.code }
+{
+    match passing_in(alloc, ground, codes, now, state, listing.test) {
+        Ok(objects) => {
+            say_listed(ground, text, listing.naming, objects.as_slice())?;
+            let Listing {
+                naming,
+                number,
+                test,
+            } = listing;
+            state.pass(Instruction::Names(naming, number, test));
+            Ok(())
+        }
+        Err(reason) => Err(reason),
+    }
+}
