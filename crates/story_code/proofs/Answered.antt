@@ -5,7 +5,7 @@ use mir.ValLaws.{to_z-of_z}
 use Rattle.std.specs.List.{range_with_len}
 use Rattle.std.specs.Prelude.{◌≢◌, MatchResult, OnOk, Result, slice_get}
 use Rattle.play_meaning.specs.Attempts.{Attempt, next}
-use Rattle.play_meaning.specs.Codes.{answered, no_inner, start_at, test_within}
+use Rattle.play_meaning.specs.Codes.{answered, no_inner, test_within}
 use Rattle.play_meaning.specs.Grounds.{Fixed}
 use Rattle.play_meaning.specs.Instructions.{at_place, sizes}
 use Rattle.play_meaning.specs.Machines.{Abandons, Answers, Frame, Goes, Leaves, State, Step, Stuck, does, does_at, goes_further, joined_if, passing, pushes, run, unless_abandoned}
@@ -16,17 +16,17 @@ use Rattle.play_meaning.specs.Worlds.{World}
 use Rattle.play_meaning.specs.declared.action.ActionNow.{ActionNow}
 use Rattle.play_meaning.specs.declared.instruction.Instruction.{Instruction}
 use Rattle.play_meaning.specs.declared.operand.Counts.{Counts}
-use Rattle.play_meaning.specs.declared.operand.Use.TheVariants.{Test}
 use Rattle.play_meaning.specs.declared.instruction.Instruction.TheVariants.{Count}
 use Rattle.play_meaning.specs.declared.outcome.Flow.TheVariants.{GoesOn}
 use Rattle.play_meaning.proofs.States.{begins, within}
 use Rattle.world_meaning.specs.declared.session.Abandon.{Abandon}
 use Rattle.world_meaning.specs.declared.session.Abandon.TheVariants.{Memory}
+use Rattle.story_code.specs.Laws.{RunsBeginStanding}
 use Rattle.story_code.specs.Runs.{AreSoundTogether, BreaksOff, Describes, DoesSo, IsFetched, IsTestAt, Leads, LeadsOn, MayRead, RunsItsTest, Standing, TestIs, behind, code_at, code_told, codes_of, count_passing, counted_if, frame_in, over, passes_in, state_in, telling_in}
 use Rattle.story_code.specs.Soundness.{Judged}
 use Rattle.story_code.specs.declared.came.Came.{Came}
 use Rattle.story_code.specs.declared.came.Came.TheVariants.{Answered, Left, On}
-use Rattle.story_code.specs.Testing.{ComesTo, EndsSo, IsLast, IsRunning, begun}
+use Rattle.story_code.specs.Testing.{EndsSo, IsLast, IsRunning, begun}
 use Rattle.story_code.proofs.Fetched.{told}
 use Rattle.story_code.proofs.Served.{leads_on, told_at}
 
@@ -85,11 +85,16 @@ module _ (fixed : Fixed) (judged : List Judged) (now : ActionNow) (w : World) (s
     same = leads.same ∙ runs.same;
     comes = λ depth describes enough.
         let before = runs.comes depth describes enough in
-        let step = does_so depth describes no_inner (enough_here s text runs depth enough) in
-        (suc before.0, (omega (arith, before.1.0, leads.further), λ n.
-          let count : suc before.0 + n ≡ before.0 + suc n = omega arith in
-          ap (λ m. run (frame depth describes) code m (state_in start w from)) count
-          ∙ before.1.1 (suc n) ∙ one_step s text i runs fetched depth describes n (Goes (state_in t w said)) step));
+        let step = does_so depth describes no_inner (enough_here s text runs depth enough) in (
+          suc before.0,
+          (
+            omega (arith, before.1.0, leads.further),
+            λ n.
+                let count : suc before.0 + n ≡ before.0 + suc n = omega arith in
+                ap (λ m. run (frame depth describes) code m (state_in start w from)) count
+                ∙ before.1.1 (suc n) ∙ one_step s text i runs fetched depth describes n (Goes (state_in t w said)) step,
+          ),
+        );
   }
 
   last_stays : (more : State → Step) (st : Step) → IsLast st → goes_further more st ≡ st
@@ -136,20 +141,26 @@ module _ (fixed : Fixed) (judged : List Judged) (now : ActionNow) (w : World) (s
 
 -- ---- tests
 
-begun_is : (judged : List Judged) (number : ℕ) (loops : List (Option ℕ)) → AreSoundTogether judged → IsTestAt judged number (length loops) → MayRead judged (begun number loops)
-begun_is judged number loops together there =
-    let j = there.0 in
-    let kept = together.sound number j there.1.0 in
+-- a code that is no body begins standing, inside the loops that are open around it
+stands_at_first : (judged : List Judged) (number work : ℕ) (loops : List (Option ℕ)) (j : Judged) → AreSoundTogether judged → slice_get judged number ≡ Some j → is_body j.sizes.role ≡ false
+    → length loops ≡ loops_around j.sizes.role → MayRead judged (record { code = number; place = 0; operands = []; loops = loops; work = work })
+stands_at_first judged number work loops j together there reads around =
+    let kept = together.sound number j there in
     let whole : IsSound j.sizes.counts j.sizes.role (code_told j) = subst (λ is. IsSound j.sizes.counts j.sizes.role is) (sym (told j kept)) kept.sound in
-    let around : length loops ≡ loops_around j.sizes.role = sym (ap loops_around there.1.1) in
     record {
       code = j;
-      there = there.1.0;
-      reads = ap is_body there.1.1;
-      few = together.few number j there.1.0;
+      there = there;
+      reads = reads;
+      few = together.few number j there;
       sound = whole;
-      stands = λ v text. begins whole loops (record { world = v; text = text; work = 0 }) around;
+      stands = λ v text. begins whole loops (record { world = v; text = text; work = work }) around;
     }
+
+pub begins_outside : RunsBeginStanding
+begins_outside judged number work j together there reads outside = stands_at_first judged number work [] j together there reads (sym outside)
+
+begun_is : (judged : List Judged) (number : ℕ) (loops : List (Option ℕ)) → AreSoundTogether judged → IsTestAt judged number (length loops) → MayRead judged (begun number loops)
+begun_is judged number loops together there = stands_at_first judged number 0 loops there.0 together there.1.0 (ap is_body there.1.1) (sym (ap loops_around there.1.1))
 
 module _ (fixed : Fixed) (judged : List Judged) (now : ActionNow) (w : World) (number : ℕ) (loops : List (Option ℕ)) where
   pub begins_so : AreSoundTogether judged → IsTestAt judged number (length loops) → IsRunning fixed judged now w (begun number loops) [] (begun number loops) []
@@ -213,6 +224,7 @@ counts_passing f (suc left) o =
     long : (is : Bool) (objects : List ℕ) → counted_if is (length objects) ≡ length (joined_if is o objects)
     long true objects = refl
     long false objects = refl
+
     by : (a : Attempt Bool) (rest : Attempt (List ℕ)) → next a (λ is. next (next rest (λ objects. Ok (length objects))) (λ n. Ok (counted_if is n)))
         ≡ next (next a (λ is. next rest (λ passed. Ok (joined_if is o passed)))) (λ objects. Ok (length objects))
     by (Err reason) rest = refl

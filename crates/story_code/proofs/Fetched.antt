@@ -3,7 +3,7 @@ use Rattle.std.proofs.Common.{◌≡◌, ◌∙◌, ◌++◌, ap, sym, ℕ, suc,
 use Rattle.std.specs.List.{list_all}
 use Rattle.play_meaning.specs.Instructions.{at_place, size_of, sizes}
 use Rattle.play_meaning.specs.declared.instruction.Instruction.{Instruction}
-use Rattle.story_code.specs.Fronts.{code_in, front}
+use Rattle.story_code.specs.Fronts.{front}
 use Rattle.story_code.specs.Runs.{code_or_none, code_told}
 use Rattle.story_code.specs.Soundness.{IsSoundCode, Judged}
 use Rattle.story_code.specs.Spelling.{Spells, can_spell, spelled, spelling}

@@ -1,10 +1,10 @@
 -- The objects that pass a test are kept one by one, and their names said.
-use Rattle.std.proofs.Common.{◌≡◌, ◌≢◌, ◌∙◌, ap, sym, subst, ℕ, zero, suc, ◌+◌, ◌-◌, ◌<◌, ◌≤◌, Bool, true, false, List, [], ◌∷◌, ◌++◌, length, append_assoc, take, refl, Some, Ok, Err, arith}
+use Rattle.std.proofs.Common.{◌≡◌, ◌≢◌, ◌∙◌, ap, sym, ℕ, suc, ◌+◌, ◌-◌, ◌<◌, ◌≤◌, Bool, true, false, List, [], ◌∷◌, ◌++◌, length, append_assoc, take, refl, Some, Ok, Err, arith}
 use Rattle.std.specs.List.{range_with_len}
 use Rattle.play_meaning.specs.Attempts.{Attempt, next}
 use Rattle.play_meaning.specs.Codes.{test_within}
 use Rattle.play_meaning.specs.Grounds.{Fixed}
-use Rattle.play_meaning.specs.Machines.{Abandons, Goes, State, does, joined_if, passing, says, unless_abandoned}
+use Rattle.play_meaning.specs.Machines.{Goes, does, joined_if, passing, says, unless_abandoned}
 use Rattle.play_meaning.specs.Saying.{listed}
 use Rattle.play_meaning.specs.Worlds.{World}
 use Rattle.play_meaning.specs.declared.action.ActionNow.{ActionNow}

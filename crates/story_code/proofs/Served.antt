@@ -1,12 +1,10 @@
 -- Where a run stands its instruction finds what it takes, and behind it the run stands again.
-use Rattle.std.proofs.Common.{◌≡◌, ◌∙◌, ap, sym, subst, ℕ, zero, suc, ◌+◌, ◌<◌, ◌≤◌, Bool, true, false, ◌==◌, nat_lt, List, [], ◌∷◌, length, refl, Option, Some, None, Ok, ℤ, arith}
-use Rattle.std.specs.Prelude.{◌&&◌, MatchOption, if◌then◌else◌, is_some, map, slice_get, slice_index_or}
+use Rattle.std.proofs.Common.{◌≡◌, ◌∙◌, ap, sym, subst, ℕ, zero, suc, ◌+◌, ◌<◌, ◌≤◌, Bool, true, false, ◌==◌, nat_lt, List, [], ◌∷◌, length, refl, Option, Some, None, ℤ, arith}
+use Rattle.std.specs.Prelude.{◌&&◌, MatchOption, if◌then◌else◌, is_some, slice_get}
 use Rattle.std.proofs.lemmas.Bool.{and_parts, eqb-true, ltb-true}
-use Rattle.play_meaning.specs.Codes.{no_inner}
-use Rattle.play_meaning.specs.Doing.{Inner}
 use Rattle.play_meaning.specs.declared.instruction.Instruction.TheVariants as code
 use Rattle.play_meaning.specs.Instructions.{at_place, sizes}
-use Rattle.play_meaning.specs.Machines.{Frame, Goes, State, does}
+use Rattle.play_meaning.specs.Machines.{Frame, Goes, does}
 use Rattle.play_meaning.specs.Operands.{gives, is_object, names_what_is_there}
 use Rattle.play_meaning.specs.SoundCodes.{IsSound}
 use Rattle.play_meaning.specs.Stands.{Finds, GivesObject, HasOnTop, StandsBy, taken_by}
@@ -17,7 +15,7 @@ use Rattle.play_meaning.specs.declared.operand.Sort.{Sort}
 use Rattle.play_meaning.specs.declared.operand.Use.{Use}
 use Rattle.play_meaning.specs.declared.operand.Sort.TheVariants.{Number, NumberOrObject}
 use Rattle.play_meaning.proofs.States.{ahead, finds, keeps, within}
-use Rattle.story_code.specs.Runs.{AreSoundTogether, IsFetched, IsNamedTest, IsServed, IsTestAt, LeadsOn, MayRead, NamesItsTest, RunsItsTest, Standing, code_at, code_told, gives_one, state_in}
+use Rattle.story_code.specs.Runs.{AreSoundTogether, IsFetched, IsNamedTest, IsTestAt, LeadsOn, MayRead, NamesItsTest, RunsItsTest, Standing, code_at, code_told, gives_one, state_in}
 use Rattle.story_code.specs.Soundness.{Judged}
 
 some_is : {A : Type 0} (x y : A) → Some x ≡ Some y → x ≡ y
@@ -98,24 +96,28 @@ module _ (judged : List Judged) (s : Standing) (z : Counts) (own : z.own ≡ s.c
       let halves = and_parts _ _ named in
       let opened = and_parts _ _ halves.0 in
       let tested = and_parts _ _ (and_parts _ _ halves.1).0 in
-      let same : k ≡ length s.loops = eqb-true k (length s.loops) opened.0 in
-      (same, record {
-        few = ltb-true (length s.loops) 9 opened.1;
-        later = subst (λ n. n < test) own (ltb-true z.own test tested.0);
-        there = subst (λ n. IsTestAt judged test (n + 1)) same there;
-      })
+      let same : k ≡ length s.loops = eqb-true k (length s.loops) opened.0 in (
+        same,
+        record {
+          few = ltb-true (length s.loops) 9 opened.1;
+          later = subst (λ n. n < test) own (ltb-true z.own test tested.0);
+          there = subst (λ n. IsTestAt judged test (n + 1)) same there;
+        },
+      )
 
   innermost : (k test : ℕ) → ((k + 1 == length s.loops) && ((nat_lt z.own test && nat_lt test z.codes) && true)) ≡ true → length s.loops ≤ 9 → IsTestAt judged test (k + 1)
       → (k + 1 ≡ length s.loops) × IsNamedTest judged s.code k test
   innermost k test named nine there =
       let halves = and_parts _ _ named in
       let tested = and_parts _ _ (and_parts _ _ halves.1).0 in
-      let same : k + 1 ≡ length s.loops = eqb-true (k + 1) (length s.loops) halves.0 in
-      (same, record {
-        few = omega (arith, same, nine);
-        later = subst (λ n. n < test) own (ltb-true z.own test tested.0);
-        there = there;
-      })
+      let same : k + 1 ≡ length s.loops = eqb-true (k + 1) (length s.loops) halves.0 in (
+        same,
+        record {
+          few = omega (arith, same, nine);
+          later = subst (λ n. n < test) own (ltb-true z.own test tested.0);
+          there = there;
+        },
+      )
 
   runs_its_test : length s.loops ≤ 9 → (i : Instruction) → names_what_is_there z (length s.loops) i ≡ true → NamesItsTest judged i → RunsItsTest judged s i
   unfolding names_what_is_there

@@ -1,5 +1,5 @@
 //! What is known of codes and their bytes.
-ghost use Rattle.story_code.specs.Laws.{OneCode};
+ghost use Rattle.story_code.specs.Laws.{OneCode, RunsBeginStanding};
 ghost use Rattle.story_code.specs.Soundness.{IsSoundCode};
 
 use crate::verified::Verified;
@@ -15,3 +15,8 @@ pub fn verified_code_is_sound(code: &Verified)
 {
     let _ = &code.bytes;
 }
+
+/// A run of a test or a description may be read from its beginning, if no loop is open around the code.
+pub fn runs_begin_standing()
+    ensures { RunsBeginStanding }
+{}

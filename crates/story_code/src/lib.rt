@@ -29,7 +29,7 @@ mod verifying;
 
 pub use decoding::front;
 pub use encoding::spell;
-pub use laws::{one_code, verified_code_is_sound};
+pub use laws::{one_code, runs_begin_standing, verified_code_is_sound};
 pub use plain::read_plain;
 pub use sizes::Sizes;
 pub use state::RunState;

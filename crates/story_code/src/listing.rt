@@ -50,9 +50,9 @@ fn passing_in<G: Ground>(
     requires named { IsNamedTest codes.now state.now.code (length state.now.loops) test }
     ensures { MatchResult result
         (λ objects. (depth : ℕ) (describes : Describes) → length codes.now ≤ test + depth
-            → passing (passes_in (G.fixed ground.now) codes.now now.now (G.world ground.now) depth describes test state.now.loops) (range_with_len 0 (G.fixed ground.now).setting.count) ≡ Ok objects.items)
+        → passing (passes_in (G.fixed ground.now) codes.now now.now (G.world ground.now) depth describes test state.now.loops) (range_with_len 0 (G.fixed ground.now).setting.count) ≡ Ok objects.items)
         (λ reason. reason ≢ Memory → (depth : ℕ) (describes : Describes) → length codes.now ≤ test + depth
-            → passing (passes_in (G.fixed ground.now) codes.now now.now (G.world ground.now) depth describes test state.now.loops) (range_with_len 0 (G.fixed ground.now).setting.count) ≡ Err reason) }
+        → passing (passes_in (G.fixed ground.now) codes.now now.now (G.world ground.now) depth describes test state.now.loops) (range_with_len 0 (G.fixed ground.now).setting.count) ≡ Err reason) }
 {
     let mut objects = Vec::new(alloc);
     for number in 0..ground.object_count() {

@@ -33,8 +33,8 @@ pub fn read_plain<G: Ground>(
     requires stands { MayRead codes.now state.old }
     ensures { MatchResult result
         (λ truth. EndsSo (G.fixed ground.now) codes.now now.now (G.world ground.now) state.old text.old.items (Answers truth)
-            ⊎ ((truth ≡ true) × EndsSo (G.fixed ground.now) codes.now now.now (G.world ground.now) state.old text.old.items
-                (Leaves GoesOn (record { world = G.world ground.now; text = text.new.items; work = state.new.work }))))
+        ⊎ ((truth ≡ true) × EndsSo (G.fixed ground.now) codes.now now.now (G.world ground.now) state.old text.old.items
+        (Leaves GoesOn (record { world = G.world ground.now; text = text.new.items; work = state.new.work }))))
         (λ reason. reason ≢ Memory → EndsSo (G.fixed ground.now) codes.now now.now (G.world ground.now) state.old text.old.items (Abandons reason)) }
 {
     while let Some(instruction) = fetch(codes, state) {

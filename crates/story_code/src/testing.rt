@@ -96,9 +96,9 @@ fn count_in<G: Ground>(
     requires named { IsNamedTest codes.now state.now.code (length state.now.loops) test }
     ensures { MatchResult result
         (λ count. (depth : ℕ) (describes : Describes) → length codes.now ≤ test + depth
-            → count_passing (passes_in (G.fixed ground.now) codes.now now.now (G.world ground.now) depth describes test state.now.loops) (G.fixed ground.now).setting.count 0 ≡ Ok count)
+        → count_passing (passes_in (G.fixed ground.now) codes.now now.now (G.world ground.now) depth describes test state.now.loops) (G.fixed ground.now).setting.count 0 ≡ Ok count)
         (λ reason. reason ≢ Memory → (depth : ℕ) (describes : Describes) → length codes.now ≤ test + depth
-            → count_passing (passes_in (G.fixed ground.now) codes.now now.now (G.world ground.now) depth describes test state.now.loops) (G.fixed ground.now).setting.count 0 ≡ Err reason) }
+        → count_passing (passes_in (G.fixed ground.now) codes.now now.now (G.world ground.now) depth describes test state.now.loops) (G.fixed ground.now).setting.count 0 ≡ Err reason) }
 {
     let mut count = 0;
     for number in 0..ground.object_count() {

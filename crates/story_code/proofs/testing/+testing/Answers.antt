@@ -1,11 +1,10 @@
-use Rattle.std.proofs.Common.{◌≡◌, ◌∙◌, ap, sym, subst, ◌+◌, ◌≤◌, ◌++◌, ℕ, List, [], ◌∷◌, length, Some, Ok, Err, of_z, to_z, w32, arith}
-use Rattle.std.specs.Prelude.{◌≢◌, MatchOption, MatchResult, true, false}
-use Rattle.world_meaning.specs.declared.session.Abandon.TheVariants.{Memory}
+use Rattle.std.proofs.Common.{◌∙◌, ap, sym, subst, ◌++◌, [], ◌∷◌, Some, Ok, Err, of_z, to_z, w32, arith}
+use Rattle.std.specs.Prelude.{MatchOption}
 use Rattle.play_meaning.specs.Machines.{Abandons, Answers, Leaves}
 use Rattle.play_meaning.specs.declared.instruction.Instruction.{Instruction}
 use Rattle.play_meaning.specs.declared.outcome.Flow.TheVariants.{GoesOn}
 use Rattle.play_meaning.specs.declared.instruction.Instruction.TheVariants.{Count}
-use Rattle.story_code.specs.Runs.{BreaksOff, Describes, IsFetched, Leads, RunsItsTest, Standing, count_passing, TestIs, behind, over, passes_in, state_in}
+use Rattle.story_code.specs.Runs.{BreaksOff, IsFetched, Leads, RunsItsTest, Standing, count_passing, TestIs, behind, passes_in, state_in}
 use Rattle.story_code.specs.declared.came.Came.TheVariants.{On}
 use Rattle.story_code.specs.Testing.{IsRunning, begun}
 use Rattle.story_code.proofs.Answered.{answered_step, answers_so, begins_so, broken_step, counted_broken, counted_least, counted_next, count_broken, count_step, left_step, on_step, read_back}
@@ -23,14 +22,14 @@ answer-loop-instruction-smaller g t c =
     let s = c.loop-instruction.state in
     let fetched = subst (λ o. MatchOption o ⊥ (IsFetched c.args.codes.now s)) c.in-Some.is c.fetch.ensures in
     (on_step (g.G.Ground.fixed c.args.ground.now) c.args.codes.now c.args.now.now (g.G.Ground.world c.args.ground.now) (begun c.args.number c.args.loops) [] s c.ask_in_test.new.state [] [] c.in-Some.instruction
-      c.ask_in_test.result c.loop-instruction.invariant fetched (c.ask_in_test.ensures.step []) c.ask_in_test.ensures.small c.ask_in_test.ensures.same (c.in-Ok-On.is ∙ ap Ok c.in-Ok-On.field-0-is)).1
+    c.ask_in_test.result c.loop-instruction.invariant fetched (c.ask_in_test.ensures.step []) c.ask_in_test.ensures.small c.ask_in_test.ensures.same (c.in-Ok-On.is ∙ ap Ok c.in-Ok-On.field-0-is)).1
 
 pub answer-loop-instruction-preserved : goal.answer-loop-instruction-preserved
 answer-loop-instruction-preserved g t c =
     let s = c.loop-instruction.state in
     let fetched = subst (λ o. MatchOption o ⊥ (IsFetched c.args.codes.now s)) c.in-Some.is c.fetch.ensures in
     (on_step (g.G.Ground.fixed c.args.ground.now) c.args.codes.now c.args.now.now (g.G.Ground.world c.args.ground.now) (begun c.args.number c.args.loops) [] s c.ask_in_test.new.state [] [] c.in-Some.instruction
-      c.ask_in_test.result c.loop-instruction.invariant fetched (c.ask_in_test.ensures.step []) c.ask_in_test.ensures.small c.ask_in_test.ensures.same (c.in-Ok-On.is ∙ ap Ok c.in-Ok-On.field-0-is)).0
+    c.ask_in_test.result c.loop-instruction.invariant fetched (c.ask_in_test.ensures.step []) c.ask_in_test.ensures.small c.ask_in_test.ensures.same (c.in-Ok-On.is ∙ ap Ok c.in-Ok-On.field-0-is)).0
 
 pub answer-returns-in-Ok-Left : goal.answer-returns-in-Ok-Left
 answer-returns-in-Ok-Left g t c =
@@ -65,7 +64,7 @@ ask_in_test-returns-in-Ok-clause-step g t c text =
     let runs = subst (λ (i : Instruction). RunsItsTest c.args.codes.now s i) c.in-Count.is c.requires.tests in
     subst (λ (i : Instruction). Leads fixed c.args.codes.now c.args.now.now w i s text On c.pass.new.self text) (sym c.in-Count.is)
     (count_step fixed c.args.codes.now c.args.now.now w s c.in-Count.field-0 c.in-Count.test runs c.pass.new.self c.in-Ok.count (to_z w32 (of_z w32 c.from.result)) (read_back c.from.result c.from.type_inv ∙ c.from.ensures)
-      (c.pass.ensures ∙ ap (behind counted) c.push.ensures) c.in-Ok.ensures text)
+    (c.pass.ensures ∙ ap (behind counted) c.push.ensures) c.in-Ok.ensures text)
 
 pub ask_in_test-returns-in-Err-clause-step : goal.ask_in_test-returns-in-Err-clause-step
 ask_in_test-returns-in-Err-clause-step g t c text =

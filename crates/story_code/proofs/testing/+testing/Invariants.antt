@@ -23,4 +23,4 @@ decreases-answer-loop-instruction g l = 65536 - l.state.place
 abbrev pub invariant-count_in-loop-number : goal.invariant-count_in-loop-number
 invariant-count_in-loop-number g l = (l.count ≤ l.number) × ((depth : ℕ) (describes : Describes) → length l.codes ≤ l.test + depth
     → Counted (passes_in (g.G.Ground.fixed l.ground) l.codes l.now (g.G.Ground.world l.ground) depth describes l.test l.state.loops) (g.G.Ground.fixed l.ground).setting.count
-      (count_passing (passes_in (g.G.Ground.fixed l.ground) l.codes l.now (g.G.Ground.world l.ground) depth describes l.test l.state.loops) (g.G.Ground.fixed l.ground).setting.count 0) l.count l.number)
+    (count_passing (passes_in (g.G.Ground.fixed l.ground) l.codes l.now (g.G.Ground.world l.ground) depth describes l.test l.state.loops) (g.G.Ground.fixed l.ground).setting.count 0) l.count l.number)
