@@ -22,7 +22,7 @@ use Rattle.play_meaning.proofs.States.{begins, within}
 use Rattle.world_meaning.specs.declared.session.Abandon.{Abandon}
 use Rattle.world_meaning.specs.declared.session.Abandon.TheVariants.{Memory}
 use Rattle.story_code.specs.Laws.{RunsBeginStanding}
-use Rattle.story_code.specs.Runs.{AreSoundTogether, BreaksOff, Describes, DoesSo, IsFetched, IsTestAt, Leads, LeadsOn, MayRead, RunsItsTest, Standing, TestIs, behind, code_at, code_told, codes_of, count_passing, counted_if, frame_in, over, passes_in, state_in, telling_in}
+use Rattle.story_code.specs.Runs.{AreSoundTogether, BreaksOff, CameTo, Describes, DoesSo, IsFetched, IsTestAt, Leads, LeadsOn, MayRead, RunsItsTest, Standing, TestIs, behind, code_at, code_told, codes_of, count_passing, counted_if, frame_in, over, passes_in, state_in, telling_in}
 use Rattle.story_code.specs.Soundness.{Judged}
 use Rattle.story_code.specs.declared.came.Came.{Came}
 use Rattle.story_code.specs.declared.came.Came.TheVariants.{Answered, Left, On}
@@ -115,9 +115,8 @@ module _ (fixed : Fixed) (judged : List Judged) (now : ActionNow) (w : World) (s
       ap (λ m. run (frame depth describes) code m (state_in start w from)) count ∙ before.1.1 (suc n) ∙ one_step s text i runs fetched depth describes n st step
       ∙ last_stays (run (frame depth describes) code n) st last
 
-  -- what an instruction came to
   abbrev Came_to : Standing → List ℕ → Instruction → Standing → List ℕ → Result Came Abandon → Type 0
-  Came_to s text i t said result = MatchResult result (λ came. Leads fixed judged now w i s text came t said) (BreaksOff fixed judged now w i s text)
+  Came_to s text i t said result = CameTo fixed judged now w i s text result t said
 
   pub on_step : (s t : Standing) (text said : List ℕ) (i : Instruction) (result : Result Came Abandon) → Running s text → IsFetched judged s i → Came_to s text i t said result
       → ((z : Counts) → OnOk result (GivesObject (gives z i) t.operands)) → t.code ≡ s.code → result ≡ Ok On → Running t said × (65536 - t.place < 65536 - s.place)

@@ -1,5 +1,5 @@
 -- Runs of a story's codes over a ground: how they stand, and what a step of them comes to.
-use Rattle.std.specs.Prelude.{◌≡◌, ◌≢◌, ℕ, zero, suc, ℤ, ◌+◌, ◌<◌, ◌≤◌, Bool, true, false, List, [], ◌∷◌, ◌++◌, map, length, Option, None, Some, Ok, is_some, slice_get, slice_index_or}
+use Rattle.std.specs.Prelude.{◌≡◌, ◌≢◌, ℕ, zero, suc, ℤ, ◌+◌, ◌<◌, ◌≤◌, Bool, true, false, List, [], ◌∷◌, ◌++◌, map, length, MatchResult, Option, None, Result, Some, Ok, is_some, slice_get, slice_index_or}
 use Rattle.play_meaning.specs.Attempts.{Attempt, next}
 use Rattle.play_meaning.specs.Codes.{Codes, frame_of, test_within}
 use Rattle.play_meaning.specs.Doing.{Inner}
@@ -124,6 +124,14 @@ Leads fixed judged now w i s text came t said = DoesSo fixed judged now w i s te
 -- it broke play off, unless memory lacked
 abbrev pub BreaksOff : Fixed → List Judged → ActionNow → World → Instruction → Standing → List ℕ → Abandon → Type 0
 BreaksOff fixed judged now w i s text reason = reason ≢ Memory → DoesSo fixed judged now w i s text (Abandons reason)
+
+-- what came of an instruction of a test or a description: the run goes on or ends so, or play broke off
+abbrev pub CameTo : Fixed → List Judged → ActionNow → World → Instruction → Standing → List ℕ → Result Came Abandon → Standing → List ℕ → Type 0
+CameTo fixed judged now w i s text result t said = MatchResult result (λ came. Leads fixed judged now w i s text came t said) (BreaksOff fixed judged now w i s text)
+
+-- what came of an instruction behind which a run goes on, unless play broke off
+abbrev pub Proceeds : {A : Type 0} → Fixed → List Judged → ActionNow → World → Instruction → Standing → List ℕ → Result A Abandon → Standing → List ℕ → Type 0
+Proceeds fixed judged now w i s text result t said = MatchResult result (λ done. Leads fixed judged now w i s text On t said) (BreaksOff fixed judged now w i s text)
 
 -- ---- tests
 

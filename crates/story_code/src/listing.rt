@@ -3,8 +3,7 @@ ghost use Rattle.std.specs.Prelude.{◌≡◌, ◌≢◌, ◌+◌, ◌≤◌, �
 ghost use Rattle.std.specs.List.{range_with_len};
 ghost use Rattle.play_meaning.specs.Machines.{passing};
 ghost use Rattle.play_meaning.specs.declared.instruction.Instruction.TheVariants.{Names};
-ghost use Rattle.story_code.specs.Runs.{AreSoundTogether, BreaksOff, Describes, IsNamedTest, IsServed, Leads, RunsItsTest, kept_if, passes_in};
-ghost use Rattle.story_code.specs.declared.came.Came.TheVariants.{On};
+ghost use Rattle.story_code.specs.Runs.{AreSoundTogether, Describes, IsNamedTest, IsServed, Proceeds, RunsItsTest, kept_if, passes_in};
 ghost use Rattle.world_meaning.specs.declared.session.Abandon.TheVariants.{Memory};
 
 use crate::naming::say_listed;
@@ -78,8 +77,7 @@ pub fn say_passing<G: Ground>(
     requires sound { AreSoundTogether codes.now }
     requires served { IsServed (Names listing.naming listing.number listing.test) state.old }
     requires tests { RunsItsTest codes.now state.old (Names listing.naming listing.number listing.test) }
-    ensures step { MatchResult result (λ said. Leads (G.fixed ground.now) codes.now now.now (G.world ground.now) (Names listing.naming listing.number listing.test) state.old text.old.items On state.new text.new.items)
-        (BreaksOff (G.fixed ground.now) codes.now now.now (G.world ground.now) (Names listing.naming listing.number listing.test) state.old text.old.items) }
+    ensures step { Proceeds (G.fixed ground.now) codes.now now.now (G.world ground.now) (Names listing.naming listing.number listing.test) state.old text.old.items result state.new text.new.items }
     ensures same { state.new.code ≡ state.old.code }
 {
     match passing_in(alloc, ground, codes, now, state, listing.test) {

@@ -1,17 +1,15 @@
 //! Instructions that read: each does what it means, over any ground.
-ghost use Rattle.std.specs.Prelude.{◌≡◌, ℕ, List, MatchResult, OnOk};
+ghost use Rattle.std.specs.Prelude.{◌≡◌, ℕ, List, OnOk};
 ghost use Rattle.play_meaning.specs.Machines.{does};
 ghost use Rattle.play_meaning.specs.Operands.{gives};
 ghost use Rattle.play_meaning.specs.Stands.{GivesObject};
 ghost use Rattle.play_meaning.specs.declared.operand.Counts.{Counts};
-ghost use Rattle.story_code.specs.Runs.{BreaksOff, IsServed, Leads};
-ghost use Rattle.story_code.specs.Soundness.{Judged};
+ghost use Rattle.story_code.specs.Runs.{IsServed, Proceeds};
 
 use crate::asking::{
     beyond_in, calculated, holder_by, holds_of_some, known, number_at, object_known, of_numbers,
     of_objects,
 };
-use crate::came::Came;
 use crate::number::{in_range, is_true, object_at, object_number, truth_number};
 use crate::state::RunState;
 use crate::verified::Verified;
@@ -26,10 +24,9 @@ fn ask_nothing<G: Ground>(
     now: &ActionNow,
     state: &mut RunState,
     instruction: Instruction,
-) -> Result<Came, Abandon>
+) -> Result<(), Abandon>
     requires { IsServed instruction state.old }
-    ensures step { (text : List ℕ) → MatchResult result (λ came. Leads (G.fixed ground.now) codes.now now.now (G.world ground.now) instruction state.old text came state.new text)
-        (BreaksOff (G.fixed ground.now) codes.now now.now (G.world ground.now) instruction state.old text) }
+    ensures step { (text : List ℕ) → Proceeds (G.fixed ground.now) codes.now now.now (G.world ground.now) instruction state.old text result state.new text }
     ensures same { state.new.code ≡ state.old.code }
     ensures small { (z : Counts) → OnOk result (GivesObject (gives z instruction) state.new.operands) }
 {
@@ -46,7 +43,7 @@ fn ask_nothing<G: Ground>(
         _ => return Err(Abandon::Memory),
     }
     state.pass(instruction);
-    Ok(Came::On)
+    Ok(())
 }
 
 /// Does an instruction that takes at most one operand and gives a number, a truth or an object.
@@ -57,10 +54,9 @@ fn ask_one<G: Ground>(
     now: &ActionNow,
     state: &mut RunState,
     instruction: Instruction,
-) -> Result<Came, Abandon>
+) -> Result<(), Abandon>
     requires { IsServed instruction state.old }
-    ensures step { (text : List ℕ) → MatchResult result (λ came. Leads (G.fixed ground.now) codes.now now.now (G.world ground.now) instruction state.old text came state.new text)
-        (BreaksOff (G.fixed ground.now) codes.now now.now (G.world ground.now) instruction state.old text) }
+    ensures step { (text : List ℕ) → Proceeds (G.fixed ground.now) codes.now now.now (G.world ground.now) instruction state.old text result state.new text }
     ensures same { state.new.code ≡ state.old.code }
     ensures small { (z : Counts) → OnOk result (GivesObject (gives z instruction) state.new.operands) }
 {
@@ -85,10 +81,13 @@ fn ask_one<G: Ground>(
             let object = object_at(state.take());
             state.push(object_number(holder_by(ground, relation, object)));
         }
-        _ => return Ok(ask_nothing(ground, codes, now, state, instruction)?),
+        _ => {
+            ask_nothing(ground, codes, now, state, instruction)?;
+            return Ok(());
+        }
     }
     state.pass(instruction);
-    Ok(Came::On)
+    Ok(())
 }
 
 /// Does an instruction that gives a number, a truth or an object and runs no test.
@@ -99,10 +98,9 @@ pub fn ask<G: Ground>(
     now: &ActionNow,
     state: &mut RunState,
     instruction: Instruction,
-) -> Result<Came, Abandon>
+) -> Result<(), Abandon>
     requires { IsServed instruction state.old }
-    ensures step { (text : List ℕ) → MatchResult result (λ came. Leads (G.fixed ground.now) codes.now now.now (G.world ground.now) instruction state.old text came state.new text)
-        (BreaksOff (G.fixed ground.now) codes.now now.now (G.world ground.now) instruction state.old text) }
+    ensures step { (text : List ℕ) → Proceeds (G.fixed ground.now) codes.now now.now (G.world ground.now) instruction state.old text result state.new text }
     ensures same { state.new.code ≡ state.old.code }
     ensures small { (z : Counts) → OnOk result (GivesObject (gives z instruction) state.new.operands) }
 {
@@ -131,8 +129,11 @@ pub fn ask<G: Ground>(
             let a = state.take();
             state.push(in_range(calculated(instruction, a, b))?);
         }
-        _ => return Ok(ask_one(ground, codes, now, state, instruction)?),
+        _ => {
+            ask_one(ground, codes, now, state, instruction)?;
+            return Ok(());
+        }
     }
     state.pass(instruction);
-    Ok(Came::On)
+    Ok(())
 }

@@ -4,7 +4,7 @@ ghost use Rattle.play_meaning.specs.Machines.{does};
 ghost use Rattle.play_meaning.specs.Operands.{gives};
 ghost use Rattle.play_meaning.specs.Stands.{GivesObject};
 ghost use Rattle.play_meaning.specs.declared.operand.Counts.{Counts};
-ghost use Rattle.story_code.specs.Runs.{AreSoundTogether, BreaksOff, Describes, IsNamedTest, IsServed, IsTestAt, Leads, RunsItsTest, TestIs, count_passing, counted_if, passes_in};
+ghost use Rattle.story_code.specs.Runs.{AreSoundTogether, CameTo, Describes, IsNamedTest, IsServed, IsTestAt, Proceeds, RunsItsTest, TestIs, count_passing, counted_if, passes_in};
 ghost use Rattle.world_meaning.specs.declared.session.Abandon.TheVariants.{Memory};
 
 use crate::came::Came;
@@ -46,7 +46,7 @@ pub fn answer<G: Ground>(
 /// Does an instruction of a test.
 #[cycle(testing)]
 #[tactic(auto, unfolding(play_meaning::specs::Machines::does))]
-pub fn ask_in_test<G: Ground>(
+fn ask_in_test<G: Ground>(
     ground: &G,
     codes: &[Verified],
     now: &ActionNow,
@@ -56,8 +56,33 @@ pub fn ask_in_test<G: Ground>(
     requires sound { AreSoundTogether codes.now }
     requires served { IsServed instruction state.old }
     requires tests { RunsItsTest codes.now state.old instruction }
-    ensures step { (text : List ℕ) → MatchResult result (λ came. Leads (G.fixed ground.now) codes.now now.now (G.world ground.now) instruction state.old text came state.new text)
-        (BreaksOff (G.fixed ground.now) codes.now now.now (G.world ground.now) instruction state.old text) }
+    ensures step { (text : List ℕ) → CameTo (G.fixed ground.now) codes.now now.now (G.world ground.now) instruction state.old text result state.new text }
+    ensures small { (z : Counts) → OnOk result (GivesObject (gives z instruction) state.new.operands) }
+    ensures same { state.new.code ≡ state.old.code }
+{
+    match instruction {
+        Instruction::Answer => Ok(Came::Answered(is_true(state.take()))),
+        _ => {
+            count_or_ask(ground, codes, now, state, instruction)?;
+            Ok(Came::On)
+        }
+    }
+}
+
+/// Does an instruction that gives a number, a truth or an object.
+#[cycle(testing)]
+#[tactic(auto, unfolding(play_meaning::specs::Machines::does))]
+pub fn count_or_ask<G: Ground>(
+    ground: &G,
+    codes: &[Verified],
+    now: &ActionNow,
+    state: &mut RunState,
+    instruction: Instruction,
+) -> Result<(), Abandon>
+    requires sound { AreSoundTogether codes.now }
+    requires served { IsServed instruction state.old }
+    requires tests { RunsItsTest codes.now state.old instruction }
+    ensures step { (text : List ℕ) → Proceeds (G.fixed ground.now) codes.now now.now (G.world ground.now) instruction state.old text result state.new text }
     ensures small { (z : Counts) → OnOk result (GivesObject (gives z instruction) state.new.operands) }
     ensures same { state.new.code ≡ state.old.code }
 {
@@ -66,12 +91,14 @@ pub fn ask_in_test<G: Ground>(
             Ok(count) => {
                 state.push(i32::from(count));
                 state.pass(instruction);
-                Ok(Came::On)
+                Ok(())
             }
             Err(reason) => Err(reason),
         },
-        Instruction::Answer => Ok(Came::Answered(is_true(state.take()))),
-        _ => Ok(ask(ground, codes, now, state, instruction)?),
+        _ => {
+            ask(ground, codes, now, state, instruction)?;
+            Ok(())
+        }
     }
 }
 

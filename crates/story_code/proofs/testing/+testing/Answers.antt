@@ -55,8 +55,8 @@ answer-returns-in-Err g t c granted =
     (broken_step (g.G.Ground.fixed c.args.ground.now) c.args.codes.now c.args.now.now (g.G.Ground.world c.args.ground.now) (begun c.args.number c.args.loops) [] s c.ask_in_test.new.state [] [] c.in-Some.instruction
     c.ask_in_test.result c.in-Err.reason c.loop-instruction.invariant fetched (c.ask_in_test.ensures.step []) c.in-Err.is granted)
 
-pub ask_in_test-returns-in-Ok-clause-step : goal.ask_in_test-returns-in-Ok-clause-step
-ask_in_test-returns-in-Ok-clause-step g t c text =
+pub count_or_ask-returns-in-Ok-clause-step : goal.count_or_ask-returns-in-Ok-clause-step
+count_or_ask-returns-in-Ok-clause-step g t c text =
     let fixed = g.G.Ground.fixed c.args.ground.now in
     let w = g.G.Ground.world c.args.ground.now in
     let s = c.args.state.now in
@@ -66,8 +66,8 @@ ask_in_test-returns-in-Ok-clause-step g t c text =
     (count_step fixed c.args.codes.now c.args.now.now w s c.in-Count.field-0 c.in-Count.test runs c.pass.new.self c.in-Ok.count (to_z w32 (of_z w32 c.from.result)) (read_back c.from.result c.from.type_inv ∙ c.from.ensures)
     (c.pass.ensures ∙ ap (behind counted) c.push.ensures) c.in-Ok.ensures text)
 
-pub ask_in_test-returns-in-Err-clause-step : goal.ask_in_test-returns-in-Err-clause-step
-ask_in_test-returns-in-Err-clause-step g t c text =
+pub count_or_ask-returns-in-Err-clause-step : goal.count_or_ask-returns-in-Err-clause-step
+count_or_ask-returns-in-Err-clause-step g t c text =
     let fixed = g.G.Ground.fixed c.args.ground.now in
     let w = g.G.Ground.world c.args.ground.now in
     let s = c.args.state.now in

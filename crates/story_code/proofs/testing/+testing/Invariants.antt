@@ -6,13 +6,16 @@ use Rattle.story_code.proofs.testing.+testing.Given as goal
 
 -- a test names none but later ones
 abbrev pub decreases-answer : goal.decreases-answer
-decreases-answer g l = 3 * (length l.codes.now - l.number)
+decreases-answer g l = 4 * (length l.codes.now - l.number) + 3
 
 abbrev pub decreases-ask_in_test : goal.decreases-ask_in_test
-decreases-ask_in_test g l = 3 * (length l.codes.now - l.state.now.code) - 1
+decreases-ask_in_test g l = 4 * (length l.codes.now - l.state.now.code) + 2
+
+abbrev pub decreases-count_or_ask : goal.decreases-count_or_ask
+decreases-count_or_ask g l = 4 * (length l.codes.now - l.state.now.code) + 1
 
 abbrev pub decreases-count_in : goal.decreases-count_in
-decreases-count_in g l = 3 * (length l.codes.now - l.state.now.code) - 2
+decreases-count_in g l = 4 * (length l.codes.now - l.state.now.code)
 
 abbrev pub invariant-answer-loop-instruction : goal.invariant-answer-loop-instruction
 invariant-answer-loop-instruction g l = IsRunning (g.G.Ground.fixed l.ground) l.codes l.now (g.G.Ground.world l.ground) (begun l.number l.fn.loops) [] l.state []

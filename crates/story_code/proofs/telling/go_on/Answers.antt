@@ -2,7 +2,7 @@ use Rattle.std.proofs.Common.{sym, subst}
 use Rattle.play_meaning.specs.declared.instruction.Instruction.{Instruction}
 use Rattle.story_code.specs.Runs.{Leads}
 use Rattle.story_code.specs.declared.came.Came.TheVariants.{On}
-use Rattle.story_code.proofs.telling.describe.Goals as goal
+use Rattle.story_code.proofs.telling.go_on.Goals as goal
 
 pub returns-in_ok-say_passing-in-Names-clause-step : goal.returns-in_ok-say_passing-in-Names-clause-step
 returns-in_ok-say_passing-in-Names-clause-step g c =
