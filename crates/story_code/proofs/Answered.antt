@@ -22,7 +22,7 @@ use Rattle.play_meaning.proofs.States.{begins, within}
 use Rattle.world_meaning.specs.declared.session.Abandon.{Abandon}
 use Rattle.world_meaning.specs.declared.session.Abandon.TheVariants.{Memory}
 use Rattle.story_code.specs.Laws.{RunsBeginStanding}
-use Rattle.story_code.specs.Runs.{AreSoundTogether, BreaksOff, CameTo, Describes, DoesSo, IsFetched, IsTestAt, Leads, LeadsOn, MayRead, RunsItsTest, Standing, TestIs, behind, code_at, code_told, codes_of, count_passing, counted_if, frame_in, over, passes_in, state_in, telling_in}
+use Rattle.story_code.specs.Runs.{AreSoundTogether, BreaksOff, CameTo, Describes, DoesSo, IsFetched, IsStanding, IsTestAt, Leads, LeadsOn, MayRead, LoopsSuit, Standing, TestIs, behind, code_at, code_told, codes_of, count_passing, counted_if, frame_in, over, passes_in, state_in, telling_in}
 use Rattle.story_code.specs.Soundness.{Judged}
 use Rattle.story_code.specs.declared.came.Came.{Came}
 use Rattle.story_code.specs.declared.came.Came.TheVariants.{Answered, Left, On}
@@ -75,9 +75,9 @@ module _ (fixed : Fixed) (judged : List Judged) (now : ActionNow) (w : World) (s
       → ((z : Counts) → GivesObject (gives z i) t.operands) → t.code ≡ s.code → LeadsOn judged s t
   leads_so s t text said i runs fetched does_so small same =
       let may = runs.stands in
-      let at : at_place (code_told may.code) s.place ≡ Some i = ap (λ is. at_place is s.place) (sym (told_at judged s.code may.code may.there)) ∙ fetched.at in
+      let at : at_place (code_told may.run.code) s.place ≡ Some i = ap (λ is. at_place is s.place) (sym (told_at judged s.code may.run.code may.run.there)) ∙ fetched.at in
       let enough : length judged ≤ s.code + suc (length judged) = omega arith in
-      leads_on judged s t i may (frame (length judged) unsaid) w w text said at (does_so (length judged) unsaid no_inner enough) (small may.code.sizes.counts) same
+      leads_on judged s t i may (frame (length judged) unsaid) (state_in s w text).progress (state_in t w said).progress at (does_so (length judged) unsaid no_inner enough) (small may.run.code.sizes.counts) same
 
   goes_on : (s t : Standing) (text said : List ℕ) (i : Instruction) → Running s text → IsFetched judged s i → LeadsOn judged s t → DoesSo fixed judged now w i s text (Goes (state_in t w said)) → Running t said
   goes_on s t text said i runs fetched leads does_so = record {
@@ -108,8 +108,9 @@ module _ (fixed : Fixed) (judged : List Judged) (now : ActionNow) (w : World) (s
   comes_to_end s text i st runs fetched last does_so depth describes enough steps many =
       let before = runs.comes depth describes enough in
       let step = does_so depth describes no_inner (enough_here s text runs depth enough) in
-      let inside : s.place < sizes (code_told runs.stands.code) = within runs.stands.sound (state_in s w text) (runs.stands.stands w text) in
-      let whole : code ≡ code_told runs.stands.code = ap (code_at judged) (sym runs.same) ∙ told_at judged s.code runs.stands.code runs.stands.there in
+      let may = runs.stands.run in
+      let inside : s.place < sizes (code_told may.code) = within may.sound (state_in s w text) (may.stands (state_in s w text).progress) in
+      let whole : code ≡ code_told may.code = ap (code_at judged) (sym runs.same) ∙ told_at judged s.code may.code may.there in
       let n = steps - suc before.0 in
       let count : steps ≡ before.0 + suc n = omega (arith, before.1.0, inside, ap sizes whole, many) in
       ap (λ m. run (frame depth describes) code m (state_in start w from)) count ∙ before.1.1 (suc n) ∙ one_step s text i runs fetched depth describes n st step
@@ -140,26 +141,36 @@ module _ (fixed : Fixed) (judged : List Judged) (now : ActionNow) (w : World) (s
 
 -- ---- tests
 
--- a code that is no body begins standing, inside the loops that are open around it
-stands_at_first : (judged : List Judged) (number work : ℕ) (loops : List (Option ℕ)) (j : Judged) → AreSoundTogether judged → slice_get judged number ≡ Some j → is_body j.sizes.role ≡ false
-    → length loops ≡ loops_around j.sizes.role → MayRead judged (record { code = number; place = 0; operands = []; loops = loops; work = work })
-stands_at_first judged number work loops j together there reads around =
+abbrev at_first : ℕ → ℕ → List (Option ℕ) → Standing
+at_first number work loops = record { code = number; place = 0; operands = []; loops = loops; work = work }
+
+-- a code begins standing, inside the loops that are open around it
+pub stands_at_first : (judged : List Judged) (number work : ℕ) (loops : List (Option ℕ)) (j : Judged) → AreSoundTogether judged → slice_get judged number ≡ Some j
+    → length loops ≡ loops_around j.sizes.role → (may : IsStanding judged (at_first number work loops)) × (may.code ≡ j)
+stands_at_first judged number work loops j together there around =
     let kept = together.sound number j there in
-    let whole : IsSound j.sizes.counts j.sizes.role (code_told j) = subst (λ is. IsSound j.sizes.counts j.sizes.role is) (sym (told j kept)) kept.sound in
-    record {
-      code = j;
-      there = there;
-      reads = reads;
-      few = together.few number j there;
-      sound = whole;
-      stands = λ v text. begins whole loops (record { world = v; text = text; work = work }) around;
-    }
+    let whole : IsSound j.sizes.counts j.sizes.role (code_told j) = subst (λ is. IsSound j.sizes.counts j.sizes.role is) (sym (told j kept)) kept.sound in (
+      record {
+        code = j;
+        there = there;
+        few = together.few number j there;
+        sound = whole;
+        stands = λ p. begins whole loops p around;
+      },
+      refl,
+    )
+
+reads_at_first : (judged : List Judged) (number work : ℕ) (loops : List (Option ℕ)) (j : Judged) → AreSoundTogether judged → slice_get judged number ≡ Some j → is_body j.sizes.role ≡ false
+    → length loops ≡ loops_around j.sizes.role → MayRead judged (at_first number work loops)
+reads_at_first judged number work loops j together there reads around =
+    let may = stands_at_first judged number work loops j together there around in
+    record { run = may.0; reads = ap (λ (k : Judged). is_body k.sizes.role) may.1 ∙ reads }
 
 pub begins_outside : RunsBeginStanding
-begins_outside judged number work j together there reads outside = stands_at_first judged number work [] j together there reads (sym outside)
+begins_outside judged number work j together there reads outside = reads_at_first judged number work [] j together there reads (sym outside)
 
 begun_is : (judged : List Judged) (number : ℕ) (loops : List (Option ℕ)) → AreSoundTogether judged → IsTestAt judged number (length loops) → MayRead judged (begun number loops)
-begun_is judged number loops together there = stands_at_first judged number 0 loops there.0 together there.1.0 (ap is_body there.1.1) (sym (ap loops_around there.1.1))
+begun_is judged number loops together there = reads_at_first judged number 0 loops there.0 together there.1.0 (ap is_body there.1.1) (sym (ap loops_around there.1.1))
 
 module _ (fixed : Fixed) (judged : List Judged) (now : ActionNow) (w : World) (number : ℕ) (loops : List (Option ℕ)) where
   pub begins_so : AreSoundTogether judged → IsTestAt judged number (length loops) → IsRunning fixed judged now w (begun number loops) [] (begun number loops) []
@@ -239,7 +250,7 @@ pub take_all : {A : Type 0} (xs : List A) → take (length xs) xs ≡ xs
 take_all [] = refl
 take_all (x ∷ xs) = ap (λ l. x ∷ l) (take_all xs)
 
-module _ (fixed : Fixed) (judged : List Judged) (now : ActionNow) (w : World) (s : Standing) (k test : ℕ) (runs : RunsItsTest judged s (Count k test)) where
+module _ (fixed : Fixed) (judged : List Judged) (now : ActionNow) (w : World) (s : Standing) (k test : ℕ) (runs : LoopsSuit judged s (Count k test)) where
   abbrev Passes : ℕ → Describes → ℕ → Attempt Bool
   Passes depth describes o = passes_in fixed judged now w depth describes test s.loops o
 

@@ -12,7 +12,7 @@ use Rattle.play_meaning.specs.declared.instruction.Instruction.TheVariants.{Name
 use Rattle.play_meaning.specs.declared.naming.Naming.{Naming}
 use Rattle.world_meaning.specs.declared.session.Abandon.{Abandon}
 use Rattle.world_meaning.specs.declared.session.Abandon.TheVariants.{Memory}
-use Rattle.story_code.specs.Runs.{BreaksOff, Describes, Leads, RunsItsTest, Standing, behind, codes_of, kept_if, passes_in, state_in, telling_in}
+use Rattle.story_code.specs.Runs.{BreaksOff, Describes, Leads, LoopsSuit, Standing, behind, codes_of, kept_if, passes_in, state_in, telling_in}
 use Rattle.story_code.specs.Soundness.{Judged}
 use Rattle.story_code.specs.declared.came.Came.TheVariants.{On}
 use Rattle.story_code.proofs.Answered.{take_all}
@@ -46,7 +46,7 @@ module _ (f : ℕ → Attempt Bool) (all : ℕ) (whole : Attempt (List ℕ)) whe
 
 -- ---- the names of those that pass
 
-module _ (fixed : Fixed) (judged : List Judged) (now : ActionNow) (w : World) (s : Standing) (naming : Naming) (k test : ℕ) (runs : RunsItsTest judged s (Names naming k test)) where
+module _ (fixed : Fixed) (judged : List Judged) (now : ActionNow) (w : World) (s : Standing) (naming : Naming) (k test : ℕ) (runs : LoopsSuit judged s (Names naming k test)) where
   abbrev Passes : ℕ → Describes → ℕ → Attempt Bool
   Passes depth describes o = passes_in fixed judged now w depth describes test s.loops o
 

@@ -4,10 +4,11 @@ use Rattle.std.specs.Prelude.{◌&&◌, MatchOption, if◌then◌else◌, is_som
 use Rattle.std.proofs.lemmas.Bool.{and_parts, eqb-true, ltb-true}
 use Rattle.play_meaning.specs.declared.instruction.Instruction.TheVariants as code
 use Rattle.play_meaning.specs.Instructions.{at_place, sizes}
-use Rattle.play_meaning.specs.Machines.{Frame, Goes, does}
-use Rattle.play_meaning.specs.Operands.{gives, is_object, names_what_is_there}
+use Rattle.play_meaning.specs.Machines.{Frame, Goes, State, does}
+use Rattle.play_meaning.specs.Operands.{gives, is_object, may_hold, names_what_is_there}
+use Rattle.play_meaning.specs.Progress.{Progress, fresh}
 use Rattle.play_meaning.specs.SoundCodes.{IsSound}
-use Rattle.play_meaning.specs.Stands.{Finds, GivesObject, HasOnTop, StandsBy, taken_by}
+use Rattle.play_meaning.specs.Stands.{Finds, GivesObject, HasOnTop, StandsBy, is_body, taken_by}
 use Rattle.play_meaning.specs.Worlds.{World}
 use Rattle.play_meaning.specs.declared.instruction.Instruction.{Instruction}
 use Rattle.play_meaning.specs.declared.operand.Counts.{Counts}
@@ -15,7 +16,7 @@ use Rattle.play_meaning.specs.declared.operand.Sort.{Sort}
 use Rattle.play_meaning.specs.declared.operand.Use.{Use}
 use Rattle.play_meaning.specs.declared.operand.Sort.TheVariants.{Number, NumberOrObject}
 use Rattle.play_meaning.proofs.States.{ahead, finds, keeps, within}
-use Rattle.story_code.specs.Runs.{AreSoundTogether, IsFetched, IsNamedTest, IsTestAt, LeadsOn, MayRead, NamesItsTest, RunsItsTest, Standing, code_at, code_told, gives_one, state_in}
+use Rattle.story_code.specs.Runs.{AreSoundTogether, IsFetched, IsNamedTest, IsStanding, IsTestAt, LeadsOn, LoopsSuit, MayRead, NamesItsTest, Standing, code_at, code_told, gives_one}
 use Rattle.story_code.specs.Soundness.{Judged}
 
 some_is : {A : Type 0} (x y : A) → Some x ≡ Some y → x ≡ y
@@ -84,6 +85,10 @@ given z code.Success some = some
 given z code.Failure some = some
 given z code.Answer some = some
 
+-- where a run stands, and what it did so far
+abbrev pub state_of : Standing → Progress → State
+state_of s p = record { place = s.place; operands = s.operands; loops = s.loops; progress = p }
+
 on_top_many : (sorts : List Sort) (ops : List ℤ) → HasOnTop sorts ops → length sorts ≤ length ops
 on_top_many [] ops has = omega arith
 on_top_many (sort ∷ sorts) [] has = absurd has
@@ -119,112 +124,132 @@ module _ (judged : List Judged) (s : Standing) (z : Counts) (own : z.own ≡ s.c
         },
       )
 
-  runs_its_test : length s.loops ≤ 9 → (i : Instruction) → names_what_is_there z (length s.loops) i ≡ true → NamesItsTest judged i → RunsItsTest judged s i
+  opened : (k : ℕ) → (((k == length s.loops) && nat_lt (length s.loops) 9) && true) ≡ true → length s.loops < 9
+  opened k named = ltb-true (length s.loops) 9 (and_parts _ _ (and_parts _ _ named).0).1
+
+  loops_suit : length s.loops ≤ 9 → (i : Instruction) → names_what_is_there z (length s.loops) i ≡ true → NamesItsTest judged i → LoopsSuit judged s i
   unfolding names_what_is_there
-  runs_its_test nine (code.Num n) named there = tt
-  runs_its_test nine (code.Var v) named there = tt
-  runs_its_test nine (code.Prop p) named there = tt
-  runs_its_test nine code.Turns named there = tt
-  runs_its_test nine code.Add named there = tt
-  runs_its_test nine code.Sub named there = tt
-  runs_its_test nine code.Mul named there = tt
-  runs_its_test nine code.Eq named there = tt
-  runs_its_test nine code.Less named there = tt
-  runs_its_test nine code.AtMost named there = tt
-  runs_its_test nine code.Not named there = tt
-  runs_its_test nine code.And named there = tt
-  runs_its_test nine code.Or named there = tt
-  runs_its_test nine code.Noun named there = tt
-  runs_its_test nine code.Second named there = tt
-  runs_its_test nine code.Location named there = tt
-  runs_its_test nine (code.Loop k) named there = tt
-  runs_its_test nine (code.Flag p side) named there = tt
-  runs_its_test nine (code.Kind kind) named there = tt
-  runs_its_test nine (code.Held r) named there = tt
-  runs_its_test nine (code.Holder r) named there = tt
-  runs_its_test nine code.Encloses named there = tt
-  runs_its_test nine code.Visible named there = tt
-  runs_its_test nine code.Touchable named there = tt
-  runs_its_test nine code.Dark named there = tt
-  runs_its_test nine (code.Happens scene) named there = tt
-  runs_its_test nine code.HasDescription named there = tt
-  runs_its_test nine code.Room named there = tt
-  runs_its_test nine code.Door named there = tt
-  runs_its_test nine (code.Count k test) named there = new_loop k test named there
-  runs_its_test nine (code.Names naming k test) named there = new_loop k test named there
-  runs_its_test nine (code.Say string) named there = tt
-  runs_its_test nine (code.Name naming) named there = tt
-  runs_its_test nine code.Figure named there = tt
-  runs_its_test nine code.Description named there = tt
-  runs_its_test nine (code.SetFlag p value) named there = tt
-  runs_its_test nine (code.SetProp p) named there = tt
-  runs_its_test nine (code.SetVar v) named there = tt
-  runs_its_test nine (code.PutAt r) named there = tt
-  runs_its_test nine code.Move named there = tt
-  runs_its_test nine code.Away named there = tt
-  runs_its_test nine (code.Try silent action) named there = tt
-  runs_its_test nine (code.Follow book) named there = tt
-  runs_its_test nine (code.IfZero place) named there = tt
-  runs_its_test nine (code.Jump place) named there = tt
-  runs_its_test nine (code.Begin k) named there = tt
-  runs_its_test nine (code.Next k test exit) named there = innermost k test named nine there
-  runs_its_test nine (code.EndStory string) named there = tt
-  runs_its_test nine code.Done named there = tt
-  runs_its_test nine code.NoDecision named there = tt
-  runs_its_test nine code.Success named there = tt
-  runs_its_test nine code.Failure named there = tt
-  runs_its_test nine code.Answer named there = tt
+  loops_suit nine (code.Num n) named there = tt
+  loops_suit nine (code.Var v) named there = tt
+  loops_suit nine (code.Prop p) named there = tt
+  loops_suit nine code.Turns named there = tt
+  loops_suit nine code.Add named there = tt
+  loops_suit nine code.Sub named there = tt
+  loops_suit nine code.Mul named there = tt
+  loops_suit nine code.Eq named there = tt
+  loops_suit nine code.Less named there = tt
+  loops_suit nine code.AtMost named there = tt
+  loops_suit nine code.Not named there = tt
+  loops_suit nine code.And named there = tt
+  loops_suit nine code.Or named there = tt
+  loops_suit nine code.Noun named there = tt
+  loops_suit nine code.Second named there = tt
+  loops_suit nine code.Location named there = tt
+  loops_suit nine (code.Loop k) named there = tt
+  loops_suit nine (code.Flag p side) named there = tt
+  loops_suit nine (code.Kind kind) named there = tt
+  loops_suit nine (code.Held r) named there = tt
+  loops_suit nine (code.Holder r) named there = tt
+  loops_suit nine code.Encloses named there = tt
+  loops_suit nine code.Visible named there = tt
+  loops_suit nine code.Touchable named there = tt
+  loops_suit nine code.Dark named there = tt
+  loops_suit nine (code.Happens scene) named there = tt
+  loops_suit nine code.HasDescription named there = tt
+  loops_suit nine code.Room named there = tt
+  loops_suit nine code.Door named there = tt
+  loops_suit nine (code.Count k test) named there = new_loop k test named there
+  loops_suit nine (code.Names naming k test) named there = new_loop k test named there
+  loops_suit nine (code.Say string) named there = tt
+  loops_suit nine (code.Name naming) named there = tt
+  loops_suit nine code.Figure named there = tt
+  loops_suit nine code.Description named there = tt
+  loops_suit nine (code.SetFlag p value) named there = tt
+  loops_suit nine (code.SetProp p) named there = tt
+  loops_suit nine (code.SetVar v) named there = tt
+  loops_suit nine (code.PutAt r) named there = tt
+  loops_suit nine code.Move named there = tt
+  loops_suit nine code.Away named there = tt
+  loops_suit nine (code.Try silent action) named there = tt
+  loops_suit nine (code.Follow book) named there = tt
+  loops_suit nine (code.IfZero place) named there = tt
+  loops_suit nine (code.Jump place) named there = tt
+  loops_suit nine (code.Begin k) named there = opened k named
+  loops_suit nine (code.Next k test exit) named there = innermost k test named nine there
+  loops_suit nine (code.EndStory string) named there = tt
+  loops_suit nine code.Done named there = tt
+  loops_suit nine code.NoDecision named there = tt
+  loops_suit nine code.Success named there = tt
+  loops_suit nine code.Failure named there = tt
+  loops_suit nine code.Answer named there = tt
 
 pub told_at : (judged : List Judged) (n : ℕ) (j : Judged) → slice_get judged n ≡ Some j → code_at judged n ≡ code_told j
 told_at [] n j there = absurd cc
 told_at (k ∷ judged) zero j there = let same : k ≡ j = cc in ap code_told same
 told_at (k ∷ judged) (suc n) j there = told_at judged n j there
 
-pub fetched_there : (judged : List Judged) (s : Standing) (i : Instruction) (may : MayRead judged s) → AreSoundTogether judged → length s.loops ≤ 9 → sizes (code_told may.code) < 65536
+pub fetched_there : (judged : List Judged) (s : Standing) (i : Instruction) (may : IsStanding judged s) → AreSoundTogether judged → length s.loops ≤ 9 → sizes (code_told may.code) < 65536
     → at_place (code_told may.code) s.place ≡ Some i → (w : World) → IsFetched judged s i
 fetched_there judged s i may together nine short at w =
-    let found : Finds may.code.sizes.counts may.code.sizes.role i (state_in s w []) = finds may.sound (state_in s w []) i (may.stands w []) at in
+    let p : Progress = fresh w in
+    let stands : StandsBy may.sound (state_of s p) = may.stands p in
+    let found : Finds may.code.sizes.counts may.code.sizes.role i (state_of s p) = finds may.sound (state_of s p) i stands at in
     record {
       at = ap (λ c. at_place c s.place) (told_at judged s.code may.code may.there) ∙ at;
+      allowed = λ j there. subst (λ (k : Judged). may_hold k.sizes.role i ≡ true) (some_is may.code j (sym may.there ∙ there)) found.allowed;
       served = record {
-        place = omega (arith, within may.sound (state_in s w []) (may.stands w []), short);
+        place = omega (arith, within may.sound (state_of s p) stands, short);
         many = on_top_many (taken_by i) s.operands found.operands;
         operands = found.operands;
         room = λ some. found.room (given may.code.sizes.counts i some);
       };
-      tests = runs_its_test judged s may.code.sizes.counts (together.own s.code may.code may.there) nine i found.named (together.tests s.code may.code may.there s.place i at);
+      loops = loops_suit judged s may.code.sizes.counts (together.own s.code may.code may.there) nine i found.named (together.tests s.code may.code may.there s.place i at);
     }
 
--- in another world, behind another text
-elsewhere : {z : Counts} {role : Use} {is : List Instruction} (sound : IsSound z role is) (t : Standing) (w v : World) (text said : List ℕ) → StandsBy sound (state_in t w text) → StandsBy sound (state_in t v said)
-elsewhere sound t w v text said stands = record { place = stands.place; operands = stands.operands; loops = stands.loops; unlooped = stands.unlooped }
+-- behind an instruction that leads on a run stands again, in the same code, whatever became of the world
+pub record StandsOn (judged : List Judged) (s t : Standing) (may : IsStanding judged s) : Type 0 where
+  pub run : IsStanding judged t
+  pub same : run.code ≡ may.code
 
-pub leads_on : (judged : List Judged) (s t : Standing) (i : Instruction) (may : MayRead judged s) (f : Frame) (w v : World) (text said : List ℕ) → at_place (code_told may.code) s.place ≡ Some i
-    → does f (state_in s w text) i ≡ Goes (state_in t v said) → GivesObject (gives may.code.sizes.counts i) t.operands → t.code ≡ s.code → LeadsOn judged s t
-leads_on judged s t i may f w v text said at step small same =
-    let stands : StandsBy may.sound (state_in t v said) = keeps may.sound f may.few (state_in s w text) (state_in t v said) i (may.stands w text) at step small in
+-- whatever it did so far
+whatever : {z : Counts} {role : Use} {is : List Instruction} (sound : IsSound z role is) (t : Standing) (p q : Progress) → StandsBy sound (state_of t p) → StandsBy sound (state_of t q)
+whatever sound t p q stands = record { place = stands.place; operands = stands.operands; loops = stands.loops; unlooped = stands.unlooped }
+
+pub stands_on : (judged : List Judged) (s t : Standing) (i : Instruction) (may : IsStanding judged s) (f : Frame) (p q : Progress) → at_place (code_told may.code) s.place ≡ Some i
+    → does f (state_of s p) i ≡ Goes (state_of t q) → GivesObject (gives may.code.sizes.counts i) t.operands → t.code ≡ s.code → StandsOn judged s t may
+stands_on judged s t i may f p q at step small same =
+    let stands : StandsBy may.sound (state_of t q) = keeps may.sound f may.few (state_of s p) (state_of t q) i (may.stands p) at step small in
     record {
-      stands = record {
+      run = record {
         code = may.code;
         there = ap (slice_get judged) same ∙ may.there;
-        reads = may.reads;
         few = may.few;
         sound = may.sound;
-        stands = λ u words. elsewhere may.sound t v u said words stands;
+        stands = λ r. whatever may.sound t q r stands;
       };
-      same = same;
-      further = ahead may.sound f may.reads (state_in s w text) (state_in t v said) i (may.stands w text) at step;
+      same = refl;
     }
 
+pub leads_on : (judged : List Judged) (s t : Standing) (i : Instruction) (may : MayRead judged s) (f : Frame) (p q : Progress) → at_place (code_told may.run.code) s.place ≡ Some i
+    → does f (state_of s p) i ≡ Goes (state_of t q) → GivesObject (gives may.run.code.sizes.counts i) t.operands → t.code ≡ s.code → LeadsOn judged s t
+leads_on judged s t i may f p q at step small same =
+    let on : StandsOn judged s t may.run = stands_on judged s t i may.run f p q at step small same in
+    record {
+      stands = record { run = on.run; reads = ap (λ (j : Judged). is_body j.sizes.role) on.same ∙ may.reads };
+      same = same;
+      further = ahead may.run.sound f may.reads (state_of s p) (state_of t q) i (may.run.stands p) at step;
+    }
+
+-- the world, and what was said
 blank : World
 blank = record { places = []; flags = []; numbers = []; variables = []; scenes = []; turns = 1; ended = None }
 
 -- a run stands at an instruction, which is fetched
-pub fetched_by : (judged : List Judged) (s : Standing) (may : MayRead judged s) (j : Judged) (result : Option Instruction) → AreSoundTogether judged → length s.loops ≤ 9
+pub fetched_by : (judged : List Judged) (s : Standing) (may : IsStanding judged s) (j : Judged) (result : Option Instruction) → AreSoundTogether judged → length s.loops ≤ 9
     → slice_get judged s.code ≡ Some j → sizes (code_told j) < 65536 → ((i : Instruction) → at_place (code_told j) s.place ≡ Some i → result ≡ Some i) → MatchOption result ⊥ (IsFetched judged s)
 fetched_by judged s may j result together nine there short reads =
     let same : may.code ≡ j = some_is may.code j (sym may.there ∙ there) in
-    let stands = (may.stands blank []).place in
+    let stands = (may.stands (fresh blank)).place in
     let got : result ≡ Some stands.0 = reads stands.0 (ap (λ (k : Judged). at_place (code_told k) s.place) (sym same) ∙ stands.1) in
     subst (λ o. MatchOption o ⊥ (IsFetched judged s)) (sym got)
     (fetched_there judged s stands.0 may together nine (subst (λ (k : Judged). sizes (code_told k) < 65536) (sym same) short) stands.1 blank)

@@ -6,14 +6,16 @@ use Rattle.play_meaning.specs.Doing.{Inner}
 use Rattle.play_meaning.specs.Grounds.{Fixed}
 use Rattle.play_meaning.specs.Instructions.{at_place, row_of, size_of}
 use Rattle.play_meaning.specs.Machines.{Abandons, Answers, Frame, Goes, Leaves, State, Step, does}
+use Rattle.play_meaning.specs.Operands.{may_hold}
+use Rattle.play_meaning.specs.Progress.{Progress}
 use Rattle.play_meaning.specs.Saying.{Telling}
 use Rattle.play_meaning.specs.SoundCodes.{IsSound}
 use Rattle.play_meaning.specs.Stands.{HasOnTop, StandsBy, is_body, taken_by}
 use Rattle.play_meaning.specs.Worlds.{World}
 use Rattle.play_meaning.specs.declared.action.ActionNow.{ActionNow}
 use Rattle.play_meaning.specs.declared.instruction.Instruction.{Instruction}
-use Rattle.play_meaning.specs.declared.instruction.Instruction.TheVariants.{Count, Names, Next, Num}
-use Rattle.play_meaning.specs.declared.operand.Use.TheVariants.{Describing, Test}
+use Rattle.play_meaning.specs.declared.instruction.Instruction.TheVariants.{Begin, Count, Names, Next, Num}
+use Rattle.play_meaning.specs.declared.operand.Use.TheVariants.{Body, Describing, Test}
 use Rattle.play_meaning.specs.declared.outcome.Flow.TheVariants.{GoesOn}
 use Rattle.world_meaning.specs.declared.session.Abandon.{Abandon}
 use Rattle.world_meaning.specs.declared.session.Abandon.TheVariants.{Memory}
@@ -163,32 +165,43 @@ pub record IsNamedTest (judged : List Judged) (code : ℕ) (outer : ℕ) (test :
   pub later : code < test
   pub there : IsTestAt judged test (outer + 1)
 
--- the test that an instruction runs
-abbrev pub RunsItsTest : List Judged → Standing → Instruction → Type 0
-RunsItsTest judged s (Count k test) = (k ≡ length s.loops) × IsNamedTest judged s.code (length s.loops) test
-RunsItsTest judged s (Names naming k test) = (k ≡ length s.loops) × IsNamedTest judged s.code (length s.loops) test
-RunsItsTest judged s (Next k test exit) = (k + 1 ≡ length s.loops) × IsNamedTest judged s.code k test
-RunsItsTest judged s i = Unit {0}
+-- what an instruction says of the open loops: its test is one inside them, and there is room for the one that it opens
+abbrev pub LoopsSuit : List Judged → Standing → Instruction → Type 0
+LoopsSuit judged s (Count k test) = (k ≡ length s.loops) × IsNamedTest judged s.code (length s.loops) test
+LoopsSuit judged s (Names naming k test) = (k ≡ length s.loops) × IsNamedTest judged s.code (length s.loops) test
+LoopsSuit judged s (Next k test exit) = (k + 1 ≡ length s.loops) × IsNamedTest judged s.code k test
+LoopsSuit judged s (Begin k) = length s.loops < 9
+LoopsSuit judged s i = Unit {0}
 
 -- ---- runs that stand
 
--- a run of a test or a description that stands as its code's labels say
-pub record MayRead (judged : List Judged) (s : Standing) : Type 0 where
+-- a run that stands as its code's labels say, whatever it did so far
+pub record IsStanding (judged : List Judged) (s : Standing) : Type 0 where
   pub code : Judged
   pub there : slice_get judged s.code ≡ Some code
-  pub reads : is_body code.sizes.role ≡ false
   pub few : code.sizes.counts.objects < 65536
   pub sound : IsSound code.sizes.counts code.sizes.role (code_told code)
-  pub stands : (w : World) (text : List ℕ) → StandsBy sound (state_in s w text)
+  pub stands : (p : Progress) → StandsBy sound (record { place = s.place; operands = s.operands; loops = s.loops; progress = p })
+
+-- one of a test or a description
+pub record MayRead (judged : List Judged) (s : Standing) : Type 0 where
+  pub run : IsStanding judged s
+  pub reads : is_body run.code.sizes.role ≡ false
+
+-- one of a body
+pub record MayDo (judged : List Judged) (s : Standing) : Type 0 where
+  pub run : IsStanding judged s
+  pub does : run.code.sizes.role ≡ Body
 
 abbrev pub code_at : List Judged → ℕ → List Instruction
 code_at judged n = slice_index_or (map code_told judged) n []
 
--- the instruction at which a run stands, what it takes and the test that it runs
+-- the instruction at which a run stands: its code's use allows it, what it takes is there, and the loops suit it
 pub record IsFetched (judged : List Judged) (s : Standing) (i : Instruction) : Type 0 where
   pub at : at_place (code_at judged s.code) s.place ≡ Some i
+  pub allowed : (code : Judged) → slice_get judged s.code ≡ Some code → may_hold code.sizes.role i ≡ true
   pub served : IsServed i s
-  pub tests : RunsItsTest judged s i
+  pub loops : LoopsSuit judged s i
 
 -- behind an instruction that leads on the run stands again, further on in the same code
 pub record LeadsOn (judged : List Judged) (s t : Standing) : Type 0 where

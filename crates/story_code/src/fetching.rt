@@ -3,7 +3,7 @@ ghost use Rattle.std.specs.Prelude.{◌≡◌, Some, MatchOption, slice_get};
 ghost use Rattle.std.specs.Option.{option_map};
 ghost use Rattle.play_meaning.specs.Instructions.{at_place};
 ghost use Rattle.play_meaning.specs.declared.instruction.Instruction.{Instruction};
-ghost use Rattle.story_code.specs.Runs.{AreSoundTogether, IsFetched, MayRead, code_told};
+ghost use Rattle.story_code.specs.Runs.{AreSoundTogether, IsFetched, IsStanding, code_told};
 
 use crate::decoding::first;
 use crate::state::RunState;
@@ -29,10 +29,10 @@ pub fn code_at(codes: &[Verified], number: u16) -> Option<&Verified>
     codes.get(usize::from(number))
 }
 
-/// The instruction at which a run of a test or a description stands.
+/// The instruction at which a run stands.
 pub fn fetch(codes: &[Verified], state: &RunState) -> Option<Instruction>
     requires sound { AreSoundTogether codes.now }
-    requires stands { MayRead codes.now state.now }
+    requires stands { IsStanding codes.now state.now }
     ensures { MatchOption result ⊥ (IsFetched codes.now state.now) }
 {
     let code = code_at(codes, state.code)?;

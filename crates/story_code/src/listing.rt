@@ -3,7 +3,7 @@ ghost use Rattle.std.specs.Prelude.{◌≡◌, ◌≢◌, ◌+◌, ◌≤◌, �
 ghost use Rattle.std.specs.List.{range_with_len};
 ghost use Rattle.play_meaning.specs.Machines.{passing};
 ghost use Rattle.play_meaning.specs.declared.instruction.Instruction.TheVariants.{Names};
-ghost use Rattle.story_code.specs.Runs.{AreSoundTogether, Describes, IsNamedTest, IsServed, Proceeds, RunsItsTest, kept_if, passes_in};
+ghost use Rattle.story_code.specs.Runs.{AreSoundTogether, Describes, IsNamedTest, IsServed, Proceeds, LoopsSuit, kept_if, passes_in};
 ghost use Rattle.world_meaning.specs.declared.session.Abandon.TheVariants.{Memory};
 
 use crate::naming::say_listed;
@@ -76,7 +76,7 @@ pub fn say_passing<G: Ground>(
 ) -> Result<(), Abandon>
     requires sound { AreSoundTogether codes.now }
     requires served { IsServed (Names listing.naming listing.number listing.test) state.old }
-    requires tests { RunsItsTest codes.now state.old (Names listing.naming listing.number listing.test) }
+    requires loops { LoopsSuit codes.now state.old (Names listing.naming listing.number listing.test) }
     ensures step { Proceeds (G.fixed ground.now) codes.now now.now (G.world ground.now) (Names listing.naming listing.number listing.test) state.old text.old.items result state.new text.new.items }
     ensures same { state.new.code ≡ state.old.code }
 {

@@ -4,7 +4,7 @@ ghost use Rattle.play_meaning.specs.Machines.{does};
 ghost use Rattle.play_meaning.specs.Operands.{gives};
 ghost use Rattle.play_meaning.specs.Stands.{GivesObject};
 ghost use Rattle.play_meaning.specs.declared.operand.Counts.{Counts};
-ghost use Rattle.story_code.specs.Runs.{AreSoundTogether, CameTo, IsServed, Proceeds, RunsItsTest};
+ghost use Rattle.story_code.specs.Runs.{AreSoundTogether, CameTo, IsServed, Proceeds, LoopsSuit};
 
 use crate::came::Came;
 use crate::listing::{Listing, say_passing};
@@ -30,7 +30,7 @@ fn tell<G: Ground>(
 ) -> Result<(), Abandon>
     requires sound { AreSoundTogether codes.now }
     requires served { IsServed instruction state.old }
-    requires tests { RunsItsTest codes.now state.old instruction }
+    requires loops { LoopsSuit codes.now state.old instruction }
     ensures step { Proceeds (G.fixed ground.now) codes.now now.now (G.world ground.now) instruction state.old text.old.items result state.new text.new.items }
     ensures small { (z : Counts) → OnOk result (GivesObject (gives z instruction) state.new.operands) }
     ensures same { state.new.code ≡ state.old.code }
@@ -67,7 +67,7 @@ pub fn go_on<G: Ground>(
 ) -> Result<(), Abandon>
     requires sound { AreSoundTogether codes.now }
     requires served { IsServed instruction state.old }
-    requires tests { RunsItsTest codes.now state.old instruction }
+    requires loops { LoopsSuit codes.now state.old instruction }
     ensures step { Proceeds (G.fixed ground.now) codes.now now.now (G.world ground.now) instruction state.old text.old.items result state.new text.new.items }
     ensures small { (z : Counts) → OnOk result (GivesObject (gives z instruction) state.new.operands) }
     ensures same { state.new.code ≡ state.old.code }
@@ -112,7 +112,7 @@ pub fn describe<G: Ground>(
 ) -> Result<Came, Abandon>
     requires sound { AreSoundTogether codes.now }
     requires served { IsServed instruction state.old }
-    requires tests { RunsItsTest codes.now state.old instruction }
+    requires loops { LoopsSuit codes.now state.old instruction }
     ensures step { CameTo (G.fixed ground.now) codes.now now.now (G.world ground.now) instruction state.old text.old.items result state.new text.new.items }
     ensures small { (z : Counts) → OnOk result (GivesObject (gives z instruction) state.new.operands) }
     ensures same { state.new.code ≡ state.old.code }

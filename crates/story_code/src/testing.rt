@@ -4,7 +4,7 @@ ghost use Rattle.play_meaning.specs.Machines.{does};
 ghost use Rattle.play_meaning.specs.Operands.{gives};
 ghost use Rattle.play_meaning.specs.Stands.{GivesObject};
 ghost use Rattle.play_meaning.specs.declared.operand.Counts.{Counts};
-ghost use Rattle.story_code.specs.Runs.{AreSoundTogether, CameTo, Describes, IsNamedTest, IsServed, IsTestAt, Proceeds, RunsItsTest, TestIs, count_passing, counted_if, passes_in};
+ghost use Rattle.story_code.specs.Runs.{AreSoundTogether, CameTo, Describes, IsNamedTest, IsServed, IsTestAt, Proceeds, LoopsSuit, TestIs, count_passing, counted_if, passes_in};
 ghost use Rattle.world_meaning.specs.declared.session.Abandon.TheVariants.{Memory};
 
 use crate::came::Came;
@@ -55,7 +55,7 @@ fn ask_in_test<G: Ground>(
 ) -> Result<Came, Abandon>
     requires sound { AreSoundTogether codes.now }
     requires served { IsServed instruction state.old }
-    requires tests { RunsItsTest codes.now state.old instruction }
+    requires loops { LoopsSuit codes.now state.old instruction }
     ensures step { (text : List ℕ) → CameTo (G.fixed ground.now) codes.now now.now (G.world ground.now) instruction state.old text result state.new text }
     ensures small { (z : Counts) → OnOk result (GivesObject (gives z instruction) state.new.operands) }
     ensures same { state.new.code ≡ state.old.code }
@@ -81,7 +81,7 @@ pub fn count_or_ask<G: Ground>(
 ) -> Result<(), Abandon>
     requires sound { AreSoundTogether codes.now }
     requires served { IsServed instruction state.old }
-    requires tests { RunsItsTest codes.now state.old instruction }
+    requires loops { LoopsSuit codes.now state.old instruction }
     ensures step { (text : List ℕ) → Proceeds (G.fixed ground.now) codes.now now.now (G.world ground.now) instruction state.old text result state.new text }
     ensures small { (z : Counts) → OnOk result (GivesObject (gives z instruction) state.new.operands) }
     ensures same { state.new.code ≡ state.old.code }

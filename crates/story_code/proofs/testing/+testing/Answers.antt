@@ -4,7 +4,7 @@ use Rattle.play_meaning.specs.Machines.{Abandons, Answers, Leaves}
 use Rattle.play_meaning.specs.declared.instruction.Instruction.{Instruction}
 use Rattle.play_meaning.specs.declared.outcome.Flow.TheVariants.{GoesOn}
 use Rattle.play_meaning.specs.declared.instruction.Instruction.TheVariants.{Count}
-use Rattle.story_code.specs.Runs.{BreaksOff, IsFetched, Leads, RunsItsTest, Standing, count_passing, TestIs, behind, passes_in, state_in}
+use Rattle.story_code.specs.Runs.{BreaksOff, IsFetched, Leads, LoopsSuit, Standing, count_passing, TestIs, behind, passes_in, state_in}
 use Rattle.story_code.specs.declared.came.Came.TheVariants.{On}
 use Rattle.story_code.specs.Testing.{IsRunning, begun}
 use Rattle.story_code.proofs.Answered.{answered_step, answers_so, begins_so, broken_step, counted_broken, counted_least, counted_next, count_broken, count_step, left_step, on_step, read_back}
@@ -61,7 +61,7 @@ count_or_ask-returns-in-Ok-clause-step g t c text =
     let w = g.G.Ground.world c.args.ground.now in
     let s = c.args.state.now in
     let counted = Count c.in-Count.field-0 c.in-Count.test in
-    let runs = subst (λ (i : Instruction). RunsItsTest c.args.codes.now s i) c.in-Count.is c.requires.tests in
+    let runs = subst (λ (i : Instruction). LoopsSuit c.args.codes.now s i) c.in-Count.is c.requires.loops in
     subst (λ (i : Instruction). Leads fixed c.args.codes.now c.args.now.now w i s text On c.pass.new.self text) (sym c.in-Count.is)
     (count_step fixed c.args.codes.now c.args.now.now w s c.in-Count.field-0 c.in-Count.test runs c.pass.new.self c.in-Ok.count (to_z w32 (of_z w32 c.from.result)) (read_back c.from.result c.from.type_inv ∙ c.from.ensures)
     (c.pass.ensures ∙ ap (behind counted) c.push.ensures) c.in-Ok.ensures text)
@@ -71,7 +71,7 @@ count_or_ask-returns-in-Err-clause-step g t c text =
     let fixed = g.G.Ground.fixed c.args.ground.now in
     let w = g.G.Ground.world c.args.ground.now in
     let s = c.args.state.now in
-    let runs = subst (λ (i : Instruction). RunsItsTest c.args.codes.now s i) c.in-Count.is c.requires.tests in
+    let runs = subst (λ (i : Instruction). LoopsSuit c.args.codes.now s i) c.in-Count.is c.requires.loops in
     subst (λ (i : Instruction). BreaksOff fixed c.args.codes.now c.args.now.now w i s text c.in-Err.reason) (sym c.in-Count.is)
     (count_broken fixed c.args.codes.now c.args.now.now w s c.in-Count.field-0 c.in-Count.test runs c.in-Err.reason c.in-Err.ensures text)
 
