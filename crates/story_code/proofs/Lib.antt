@@ -1,8 +1,11 @@
 pub mod Answered
+pub mod Carried
+pub mod Described
 pub mod Exact
 pub mod Fetched
 pub mod FrontLemmas
 pub mod Listed
+pub mod Looped
 pub mod Marking
 pub mod Passing
 pub mod Places
@@ -11,5 +14,6 @@ pub mod Sounding
 pub mod Served
 pub mod SpelledFronts
 pub mod Stacks
+pub mod Stepped
 pub mod Truths
 pub mod WalkLemmas

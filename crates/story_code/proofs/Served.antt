@@ -5,7 +5,7 @@ use Rattle.std.proofs.lemmas.Bool.{and_parts, eqb-true, ltb-true}
 use Rattle.play_meaning.specs.declared.instruction.Instruction.TheVariants as code
 use Rattle.play_meaning.specs.Instructions.{at_place, sizes}
 use Rattle.play_meaning.specs.Machines.{Frame, Goes, State, does}
-use Rattle.play_meaning.specs.Operands.{gives, is_object, may_hold, names_what_is_there}
+use Rattle.play_meaning.specs.Operands.{gives, is_object, names_what_is_there}
 use Rattle.play_meaning.specs.Progress.{Progress, fresh}
 use Rattle.play_meaning.specs.SoundCodes.{IsSound}
 use Rattle.play_meaning.specs.Stands.{Finds, GivesObject, HasOnTop, StandsBy, is_body, taken_by}
@@ -196,7 +196,6 @@ fetched_there judged s i may together nine short at w =
     let found : Finds may.code.sizes.counts may.code.sizes.role i (state_of s p) = finds may.sound (state_of s p) i stands at in
     record {
       at = ap (λ c. at_place c s.place) (told_at judged s.code may.code may.there) ∙ at;
-      allowed = λ j there. subst (λ (k : Judged). may_hold k.sizes.role i ≡ true) (some_is may.code j (sym may.there ∙ there)) found.allowed;
       served = record {
         place = omega (arith, within may.sound (state_of s p) stands, short);
         many = on_top_many (taken_by i) s.operands found.operands;
@@ -240,7 +239,6 @@ leads_on judged s t i may f p q at step small same =
       further = ahead may.run.sound f may.reads (state_of s p) (state_of t q) i (may.run.stands p) at step;
     }
 
--- the world, and what was said
 blank : World
 blank = record { places = []; flags = []; numbers = []; variables = []; scenes = []; turns = 1; ended = None }
 

@@ -5,5 +5,6 @@ pub mod Passes
 pub mod Runs
 pub mod Soundness
 pub mod Spelling
+pub mod Steps
 pub mod Testing
 pub mod Walks

@@ -1,12 +1,11 @@
 -- Runs of a story's codes over a ground: how they stand, and what a step of them comes to.
-use Rattle.std.specs.Prelude.{◌≡◌, ◌≢◌, ℕ, zero, suc, ℤ, ◌+◌, ◌<◌, ◌≤◌, Bool, true, false, List, [], ◌∷◌, ◌++◌, map, length, MatchResult, Option, None, Result, Some, Ok, is_some, slice_get, slice_index_or}
+use Rattle.std.specs.Prelude.{◌≡◌, ◌≢◌, ℕ, zero, suc, ℤ, ◌+◌, ◌-◌, ◌<◌, ◌≤◌, Bool, true, false, List, [], ◌∷◌, ◌++◌, map, length, MatchResult, Option, None, Result, Some, Ok, is_some, slice_get, slice_index_or, take}
 use Rattle.play_meaning.specs.Attempts.{Attempt, next}
 use Rattle.play_meaning.specs.Codes.{Codes, frame_of, test_within}
 use Rattle.play_meaning.specs.Doing.{Inner}
 use Rattle.play_meaning.specs.Grounds.{Fixed}
 use Rattle.play_meaning.specs.Instructions.{at_place, row_of, size_of}
-use Rattle.play_meaning.specs.Machines.{Abandons, Answers, Frame, Goes, Leaves, State, Step, does}
-use Rattle.play_meaning.specs.Operands.{may_hold}
+use Rattle.play_meaning.specs.Machines.{Abandons, Answers, Frame, Goes, Leaves, State, Step, does, first_passing, number_behind}
 use Rattle.play_meaning.specs.Progress.{Progress}
 use Rattle.play_meaning.specs.Saying.{Telling}
 use Rattle.play_meaning.specs.SoundCodes.{IsSound}
@@ -57,9 +56,12 @@ pub record AreSoundTogether (judged : List Judged) : Type 0 where
   pub all : (n : ℕ) (j : Judged) → slice_get judged n ≡ Some j → j.sizes.counts.codes ≡ length judged
   pub tests : (n : ℕ) (j : Judged) → slice_get judged n ≡ Some j → (place : ℕ) (i : Instruction) → at_place (code_told j) place ≡ Some i → NamesItsTest judged i
 
+abbrev pub IsDescription : List Judged → ℕ → Type 0
+IsDescription judged n = (j : Judged) × ((slice_get judged n ≡ Some j) × (j.sizes.role ≡ Describing))
+
 -- what describes an object is a description's code
 abbrev pub AreDescribedBy : List Judged → Fixed → Type 0
-AreDescribedBy judged fixed = (o n : ℕ) → fixed.descriptions o ≡ Some n → (j : Judged) × ((slice_get judged n ≡ Some j) × (j.sizes.role ≡ Describing))
+AreDescribedBy judged fixed = (o n : ℕ) → fixed.descriptions o ≡ Some n → IsDescription judged n
 
 -- ---- states
 
@@ -165,6 +167,12 @@ pub record IsNamedTest (judged : List Judged) (code : ℕ) (outer : ℕ) (test :
   pub later : code < test
   pub there : IsTestAt judged test (outer + 1)
 
+-- which object a loop turns to next: the first one behind that of its last turn that passes its test
+abbrev pub NextIs : Fixed → List Judged → ActionNow → World → List (Option ℕ) → ℕ → ℕ → Attempt (Option ℕ) → Type 0
+NextIs fixed judged now w loops k test answer =
+    (depth : ℕ) (describes : Describes) → length judged ≤ test + depth
+    → first_passing (passes_in fixed judged now w depth describes test (take k loops)) (fixed.setting.count - number_behind (slice_index_or loops k None)) (number_behind (slice_index_or loops k None)) ≡ answer
+
 -- what an instruction says of the open loops: its test is one inside them, and there is room for the one that it opens
 abbrev pub LoopsSuit : List Judged → Standing → Instruction → Type 0
 LoopsSuit judged s (Count k test) = (k ≡ length s.loops) × IsNamedTest judged s.code (length s.loops) test
@@ -196,10 +204,9 @@ pub record MayDo (judged : List Judged) (s : Standing) : Type 0 where
 abbrev pub code_at : List Judged → ℕ → List Instruction
 code_at judged n = slice_index_or (map code_told judged) n []
 
--- the instruction at which a run stands: its code's use allows it, what it takes is there, and the loops suit it
+-- the instruction at which a run stands: what it takes is there, and the loops suit it
 pub record IsFetched (judged : List Judged) (s : Standing) (i : Instruction) : Type 0 where
   pub at : at_place (code_at judged s.code) s.place ≡ Some i
-  pub allowed : (code : Judged) → slice_get judged s.code ≡ Some code → may_hold code.sizes.role i ≡ true
   pub served : IsServed i s
   pub loops : LoopsSuit judged s i
 

@@ -1,5 +1,7 @@
 //! Where a run of a code stands.
-ghost use Rattle.std.specs.Prelude.{◌≡◌, ◌<◌, [], length};
+ghost use Rattle.std.specs.Prelude.{◌≡◌, ◌+◌, ◌++◌, ◌<◌, [], ◌∷◌, None, length, take};
+ghost use Rattle.play_meaning.specs.Machines.{with_object};
+ghost use Rattle.play_meaning.specs.Progress.{most_work};
 ghost use Rattle.story_code.specs.Runs.{behind, over};
 
 use crate::operands::Operands;
@@ -7,6 +9,7 @@ use crate::row::size;
 use crate::turning::Turning;
 use play_meaning::Instruction;
 use std::marker::Model;
+use world_meaning::ObjNo;
 
 /// Where a run of a code stands: the code's number, the place in it, counted in bytes, the operands, the objects of the
 /// open loops and the work done.
@@ -83,6 +86,39 @@ impl RunState {
         ensures { self.new ≡ record self.old { place = place } }
     {
         self.place = place;
+    }
+
+    /// A loop opens, before its first turn.
+    pub(crate) fn open(&mut self)
+        requires { length self.old.loops < 9 }
+        ensures { self.new ≡ record self.old { loops = self.old.loops ++ None ∷ [] } }
+    {
+        self.loops.push(None);
+    }
+
+    /// A loop turns to an object; those inside it are closed. A turn is one unit of work.
+    pub(crate) fn turn(&mut self, number: u8, object: ObjNo)
+        requires few { number < 9 }
+        requires work { self.old.work < most_work }
+        ensures { self.new ≡ record self.old { loops = with_object self.old.loops number object; work = self.old.work + 1 } }
+    {
+        self.loops.keep(number);
+        self.loops.push(Some(object));
+        self.work += 1;
+    }
+
+    /// A loop closes, with those inside it.
+    pub(crate) fn close(&mut self, number: u8)
+        ensures { self.new ≡ record self.old { loops = take number self.old.loops } }
+    {
+        self.loops.keep(number);
+    }
+
+    /// So much work is done.
+    pub fn set_work(&mut self, work: u32)
+        ensures { self.new ≡ record self.old { work = work } }
+    {
+        self.work = work;
     }
 
     /// The work done.
