@@ -30,7 +30,7 @@ use Rattle.story_code.specs.Testing.{EndsSo, IsLast, IsRunning, begun}
 use Rattle.story_code.proofs.Fetched.{told}
 use Rattle.story_code.proofs.Served.{leads_on, told_at}
 
-there_long : (judged : List Judged) (n : ℕ) (j : Judged) → slice_get judged n ≡ Some j → n < length judged
+pub there_long : (judged : List Judged) (n : ℕ) (j : Judged) → slice_get judged n ≡ Some j → n < length judged
 there_long [] n j there = absurd cc
 there_long (k ∷ judged) zero j there = omega arith
 there_long (k ∷ judged) (suc n) j there = omega (arith, there_long judged n j there)
@@ -148,12 +148,12 @@ at_first number work loops = record { code = number; place = 0; operands = []; l
 pub stands_at_first : (judged : List Judged) (number work : ℕ) (loops : List (Option ℕ)) (j : Judged) → AreSoundTogether judged → slice_get judged number ≡ Some j
     → length loops ≡ loops_around j.sizes.role → (may : IsStanding judged (at_first number work loops)) × (may.code ≡ j)
 stands_at_first judged number work loops j together there around =
-    let kept = together.sound number j there in
+    let kept = (together number j there).sound in
     let whole : IsSound j.sizes.counts j.sizes.role (code_told j) = subst (λ is. IsSound j.sizes.counts j.sizes.role is) (sym (told j kept)) kept.sound in (
       record {
         code = j;
         there = there;
-        few = together.few number j there;
+        few = (together number j there).few;
         sound = whole;
         stands = λ p. begins whole loops p around;
       },

@@ -45,7 +45,7 @@ module _ (fixed : Fixed) (judged : List Judged) (now : ActionNow) (w : World) (n
 
   sound_code : AreSoundTogether judged → (is : IsDescription judged n) → IsSound is.0.sizes.counts Describing (code_at judged n)
   sound_code together is =
-      let kept = together.sound n is.0 is.1.0 in
+      let kept = (together n is.0 is.1.0).sound in
       let whole : IsSound is.0.sizes.counts is.0.sizes.role (code_told is.0) = subst (λ code. IsSound is.0.sizes.counts is.0.sizes.role code) (sym (told is.0 kept)) kept.sound in
       subst (λ code. IsSound is.0.sizes.counts Describing code) (sym (told_at judged n is.0 is.1.0)) (subst (λ role. IsSound is.0.sizes.counts role (code_told is.0)) is.1.1 whole)
 

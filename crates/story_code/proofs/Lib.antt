@@ -15,5 +15,6 @@ pub mod Served
 pub mod SpelledFronts
 pub mod Stacks
 pub mod Stepped
+pub mod TestsNamed
 pub mod Truths
 pub mod WalkLemmas

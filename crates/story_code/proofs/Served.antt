@@ -19,7 +19,7 @@ use Rattle.play_meaning.proofs.States.{ahead, finds, keeps, within}
 use Rattle.story_code.specs.Runs.{AreSoundTogether, IsFetched, IsNamedTest, IsStanding, IsTestAt, LeadsOn, LoopsSuit, MayRead, NamesItsTest, Standing, code_at, code_told, gives_one}
 use Rattle.story_code.specs.Soundness.{Judged}
 
-some_is : {A : Type 0} (x y : A) → Some x ≡ Some y → x ≡ y
+pub some_is : {A : Type 0} (x y : A) → Some x ≡ Some y → x ≡ y
 some_is x y e = cc
 
 -- a number is given whatever it serves as
@@ -202,7 +202,7 @@ fetched_there judged s i may together nine short at w =
         operands = found.operands;
         room = λ some. found.room (given may.code.sizes.counts i some);
       };
-      loops = loops_suit judged s may.code.sizes.counts (together.own s.code may.code may.there) nine i found.named (together.tests s.code may.code may.there s.place i at);
+      loops = loops_suit judged s may.code.sizes.counts (together s.code may.code may.there).own nine i found.named ((together s.code may.code may.there).tests s.place i at);
     }
 
 -- behind an instruction that leads on a run stands again, in the same code, whatever became of the world

@@ -7,4 +7,5 @@ pub mod Soundness
 pub mod Spelling
 pub mod Steps
 pub mod Testing
+pub mod Together
 pub mod Walks

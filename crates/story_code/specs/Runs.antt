@@ -40,28 +40,40 @@ codes_of fixed judged = record { strings = fixed.strings; codes = map code_told 
 abbrev pub IsTestAt : List Judged → ℕ → ℕ → Type 0
 IsTestAt judged n loops = (j : Judged) × ((slice_get judged n ≡ Some j) × (j.sizes.role ≡ Test loops))
 
+-- the loop that a test of an instruction is inside, innermost, and the test
+abbrev pub test_named : Instruction → Option (ℕ × ℕ)
+test_named (Count k test) = Some (k, test)
+test_named (Names naming k test) = Some (k, test)
+test_named (Next k test exit) = Some (k, test)
+test_named i = None
+
+abbrev pub IsTestOf : List Judged → Option (ℕ × ℕ) → Type 0
+IsTestOf judged None = Unit {0}
+IsTestOf judged (Some named) = IsTestAt judged named.1 (named.0 + 1)
+
 -- the test that an instruction names is one, inside one loop more than are open
 abbrev pub NamesItsTest : List Judged → Instruction → Type 0
-NamesItsTest judged (Count k test) = IsTestAt judged test (k + 1)
-NamesItsTest judged (Names naming k test) = IsTestAt judged test (k + 1)
-NamesItsTest judged (Next k test exit) = IsTestAt judged test (k + 1)
-NamesItsTest judged i = Unit {0}
+NamesItsTest judged i = IsTestOf judged (test_named i)
 
--- codes that are sound together: each is sound, judged by its own number among all of them and by no more objects than have
--- numbers, and names tests for what they are
-pub record AreSoundTogether (judged : List Judged) : Type 0 where
-  pub sound : (n : ℕ) (j : Judged) → slice_get judged n ≡ Some j → IsSoundCode j.sizes j.bytes
-  pub few : (n : ℕ) (j : Judged) → slice_get judged n ≡ Some j → j.sizes.counts.objects < 65536
-  pub own : (n : ℕ) (j : Judged) → slice_get judged n ≡ Some j → j.sizes.counts.own ≡ n
-  pub all : (n : ℕ) (j : Judged) → slice_get judged n ≡ Some j → j.sizes.counts.codes ≡ length judged
-  pub tests : (n : ℕ) (j : Judged) → slice_get judged n ≡ Some j → (place : ℕ) (i : Instruction) → at_place (code_told j) place ≡ Some i → NamesItsTest judged i
+-- a code that stands rightly among others: it is sound, judged by its own number among all of them and by no more objects than
+-- have numbers, and names tests for what they are
+pub record IsOneOf (judged : List Judged) (n : ℕ) (j : Judged) : Type 0 where
+  pub sound : IsSoundCode j.sizes j.bytes
+  pub few : j.sizes.counts.objects < 65536
+  pub own : j.sizes.counts.own ≡ n
+  pub all : j.sizes.counts.codes ≡ length judged
+  pub tests : (place : ℕ) (i : Instruction) → at_place (code_told j) place ≡ Some i → NamesItsTest judged i
+
+-- codes that are sound together
+abbrev pub AreSoundTogether : List Judged → Type 0
+AreSoundTogether judged = (n : ℕ) (j : Judged) → slice_get judged n ≡ Some j → IsOneOf judged n j
 
 abbrev pub IsDescription : List Judged → ℕ → Type 0
 IsDescription judged n = (j : Judged) × ((slice_get judged n ≡ Some j) × (j.sizes.role ≡ Describing))
 
--- what describes an object is a description's code
+-- what describes an object, whatever its number of two bytes, is a description's code
 abbrev pub AreDescribedBy : List Judged → Fixed → Type 0
-AreDescribedBy judged fixed = (o n : ℕ) → fixed.descriptions o ≡ Some n → IsDescription judged n
+AreDescribedBy judged fixed = (o n : ℕ) → o < 65536 → fixed.descriptions o ≡ Some n → IsDescription judged n
 
 -- ---- states
 

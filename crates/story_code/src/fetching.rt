@@ -22,11 +22,18 @@ fn instruction_at(code: &Verified, place: usize) -> Option<Instruction>
     first(rest)
 }
 
+/// The code at an index.
+pub fn nth(codes: &[Verified], index: usize) -> Option<&Verified>
+    ensures { option_map (λ code. code.now) result ≡ slice_get codes.now index }
+{
+    codes.get(index)
+}
+
 /// The code of a number.
 pub fn code_at(codes: &[Verified], number: u16) -> Option<&Verified>
     ensures { option_map (λ code. code.now) result ≡ slice_get codes.now number }
 {
-    codes.get(usize::from(number))
+    nth(codes, usize::from(number))
 }
 
 /// The instruction at which a run stands.

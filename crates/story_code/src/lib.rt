@@ -28,6 +28,7 @@ mod state;
 mod step;
 mod telling;
 mod testing;
+mod together;
 mod turning;
 mod verified;
 mod verifying;
@@ -40,5 +41,6 @@ pub use plain::read_plain;
 pub use sizes::Sizes;
 pub use state::RunState;
 pub use step::{BookNo, Step};
+
 pub use verified::Verified;
 pub use verifying::verify;
