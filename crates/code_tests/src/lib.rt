@@ -1,7 +1,12 @@
-//! Tests of codes: how each instruction is spelled, and which codes are sound.
+//! Tests of codes: how each instruction is spelled, which codes are sound, and what bodies do.
 #![tactic(auto)]
 
+#[cfg(test)]
+mod bodies;
+mod runner;
 #[cfg(test)]
 mod soundness;
 #[cfg(test)]
 mod spelling;
+
+pub use runner::{Ended, run};

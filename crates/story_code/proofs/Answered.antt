@@ -21,8 +21,8 @@ use Rattle.play_meaning.specs.declared.outcome.Flow.TheVariants.{GoesOn}
 use Rattle.play_meaning.proofs.States.{begins, within}
 use Rattle.world_meaning.specs.declared.session.Abandon.{Abandon}
 use Rattle.world_meaning.specs.declared.session.Abandon.TheVariants.{Memory}
-use Rattle.story_code.specs.Laws.{RunsBeginStanding}
-use Rattle.story_code.specs.Runs.{AreSoundTogether, BreaksOff, CameTo, Describes, DoesSo, IsFetched, IsStanding, IsTestAt, Leads, LeadsOn, MayRead, LoopsSuit, Standing, TestIs, behind, code_at, code_told, codes_of, count_passing, counted_if, frame_in, over, passes_in, state_in, telling_in}
+use Rattle.story_code.specs.Laws.{BodiesBeginStanding, RunsBeginStanding, RunsStandBehindAnyWork}
+use Rattle.story_code.specs.Runs.{AreSoundTogether, BreaksOff, CameTo, Describes, DoesSo, IsFetched, IsStanding, IsTestAt, Leads, LeadsOn, MayDo, MayRead, LoopsSuit, Standing, TestIs, behind, code_at, code_told, codes_of, count_passing, counted_if, frame_in, over, passes_in, state_in, telling_in}
 use Rattle.story_code.specs.Soundness.{Judged}
 use Rattle.story_code.specs.declared.came.Came.{Came}
 use Rattle.story_code.specs.declared.came.Came.TheVariants.{Answered, Left, On}
@@ -168,6 +168,17 @@ reads_at_first judged number work loops j together there reads around =
 
 pub begins_outside : RunsBeginStanding
 begins_outside judged number work j together there reads outside = reads_at_first judged number work [] j together there reads (sym outside)
+
+pub body_begins : BodiesBeginStanding
+body_begins judged number work together is =
+    let may = stands_at_first judged number work [] is.0 together is.1.0 (sym (ap loops_around is.1.1)) in
+    record { run = may.0; does = ap (λ (k : Judged). k.sizes.role) may.1 ∙ is.1.1 }
+
+pub behind_any_work : RunsStandBehindAnyWork
+behind_any_work judged s work may = record {
+  run = record { code = may.run.code; there = may.run.there; few = may.run.few; sound = may.run.sound; stands = may.run.stands };
+  does = may.does;
+}
 
 begun_is : (judged : List Judged) (number : ℕ) (loops : List (Option ℕ)) → AreSoundTogether judged → IsTestAt judged number (length loops) → MayRead judged (begun number loops)
 begun_is judged number loops together there = reads_at_first judged number 0 loops there.0 together there.1.0 (ap is_body there.1.1) (sym (ap loops_around there.1.1))

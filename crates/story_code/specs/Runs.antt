@@ -68,6 +68,9 @@ pub record IsOneOf (judged : List Judged) (n : ℕ) (j : Judged) : Type 0 where
 abbrev pub AreSoundTogether : List Judged → Type 0
 AreSoundTogether judged = (n : ℕ) (j : Judged) → slice_get judged n ≡ Some j → IsOneOf judged n j
 
+abbrev pub IsBody : List Judged → ℕ → Type 0
+IsBody judged n = (j : Judged) × ((slice_get judged n ≡ Some j) × (j.sizes.role ≡ Body))
+
 abbrev pub IsDescription : List Judged → ℕ → Type 0
 IsDescription judged n = (j : Judged) × ((slice_get judged n ≡ Some j) × (j.sizes.role ≡ Describing))
 

@@ -16,7 +16,7 @@ use crate::looping::next_object;
 use crate::naming::say;
 use crate::number::object_at;
 use crate::state::RunState;
-use crate::step::{BookNo, Step};
+use crate::step::Step;
 use crate::telling::go_on;
 use crate::verified::Verified;
 use play_meaning::{ActNo, ActionNow, Ground, GroundMut, Instruction};
@@ -202,7 +202,7 @@ fn do_in_body<G: GroundMut>(
         }
         Instruction::Follow(book) => {
             state.pass(instruction);
-            Ok(Step::Follow(BookNo::new(book)))
+            Ok(Step::Follow(book))
         }
         Instruction::Done => Ok(Step::Done),
         Instruction::NoDecision => Ok(Step::NoDecision),

@@ -1,5 +1,5 @@
 //! What is known of codes and their bytes.
-ghost use Rattle.story_code.specs.Laws.{OneCode, RunsBeginStanding};
+ghost use Rattle.story_code.specs.Laws.{BodiesBeginStanding, OneCode, RunsBeginStanding, RunsStandBehindAnyWork};
 ghost use Rattle.story_code.specs.Soundness.{IsSoundCode};
 
 use crate::verified::Verified;
@@ -16,7 +16,10 @@ pub fn verified_code_is_sound(code: &Verified)
     let _ = &code.bytes;
 }
 
-/// A run of a test or a description may be read from its beginning, if no loop is open around the code.
+/// A run of a test or a description may be read from its beginning, if no loop is open around the code; one of a body may
+/// be run from there, and wherever it may be, whatever work was done.
 pub fn runs_begin_standing()
-    ensures { RunsBeginStanding }
+    ensures reads { RunsBeginStanding }
+    ensures does { BodiesBeginStanding }
+    ensures work { RunsStandBehindAnyWork }
 {}

@@ -40,7 +40,7 @@ pub use laws::{one_code, runs_begin_standing, verified_code_is_sound};
 pub use plain::read_plain;
 pub use sizes::Sizes;
 pub use state::RunState;
-pub use step::{BookNo, Step};
-
+pub use step::Step;
+pub use together::{are_described_by, are_sound_together, is_body};
 pub use verified::Verified;
 pub use verifying::verify;

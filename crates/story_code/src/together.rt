@@ -2,7 +2,7 @@
 ghost use Rattle.std.specs.Prelude.{◌≡◌, ◌↔◌, ℕ, IsTrue, Some, slice_get};
 ghost use Rattle.std.specs.Option.{option_map};
 ghost use Rattle.story_code.specs.Fronts.{code_in};
-ghost use Rattle.story_code.specs.Runs.{AreDescribedBy, AreSoundTogether, IsDescription, IsOneOf};
+ghost use Rattle.story_code.specs.Runs.{AreDescribedBy, AreSoundTogether, IsBody, IsDescription, IsOneOf};
 ghost use Rattle.story_code.specs.Soundness.{Judged};
 ghost use Rattle.story_code.specs.Together.{is_inside, is_one_of, is_test_inside, name_their_tests, names_its_test};
 
@@ -106,6 +106,16 @@ fn is_description(codes: &[Verified], number: u16) -> bool
 {
     match code_at(codes, number) {
         Some(code) => matches!(code.sizes().role, Use::Describing),
+        None => false,
+    }
+}
+
+/// Whether the code of a number is a body.
+pub fn is_body(codes: &[Verified], number: u16) -> bool
+    ensures { IsTrue result ↔ IsBody codes.now number }
+{
+    match code_at(codes, number) {
+        Some(code) => matches!(code.sizes().role, Use::Body),
         None => false,
     }
 }
