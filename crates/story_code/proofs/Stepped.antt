@@ -1,6 +1,5 @@
 -- Behind a step of a body its run stands again.
 use Rattle.std.proofs.Common.{◌≡◌, ◌∙◌, ap, sym, true, List, ℕ, Ok, Some}
-
 use Rattle.play_meaning.specs.Grounds.{Fixed}
 use Rattle.play_meaning.specs.Instructions.{at_place}
 use Rattle.play_meaning.specs.Machines.{Goes, does}

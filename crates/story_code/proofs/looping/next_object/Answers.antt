@@ -19,7 +19,7 @@ returns-in-Ok-true g c depth describes enough =
     let outer = take c.args.number c.args.state.now.loops in
     let f = passes_in fixed c.args.codes.now c.args.now.now w depth describes c.args.test outer in
     let loops = c.with.ensures ∙ ap (λ (l : List (Option ℕ)). l ++ Some c.new-object.result ∷ []) (c.keep.ensures ∙ ap (take c.args.number) (c.copied-outer.ensures ∙ ap (λ (s : Standing). s.loops) c.state.view_is))
-        ∙ ap (λ n. outer ++ Some n ∷ []) c.new-object.ensures in
+    ∙ ap (λ n. outer ++ Some n ∷ []) c.new-object.ensures in
     let is = subst (λ ls. TestIs fixed c.args.codes.now c.args.now.now w c.args.test ls (Ok true)) loops (subst (λ b. TestIs fixed c.args.codes.now c.args.now.now w c.args.test c.with.result (Ok b)) c.in-Ok-true.field-0-test c.in-Ok-true.ensures) depth describes enough in
     let from = number_behind (slice_index_or c.args.state.now.loops c.args.number None) in
     found f fixed.setting.count (first_passing f (fixed.setting.count - from) from) c.loop-next.next (omega (arith, c.loop-next-test.true, c.from-next-end.ensures, c.object_count.ensures)) is (c.loop-next.invariant depth describes enough)
@@ -32,7 +32,7 @@ returns-in-Err g c granted depth describes enough =
     let outer = take c.args.number c.args.state.now.loops in
     let f = passes_in fixed c.args.codes.now c.args.now.now w depth describes c.args.test outer in
     let loops = c.with.ensures ∙ ap (λ (l : List (Option ℕ)). l ++ Some c.new-object.result ∷ []) (c.keep.ensures ∙ ap (take c.args.number) (c.copied-outer.ensures ∙ ap (λ (s : Standing). s.loops) c.state.view_is))
-        ∙ ap (λ n. outer ++ Some n ∷ []) c.new-object.ensures in
+    ∙ ap (λ n. outer ++ Some n ∷ []) c.new-object.ensures in
     let broke = subst (λ ls. TestIs fixed c.args.codes.now c.args.now.now w c.args.test ls (Err c.in-Err.reason)) loops (c.in-Err.ensures granted) depth describes enough in
     let from = number_behind (slice_index_or c.args.state.now.loops c.args.number None) in
     sought_broken f fixed.setting.count (first_passing f (fixed.setting.count - from) from) c.in-Err.reason c.loop-next.next (omega (arith, c.loop-next-test.true, c.from-next-end.ensures, c.object_count.ensures)) broke
@@ -45,7 +45,7 @@ loop-next-preserved g c depth describes enough =
     let outer = take c.args.number c.args.state.now.loops in
     let f = passes_in fixed c.args.codes.now c.args.now.now w depth describes c.args.test outer in
     let loops = c.with.ensures ∙ ap (λ (l : List (Option ℕ)). l ++ Some c.new-object.result ∷ []) (c.keep.ensures ∙ ap (take c.args.number) (c.copied-outer.ensures ∙ ap (λ (s : Standing). s.loops) c.state.view_is))
-        ∙ ap (λ n. outer ++ Some n ∷ []) c.new-object.ensures in
+    ∙ ap (λ n. outer ++ Some n ∷ []) c.new-object.ensures in
     let is = subst (λ ls. TestIs fixed c.args.codes.now c.args.now.now w c.args.test ls (Ok false)) loops (subst (λ b. TestIs fixed c.args.codes.now c.args.now.now w c.args.test c.with.result (Ok b)) c.in-Ok-false.field-0-test c.in-Ok-false.ensures) depth describes enough in
     let from = number_behind (slice_index_or c.args.state.now.loops c.args.number None) in
     sought_on f fixed.setting.count (first_passing f (fixed.setting.count - from) from) c.loop-next.next (omega (arith, c.loop-next-test.true, c.from-next-end.ensures, c.object_count.ensures)) is (c.loop-next.invariant depth describes enough)
