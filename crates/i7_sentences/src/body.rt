@@ -1,6 +1,6 @@
 //! A rule's body, cut into its phrases.
 ghost use Rattle.std.specs.Prelude.{◌≡◌, ◌≤◌, length, IfOk, OnOk};
-ghost use Rattle.i7_sentences.specs.Bodies.{body_lines, comma_len, ends_phrase, head_len, indent_at, indent_before, indent_behind, is_comma, is_empty_run, is_no_mark, is_nothing, is_pause, is_same_phrase, is_semicolon, is_spelled_so, lines_of, mark_at, mark_behind, mark_of, opens_inline, phrase_in, phrase_of, phrases_of, unmarked, with_piece, with_run};
+ghost use Rattle.i7_sentences.specs.Bodies.{body_lines, comma_len, ends_phrase, head_len, indent_at, indent_before, indent_behind, is_comma, is_empty_run, is_no_mark, is_nothing, is_pause, is_same_phrase, is_semicolon, is_spelled_so, lines_of, mark_at, mark_behind, mark_of, opens_inline, past, phrase_in, phrase_of, phrases_of, unmarked, with_piece, with_run};
 ghost use Rattle.i7_sentences.specs.Read.{line_in};
 ghost use Rattle.i7_sentences.specs.Cuts.{cut, opens_nothing};
 ghost use Rattle.i7_sentences.specs.Pieces.{piece_len};
@@ -33,6 +33,8 @@ pub struct PhraseLine<'a> {
     pub line: u32,
     /// How many tabs that line begins with, 0 on the line of the rule.
     pub indent: u32,
+    /// The same of the line at which it ends.
+    pub last_indent: u32,
 }
 
 /// The phrases so far, and the indent of the line at which they end.
@@ -278,24 +280,36 @@ fn phrase_in(indent: u32, run: &[Token]) -> PhraseLine<'_>
         mark: mark_behind(run),
         line: line_in(run),
         indent: indent_before(indent, run),
+        last_indent: indent_behind(indent, run),
     }
 }
 
-/// Adds a phrase, if the tokens are one.
+/// Goes on behind tokens that are no phrase.
+fn pass(run: &[Token], lines: &mut BodyLines<'_>)
+    ensures { lines_of lines.new ≡ past (lines_of lines.old) run.now }
+{
+    lines.indent = indent_behind(lines.indent, run);
+}
+
+/// Adds the phrase that the tokens are, be it an empty one; none where there are no tokens.
 fn add_run<'a>(run: &'a [Token], lines: &mut BodyLines<'a>) -> Result<(), AllocError>
     ensures { OnOk result (lines_of lines.new ≡ with_run (lines_of lines.old) run.now) }
 {
-    if !is_nothing(run) {
+    if !is_empty_run(run) {
         lines.all.push(phrase_in(lines.indent, run))?;
+        lines.indent = indent_behind(lines.indent, run);
     }
-    lines.indent = indent_behind(lines.indent, run);
     Ok(())
 }
 
-/// Adds the phrases of a piece: what stands in front of another, and that other.
+/// Adds the phrases of a piece: what stands in front of another, and that other, be it an empty one.
 fn add_piece<'a>(piece: &'a [Token], lines: &mut BodyLines<'a>) -> Result<(), AllocError>
     ensures { OnOk result (lines_of lines.new ≡ with_piece (lines_of lines.old) piece.now) }
 {
+    if is_nothing(piece) {
+        pass(piece, lines);
+        return Ok(());
+    }
     let (head, behind) = piece.split_at(head_len(piece));
     add_run(head, lines)?;
     add_run(behind, lines)

@@ -34,7 +34,7 @@ mod word;
 mod word_list;
 
 pub use body::{PhraseLine, PhraseMark, phrases_of};
-pub use body_order::body_fault;
+pub use body_order::{body_fault, reserved_line};
 pub use class::{Class, PHRASES, State};
 pub use cut::HEADINGS;
 pub use form::{FORMS, Form, Piece};
@@ -46,7 +46,7 @@ pub use laws::{
 pub use name::{Name, NameArticle};
 pub use names::Names;
 pub use part::{Part, PartKind};
-pub use phrase_form::{PHRASE_FORMS, PhraseForm, form_of};
+pub use phrase_form::{PHRASE_FORMS, PhraseForm, PhraseShape, shape_in};
 pub use reader::read;
 pub use sentence::{Assertion, Being, Holder, Sentence, Side, Way};
 pub use text_piece::{TextPiece, TextPieces};
