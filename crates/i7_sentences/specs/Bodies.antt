@@ -5,10 +5,11 @@ use Rattle.i7_lexer.specs.declared.token.Token.{Token}
 use Rattle.i7_lexer.specs.declared.token.Start.{Start}
 use Rattle.i7_lexer.specs.declared.token.Start.TheVariants.{Paragraph, Line, Within}
 use Rattle.i7_sentences.specs.Cuts.{cut, ends_sentence_kind, is_colon, is_full_stop, is_mark_kind, may_begin_kind, opens_nothing}
+use Rattle.i7_sentences.specs.PhraseMarks.{is_no_mark, is_pause}
 use Rattle.i7_sentences.specs.Read.{line_in}
 use Rattle.i7_sentences.specs.Words.{word_of}
-use Rattle.i7_sentences.specs.declared.body.PhraseMark.{PhraseMark}
-use Rattle.i7_sentences.specs.declared.body.PhraseMark.TheVariants.{Semicolon, Stop, Colon, Comma, Nothing}
+use Rattle.i7_sentences.specs.declared.phrase_mark.PhraseMark.{PhraseMark}
+use Rattle.i7_sentences.specs.declared.phrase_mark.PhraseMark.TheVariants.{Semicolon, Stop, Colon, Comma, Nothing}
 use Rattle.i7_sentences.specs.declared.body.PhraseLine.{PhraseLine}
 use Rattle.i7_sentences.specs.declared.body.BodyLines.{BodyLines}
 
@@ -60,18 +61,8 @@ mark_at (token ∷ tokens) = mark_of token
 abbrev pub mark_behind : List Token → PhraseMark
 mark_behind run = mark_at (drop (length run - 1) run)
 
-abbrev pub is_no_mark : PhraseMark → Bool
-is_no_mark Nothing = true
-is_no_mark _ = false
-
 abbrev pub unmarked : List Token → List Token
 unmarked run = if is_no_mark (mark_behind run) then run else take (length run - 1) run
-
--- no phrase stands between two such marks
-abbrev pub is_pause : PhraseMark → Bool
-is_pause Colon = false
-is_pause Comma = false
-is_pause _ = true
 
 abbrev pub is_empty_run : List Token → Bool
 is_empty_run [] = true

@@ -2,14 +2,15 @@
 use Rattle.std.specs.Prelude.{ℕ, ◌-◌, ◌==◌, nat_lt, Bool, true, false, not, ◌&&◌, ◌||◌, List, [], ◌∷◌, ◌++◌, codes, drop, length, take, Option, Some, None, if◌then◌else◌}
 use Rattle.std.specs.List.{before_first, position_or_len}
 use Rattle.i7_lexer.specs.declared.token.Token.{Token}
-use Rattle.i7_sentences.specs.Bodies.{Phrase, is_no_mark, is_pause, is_spelled_so}
+use Rattle.i7_sentences.specs.Bodies.{Phrase, is_spelled_so}
+use Rattle.i7_sentences.specs.Dues.{is_awaiting, is_then, lacks_deeper, line_due, wants_phrase}
+use Rattle.i7_sentences.specs.PhraseMarks.{is_colon_mark, is_comma_mark, is_no_mark, is_pause, is_semicolon_mark}
 use Rattle.i7_sentences.specs.PhraseForms.{shape_in}
-use Rattle.i7_sentences.specs.declared.body.PhraseMark.{PhraseMark}
-use Rattle.i7_sentences.specs.declared.body.PhraseMark.TheVariants.{Semicolon, Stop, Colon, Comma, Nothing}
+use Rattle.i7_sentences.specs.declared.phrase_mark.PhraseMark.{PhraseMark}
 use Rattle.i7_sentences.specs.declared.body_order.Block.{Block}
-use Rattle.i7_sentences.specs.declared.body_order.Due.{Due}
-use Rattle.i7_sentences.specs.declared.body_order.DueKind.{DueKind}
-use Rattle.i7_sentences.specs.declared.body_order.DueKind.TheVariants.{First, Free, Deeper, Then, Else, AfterThen}
+use Rattle.i7_sentences.specs.declared.due.Due.{Due}
+use Rattle.i7_sentences.specs.declared.due.DueKind.{DueKind}
+use Rattle.i7_sentences.specs.declared.due.DueKind.TheVariants.{First, Free, Deeper, Then, Else, AfterThen}
 use Rattle.i7_sentences.specs.declared.body_order.Place.{Place as PlaceOf}
 use Rattle.i7_sentences.specs.declared.phrase_form.PhraseForm.{PhraseForm}
 use Rattle.i7_sentences.specs.declared.phrase_form.PhraseForm.TheVariants as form
@@ -37,49 +38,10 @@ is_simple form.OtherwiseIf = false
 is_simple form.Otherwise = false
 is_simple _ = true
 
--- a phrase is due that belongs to what stands in front, an `if C,` or an inline `otherwise`
-abbrev pub wants_phrase : DueKind → Bool
-wants_phrase Then = true
-wants_phrase Else = true
-wants_phrase _ = false
-
-abbrev pub is_then : DueKind → Bool
-is_then Then = true
-is_then _ = false
-
-abbrev pub is_after_then : DueKind → Bool
-is_after_then AfterThen = true
-is_after_then _ = false
-
-abbrev pub is_deeper : DueKind → Bool
-is_deeper Deeper = true
-is_deeper _ = false
-
-abbrev pub is_done : DueKind → Bool
-is_done Free = true
-is_done AfterThen = true
-is_done _ = false
-
-abbrev pub is_colon_mark : PhraseMark → Bool
-is_colon_mark Colon = true
-is_colon_mark _ = false
-
-abbrev pub is_comma_mark : PhraseMark → Bool
-is_comma_mark Comma = true
-is_comma_mark _ = false
-
-abbrev pub is_semicolon_mark : PhraseMark → Bool
-is_semicolon_mark Semicolon = true
-is_semicolon_mark _ = false
-
 -- an `otherwise` in front of its phrase
 abbrev pub is_inline : PhraseForm → PhraseMark → Bool
 is_inline form.Otherwise mark = is_no_mark mark
 is_inline _ mark = false
-
--- an inline `otherwise` stands behind the phrase of an inline `if`, at the indent of the line at which that ends
-abbrev pub is_awaiting : Due → ℕ → Bool
-is_awaiting due indent = is_after_then due.kind && (due.indent == indent)
 
 -- the marks with which a phrase may end: `if C` with a comma or a colon, a block with a colon, an inline `otherwise` with none
 abbrev pub stands_as : Due → List Block → PhraseForm → PhraseMark → ℕ → Bool
@@ -128,9 +90,6 @@ after_phrase place form phrase = record {
   due = record { kind = kind_after place.due.kind form phrase.mark; indent = indent_due phrase; line = phrase.line };
 }
 
-abbrev pub line_due : Due → Option ℕ
-line_due due = if is_done due.kind then None else Some due.line
-
 abbrev pub is_instead : List Token → Bool
 is_instead [] = false
 is_instead (token ∷ tokens) = is_spelled_so token (codes "instead")
@@ -148,10 +107,6 @@ without_instead tokens =
 -- what a phrase is by its shape
 abbrev pub shape_of : Phrase → Option PhraseShape
 shape_of phrase = shape_in (without_instead phrase.tokens)
-
--- a block's deeper line is due and this isn't one
-abbrev pub lacks_deeper : Due → ℕ → Bool
-lacks_deeper due indent = is_deeper due.kind && not (nat_lt due.indent indent)
 
 -- the phrase's own line, where no shape fits it or it may not stand here
 abbrev pub fault_of : Place → Phrase → Option PhraseShape → Option ℕ

@@ -1,28 +1,17 @@
 //! A rule's body, cut into its phrases.
 ghost use Rattle.std.specs.Prelude.{◌≡◌, ◌≤◌, length, IfOk, OnOk};
-ghost use Rattle.i7_sentences.specs.Bodies.{body_lines, comma_len, ends_phrase, head_len, indent_at, indent_before, indent_behind, is_comma, is_empty_run, is_no_mark, is_nothing, is_pause, is_same_phrase, is_semicolon, is_spelled_so, lines_of, mark_at, mark_behind, mark_of, opens_inline, past, phrase_in, phrase_of, phrases_of, unmarked, with_piece, with_run};
+ghost use Rattle.i7_sentences.specs.PhraseMarks.{is_no_mark, is_pause};
+ghost use Rattle.i7_sentences.specs.Bodies.{body_lines, comma_len, ends_phrase, head_len, indent_at, indent_before, indent_behind, is_comma, is_empty_run, is_nothing, is_same_phrase, is_semicolon, is_spelled_so, lines_of, mark_at, mark_behind, mark_of, opens_inline, past, phrase_in, phrase_of, phrases_of, unmarked, with_piece, with_run};
 ghost use Rattle.i7_sentences.specs.Read.{line_in};
 ghost use Rattle.i7_sentences.specs.Cuts.{cut, opens_nothing};
 ghost use Rattle.i7_sentences.specs.Pieces.{piece_len};
 
 use crate::cut::{ends_sentence, is_colon, is_full_stop, is_mark, may_begin};
+use crate::phrase_mark::{PhraseMark, is_no_mark, is_pause};
 use crate::word::word_of;
 use i7_lexer::{Start, Token};
 use std::alloc::{AllocError, Global};
 use world_meaning::is_spelled;
-
-/// The mark with which a phrase ends.
-#[derive(Clone, Copy, Debug, PartialEq, Eq)]
-pub enum PhraseMark {
-    Semicolon,
-    Stop,
-    /// What stands on the deeper lines below belongs to the phrase.
-    Colon,
-    /// The phrase behind it belongs to this one.
-    Comma,
-    /// None: a text ends it, the body does, or it is an `otherwise` in front of its phrase.
-    Nothing,
-}
 
 /// A phrase of a body, without the mark that ends it.
 #[derive(Drop)]
@@ -203,16 +192,6 @@ fn mark_behind(run: &[Token]) -> PhraseMark
     mark_at(last)
 }
 
-/// Whether there is no mark.
-pub fn is_no_mark(mark: PhraseMark) -> bool
-    ensures { result ≡ is_no_mark mark }
-{
-    match mark {
-        PhraseMark::Semicolon | PhraseMark::Stop | PhraseMark::Colon | PhraseMark::Comma => false,
-        PhraseMark::Nothing => true,
-    }
-}
-
 /// The tokens without the mark at their end.
 fn unmarked(run: &[Token]) -> &[Token]
     ensures { result.now ≡ unmarked run.now }
@@ -222,16 +201,6 @@ fn unmarked(run: &[Token]) -> &[Token]
     }
     let (front, _) = run.split_at(run.len().saturating_sub(1));
     front
-}
-
-/// Whether nothing in front of the mark is no phrase.
-pub fn is_pause(mark: PhraseMark) -> bool
-    ensures { result ≡ is_pause mark }
-{
-    match mark {
-        PhraseMark::Semicolon | PhraseMark::Stop | PhraseMark::Nothing => true,
-        PhraseMark::Colon | PhraseMark::Comma => false,
-    }
 }
 
 /// Whether the tokens are no phrase: nothing but a mark that ends one.

@@ -2,10 +2,16 @@
 ghost use Rattle.std.specs.Prelude.{◌≡◌, ◌≤◌, length, IfOk, OnOk};
 ghost use Rattle.std.specs.List.{position_or_len};
 ghost use Rattle.i7_sentences.specs.Bodies.{phrase_of, phrases_of};
-ghost use Rattle.i7_sentences.specs.BodyOrder.{after_phrase, block_at, blocks_left, body_fault, fault_at, fault_of, has_reserved_name, indent_due, is_after_then, is_allowed, is_at_least, is_awaiting, is_colon_mark, is_comma_mark, is_deeper, is_done, is_if_form, is_inline, is_instead, is_semicolon_mark, is_simple, is_then, kind_after, lacks_deeper, line_due, opened, opens_block, opens_head, place_behind, place_of, reserved_line, shape_of, stands_as, start, wants_phrase, without_instead};
+ghost use Rattle.i7_sentences.specs.Dues.{is_awaiting, is_then, lacks_deeper, line_due, wants_phrase};
+ghost use Rattle.i7_sentences.specs.PhraseMarks.{is_colon_mark, is_comma_mark, is_no_mark, is_pause, is_semicolon_mark};
+ghost use Rattle.i7_sentences.specs.BodyOrder.{after_phrase, block_at, blocks_left, body_fault, fault_at, fault_of, has_reserved_name, indent_due, is_allowed, is_at_least, is_if_form, is_inline, is_instead, is_simple, kind_after, opened, opens_block, opens_head, place_behind, place_of, reserved_line, shape_of, stands_as, start, without_instead};
 
-use crate::body::{PhraseLine, PhraseMark, is_no_mark, is_pause, is_spelled_so};
+use crate::body::{PhraseLine, is_spelled_so};
+use crate::due::{Due, DueKind, is_awaiting, is_then, lacks_deeper, line_due, wants_phrase};
 use crate::phrase_form::{PhraseForm, PhraseShape, shape_in};
+use crate::phrase_mark::{
+    PhraseMark, is_colon_mark, is_comma_mark, is_no_mark, is_pause, is_semicolon_mark,
+};
 use i7_lexer::Token;
 use std::alloc::{AllocError, Global};
 
@@ -15,31 +21,6 @@ pub struct Block {
     pub indent: u32,
     /// Whether an `otherwise` may follow.
     pub is_if: bool,
-}
-
-/// What the phrases so far want of the next.
-#[derive(Clone, Copy, Debug, PartialEq, Eq)]
-pub enum DueKind {
-    /// A phrase, behind a rule's head.
-    First,
-    /// Nothing.
-    Free,
-    /// A deeper line.
-    Deeper,
-    /// A phrase, behind `if C,`.
-    Then,
-    /// A phrase, behind `otherwise`.
-    Else,
-    /// Nothing, but an inline `otherwise` of the same indent may stand here.
-    AfterThen,
-}
-
-/// What the next phrase has to be, the indent that it is measured by, and the line that wants it.
-#[derive(Clone, Copy, Debug, PartialEq, Eq)]
-pub struct Due {
-    pub kind: DueKind,
-    pub indent: u32,
-    pub line: u32,
 }
 
 /// A place in a body: the blocks that are open, the outermost first, and what is due.
@@ -102,86 +83,6 @@ fn is_simple(form: PhraseForm) -> bool
     }
 }
 
-/// Whether a phrase is due that belongs to an `if C,` or an inline `otherwise` in front.
-fn wants_phrase(kind: DueKind) -> bool
-    ensures { result ≡ wants_phrase kind }
-{
-    match kind {
-        DueKind::Then | DueKind::Else => true,
-        _ => false,
-    }
-}
-
-/// Whether the mark is a colon.
-fn is_colon_mark(mark: PhraseMark) -> bool
-    ensures { result ≡ is_colon_mark mark }
-{
-    match mark {
-        PhraseMark::Colon => true,
-        _ => false,
-    }
-}
-
-/// Whether the mark is a comma.
-fn is_comma_mark(mark: PhraseMark) -> bool
-    ensures { result ≡ is_comma_mark mark }
-{
-    match mark {
-        PhraseMark::Comma => true,
-        _ => false,
-    }
-}
-
-/// Whether the mark is a `;`.
-fn is_semicolon_mark(mark: PhraseMark) -> bool
-    ensures { result ≡ is_semicolon_mark mark }
-{
-    match mark {
-        PhraseMark::Semicolon => true,
-        _ => false,
-    }
-}
-
-/// Whether the phrase of an inline `if` stands before.
-fn is_after_then(kind: DueKind) -> bool
-    ensures { result ≡ is_after_then kind }
-{
-    match kind {
-        DueKind::AfterThen => true,
-        _ => false,
-    }
-}
-
-/// Whether an `if C,` stands before.
-fn is_then(kind: DueKind) -> bool
-    ensures { result ≡ is_then kind }
-{
-    match kind {
-        DueKind::Then => true,
-        _ => false,
-    }
-}
-
-/// Whether a colon stands before.
-fn is_deeper(kind: DueKind) -> bool
-    ensures { result ≡ is_deeper kind }
-{
-    match kind {
-        DueKind::Deeper => true,
-        _ => false,
-    }
-}
-
-/// Whether a body may end here.
-fn is_done(kind: DueKind) -> bool
-    ensures { result ≡ is_done kind }
-{
-    match kind {
-        DueKind::Free | DueKind::AfterThen => true,
-        _ => false,
-    }
-}
-
 /// Whether the phrase is an `otherwise` in front of its phrase.
 fn is_inline(form: PhraseForm, mark: PhraseMark) -> bool
     ensures { result ≡ is_inline form mark }
@@ -190,13 +91,6 @@ fn is_inline(form: PhraseForm, mark: PhraseMark) -> bool
         PhraseForm::Otherwise => is_no_mark(mark),
         _ => false,
     }
-}
-
-/// Whether an inline `otherwise` of this indent may stand here.
-fn is_awaiting(due: Due, indent: u32) -> bool
-    ensures { result ≡ is_awaiting due indent }
-{
-    is_after_then(due.kind) && due.indent == indent
 }
 
 /// Whether a phrase of this form may end with this mark here.
@@ -319,17 +213,6 @@ fn advance(place: &mut Place, form: PhraseForm, phrase: &PhraseLine<'_>) -> Resu
     Ok(())
 }
 
-/// The line of what still wants a phrase at a body's end.
-fn line_due(due: Due) -> Option<u32>
-    ensures { result ≡ line_due due }
-{
-    if is_done(due.kind) {
-        None
-    } else {
-        Some(due.line)
-    }
-}
-
 /// Whether an `instead` stands in front.
 fn is_instead(tokens: &[Token]) -> bool
     ensures { result ≡ is_instead tokens.now }
@@ -371,13 +254,6 @@ fn shape_of(alloc: Global, phrase: &PhraseLine<'_>) -> Result<Option<PhraseShape
     ensures { IfOk result (λ shape. shape ≡ shape_of (phrase_of phrase.now)) }
 {
     Ok(shape_in(alloc, without_instead(phrase.tokens))?)
-}
-
-/// Whether a block's deeper line is due and this isn't one.
-fn lacks_deeper(due: Due, indent: u32) -> bool
-    ensures { result ≡ lacks_deeper due indent }
-{
-    is_deeper(due.kind) && !(due.indent < indent)
 }
 
 /// The phrase's line, if no shape fits it or it may not stand here.
@@ -452,10 +328,7 @@ fn has_reserved_name(shape: Option<PhraseShape>) -> bool
 }
 
 /// The line of the first phrase of a body with a reserved word in a name, if there is one.
-pub fn reserved_line(
-    alloc: Global,
-    phrases: &[PhraseLine<'_>],
-) -> Result<Option<u32>, AllocError>
+pub fn reserved_line(alloc: Global, phrases: &[PhraseLine<'_>]) -> Result<Option<u32>, AllocError>
     ensures { IfOk result (λ line. line ≡ reserved_line (phrases_of phrases.now)) }
 {
     let mut rest = phrases;
