@@ -87,7 +87,7 @@ abbrev pub indent_before : ℕ → List Token → ℕ
 indent_before indent [] = indent
 indent_before indent (token ∷ tokens) = indent_at indent token
 
--- a phrase without its mark, with the line of its first token, that line's indent, and the indent of the line at which it ends
+-- a phrase without its mark, with the line of its first token, and the indents of the lines at which it begins and ends
 pub record Phrase : Type 0 where
   pub tokens : List Token
   pub mark : PhraseMark

@@ -63,7 +63,7 @@ is_if_form form.If = true
 is_if_form form.OtherwiseIf = true
 is_if_form _ = false
 
--- a phrase closes the blocks that aren't less deep; what belongs to an inline `if` stands where that stands and closes none
+-- a phrase closes the blocks that aren't less deep, but for what belongs to an inline `if`: it stands where that stands
 abbrev pub blocks_left : List Block → DueKind → PhraseForm → PhraseMark → ℕ → List Block
 blocks_left blocks kind form mark indent =
     if wants_phrase kind || is_inline form mark then blocks else before_first (is_at_least indent) blocks
@@ -71,7 +71,8 @@ blocks_left blocks kind form mark indent =
 -- a phrase with a colon opens its own block
 abbrev pub opened : List Block → PhraseForm → Phrase → List Block
 opened blocks form phrase =
-    if is_colon_mark phrase.mark then blocks ++ record { indent = phrase.indent; is_if = is_if_form form } ∷ [] else blocks
+    if is_colon_mark phrase.mark then blocks ++ record { indent = phrase.indent; is_if = is_if_form form } ∷ []
+    else blocks
 
 abbrev pub kind_after : DueKind → PhraseForm → PhraseMark → DueKind
 kind_after kind form mark =
@@ -80,7 +81,7 @@ kind_after kind form mark =
     else (if is_simple form then (if is_then kind && is_semicolon_mark mark then AfterThen else Free)
     else Else))
 
--- deeper lines are deeper than a block's line, an inline `otherwise` stands as deep as the line at which the phrase before it ends
+-- what is due is measured by a block's own line, and by the line at which any other phrase ends
 abbrev pub indent_due : Phrase → ℕ
 indent_due phrase = if is_colon_mark phrase.mark then phrase.indent else phrase.last_indent
 
@@ -115,7 +116,8 @@ fault_of place phrase (Some shape) = if is_allowed place shape.form phrase then 
 
 -- a block without a deeper line is told at its own line, whatever comes next
 abbrev pub fault_at : Place → Phrase → Option PhraseShape → Option ℕ
-fault_at place phrase shape = if lacks_deeper place.due phrase.indent then Some place.due.line else fault_of place phrase shape
+fault_at place phrase shape =
+    if lacks_deeper place.due phrase.indent then Some place.due.line else fault_of place phrase shape
 
 abbrev pub place_behind : Place → Phrase → Option PhraseShape → Place
 place_behind place phrase None = place
@@ -146,7 +148,8 @@ has_reserved_name (Some shape) = shape.has_reserved_name
 -- the line of the first phrase with a reserved word in a name
 abbrev pub reserved_line : List Phrase → Option ℕ
 reserved_line [] = None
-reserved_line (phrase ∷ phrases) = if has_reserved_name (shape_of phrase) then Some phrase.line else reserved_line phrases
+reserved_line (phrase ∷ phrases) =
+    if has_reserved_name (shape_of phrase) then Some phrase.line else reserved_line phrases
 
 abbrev pub place_of : PlaceOf → Place
 place_of place = record { blocks = place.blocks.items; due = place.due }

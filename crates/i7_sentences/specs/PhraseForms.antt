@@ -24,7 +24,8 @@ shape_with is_reserved (Some form) = Some (record { form = form; has_reserved_na
 
 abbrev pub shape_found : Option Found → Option PhraseShape
 shape_found None = None
-shape_found (Some found) = shape_with (has_reserved_among found.variant.pieces found.letters) (is_phrase_form found.variant.form)
+shape_found (Some found) =
+    shape_with (has_reserved_among found.variant.pieces found.letters) (is_phrase_form found.variant.form)
 
 -- the first of the forms that fits a phrase, and whether a name in it holds a reserved word
 abbrev pub shape_in : List Token → Option PhraseShape

@@ -37,7 +37,8 @@ SaysNothing part = (heard : Heard) → Says part.kind part.tokens heard → ⊥
 
 -- a form that is part of the language says something of a part, but for a text with a bracket that opens
 abbrev pub IsSpeaking : Variant → Piece → Type 0
-IsSpeaking variant part = is_asserting variant.form ≡ true → list_all is_unbracketed part.tokens ≡ true → SaysNothing part → ⊥
+IsSpeaking variant part =
+    is_asserting variant.form ≡ true → list_all is_unbracketed part.tokens ≡ true → SaysNothing part → ⊥
 
 -- a part says something in which a name holds a reserved word
 pub record HasReservedName (part : Piece) : Type 0 where
