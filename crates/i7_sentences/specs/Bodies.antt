@@ -5,10 +5,11 @@ use Rattle.i7_lexer.specs.declared.token.Token.{Token}
 use Rattle.i7_lexer.specs.declared.token.Start.{Start}
 use Rattle.i7_lexer.specs.declared.token.Start.TheVariants.{Paragraph, Line, Within}
 use Rattle.i7_sentences.specs.Cuts.{cut, ends_sentence_kind, is_colon, is_full_stop, is_mark_kind, may_begin_kind, opens_nothing}
+use Rattle.i7_sentences.specs.PhraseMarks.{is_no_mark, is_pause}
 use Rattle.i7_sentences.specs.Read.{line_in}
 use Rattle.i7_sentences.specs.Words.{word_of}
-use Rattle.i7_sentences.specs.declared.body.PhraseMark.{PhraseMark}
-use Rattle.i7_sentences.specs.declared.body.PhraseMark.TheVariants.{Semicolon, Stop, Colon, Comma, Nothing}
+use Rattle.i7_sentences.specs.declared.phrase_mark.PhraseMark.{PhraseMark}
+use Rattle.i7_sentences.specs.declared.phrase_mark.PhraseMark.TheVariants.{Semicolon, Stop, Colon, Comma, Nothing}
 use Rattle.i7_sentences.specs.declared.body.PhraseLine.{PhraseLine}
 use Rattle.i7_sentences.specs.declared.body.BodyLines.{BodyLines}
 
@@ -60,23 +61,8 @@ mark_at (token ∷ tokens) = mark_of token
 abbrev pub mark_behind : List Token → PhraseMark
 mark_behind run = mark_at (drop (length run - 1) run)
 
-abbrev pub is_no_mark : PhraseMark → Bool
-is_no_mark Semicolon = false
-is_no_mark Stop = false
-is_no_mark Colon = false
-is_no_mark Comma = false
-is_no_mark Nothing = true
-
 abbrev pub unmarked : List Token → List Token
 unmarked run = if is_no_mark (mark_behind run) then run else take (length run - 1) run
-
--- no phrase stands between two such marks
-abbrev pub is_pause : PhraseMark → Bool
-is_pause Semicolon = true
-is_pause Stop = true
-is_pause Colon = false
-is_pause Comma = false
-is_pause Nothing = true
 
 abbrev pub is_empty_run : List Token → Bool
 is_empty_run [] = true
@@ -101,29 +87,42 @@ abbrev pub indent_before : ℕ → List Token → ℕ
 indent_before indent [] = indent
 indent_before indent (token ∷ tokens) = indent_at indent token
 
--- a phrase without its mark, with the line of its first token and that line's indent
+-- a phrase without its mark, with the line of its first token, and the indents of the lines at which it begins and ends
 pub record Phrase : Type 0 where
   pub tokens : List Token
   pub mark : PhraseMark
   pub line : ℕ
   pub indent : ℕ
+  pub last_indent : ℕ
 
 abbrev pub phrase_in : ℕ → List Token → Phrase
-phrase_in indent run = record { tokens = unmarked run; mark = mark_behind run; line = line_in run; indent = indent_before indent run }
+phrase_in indent run = record {
+  tokens = unmarked run;
+  mark = mark_behind run;
+  line = line_in run;
+  indent = indent_before indent run;
+  last_indent = indent_behind indent run;
+}
 
 -- phrases so far, and the indent of the line at which they end
 pub record Lines : Type 0 where
   pub indent : ℕ
   pub phrases : List Phrase
 
-abbrev pub with_run : Lines → List Token → Lines
-with_run lines run = record {
-  indent = indent_behind lines.indent run;
-  phrases = (if is_nothing run then lines.phrases else lines.phrases ++ phrase_in lines.indent run ∷ []);
-}
+abbrev pub past : Lines → List Token → Lines
+past lines run = record { indent = indent_behind lines.indent run; phrases = lines.phrases }
 
+-- the tokens, if there are any, are a phrase, be it an empty one
+abbrev pub with_run : Lines → List Token → Lines
+with_run lines run =
+    if is_empty_run run then lines
+    else record { indent = indent_behind lines.indent run; phrases = lines.phrases ++ phrase_in lines.indent run ∷ [] }
+
+-- an empty phrase is nothing, but for one that stands behind `if C,` or `otherwise`
 abbrev pub with_piece : Lines → List Token → Lines
-with_piece lines piece = with_run (with_run lines (take (head_len piece) piece)) (drop (head_len piece) piece)
+with_piece lines piece =
+    if is_nothing piece then past lines piece
+    else with_run (with_run lines (take (head_len piece) piece)) (drop (head_len piece) piece)
 
 abbrev pub no_lines : Lines
 no_lines = record { indent = 0; phrases = [] }
@@ -133,7 +132,13 @@ abbrev pub body_lines : List Token → List Phrase
 body_lines tokens = (fold with_piece no_lines (cut opens_nothing is_same_phrase tokens)).phrases
 
 abbrev pub phrase_of : PhraseLine → Phrase
-phrase_of line = record { tokens = line.tokens.now; mark = line.mark; line = line.line; indent = line.indent }
+phrase_of line = record {
+  tokens = line.tokens.now;
+  mark = line.mark;
+  line = line.line;
+  indent = line.indent;
+  last_indent = line.last_indent;
+}
 
 abbrev pub phrases_of : List PhraseLine → List Phrase
 phrases_of lines = map phrase_of lines

@@ -2,17 +2,19 @@
 use Rattle.std.specs.Prelude.{ℕ, ◌-◌, ◌==◌, nat_lt, Bool, true, false, not, ◌&&◌, ◌||◌, List, [], ◌∷◌, ◌++◌, codes, drop, length, take, Option, Some, None, if◌then◌else◌}
 use Rattle.std.specs.List.{before_first, position_or_len}
 use Rattle.i7_lexer.specs.declared.token.Token.{Token}
-use Rattle.i7_sentences.specs.Bodies.{Phrase, is_no_mark, is_pause, is_spelled_so}
-use Rattle.i7_sentences.specs.PhraseForms.{form_of}
-use Rattle.i7_sentences.specs.declared.body.PhraseMark.{PhraseMark}
-use Rattle.i7_sentences.specs.declared.body.PhraseMark.TheVariants.{Semicolon, Stop, Colon, Comma, Nothing}
+use Rattle.i7_sentences.specs.Bodies.{Phrase, is_spelled_so}
+use Rattle.i7_sentences.specs.Dues.{is_awaiting, is_then, lacks_deeper, line_due, wants_phrase}
+use Rattle.i7_sentences.specs.PhraseMarks.{is_colon_mark, is_comma_mark, is_no_mark, is_pause, is_semicolon_mark}
+use Rattle.i7_sentences.specs.PhraseForms.{shape_in}
+use Rattle.i7_sentences.specs.declared.phrase_mark.PhraseMark.{PhraseMark}
 use Rattle.i7_sentences.specs.declared.body_order.Block.{Block}
-use Rattle.i7_sentences.specs.declared.body_order.Due.{Due}
-use Rattle.i7_sentences.specs.declared.body_order.DueKind.{DueKind}
-use Rattle.i7_sentences.specs.declared.body_order.DueKind.TheVariants.{Free, Deeper, Then, Else, AfterThen}
+use Rattle.i7_sentences.specs.declared.due.Due.{Due}
+use Rattle.i7_sentences.specs.declared.due.DueKind.{DueKind}
+use Rattle.i7_sentences.specs.declared.due.DueKind.TheVariants.{First, Free, Deeper, Then, Else, AfterThen}
 use Rattle.i7_sentences.specs.declared.body_order.Place.{Place as PlaceOf}
 use Rattle.i7_sentences.specs.declared.phrase_form.PhraseForm.{PhraseForm}
 use Rattle.i7_sentences.specs.declared.phrase_form.PhraseForm.TheVariants as form
+use Rattle.i7_sentences.specs.declared.phrase_form.PhraseShape.{PhraseShape}
 
 -- the open blocks, the outermost first, and what is due
 pub record Place : Type 0 where
@@ -36,48 +38,10 @@ is_simple form.OtherwiseIf = false
 is_simple form.Otherwise = false
 is_simple _ = true
 
--- Behind a colon a line is deeper; behind `if C,` and `otherwise` stands a phrase that is neither.
-abbrev pub is_wanted : DueKind → ℕ → PhraseForm → ℕ → Bool
-is_wanted Free at form indent = true
-is_wanted Deeper at form indent = nat_lt at indent
-is_wanted Then at form indent = is_simple form
-is_wanted Else at form indent = is_simple form
-is_wanted AfterThen at form indent = true
-
-abbrev pub is_due : Due → PhraseForm → ℕ → Bool
-is_due due form indent = is_wanted due.kind due.indent form indent
-
-abbrev pub is_colon_mark : PhraseMark → Bool
-is_colon_mark Semicolon = false
-is_colon_mark Stop = false
-is_colon_mark Colon = true
-is_colon_mark Comma = false
-is_colon_mark Nothing = false
-
-abbrev pub is_comma_mark : PhraseMark → Bool
-is_comma_mark Semicolon = false
-is_comma_mark Stop = false
-is_comma_mark Colon = false
-is_comma_mark Comma = true
-is_comma_mark Nothing = false
-
-abbrev pub is_semicolon_mark : PhraseMark → Bool
-is_semicolon_mark Semicolon = true
-is_semicolon_mark Stop = false
-is_semicolon_mark Colon = false
-is_semicolon_mark Comma = false
-is_semicolon_mark Nothing = false
-
-abbrev pub is_after_then : DueKind → Bool
-is_after_then Free = false
-is_after_then Deeper = false
-is_after_then Then = false
-is_after_then Else = false
-is_after_then AfterThen = true
-
--- an inline `otherwise` of this indent may stand here
-abbrev pub is_awaiting : Due → ℕ → Bool
-is_awaiting due indent = is_after_then due.kind && (due.indent == indent)
+-- an `otherwise` in front of its phrase
+abbrev pub is_inline : PhraseForm → PhraseMark → Bool
+is_inline form.Otherwise mark = is_no_mark mark
+is_inline _ mark = false
 
 -- the marks with which a phrase may end: `if C` with a comma or a colon, a block with a colon, an inline `otherwise` with none
 abbrev pub stands_as : Due → List Block → PhraseForm → PhraseMark → ℕ → Bool
@@ -88,27 +52,27 @@ stands_as due blocks form.Otherwise mark indent =
     if is_colon_mark mark then opens_block indent blocks else is_no_mark mark && is_awaiting due indent
 stands_as due blocks _ mark indent = is_pause mark
 
+-- behind `if C,` and `otherwise` stands a phrase that is neither
 abbrev pub is_allowed : Place → PhraseForm → Phrase → Bool
 is_allowed place form phrase =
-    is_due place.due form phrase.indent && stands_as place.due place.blocks form phrase.mark phrase.indent
+    (is_simple form || not (wants_phrase place.due.kind))
+    && stands_as place.due place.blocks form phrase.mark phrase.indent
 
 abbrev pub is_if_form : PhraseForm → Bool
 is_if_form form.If = true
 is_if_form form.OtherwiseIf = true
 is_if_form _ = false
 
--- a phrase closes the blocks that aren't less deep, and one with a colon opens its own
-abbrev pub blocks_after : List Block → PhraseForm → PhraseMark → ℕ → List Block
-blocks_after blocks form mark indent =
-    if is_colon_mark mark then before_first (is_at_least indent) blocks ++ record { indent = indent; is_if = is_if_form form } ∷ []
-    else before_first (is_at_least indent) blocks
+-- a phrase closes the blocks that aren't less deep, but for what belongs to an inline `if`: it stands where that stands
+abbrev pub blocks_left : List Block → DueKind → PhraseForm → PhraseMark → ℕ → List Block
+blocks_left blocks kind form mark indent =
+    if wants_phrase kind || is_inline form mark then blocks else before_first (is_at_least indent) blocks
 
-abbrev pub is_then : DueKind → Bool
-is_then Free = false
-is_then Deeper = false
-is_then Then = true
-is_then Else = false
-is_then AfterThen = false
+-- a phrase with a colon opens its own block
+abbrev pub opened : List Block → PhraseForm → Phrase → List Block
+opened blocks form phrase =
+    if is_colon_mark phrase.mark then blocks ++ record { indent = phrase.indent; is_if = is_if_form form } ∷ []
+    else blocks
 
 abbrev pub kind_after : DueKind → PhraseForm → PhraseMark → DueKind
 kind_after kind form mark =
@@ -117,32 +81,15 @@ kind_after kind form mark =
     else (if is_simple form then (if is_then kind && is_semicolon_mark mark then AfterThen else Free)
     else Else))
 
+-- what is due is measured by a block's own line, and by the line at which any other phrase ends
+abbrev pub indent_due : Phrase → ℕ
+indent_due phrase = if is_colon_mark phrase.mark then phrase.indent else phrase.last_indent
+
 abbrev pub after_phrase : Place → PhraseForm → Phrase → Place
 after_phrase place form phrase = record {
-  blocks = blocks_after place.blocks form phrase.mark phrase.indent;
-  due = record { kind = kind_after place.due.kind form phrase.mark; indent = phrase.indent; line = phrase.line };
+  blocks = opened (blocks_left place.blocks place.due.kind form phrase.mark phrase.indent) form phrase;
+  due = record { kind = kind_after place.due.kind form phrase.mark; indent = indent_due phrase; line = phrase.line };
 }
-
-abbrev pub is_deeper : DueKind → Bool
-is_deeper Free = false
-is_deeper Deeper = true
-is_deeper Then = false
-is_deeper Else = false
-is_deeper AfterThen = false
-
--- a block without a deeper line is told at its own line, everything else at the phrase's
-abbrev pub fault_line : Due → Phrase → ℕ
-fault_line due phrase = if is_deeper due.kind then due.line else phrase.line
-
-abbrev pub is_done : DueKind → Bool
-is_done Free = true
-is_done Deeper = false
-is_done Then = false
-is_done Else = false
-is_done AfterThen = true
-
-abbrev pub line_due : Due → Option ℕ
-line_due due = if is_done due.kind then None else Some due.line
 
 abbrev pub is_instead : List Token → Bool
 is_instead [] = false
@@ -159,16 +106,22 @@ without_instead tokens =
     if is_instead (drop (length tokens - 1) tokens) && not (opens_head tokens) then take (length tokens - 1) tokens else tokens
 
 -- what a phrase is by its shape
-abbrev pub shape_of : Phrase → Option PhraseForm
-shape_of phrase = form_of (without_instead phrase.tokens)
+abbrev pub shape_of : Phrase → Option PhraseShape
+shape_of phrase = shape_in (without_instead phrase.tokens)
 
-abbrev pub fault_at : Place → Phrase → Option PhraseForm → Option ℕ
-fault_at place phrase None = Some phrase.line
-fault_at place phrase (Some form) = if is_allowed place form phrase then None else Some (fault_line place.due phrase)
+-- the phrase's own line, where no shape fits it or it may not stand here
+abbrev pub fault_of : Place → Phrase → Option PhraseShape → Option ℕ
+fault_of place phrase None = Some phrase.line
+fault_of place phrase (Some shape) = if is_allowed place shape.form phrase then None else Some phrase.line
 
-abbrev pub place_behind : Place → Phrase → Option PhraseForm → Place
+-- a block without a deeper line is told at its own line, whatever comes next
+abbrev pub fault_at : Place → Phrase → Option PhraseShape → Option ℕ
+fault_at place phrase shape =
+    if lacks_deeper place.due phrase.indent then Some place.due.line else fault_of place phrase shape
+
+abbrev pub place_behind : Place → Phrase → Option PhraseShape → Place
 place_behind place phrase None = place
-place_behind place phrase (Some form) = after_phrase place form phrase
+place_behind place phrase (Some shape) = after_phrase place shape.form phrase
 
 abbrev pub or_else : Option ℕ → Option ℕ → Option ℕ
 or_else None later = later
@@ -180,12 +133,23 @@ fault_from place [] = line_due place.due
 fault_from place (phrase ∷ phrases) =
     or_else (fault_at place phrase (shape_of phrase)) (fault_from (place_behind place phrase (shape_of phrase)) phrases)
 
-abbrev pub start : Place
-start = record { blocks = []; due = record { kind = Free; indent = 0; line = 1 } }
+-- behind the head of a rule at this line
+abbrev pub start : ℕ → Place
+start line = record { blocks = []; due = record { kind = First; indent = 0; line = line } }
 
--- the line at which a body of these phrases isn't understood, if there is one
-abbrev pub body_fault : List Phrase → Option ℕ
-body_fault phrases = fault_from start phrases
+-- the line at which the body of a rule isn't understood, if there is one: the rule's own where it has no phrase
+abbrev pub body_fault : ℕ → List Phrase → Option ℕ
+body_fault line phrases = fault_from (start line) phrases
+
+abbrev pub has_reserved_name : Option PhraseShape → Bool
+has_reserved_name None = false
+has_reserved_name (Some shape) = shape.has_reserved_name
+
+-- the line of the first phrase with a reserved word in a name
+abbrev pub reserved_line : List Phrase → Option ℕ
+reserved_line [] = None
+reserved_line (phrase ∷ phrases) =
+    if has_reserved_name (shape_of phrase) then Some phrase.line else reserved_line phrases
 
 abbrev pub place_of : PlaceOf → Place
 place_of place = record { blocks = place.blocks.items; due = place.due }

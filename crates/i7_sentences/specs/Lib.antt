@@ -4,6 +4,7 @@ pub mod BodyOrder
 pub mod BracketedWords
 pub mod Classes
 pub mod Cuts
+pub mod Dues
 pub mod Forms
 pub mod Found
 pub mod Keywords
@@ -11,6 +12,7 @@ pub mod Literals
 pub mod Matching
 pub mod Names
 pub mod PhraseForms
+pub mod PhraseMarks
 pub mod Pieces
 pub mod Read
 pub mod Assertions

@@ -35,3 +35,7 @@ pub record IsCut (opens : Token → Bool) (same : Bool → Token → Token → B
   pub joined : tokens_in pieces ≡ tokens
   pub whole : All (IsPiece opens same) pieces
   pub parted : AreParted opens same pieces
+
+-- no other pieces are the cut
+abbrev pub IsOnlyCut : (Token → Bool) → (Bool → Token → Token → Bool) → List Token → List (List Token) → Type 0
+IsOnlyCut opens same tokens pieces = (others : List (List Token)) → IsCut opens same tokens others → others ≡ pieces

@@ -1,6 +1,6 @@
 -- The sentences that tokens spell, or the refusal that stands.
 use Rattle.std.specs.Prelude.{◌≡◌, ℕ, ◌≤◌, true, false, List, ◌∷◌, ◌++◌, Some}
-use Rattle.std.specs.List.{All, AllZip}
+use Rattle.std.specs.List.{All, AllZip, list_all}
 use Rattle.world_meaning.specs.declared.fault.Fault.{Fault}
 use Rattle.world_meaning.specs.declared.fault.FaultCode.{FaultCode}
 use Rattle.world_meaning.specs.declared.fault.FaultCode.TheVariants.{NumberOutOfRange, NotUnderstood, ReservedWord, Memory}
@@ -8,7 +8,7 @@ use Rattle.i7_lexer.specs.declared.token.Token.{Token}
 use Rattle.i7_sentences.specs.Cuts.{Piece, parts_of}
 use Rattle.i7_sentences.specs.Forms.{IsReading, Variant, all_forms}
 use Rattle.i7_sentences.specs.Read.{aside, has_bad_literal, line_of}
-use Rattle.i7_sentences.specs.Assertions.{assertion_of}
+use Rattle.i7_sentences.specs.Assertions.{assertion_of, is_asserting, is_unbracketed}
 use Rattle.i7_sentences.specs.Reserved.{has_reserved_among}
 use Rattle.i7_sentences.specs.declared.part.PartKind.{PartKind}
 use Rattle.i7_sentences.specs.declared.part.PartKind.TheVariants.{Title, Heading, Sentence as Said}
@@ -34,6 +34,11 @@ HasBadLiteral part = has_bad_literal part ≡ true
 
 abbrev pub SaysNothing : Piece → Type 0
 SaysNothing part = (heard : Heard) → Says part.kind part.tokens heard → ⊥
+
+-- a form that is part of the language says something of a part, but for a text with a bracket that opens
+abbrev pub IsSpeaking : Variant → Piece → Type 0
+IsSpeaking variant part =
+    is_asserting variant.form ≡ true → list_all is_unbracketed part.tokens ≡ true → SaysNothing part → ⊥
 
 -- a part says something in which a name holds a reserved word
 pub record HasReservedName (part : Piece) : Type 0 where

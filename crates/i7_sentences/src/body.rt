@@ -1,28 +1,17 @@
 //! A rule's body, cut into its phrases.
 ghost use Rattle.std.specs.Prelude.{◌≡◌, ◌≤◌, length, IfOk, OnOk};
-ghost use Rattle.i7_sentences.specs.Bodies.{body_lines, comma_len, ends_phrase, head_len, indent_at, indent_before, indent_behind, is_comma, is_empty_run, is_no_mark, is_nothing, is_pause, is_same_phrase, is_semicolon, is_spelled_so, lines_of, mark_at, mark_behind, mark_of, opens_inline, phrase_in, phrase_of, phrases_of, unmarked, with_piece, with_run};
+ghost use Rattle.i7_sentences.specs.PhraseMarks.{is_no_mark, is_pause};
+ghost use Rattle.i7_sentences.specs.Bodies.{body_lines, comma_len, ends_phrase, head_len, indent_at, indent_before, indent_behind, is_comma, is_empty_run, is_nothing, is_same_phrase, is_semicolon, is_spelled_so, lines_of, mark_at, mark_behind, mark_of, opens_inline, past, phrase_in, phrase_of, phrases_of, unmarked, with_piece, with_run};
 ghost use Rattle.i7_sentences.specs.Read.{line_in};
 ghost use Rattle.i7_sentences.specs.Cuts.{cut, opens_nothing};
 ghost use Rattle.i7_sentences.specs.Pieces.{piece_len};
 
 use crate::cut::{ends_sentence, is_colon, is_full_stop, is_mark, may_begin};
+use crate::phrase_mark::{PhraseMark, is_no_mark, is_pause};
 use crate::word::word_of;
 use i7_lexer::{Start, Token};
 use std::alloc::{AllocError, Global};
 use world_meaning::is_spelled;
-
-/// The mark with which a phrase ends.
-#[derive(Clone, Copy, Debug, PartialEq, Eq)]
-pub enum PhraseMark {
-    Semicolon,
-    Stop,
-    /// What stands on the deeper lines below belongs to the phrase.
-    Colon,
-    /// The phrase behind it belongs to this one.
-    Comma,
-    /// None: a text ends it, the body does, or it is an `otherwise` in front of its phrase.
-    Nothing,
-}
 
 /// A phrase of a body, without the mark that ends it.
 #[derive(Drop)]
@@ -33,6 +22,8 @@ pub struct PhraseLine<'a> {
     pub line: u32,
     /// How many tabs that line begins with, 0 on the line of the rule.
     pub indent: u32,
+    /// The same of the line at which it ends.
+    pub last_indent: u32,
 }
 
 /// The phrases so far, and the indent of the line at which they end.
@@ -201,16 +192,6 @@ fn mark_behind(run: &[Token]) -> PhraseMark
     mark_at(last)
 }
 
-/// Whether there is no mark.
-pub fn is_no_mark(mark: PhraseMark) -> bool
-    ensures { result ≡ is_no_mark mark }
-{
-    match mark {
-        PhraseMark::Semicolon | PhraseMark::Stop | PhraseMark::Colon | PhraseMark::Comma => false,
-        PhraseMark::Nothing => true,
-    }
-}
-
 /// The tokens without the mark at their end.
 fn unmarked(run: &[Token]) -> &[Token]
     ensures { result.now ≡ unmarked run.now }
@@ -220,16 +201,6 @@ fn unmarked(run: &[Token]) -> &[Token]
     }
     let (front, _) = run.split_at(run.len().saturating_sub(1));
     front
-}
-
-/// Whether nothing in front of the mark is no phrase.
-pub fn is_pause(mark: PhraseMark) -> bool
-    ensures { result ≡ is_pause mark }
-{
-    match mark {
-        PhraseMark::Semicolon | PhraseMark::Stop | PhraseMark::Nothing => true,
-        PhraseMark::Colon | PhraseMark::Comma => false,
-    }
 }
 
 /// Whether the tokens are no phrase: nothing but a mark that ends one.
@@ -278,24 +249,36 @@ fn phrase_in(indent: u32, run: &[Token]) -> PhraseLine<'_>
         mark: mark_behind(run),
         line: line_in(run),
         indent: indent_before(indent, run),
+        last_indent: indent_behind(indent, run),
     }
 }
 
-/// Adds a phrase, if the tokens are one.
+/// Goes on behind tokens that are no phrase.
+fn pass(run: &[Token], lines: &mut BodyLines<'_>)
+    ensures { lines_of lines.new ≡ past (lines_of lines.old) run.now }
+{
+    lines.indent = indent_behind(lines.indent, run);
+}
+
+/// Adds the phrase that the tokens are, be it an empty one; none where there are no tokens.
 fn add_run<'a>(run: &'a [Token], lines: &mut BodyLines<'a>) -> Result<(), AllocError>
     ensures { OnOk result (lines_of lines.new ≡ with_run (lines_of lines.old) run.now) }
 {
-    if !is_nothing(run) {
+    if !is_empty_run(run) {
         lines.all.push(phrase_in(lines.indent, run))?;
+        lines.indent = indent_behind(lines.indent, run);
     }
-    lines.indent = indent_behind(lines.indent, run);
     Ok(())
 }
 
-/// Adds the phrases of a piece: what stands in front of another, and that other.
+/// Adds the phrases of a piece: what stands in front of another, and that other, be it an empty one.
 fn add_piece<'a>(piece: &'a [Token], lines: &mut BodyLines<'a>) -> Result<(), AllocError>
     ensures { OnOk result (lines_of lines.new ≡ with_piece (lines_of lines.old) piece.now) }
 {
+    if is_nothing(piece) {
+        pass(piece, lines);
+        return Ok(());
+    }
     let (head, behind) = piece.split_at(head_len(piece));
     add_run(head, lines)?;
     add_run(behind, lines)

@@ -2,10 +2,16 @@
 ghost use Rattle.std.specs.Prelude.{◌≡◌, ◌≤◌, length, IfOk, OnOk};
 ghost use Rattle.std.specs.List.{position_or_len};
 ghost use Rattle.i7_sentences.specs.Bodies.{phrase_of, phrases_of};
-ghost use Rattle.i7_sentences.specs.BodyOrder.{after_phrase, block_at, blocks_after, body_fault, fault_line, is_after_then, is_allowed, is_at_least, is_awaiting, is_colon_mark, is_comma_mark, is_deeper, is_done, is_due, is_if_form, is_instead, is_semicolon_mark, is_simple, is_then, kind_after, line_due, opens_block, opens_head, place_of, shape_of, stands_as, without_instead};
+ghost use Rattle.i7_sentences.specs.Dues.{is_awaiting, is_then, lacks_deeper, line_due, wants_phrase};
+ghost use Rattle.i7_sentences.specs.PhraseMarks.{is_colon_mark, is_comma_mark, is_no_mark, is_pause, is_semicolon_mark};
+ghost use Rattle.i7_sentences.specs.BodyOrder.{after_phrase, block_at, blocks_left, body_fault, fault_at, fault_of, has_reserved_name, indent_due, is_allowed, is_at_least, is_if_form, is_inline, is_instead, is_simple, kind_after, opened, opens_block, opens_head, place_behind, place_of, reserved_line, shape_of, stands_as, start, without_instead};
 
-use crate::body::{PhraseLine, PhraseMark, is_no_mark, is_pause, is_spelled_so};
-use crate::phrase_form::{PhraseForm, form_of};
+use crate::body::{PhraseLine, is_spelled_so};
+use crate::due::{Due, DueKind, is_awaiting, is_then, lacks_deeper, line_due, wants_phrase};
+use crate::phrase_form::{PhraseForm, PhraseShape, shape_in};
+use crate::phrase_mark::{
+    PhraseMark, is_colon_mark, is_comma_mark, is_no_mark, is_pause, is_semicolon_mark,
+};
 use i7_lexer::Token;
 use std::alloc::{AllocError, Global};
 
@@ -17,34 +23,25 @@ pub struct Block {
     pub is_if: bool,
 }
 
-/// What the phrases so far want of the next.
-#[derive(Clone, Copy, Debug, PartialEq, Eq)]
-pub enum DueKind {
-    /// Nothing.
-    Free,
-    /// A deeper line.
-    Deeper,
-    /// A phrase, behind `if C,`.
-    Then,
-    /// A phrase, behind `otherwise`.
-    Else,
-    /// Nothing, but an `otherwise` of the same indent may stand here.
-    AfterThen,
-}
-
-/// What the next phrase has to be, by a phrase of this indent and line.
-#[derive(Clone, Copy, Debug, PartialEq, Eq)]
-pub struct Due {
-    pub kind: DueKind,
-    pub indent: u32,
-    pub line: u32,
-}
-
 /// A place in a body: the blocks that are open, the outermost first, and what is due.
 #[derive(Drop)]
 struct Place {
     blocks: Vec<Block>,
     due: Due,
+}
+
+/// The place behind the head of a rule at this line.
+fn start(alloc: Global, line: u32) -> Place
+    ensures { place_of result ≡ start line }
+{
+    Place {
+        blocks: Vec::new(alloc),
+        due: Due {
+            kind: DueKind::First,
+            indent: 0,
+            line,
+        },
+    }
 }
 
 /// How many blocks are less deep.
@@ -86,92 +83,14 @@ fn is_simple(form: PhraseForm) -> bool
     }
 }
 
-/// Whether the phrase may be where this is due.
-fn is_due(due: Due, form: PhraseForm, indent: u32) -> bool
-    ensures { result ≡ is_due due form indent }
+/// Whether the phrase is an `otherwise` in front of its phrase.
+fn is_inline(form: PhraseForm, mark: PhraseMark) -> bool
+    ensures { result ≡ is_inline form mark }
 {
-    match due.kind {
-        DueKind::Free | DueKind::AfterThen => true,
-        DueKind::Deeper => due.indent < indent,
-        DueKind::Then | DueKind::Else => is_simple(form),
+    match form {
+        PhraseForm::Otherwise => is_no_mark(mark),
+        _ => false,
     }
-}
-
-/// Whether the mark is a colon.
-fn is_colon_mark(mark: PhraseMark) -> bool
-    ensures { result ≡ is_colon_mark mark }
-{
-    match mark {
-        PhraseMark::Colon => true,
-        PhraseMark::Semicolon | PhraseMark::Stop | PhraseMark::Comma | PhraseMark::Nothing => false,
-    }
-}
-
-/// Whether the mark is a comma.
-fn is_comma_mark(mark: PhraseMark) -> bool
-    ensures { result ≡ is_comma_mark mark }
-{
-    match mark {
-        PhraseMark::Comma => true,
-        PhraseMark::Semicolon | PhraseMark::Stop | PhraseMark::Colon | PhraseMark::Nothing => false,
-    }
-}
-
-/// Whether the mark is a `;`.
-fn is_semicolon_mark(mark: PhraseMark) -> bool
-    ensures { result ≡ is_semicolon_mark mark }
-{
-    match mark {
-        PhraseMark::Semicolon => true,
-        PhraseMark::Stop | PhraseMark::Colon | PhraseMark::Comma | PhraseMark::Nothing => false,
-    }
-}
-
-/// Whether the phrase of an inline `if` stands before.
-fn is_after_then(kind: DueKind) -> bool
-    ensures { result ≡ is_after_then kind }
-{
-    match kind {
-        DueKind::AfterThen => true,
-        DueKind::Free | DueKind::Deeper | DueKind::Then | DueKind::Else => false,
-    }
-}
-
-/// Whether an `if C,` stands before.
-fn is_then(kind: DueKind) -> bool
-    ensures { result ≡ is_then kind }
-{
-    match kind {
-        DueKind::Then => true,
-        DueKind::Free | DueKind::Deeper | DueKind::Else | DueKind::AfterThen => false,
-    }
-}
-
-/// Whether a colon stands before.
-fn is_deeper(kind: DueKind) -> bool
-    ensures { result ≡ is_deeper kind }
-{
-    match kind {
-        DueKind::Deeper => true,
-        DueKind::Free | DueKind::Then | DueKind::Else | DueKind::AfterThen => false,
-    }
-}
-
-/// Whether a body may end here.
-fn is_done(kind: DueKind) -> bool
-    ensures { result ≡ is_done kind }
-{
-    match kind {
-        DueKind::Free | DueKind::AfterThen => true,
-        DueKind::Deeper | DueKind::Then | DueKind::Else => false,
-    }
-}
-
-/// Whether an inline `otherwise` of this indent may stand here.
-fn is_awaiting(due: Due, indent: u32) -> bool
-    ensures { result ≡ is_awaiting due indent }
-{
-    is_after_then(due.kind) && due.indent == indent
 }
 
 /// Whether a phrase of this form may end with this mark here.
@@ -197,7 +116,7 @@ fn stands_as(due: Due, blocks: &[Block], form: PhraseForm, mark: PhraseMark, ind
 fn is_allowed(place: &Place, form: PhraseForm, phrase: &PhraseLine<'_>) -> bool
     ensures { result ≡ is_allowed (place_of place.now) form (phrase_of phrase.now) }
 {
-    is_due(place.due, form, phrase.indent)
+    (is_simple(form) || !wants_phrase(place.due.kind))
         && stands_as(
             place.due,
             place.blocks.as_slice(),
@@ -236,58 +155,62 @@ fn kind_after(kind: DueKind, form: PhraseForm, mark: PhraseMark) -> DueKind
     }
 }
 
-/// Closes the blocks that aren't less deep than a phrase, and opens its own, if it has a colon.
+/// Closes the blocks that aren't less deep than a phrase; what belongs to an inline `if` closes none.
 fn close_blocks(
     blocks: &mut Vec<Block>,
+    kind: DueKind,
     form: PhraseForm,
     mark: PhraseMark,
     indent: u32,
-) -> Result<(), AllocError>
-    ensures { OnOk result (blocks.new.items ≡ blocks_after blocks.old.items form mark indent) }
+)
+    ensures { blocks.new.items ≡ blocks_left blocks.old.items kind form mark indent }
 {
-    blocks.truncate(below_len(indent, blocks.as_slice()));
-    if is_colon_mark(mark) {
+    if !(wants_phrase(kind) || is_inline(form, mark)) {
+        blocks.truncate(below_len(indent, blocks.as_slice()));
+    }
+}
+
+/// Opens the block of a phrase, if it has a colon.
+fn open_block(
+    blocks: &mut Vec<Block>,
+    form: PhraseForm,
+    phrase: &PhraseLine<'_>,
+) -> Result<(), AllocError>
+    ensures { OnOk result (blocks.new.items ≡ opened blocks.old.items form (phrase_of phrase.now)) }
+{
+    if is_colon_mark(phrase.mark) {
         blocks.push(Block {
-            indent,
+            indent: phrase.indent,
             is_if: is_if_form(form),
         })?;
     }
     Ok(())
 }
 
+/// The indent that what comes behind a phrase is measured by.
+fn indent_due(phrase: &PhraseLine<'_>) -> u32
+    ensures { result ≡ indent_due (phrase_of phrase.now) }
+{
+    if is_colon_mark(phrase.mark) {
+        phrase.indent
+    } else {
+        phrase.last_indent
+    }
+}
+
 /// Goes on behind a phrase of this form.
 fn advance(place: &mut Place, form: PhraseForm, phrase: &PhraseLine<'_>) -> Result<(), AllocError>
     ensures { OnOk result (place_of place.new ≡ after_phrase (place_of place.old) form (phrase_of phrase.now)) }
 {
-    close_blocks(&mut place.blocks, form, phrase.mark, phrase.indent)?;
+    let kind = place.due.kind;
+    close_blocks(&mut place.blocks, kind, form, phrase.mark, phrase.indent);
+    open_block(&mut place.blocks, form, phrase)?;
     place.due = Due {
-        kind: kind_after(place.due.kind, form, phrase.mark),
-        indent: phrase.indent,
+        kind: kind_after(kind, form, phrase.mark),
+        indent: indent_due(phrase),
         line: phrase.line,
     };
     Ok(())
-}
-
-/// The line that is told of a phrase that may not stand here.
-fn fault_line(due: Due, phrase: &PhraseLine<'_>) -> u32
-    ensures { result ≡ fault_line due (phrase_of phrase.now) }
-{
-    if is_deeper(due.kind) {
-        due.line
-    } else {
-        phrase.line
-    }
-}
-
-/// The line of what still wants a phrase at a body's end.
-fn line_due(due: Due) -> Option<u32>
-    ensures { result ≡ line_due due }
-{
-    if is_done(due.kind) {
-        None
-    } else {
-        Some(due.line)
-    }
 }
 
 /// Whether an `instead` stands in front.
@@ -327,37 +250,93 @@ fn without_instead(tokens: &[Token]) -> &[Token]
 }
 
 /// What a phrase is by its shape.
-fn shape_of(alloc: Global, phrase: &PhraseLine<'_>) -> Result<Option<PhraseForm>, AllocError>
-    ensures { IfOk result (λ form. form ≡ shape_of (phrase_of phrase.now)) }
+fn shape_of(alloc: Global, phrase: &PhraseLine<'_>) -> Result<Option<PhraseShape>, AllocError>
+    ensures { IfOk result (λ shape. shape ≡ shape_of (phrase_of phrase.now)) }
 {
-    Ok(form_of(alloc, without_instead(phrase.tokens))?)
+    Ok(shape_in(alloc, without_instead(phrase.tokens))?)
+}
+
+/// The phrase's line, if no shape fits it or it may not stand here.
+fn fault_of(place: &Place, phrase: &PhraseLine<'_>, shape: Option<PhraseShape>) -> Option<u32>
+    ensures { result ≡ fault_of (place_of place.now) (phrase_of phrase.now) shape }
+{
+    match shape {
+        None => Some(phrase.line),
+        Some(shape) => if is_allowed(place, shape.form, phrase) {
+            None
+        } else {
+            Some(phrase.line)
+        },
+    }
+}
+
+/// The line that is told of a phrase here: that of a block without a deeper line, or its own.
+fn fault_at(place: &Place, phrase: &PhraseLine<'_>, shape: Option<PhraseShape>) -> Option<u32>
+    ensures { result ≡ fault_at (place_of place.now) (phrase_of phrase.now) shape }
+{
+    if lacks_deeper(place.due, phrase.indent) {
+        Some(place.due.line)
+    } else {
+        fault_of(place, phrase, shape)
+    }
+}
+
+/// Goes on behind a phrase of this shape.
+fn go_on(
+    place: &mut Place,
+    phrase: &PhraseLine<'_>,
+    shape: Option<PhraseShape>,
+) -> Result<(), AllocError>
+    ensures { OnOk result (place_of place.new ≡ place_behind (place_of place.old) (phrase_of phrase.now) shape) }
+{
+    match shape {
+        None => Ok(()),
+        Some(shape) => Ok(advance(place, shape.form, phrase)?),
+    }
 }
 
 /// The line of the first phrase of a body that isn't understood by its shape, or that may not stand where it
-/// stands; none where there is none.
-pub fn body_fault(alloc: Global, phrases: &[PhraseLine<'_>]) -> Result<Option<u32>, AllocError>
-    ensures { IfOk result (λ line. line ≡ body_fault (phrases_of phrases.now)) }
+/// stands; that of the rule, `line`, where there is no phrase; none where all is well.
+pub fn body_fault(
+    alloc: Global,
+    line: u32,
+    phrases: &[PhraseLine<'_>],
+) -> Result<Option<u32>, AllocError>
+    ensures { IfOk result (λ found. found ≡ body_fault line (phrases_of phrases.now)) }
 {
-    let mut place = Place {
-        blocks: Vec::new(alloc),
-        due: Due {
-            kind: DueKind::Free,
-            indent: 0,
-            line: 1,
-        },
-    };
+    let mut place = start(alloc, line);
     let mut rest = phrases;
     while let [phrase, after @ ..] = rest {
-        match shape_of(alloc, phrase)? {
-            None => return Ok(Some(phrase.line)),
-            Some(form) => {
-                if !is_allowed(&place, form, phrase) {
-                    return Ok(Some(fault_line(place.due, phrase)));
-                }
-                advance(&mut place, form, phrase)?;
-            }
+        let shape = shape_of(alloc, phrase)?;
+        if let Some(told) = fault_at(&place, phrase, shape) {
+            return Ok(Some(told));
         }
+        go_on(&mut place, phrase, shape)?;
         rest = after;
     }
     Ok(line_due(place.due))
+}
+
+/// Whether a name in a phrase of this shape holds a reserved word.
+fn has_reserved_name(shape: Option<PhraseShape>) -> bool
+    ensures { result ≡ has_reserved_name shape }
+{
+    match shape {
+        None => false,
+        Some(shape) => shape.has_reserved_name,
+    }
+}
+
+/// The line of the first phrase of a body with a reserved word in a name, if there is one.
+pub fn reserved_line(alloc: Global, phrases: &[PhraseLine<'_>]) -> Result<Option<u32>, AllocError>
+    ensures { IfOk result (λ line. line ≡ reserved_line (phrases_of phrases.now)) }
+{
+    let mut rest = phrases;
+    while let [phrase, after @ ..] = rest {
+        if has_reserved_name(shape_of(alloc, phrase)?) {
+            return Ok(Some(phrase.line));
+        }
+        rest = after;
+    }
+    Ok(None)
 }

@@ -1,12 +1,10 @@
 //! Laws of the definitions that the reader is proved against.
-ghost use Rattle.std.specs.Prelude.{◌≡◌, ◌≢◌, ◌⊎◌, Bool, true, List};
-ghost use Rattle.std.specs.List.{list_all};
+ghost use Rattle.std.specs.Prelude.{◌≡◌, ◌≢◌, ◌⊎◌, Bool, List};
 ghost use Rattle.i7_lexer.specs.declared.token.Token.{Token};
-ghost use Rattle.i7_sentences.specs.Assertions.{is_asserting, is_unbracketed};
 ghost use Rattle.i7_sentences.specs.Cuts.{Piece, cut};
 ghost use Rattle.i7_sentences.specs.Forms.{IsReading, IsUnread, Variant, all_forms};
-ghost use Rattle.i7_sentences.specs.Seams.{IsCut};
-ghost use Rattle.i7_sentences.specs.Sources.{HasSentences, IsRefused, SaysNothing};
+ghost use Rattle.i7_sentences.specs.Seams.{IsCut, IsOnlyCut};
+ghost use Rattle.i7_sentences.specs.Sources.{HasSentences, IsRefused, IsSpeaking};
 ghost use Rattle.i7_sentences.specs.declared.sentence.Sentence.{Sentence};
 ghost use Rattle.world_meaning.specs.declared.fault.Fault.{Fault};
 ghost use Rattle.world_meaning.specs.declared.fault.FaultCode.TheVariants.{Memory};
@@ -15,7 +13,7 @@ ghost use Rattle.world_meaning.specs.declared.fault.FaultCode.TheVariants.{Memor
 /// else, and there is no other such cut, whatever opens a piece and whatever belongs to one.
 pub fn cut_is_exact()
     ensures made { (opens : Token → Bool) (same : Bool → Token → Token → Bool) (tokens : List Token) → IsCut opens same tokens (cut opens same tokens) }
-    ensures alone { (opens : Token → Bool) (same : Bool → Token → Token → Bool) (tokens : List Token) (pieces : List (List Token)) → IsCut opens same tokens pieces → pieces ≡ cut opens same tokens }
+    ensures alone { (opens : Token → Bool) (same : Bool → Token → Token → Bool) (tokens : List Token) → IsOnlyCut opens same tokens (cut opens same tokens) }
 {}
 
 /// No words have two readings, whatever the forms.
@@ -48,5 +46,5 @@ pub fn spelled_or_refused()
 /// A form that is part of the language says something wherever it is the reading of a part, so that the part
 /// is a sentence or has a reserved word in a name, but for a text with a bracket that opens.
 pub fn forms_that_fit_speak()
-    ensures { (part : Piece) (variant : Variant) (letters : List (List Token)) → IsReading all_forms part.tokens variant letters → is_asserting variant.form ≡ true → list_all is_unbracketed part.tokens ≡ true → SaysNothing part → ⊥ }
+    ensures { (part : Piece) (variant : Variant) (letters : List (List Token)) → IsReading all_forms part.tokens variant letters → IsSpeaking variant part }
 {}

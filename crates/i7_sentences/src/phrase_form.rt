@@ -2,11 +2,12 @@
 ghost use Rattle.std.specs.Prelude.{◌≡◌, option_map, IfOk};
 ghost use Rattle.i7_sentences.specs.Found.{found_in};
 ghost use Rattle.i7_sentences.specs.Matching.{lowest_fit};
-ghost use Rattle.i7_sentences.specs.PhraseForms.{form_found, form_of, is_phrase_form, phrase_forms};
+ghost use Rattle.i7_sentences.specs.PhraseForms.{is_phrase_form, phrase_forms, shape_found, shape_in};
 
 use crate::form::Piece::{Letter, Word};
 use crate::matcher::signs_of;
 use crate::reading::{Reading, lowest_fit};
+use crate::reserved::has_reserved_among;
 use crate::tagged::{Tagged, with_tags};
 use crate::{Class, Form, Keyword, Piece};
 use i7_lexer::Token;
@@ -35,6 +36,13 @@ pub enum PhraseForm {
     OtherwiseIf,
     Otherwise,
     Repeat,
+}
+
+/// A phrase's form, and whether a name in it holds a reserved word.
+#[derive(Clone, Copy, Debug, PartialEq, Eq)]
+pub struct PhraseShape {
+    pub form: PhraseForm,
+    pub has_reserved_name: bool,
 }
 
 const WORDS: Piece = Letter(Class::Words);
@@ -141,7 +149,7 @@ pub const PHRASE_FORMS: [&[(Form, &[Piece])]; 20] = [
         &[
             Word(Keyword::Repeat),
             Word(Keyword::With),
-            WORDS,
+            Letter(Class::Name),
             Word(Keyword::Running),
             Word(Keyword::Through),
             WORDS,
@@ -159,13 +167,19 @@ fn is_phrase_form(form: Form) -> Option<PhraseForm>
     }
 }
 
-/// The phrase's form that a reading has.
-fn form_found(reading: Option<Reading<'_, '_>>) -> Option<PhraseForm>
-    ensures { result ≡ form_found (option_map found_in reading.entry) }
+/// What a reading says of a phrase.
+fn shape_found(reading: Option<Reading<'_, '_>>) -> Option<PhraseShape>
+    ensures { result ≡ shape_found (option_map found_in reading.entry) }
 {
     match reading {
         None => None,
-        Some(found) => is_phrase_form(found.form),
+        Some(found) => match is_phrase_form(found.form) {
+            None => None,
+            Some(form) => Some(PhraseShape {
+                form,
+                has_reserved_name: has_reserved_among(found.pieces, found.letters.as_slice()),
+            }),
+        },
     }
 }
 
@@ -182,10 +196,10 @@ fn phrase_reading<'a, 'b>(
 }
 
 /// What a phrase is by its shape, without its mark and a closing `instead`; none where no form fits.
-pub fn form_of(alloc: Global, tokens: &[Token]) -> Result<Option<PhraseForm>, AllocError>
-    ensures { IfOk result (λ form. form ≡ form_of tokens.now) }
+pub fn shape_in(alloc: Global, tokens: &[Token]) -> Result<Option<PhraseShape>, AllocError>
+    ensures { IfOk result (λ shape. shape ≡ shape_in tokens.now) }
 {
     let words = with_tags(alloc, tokens)?;
     let found = phrase_reading(alloc, words.as_slice())?;
-    Ok(form_found(found))
+    Ok(shape_found(found))
 }

@@ -1,6 +1,6 @@
-//! Bodies of rules with their phrases, and the lines at which they aren't understood.
-use i7_lexer::lex;
-use i7_sentences::{PhraseLine, PhraseMark, body_fault, phrases_of};
+//! Bodies of rules with their phrases, and the lines at which they are refused.
+use i7_lexer::{Token, lex};
+use i7_sentences::{PhraseLine, PhraseMark, body_fault, phrases_of, reserved_line};
 use std::alloc::{AllocError, Global};
 use std::test::Fail;
 
@@ -27,25 +27,36 @@ fn add_phrase(alloc: Global, text: &mut String, phrase: &PhraseLine<'_>) -> Resu
     text.push_str(told.as_str())
 }
 
-/// The phrases of a rule, whose head has two words and a colon or a comma, and what its body's fault is.
+/// The code and the line with which a body is refused, or that it is fine.
+fn verdict(alloc: Global, line: u32, phrases: &[PhraseLine<'_>]) -> Result<String, AllocError> {
+    if let Some(unread) = body_fault(alloc, line, phrases)? {
+        return format!(in alloc; "C5 {unread}").map_err(|_| AllocError);
+    }
+    if let Some(reserved) = reserved_line(alloc, phrases)? {
+        return format!(in alloc; "C6 {reserved}").map_err(|_| AllocError);
+    }
+    format!(in alloc; "fine").map_err(|_| AllocError)
+}
+
+/// The line of a rule, and its body behind a head of two words and a colon or a comma.
+fn body_of(tokens: &[Token]) -> (u32, &[Token]) {
+    match tokens {
+        [first, _, _, body @ ..] => (first.line, body),
+        _ => (1, &[]),
+    }
+}
+
+/// The phrases of a rule and its verdict.
 fn told(alloc: Global, source: &str) -> Result<String, Fail> {
     let lexed = lex(alloc, source.as_bytes()).map_err(|_| AllocError)?;
-    let body = match lexed.tokens() {
-        [_, _, _, body @ ..] => body,
-        _ => &[],
-    };
+    let (line, body) = body_of(lexed.tokens());
     let phrases = phrases_of(alloc, body)?;
     let mut text = String::new(alloc);
     for phrase in phrases.as_slice() {
         add_phrase(alloc, &mut text, phrase)?;
     }
-    match body_fault(alloc, phrases.as_slice())? {
-        None => text.push_str("fine")?,
-        Some(line) => {
-            let fault = format!(in alloc; "C5 {line}").map_err(|_| AllocError)?;
-            text.push_str(fault.as_str())?;
-        }
-    }
+    let said = verdict(alloc, line, phrases.as_slice())?;
+    text.push_str(said.as_str())?;
     Ok(text)
 }
 
@@ -85,6 +96,8 @@ fn rows() -> &'static [(&'static str, &'static str)] {
             "Every turn, if in darkness:\n\tif in darkness, repeat with x running through rooms:\n\t\tfollow the x rules;\n\tend the story saying \"b\".",
             "1/0/3: 2/1/3, 2/1/6: 3/2/4; 4/1/5. fine",
         ),
+        ("\n\nEvery turn:", "C5 3"),
+        ("Every turn:\n\t;;\n\t.", "C5 1"),
     ]
 }
 
@@ -140,12 +153,86 @@ fn refused() -> &'static [(&'static str, &'static str)] {
             "C5 7",
         ),
         (":", "C5 3"),
+        (
+            "if in darkness, ;\n\tsay \"b\".",
+            "3/1/3, 3/1/0; 4/1/2. C5 3",
+        ),
+        ("if in darkness,\n\t;\n\tsay \"b\".", "C5 4"),
+        ("if in darkness, .\n\tsay \"b\".", "C5 3"),
+        (
+            "if in darkness, say \"b\"; otherwise;\n\tsay \"c\".",
+            "C5 3",
+        ),
+        (
+            "if in darkness, say \"b\"; otherwise\n\t.\n\tsay \"c\".",
+            "C5 4",
+        ),
+        ("if in darkness:\n\t\t;\n\tsay \"b\".", "C5 3"),
+        ("if in darkness:\n\tfrob.", "C5 3"),
+        ("if in darkness:\n\t\tfrob.", "C5 4"),
+        ("if in darkness:\n\t\totherwise say \"b\".", "C5 4"),
+        ("if in darkness:\n\t\totherwise:\n\t\t\tsay \"b\".", "C5 4"),
+        (
+            "repeat with x running through rooms:\n\t\tif in darkness say \"b\".",
+            "C5 4",
+        ),
+        (
+            "repeat with a rule running through rooms:\n\t\tsay \"b\".",
+            "C6 3",
+        ),
+        (
+            "say \"b\";\n\trepeat with the dark in running through rooms:\n\t\tsay \"b\".",
+            "C6 4",
+        ),
+        (
+            "repeat with some of x running through rooms:\n\t\tsay \"b\";\n\t\tfrob.",
+            "C5 5",
+        ),
+    ]
+}
+
+/// Bodies whose inline ifs go on over lines of other indents.
+fn broken_ifs() -> &'static [(&'static str, &'static str)] {
+    &[
+        (
+            "Every turn:\n\tif x is y:\n\t\tif in darkness,\n\tsay \"a\"; otherwise say \"b\".",
+            "2/1/4: 3/2/3, 4/1/2; 4/1/1 4/1/2. fine",
+        ),
+        (
+            "Every turn:\n\tif x is y:\n\t\tif in darkness, now x is\n\tlit; otherwise say \"b\".",
+            "2/1/4: 3/2/3, 3/2/4; 4/1/1 4/1/2. fine",
+        ),
+        (
+            "Every turn:\n\tif x is y:\n\t\tif in darkness,\n\tsay \"a\";\n\totherwise:\n\t\tsay \"b\".",
+            "2/1/4: 3/2/3, 4/1/2; 5/1/1: 6/2/2. fine",
+        ),
+        (
+            "Every turn:\n\tif x is y:\n\t\tif in darkness, say \"a\"; otherwise\n\tsay \"b\";\n\totherwise:\n\t\tsay \"c\".",
+            "2/1/4: 3/2/3, 3/2/2; 3/2/1 4/1/2; 5/1/1: 6/2/2. fine",
+        ),
+        (
+            "Every turn:\n\tif x is y:\n\t\tif in darkness, say \"a\";\n\totherwise say \"b\".",
+            "2/1/4: 3/2/3, 3/2/2; 4/1/1 4/1/2. C5 4",
+        ),
+        (
+            "Every turn:\n\trepeat with the item running through rooms:\n\t\tsay \"a\".",
+            "2/1/7: 3/2/2. fine",
+        ),
     ]
 }
 
 #[test]
 fn bodies_have_their_phrases(rt: HostRuntime) -> Result<(), Fail> {
     for (source, want) in rows() {
+        let text = told(rt.alloc(), source)?;
+        assert_eq!(rt; text.as_str(), *want, "{source}");
+    }
+    Ok(())
+}
+
+#[test]
+fn broken_ifs_have_their_phrases(rt: HostRuntime) -> Result<(), Fail> {
+    for (source, want) in broken_ifs() {
         let text = told(rt.alloc(), source)?;
         assert_eq!(rt; text.as_str(), *want, "{source}");
     }
