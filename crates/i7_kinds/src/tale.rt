@@ -27,7 +27,10 @@ use crate::scope::Scope;
 use crate::suits::{first_room, put_player};
 use crate::values::{Bearer, values_by};
 use crate::ways::Ways;
-use i7_claims::{Claim, Mention, NumberedSentence, Sort, claims_of, earlier, names_as, names_of, property_names, statements_in};
+use i7_claims::{
+    Claim, Mention, NumberedSentence, Sort, claims_of, earlier, names_as, names_of, property_names,
+    statements_in,
+};
 use i7_sentences::Sentence;
 use object_words::Strings;
 use std::alloc::{AllocError, Global};
