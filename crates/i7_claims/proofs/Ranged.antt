@@ -1,5 +1,5 @@
 -- The numbers of claims are in range where those of the sentences are.
-use Rattle.std.proofs.Common.{◌≡◌, ℕ, ◌+◌, true, List, [], ◌∷◌, ◌++◌, map, Option, inl, inr}
+use Rattle.std.proofs.Common.{◌≡◌, ℕ, true, List, [], ◌∷◌, ◌++◌, map, Option, inl, inr}
 use Rattle.std.specs.Prelude.{Some, None, flat_map}
 use Rattle.world_meaning.proofs.Bools.{either}
 use Rattle.world_meaning.specs.Declarations.{is_number}

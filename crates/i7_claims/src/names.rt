@@ -192,7 +192,7 @@ impl<'a> Names<'a> {
     }
 
     /// The number of the object of this name.
-    pub fn number_of(&self, alloc: Global, name: &Name) -> Result<usize, AllocError>
+    pub(crate) fn number_of(&self, alloc: Global, name: &Name) -> Result<usize, AllocError>
         ensures { IfOk result (λ number. number ≡ number_of (names_of self.now) name.now) }
     {
         let key = key_of(alloc, name.text.as_slice())?;

@@ -1,4 +1,4 @@
-use Rattle.std.proofs.Common.{◌≡◌, length, ap, ◌∙◌, List, Bool, arith}
+use Rattle.std.proofs.Common.{ap, ◌∙◌, List, Bool, arith}
 use Rattle.i7_claims.specs.NameScans.{standing_at}
 use Rattle.i7_claims.specs.Wording.{can_cut}
 use Rattle.i7_claims.proofs.Columns.{column_more}
