@@ -15,16 +15,16 @@ use Rattle.world_meaning.specs.declared.fault.FaultCode.{FaultCode}
 use Rattle.world_meaning.specs.declared.fault.FaultCode.TheVariants.{Cycle, NoRoom, TooMany, Twice, TwoPlaces, UnknownName, WrongKind}
 use Rattle.i7_kinds.specs.Bounds.{AreWithin, IsSmallTarget, IsWithin, LeadWithin}
 use Rattle.i7_kinds.specs.Demands.{first_target, line_at, implied_in, implied_leads, is_exit, stated_in, stated_leads, way_back, way_there, way_through}
-use Rattle.i7_kinds.specs.Scans.{earlier}
+use Rattle.i7_claims.specs.Scans.{earlier}
 use Rattle.i7_kinds.specs.declared.faults.Faults.{Faults}
-use Rattle.i7_kinds.specs.Firsts.{first_of}
+use Rattle.i7_claims.specs.Firsts.{first_of}
 use Rattle.i7_kinds.specs.Tales.{frame_refusal, no_room, object_too_many, refusal_at}
-use Rattle.i7_kinds.specs.declared.statements.Numbered.{Numbered}
-use Rattle.i7_kinds.specs.declared.statements.Numbered.TheVariants as numbered
-use Rattle.i7_kinds.specs.declared.statements.NumberedSentence.{NumberedSentence}
+use Rattle.i7_claims.specs.declared.statements.Numbered.{Numbered}
+use Rattle.i7_claims.specs.declared.statements.Numbered.TheVariants as numbered
+use Rattle.i7_claims.specs.declared.statements.NumberedSentence.{NumberedSentence}
 use Rattle.i7_kinds.specs.declared.ways.Lead.{Lead}
 use Rattle.i7_kinds.specs.declared.ways.Target.{Target}
-use Rattle.i7_kinds.specs.Statements.{NameAt, Named, built_in_keys, numbered_holding, numbered_in, numbered_subject, has_key, key_of, named_by, names_at, number_in, place_or, stated_by, statement_in, with_name, with_names_of}
+use Rattle.i7_claims.specs.Statements.{NameAt, Named, built_in_keys, numbered_holding, numbered_in, numbered_subject, has_key, key_of, named_by, names_at, number_in, place_or, stated_by, statement_in, with_name, with_names_of}
 
 -- as many keys as objects
 abbrev pub IsCounted : Named → Type 0

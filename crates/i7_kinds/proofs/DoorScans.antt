@@ -8,15 +8,15 @@ use Rattle.world_meaning.proofs.Climbs.{climbs_decide}
 use Rattle.world_meaning.specs.Kinds.{is_under}
 use Rattle.i7_kinds.specs.Doors.{DemandsDoor, IsDoorDemanded, IsTold, IsToldAgain, all_told, door_demanded, door_told, door_twice, doors_of, is_door_kind, is_told_again, shows_told_again, with_told}
 use Rattle.i7_kinds.specs.Knowns.{door_kind}
-use Rattle.i7_kinds.specs.Numbers.{has_name, number_in}
-use Rattle.i7_kinds.specs.Scans.{IsLowest, ShownBy}
-use Rattle.i7_kinds.specs.Sorts.{with_name}
-use Rattle.i7_kinds.specs.declared.claim.Claim.{Claim}
-use Rattle.i7_kinds.specs.declared.claim.Fact.{Fact}
-use Rattle.i7_kinds.specs.declared.claim.Fact.TheVariants.{Between, Demands}
-use Rattle.i7_kinds.proofs.BookScans.{mention_has}
-use Rattle.i7_kinds.proofs.Lowest.{lowest_is}
-use Rattle.i7_kinds.proofs.NameScans.{never}
+use Rattle.i7_claims.specs.Numbers.{has_name, number_in}
+use Rattle.i7_claims.specs.Scans.{IsLowest, ShownBy}
+use Rattle.i7_claims.specs.Sorts.{with_name}
+use Rattle.i7_claims.specs.declared.claim.Claim.{Claim}
+use Rattle.i7_claims.specs.declared.claim.Fact.{Fact}
+use Rattle.i7_claims.specs.declared.claim.Fact.TheVariants.{Between, Demands}
+use Rattle.i7_claims.proofs.BookScans.{mention_has}
+use Rattle.i7_claims.proofs.Lowest.{lowest_is}
+use Rattle.i7_claims.proofs.NameScans.{never}
 
 or_either : (a b : Bool) → (a || b) ≡ true → (a ≡ true) ⊎ (b ≡ true)
 or_either true b h = inl refl

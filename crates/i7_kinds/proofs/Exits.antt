@@ -4,11 +4,11 @@ use Rattle.std.specs.Prelude.{◌==◌, not, Option, Some, None, is_some, option
 use Rattle.std.specs.Borrow.{Bor}
 use Rattle.std.proofs.lemmas.Bool.{eqb-true}
 use Rattle.world_meaning.proofs.Bools.{both_are}
-use Rattle.i7_kinds.specs.Firsts.{first_of}
+use Rattle.i7_claims.specs.Firsts.{first_of}
 use Rattle.i7_kinds.specs.Views.{exit_eq, given_exit}
 use Rattle.i7_kinds.specs.declared.ways.Exit.{Exit}
 use Rattle.i7_kinds.specs.declared.ways.Target.{Target}
-use Rattle.i7_kinds.proofs.Firsts.{first_put}
+use Rattle.i7_claims.proofs.Firsts.{first_put}
 
 pub exit_sound : (a b : Exit) → exit_eq a b ≡ true → a ≡ b
 exit_sound a b same =

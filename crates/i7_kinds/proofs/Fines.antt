@@ -8,12 +8,12 @@ use Rattle.world_meaning.proofs.Climbs.{climbs_decide}
 use Rattle.world_meaning.specs.Kinds.{Under, itself, is_under}
 use Rattle.i7_kinds.specs.KindClaims.{is_unknown, same_names, shows_unknown, unknown_kind}
 use Rattle.i7_kinds.specs.Knowns.{Scope, deepen, deepened, first_knowns, is_in, is_off, is_parted, kind_by, known_at, knowns_of, off_path, shows_off, thing_or_container, unknown, with_demand, with_holder, with_known, with_known_of, with_room}
-use Rattle.i7_kinds.specs.Numbers.{has_name, number_in}
-use Rattle.i7_kinds.specs.Scans.{lowest}
-use Rattle.i7_kinds.specs.declared.claim.Claim.{Claim}
-use Rattle.i7_kinds.specs.declared.claim.Fact.{Fact}
-use Rattle.i7_kinds.specs.declared.claim.Fact.TheVariants.{Demands, Placed, RoomUnlessDoor}
-use Rattle.i7_kinds.specs.declared.claim.Placing.{Placing}
+use Rattle.i7_claims.specs.Numbers.{has_name, number_in}
+use Rattle.i7_claims.specs.Scans.{lowest}
+use Rattle.i7_claims.specs.declared.claim.Claim.{Claim}
+use Rattle.i7_claims.specs.declared.claim.Fact.{Fact}
+use Rattle.i7_claims.specs.declared.claim.Fact.TheVariants.{Demands, Placed, RoomUnlessDoor}
+use Rattle.i7_claims.specs.declared.claim.Placing.{Placing}
 use Rattle.i7_kinds.specs.declared.knowns.Demanded.{Demanded}
 use Rattle.i7_kinds.specs.declared.knowns.Demanded.TheVariants.{Nothing, Deepest, Parted}
 use Rattle.i7_kinds.specs.declared.knowns.Known.{Known}

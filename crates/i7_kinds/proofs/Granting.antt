@@ -8,12 +8,12 @@ use Rattle.world_meaning.proofs.Bools.{both, both_are, either}
 use Rattle.world_meaning.specs.Declarations.{are_rising, begin_with_properties, is_among, is_below, is_granted, is_right_grant}
 use Rattle.world_meaning.specs.Properties.{Property, built_in_properties}
 use Rattle.i7_kinds.specs.Grants.{built_in_bases, first_base, flag_of, flags_from, kinds_given, rising_of}
-use Rattle.i7_kinds.specs.Sorts.{built_in_either_ors, claimed_as, names_as, with_claimed, with_name}
-use Rattle.i7_kinds.specs.Standings.{has_name}
-use Rattle.i7_kinds.specs.declared.claim.Claim.{Claim}
+use Rattle.i7_claims.specs.Sorts.{built_in_either_ors, claimed_as, names_as, with_claimed, with_name}
+use Rattle.i7_claims.specs.Standings.{has_name}
+use Rattle.i7_claims.specs.declared.claim.Claim.{Claim}
 use Rattle.i7_kinds.specs.declared.grants.Given.{Given}
-use Rattle.i7_kinds.specs.declared.sorts.Sort.{Sort}
-use Rattle.i7_kinds.specs.declared.sorts.Sort.TheVariants as sort
+use Rattle.i7_claims.specs.declared.sorts.Sort.{Sort}
+use Rattle.i7_claims.specs.declared.sorts.Sort.TheVariants as sort
 
 or_first : (a b : Bool) → a ≡ true → (a || b) ≡ true
 or_first true b h = refl

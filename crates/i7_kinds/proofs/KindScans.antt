@@ -8,19 +8,19 @@ use Rattle.world_meaning.proofs.Climbs.{climbs_decide}
 use Rattle.world_meaning.specs.Kinds.{built_in_parents}
 use Rattle.object_words.specs.Mentions.{mention}
 use Rattle.i7_kinds.specs.KindClaims.{AreSmallKinds, IsCycle, IsKindTooMany, IsUnknown, is_cycle, is_kind_too_many, is_unknown, kind_count, kind_cycle, kind_names, kind_too_many, parents_of, same_names, shows_cycle, shows_kind_too_many, shows_unknown, unknown_kind, with_count, with_count_of, with_kind, with_kind_of, with_parent, with_parent_of}
-use Rattle.i7_kinds.specs.Scans.{IsLowest, ShownBy, lowest}
-use Rattle.i7_kinds.specs.Sorts.{built_in_either_ors, built_in_kinds, claimed_as, is_too_many, most_names, names_as, shows_too_many, too_many_as, with_claimed, with_name}
-use Rattle.i7_kinds.specs.declared.sorts.Sort.{Sort}
-use Rattle.i7_kinds.specs.declared.sorts.Sort.TheVariants as sort
-use Rattle.i7_kinds.specs.Standings.{has_name}
-use Rattle.i7_kinds.specs.Statements.{number_in}
-use Rattle.i7_kinds.specs.declared.claim.Claim.{Claim}
-use Rattle.i7_kinds.specs.declared.claim.Fact.{Fact}
-use Rattle.i7_kinds.specs.declared.claim.Fact.TheVariants.{Lies, CanBe, HasNumber, Demands, Usually, Unread}
+use Rattle.i7_claims.specs.Scans.{IsLowest, ShownBy, lowest}
+use Rattle.i7_claims.specs.Sorts.{built_in_either_ors, built_in_kinds, claimed_as, is_too_many, most_names, names_as, shows_too_many, too_many_as, with_claimed, with_name}
+use Rattle.i7_claims.specs.declared.sorts.Sort.{Sort}
+use Rattle.i7_claims.specs.declared.sorts.Sort.TheVariants as sort
+use Rattle.i7_claims.specs.Standings.{has_name}
+use Rattle.i7_claims.specs.Statements.{number_in}
+use Rattle.i7_claims.specs.declared.claim.Claim.{Claim}
+use Rattle.i7_claims.specs.declared.claim.Fact.{Fact}
+use Rattle.i7_claims.specs.declared.claim.Fact.TheVariants.{Lies, CanBe, HasNumber, Demands, Usually, Unread}
 use Rattle.i7_kinds.proofs.Bounds.{number-within}
-use Rattle.i7_kinds.proofs.Lowest.{lowest_is}
-use Rattle.i7_kinds.proofs.NameScans.{never}
-use Rattle.i7_kinds.proofs.SortScans.{not_true, not_false}
+use Rattle.i7_claims.proofs.Lowest.{lowest_is}
+use Rattle.i7_claims.proofs.NameScans.{never}
+use Rattle.i7_claims.proofs.SortScans.{not_true, not_false}
 
 not_decides : (b : Bool) → Decides (not b) (b ≡ false)
 not_decides b = (not_true b, not_false b)

@@ -1,15 +1,9 @@
 pub mod Granting
 pub mod Rooted
 pub mod KindScans
-pub mod SortScans
-pub mod BookScans
 pub mod DoorScans
-pub mod Lowest
-pub mod NameScans
-pub mod Kept
 pub mod Bounds
 pub mod Exits
-pub mod Firsts
 pub mod ObjectsBehind
 pub mod UnderKinds
 pub mod Fines
@@ -20,7 +14,4 @@ pub mod ValueScans
 pub mod Ranged
 pub mod Readiness
 pub mod FewWords
-pub mod Columns
-pub mod Lengths
 pub mod LongNames
-mod Quoting

@@ -3,12 +3,12 @@ use Rattle.std.proofs.Common.{ℕ, List, [], ◌∷◌, length, ◌≡◌, refl,
 use Rattle.std.specs.Prelude.{Decides, fold}
 use Rattle.std.proofs.lemmas.Bool.{lt-ltb, ltb-true}
 use Rattle.i7_kinds.specs.LongNames.{IsLonger, is_longer, longer_name, same_most, shows_longer}
-use Rattle.i7_kinds.specs.Scans.{IsLowest, ShownBy}
-use Rattle.i7_kinds.specs.declared.claim.Claim.{Claim}
-use Rattle.i7_kinds.specs.declared.claim.Fact.{Fact}
-use Rattle.i7_kinds.specs.declared.claim.Fact.TheVariants.{Stands, Rulebook}
-use Rattle.i7_kinds.proofs.Lowest.{lowest_is}
-use Rattle.i7_kinds.proofs.NameScans.{never}
+use Rattle.i7_claims.specs.Scans.{IsLowest, ShownBy}
+use Rattle.i7_claims.specs.declared.claim.Claim.{Claim}
+use Rattle.i7_claims.specs.declared.claim.Fact.{Fact}
+use Rattle.i7_claims.specs.declared.claim.Fact.TheVariants.{Stands, Rulebook}
+use Rattle.i7_claims.proofs.Lowest.{lowest_is}
+use Rattle.i7_claims.proofs.NameScans.{never}
 
 longer_decides : (most : ℕ) (f : Fact) → Decides (is_longer most f) (IsLonger most f)
 longer_decides most (Stands n) = (ltb-true most (length n.name), lt-ltb most (length n.name))

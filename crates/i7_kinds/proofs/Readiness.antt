@@ -7,19 +7,19 @@ use Rattle.i7_kinds.specs.Doors.{doors_of}
 use Rattle.i7_kinds.specs.KindClaims.{AreSmallKinds, declared_by, givens_by, kind_names, kind_too_many, parents_of, unknown_kind}
 use Rattle.i7_kinds.specs.Knowns.{Scope, kind_of, known_at, knowns_of, off_path}
 use Rattle.i7_kinds.specs.Places.{places_by}
-use Rattle.i7_kinds.specs.Scans.{earlier}
-use Rattle.i7_kinds.specs.Sorts.{name_too_many, names_as, property_names, too_many_as}
+use Rattle.i7_claims.specs.Scans.{earlier}
+use Rattle.i7_claims.specs.Sorts.{name_too_many, names_as, property_names, too_many_as}
 use Rattle.i7_kinds.specs.Grants.{built_in_bases, givens_of}
 use Rattle.i7_kinds.specs.declared.grants.Given.{Given}
-use Rattle.i7_kinds.specs.declared.sorts.Sort.TheVariants as sort
+use Rattle.i7_claims.specs.declared.sorts.Sort.TheVariants as sort
 use Rattle.i7_kinds.proofs.Granting.{flags_counted}
 use Rattle.i7_sentences.specs.declared.sentence.Sentence.{Sentence}
-use Rattle.i7_kinds.specs.Statements.{NameAt, Named, named_by, statement_in}
+use Rattle.i7_claims.specs.Statements.{NameAt, Named, named_by, statement_in}
 use Rattle.i7_kinds.specs.Suits.{first_room, unsuited, with_player}
 use Rattle.i7_kinds.specs.Tales.{faults_of, frame_refusal, limit_refusal, judged, refusal_of, said_by, said_in, scope_of, scope_with}
-use Rattle.i7_kinds.specs.declared.claim.Claim.{Claim}
+use Rattle.i7_claims.specs.declared.claim.Claim.{Claim}
 use Rattle.i7_kinds.specs.declared.knowns.Known.{Known}
-use Rattle.i7_kinds.specs.declared.statements.NumberedSentence.{NumberedSentence}
+use Rattle.i7_claims.specs.declared.statements.NumberedSentence.{NumberedSentence}
 use Rattle.i7_kinds.proofs.Bounds.{counted-source, earlier_none, first_none_both, frame_parts, lead-within, source-within}
 use Rattle.i7_kinds.proofs.Fines.{AreFine, base, kind_few, knowns_counted, knowns_fine}
 use Rattle.i7_kinds.proofs.KindScans.{either_ors_few, kind_names_counted, kinds_small, parents_are_kinds, parents_few}

@@ -9,12 +9,12 @@ use Rattle.world_meaning.specs.Declarations.{is_rooted}
 use Rattle.world_meaning.specs.Kinds.{Under, itself, above, built_in_parents, is_under, is_under_one}
 use Rattle.world_meaning.specs.declared.kinds.TheConstants.{ROOTS}
 use Rattle.i7_kinds.specs.KindClaims.{is_cycle, is_unknown, kind_cycle, kind_names, parents_of, same_names, shows_cycle, shows_unknown, unknown_kind, with_count, with_count_of, with_parent, with_parent_of}
-use Rattle.i7_kinds.specs.Scans.{lowest}
-use Rattle.i7_kinds.specs.Standings.{has_name}
-use Rattle.i7_kinds.specs.Statements.{number_in}
-use Rattle.i7_kinds.specs.declared.claim.Claim.{Claim}
-use Rattle.i7_kinds.specs.declared.claim.Fact.{Fact}
-use Rattle.i7_kinds.specs.declared.claim.Fact.TheVariants.{Lies}
+use Rattle.i7_claims.specs.Scans.{lowest}
+use Rattle.i7_claims.specs.Standings.{has_name}
+use Rattle.i7_claims.specs.Statements.{number_in}
+use Rattle.i7_claims.specs.declared.claim.Claim.{Claim}
+use Rattle.i7_claims.specs.declared.claim.Fact.{Fact}
+use Rattle.i7_claims.specs.declared.claim.Fact.TheVariants.{Lies}
 use Rattle.i7_kinds.proofs.KindScans.{kind_names_counted, none_shown, parents_are_kinds}
 
 -- ---- what was there stays

@@ -5,17 +5,17 @@ use Rattle.std.specs.Borrow.{Bor}
 use Rattle.std.proofs.lemmas.Bool.{eqb-true, eq-eqb}
 use Rattle.world_meaning.proofs.Bools.{both_are, either}
 use Rattle.i7_kinds.specs.Knowns.{Scope}
-use Rattle.i7_kinds.specs.Scans.{IsLowest, ShownBy}
+use Rattle.i7_claims.specs.Scans.{IsLowest, ShownBy}
 use Rattle.i7_kinds.specs.Values.{IsContrary, IsOther, Values, is_contrary, is_other, is_same, is_same_number, no_values, shows_contrary, slot_eq, told_by, value_in, value_twice, values_by, with_slot, with_value_of}
-use Rattle.i7_kinds.specs.declared.claim.Claim.{Claim}
-use Rattle.i7_kinds.specs.declared.claim.Value.{Value}
-use Rattle.i7_kinds.specs.declared.claim.Value.TheVariants.{Truth, Amount}
+use Rattle.i7_claims.specs.declared.claim.Claim.{Claim}
+use Rattle.i7_claims.specs.declared.claim.Value.{Value}
+use Rattle.i7_claims.specs.declared.claim.Value.TheVariants.{Truth, Amount}
 use Rattle.i7_kinds.specs.declared.values.Bearer.{Bearer}
 use Rattle.i7_kinds.specs.declared.values.Told.{Told}
 use Rattle.i7_kinds.specs.declared.values.Slot.{Slot}
-use Rattle.i7_kinds.proofs.Firsts.{first_put}
-use Rattle.i7_kinds.proofs.Lowest.{lowest_is}
-use Rattle.i7_kinds.proofs.NameScans.{never}
+use Rattle.i7_claims.proofs.Firsts.{first_put}
+use Rattle.i7_claims.proofs.Lowest.{lowest_is}
+use Rattle.i7_claims.proofs.NameScans.{never}
 
 slot_sound : (a b : Slot) → slot_eq a b ≡ true → a ≡ b
 slot_sound a b same =

@@ -4,9 +4,9 @@ use Rattle.world_meaning.specs.declared.place.Place.{Place}
 use Rattle.i7_kinds.specs.Demands.{target_of}
 use Rattle.i7_kinds.specs.Knowns.{kind_of}
 use Rattle.i7_kinds.specs.declared.knowns.Known.{Known}
-use Rattle.i7_kinds.specs.declared.statements.Numbered.{Numbered}
-use Rattle.i7_kinds.specs.declared.statements.Numbered.TheVariants as numbered
-use Rattle.i7_kinds.specs.declared.statements.NumberedSentence.{NumberedSentence}
+use Rattle.i7_claims.specs.declared.statements.Numbered.{Numbered}
+use Rattle.i7_claims.specs.declared.statements.Numbered.TheVariants as numbered
+use Rattle.i7_claims.specs.declared.statements.NumberedSentence.{NumberedSentence}
 use Rattle.i7_kinds.specs.declared.ways.Target.{Target}
 
 -- the number of an object of a story, if there is one

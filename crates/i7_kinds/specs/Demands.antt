@@ -5,16 +5,16 @@ use Rattle.std.specs.List.{list_any}
 use Rattle.world_meaning.specs.Directions.{direction_number, opposite_of}
 use Rattle.world_meaning.specs.declared.direction.Direction.{Direction}
 use Rattle.world_meaning.specs.Kinds.{room_kind}
-use Rattle.i7_kinds.specs.Firsts.{first_of}
+use Rattle.i7_claims.specs.Firsts.{first_of}
 use Rattle.i7_kinds.specs.Knowns.{door_kind, is_of, is_parted_at}
 use Rattle.i7_kinds.specs.declared.knowns.Known.{Known}
-use Rattle.i7_kinds.specs.Statements.{NameAt}
+use Rattle.i7_claims.specs.Statements.{NameAt}
 use Rattle.i7_kinds.specs.declared.descriptions.Description.{Description}
-use Rattle.i7_kinds.specs.declared.statements.Numbered.{Numbered}
-use Rattle.i7_kinds.specs.declared.statements.Numbered.TheVariants as numbered
-use Rattle.i7_kinds.specs.declared.statements.NumberedSentence.{NumberedSentence}
-use Rattle.i7_kinds.specs.declared.statements.NumberedSide.{NumberedSide}
-use Rattle.i7_kinds.specs.declared.statements.NumberedWay.{NumberedWay}
+use Rattle.i7_claims.specs.declared.statements.Numbered.{Numbered}
+use Rattle.i7_claims.specs.declared.statements.Numbered.TheVariants as numbered
+use Rattle.i7_claims.specs.declared.statements.NumberedSentence.{NumberedSentence}
+use Rattle.i7_claims.specs.declared.statements.NumberedSide.{NumberedSide}
+use Rattle.i7_claims.specs.declared.statements.NumberedWay.{NumberedWay}
 use Rattle.i7_kinds.specs.declared.ways.Lead.{Lead}
 use Rattle.i7_kinds.specs.declared.ways.Target.{Target}
 

@@ -2,12 +2,12 @@
 use Rattle.std.specs.Prelude.{◌≡◌, ℕ, Bool, true, false, ◌&&◌, List, [], fold, Option, Some, None}
 use Rattle.world_meaning.specs.Kinds.{Under, is_under}
 use Rattle.i7_kinds.specs.Knowns.{door_kind}
-use Rattle.i7_kinds.specs.Numbers.{has_name, number_in}
-use Rattle.i7_kinds.specs.Scans.{ShownBy, lowest}
-use Rattle.i7_kinds.specs.Sorts.{named_if, with_name}
-use Rattle.i7_kinds.specs.declared.claim.Claim.{Claim}
-use Rattle.i7_kinds.specs.declared.claim.Fact.{Fact}
-use Rattle.i7_kinds.specs.declared.claim.Fact.TheVariants.{Demands, Between}
+use Rattle.i7_claims.specs.Numbers.{has_name, number_in}
+use Rattle.i7_claims.specs.Scans.{ShownBy, lowest}
+use Rattle.i7_claims.specs.Sorts.{named_if, with_name}
+use Rattle.i7_claims.specs.declared.claim.Claim.{Claim}
+use Rattle.i7_claims.specs.declared.claim.Fact.{Fact}
+use Rattle.i7_claims.specs.declared.claim.Fact.TheVariants.{Demands, Between}
 
 -- ---- names that facts tell
 

@@ -3,10 +3,10 @@ use Rattle.std.specs.Prelude.{ℕ, ◌+◌, ◌==◌, List, [], ◌∷◌, ◌++
 use Rattle.world_meaning.specs.Declarations.{is_among}
 use Rattle.world_meaning.specs.declared.declared.Granted.{Granted}
 use Rattle.world_meaning.specs.declared.kinds.TheConstants.{PROPERTIES}
-use Rattle.i7_kinds.specs.Statements.{number_in}
-use Rattle.i7_kinds.specs.declared.claim.Claim.{Claim}
-use Rattle.i7_kinds.specs.declared.claim.Fact.{Fact}
-use Rattle.i7_kinds.specs.declared.claim.Fact.TheVariants.{CanBe, HasNumber}
+use Rattle.i7_claims.specs.Statements.{number_in}
+use Rattle.i7_claims.specs.declared.claim.Claim.{Claim}
+use Rattle.i7_claims.specs.declared.claim.Fact.{Fact}
+use Rattle.i7_claims.specs.declared.claim.Fact.TheVariants.{CanBe, HasNumber}
 use Rattle.i7_kinds.specs.declared.grants.Given.{Given}
 
 -- of each built-in property the kinds that have it

@@ -7,14 +7,14 @@ use Rattle.world_meaning.specs.declared.declared.Granted.{Granted}
 use Rattle.object_words.specs.Mentions.{mention}
 use Rattle.i7_kinds.specs.Grants.{built_in_bases, flags_from, givens_of}
 use Rattle.i7_kinds.specs.declared.grants.Given.{Given}
-use Rattle.i7_kinds.specs.Scans.{lowest}
-use Rattle.i7_kinds.specs.Sorts.{built_in_kinds, names_as, property_names}
-use Rattle.i7_kinds.specs.declared.sorts.Sort.TheVariants as sort
-use Rattle.i7_kinds.specs.Standings.{has_name}
-use Rattle.i7_kinds.specs.Statements.{number_in}
-use Rattle.i7_kinds.specs.declared.claim.Claim.{Claim}
-use Rattle.i7_kinds.specs.declared.claim.Fact.{Fact}
-use Rattle.i7_kinds.specs.declared.claim.Fact.TheVariants.{Lies, CanBe, HasNumber, Demands, Usually, Starts, Unread}
+use Rattle.i7_claims.specs.Scans.{lowest}
+use Rattle.i7_claims.specs.Sorts.{built_in_kinds, names_as, property_names}
+use Rattle.i7_claims.specs.declared.sorts.Sort.TheVariants as sort
+use Rattle.i7_claims.specs.Standings.{has_name}
+use Rattle.i7_claims.specs.Statements.{number_in}
+use Rattle.i7_claims.specs.declared.claim.Claim.{Claim}
+use Rattle.i7_claims.specs.declared.claim.Fact.{Fact}
+use Rattle.i7_claims.specs.declared.claim.Fact.TheVariants.{Lies, CanBe, HasNumber, Demands, Usually, Starts, Unread}
 
 abbrev pub with_kind : List (List ℕ) → Fact → List (List ℕ)
 with_kind names (Lies l) = mention names l.kind

@@ -4,13 +4,13 @@ use Rattle.world_meaning.specs.Kinds.{direction_kind, is_under, person_kind, roo
 use Rattle.world_meaning.specs.Placing.{Kinds}
 use Rattle.world_meaning.specs.declared.place.Rel.{Rel}
 use Rattle.world_meaning.specs.declared.place.Rel.TheVariants.{In}
-use Rattle.i7_kinds.specs.Numbers.{has_name, number_in}
-use Rattle.i7_kinds.specs.Scans.{lowest}
-use Rattle.i7_kinds.specs.declared.claim.Claim.{Claim}
-use Rattle.i7_kinds.specs.declared.claim.Demand.{Demand}
-use Rattle.i7_kinds.specs.declared.claim.Fact.{Fact}
-use Rattle.i7_kinds.specs.declared.claim.Fact.TheVariants.{Demands, Placed, RoomUnlessDoor}
-use Rattle.i7_kinds.specs.declared.claim.Placing.{Placing}
+use Rattle.i7_claims.specs.Numbers.{has_name, number_in}
+use Rattle.i7_claims.specs.Scans.{lowest}
+use Rattle.i7_claims.specs.declared.claim.Claim.{Claim}
+use Rattle.i7_claims.specs.declared.claim.Demand.{Demand}
+use Rattle.i7_claims.specs.declared.claim.Fact.{Fact}
+use Rattle.i7_claims.specs.declared.claim.Fact.TheVariants.{Demands, Placed, RoomUnlessDoor}
+use Rattle.i7_claims.specs.declared.claim.Placing.{Placing}
 use Rattle.i7_kinds.specs.declared.knowns.Demanded.{Demanded}
 use Rattle.i7_kinds.specs.declared.knowns.Demanded.TheVariants.{Nothing, Deepest, Parted}
 use Rattle.i7_kinds.specs.declared.grants.Given.{Given}
@@ -26,6 +26,17 @@ pub record Scope : Type 0 where
   pub givens : List Given
   pub doors : List (List ℕ)
   pub variables : List (List ℕ)
+
+abbrev pub scope_of_names : List (List ℕ) → List (List ℕ) → List (Option ℕ) → List (List ℕ) → List Given → List (List ℕ) → List (List ℕ) → Scope
+scope_of_names objects kinds parents properties givens doors variables = record {
+  objects = objects;
+  kinds = kinds;
+  parents = parents;
+  properties = properties;
+  givens = givens;
+  doors = doors;
+  variables = variables;
+}
 
 abbrev pub door_kind : ℕ
 door_kind = 3

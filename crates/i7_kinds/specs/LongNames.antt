@@ -1,9 +1,9 @@
 -- C12: a name, of whatever it stands for, of over 65,535 bytes.
 use Rattle.std.specs.Prelude.{ℕ, ◌<◌, Bool, false, nat_lt, List, length, Option, None}
-use Rattle.i7_kinds.specs.Scans.{lowest}
-use Rattle.i7_kinds.specs.declared.claim.Claim.{Claim}
-use Rattle.i7_kinds.specs.declared.claim.Fact.{Fact}
-use Rattle.i7_kinds.specs.declared.claim.Fact.TheVariants.{Stands, Rulebook}
+use Rattle.i7_claims.specs.Scans.{lowest}
+use Rattle.i7_claims.specs.declared.claim.Claim.{Claim}
+use Rattle.i7_claims.specs.declared.claim.Fact.{Fact}
+use Rattle.i7_claims.specs.declared.claim.Fact.TheVariants.{Stands, Rulebook}
 
 -- a name is told that has more bytes than this
 abbrev pub IsLonger : ℕ → Fact → Type 0

@@ -7,14 +7,14 @@ use Rattle.world_meaning.specs.declared.place.Place.{Place}
 use Rattle.world_meaning.specs.declared.place.Rel.TheVariants.{In}
 use Rattle.i7_kinds.specs.Grants.{built_in_bases}
 use Rattle.i7_kinds.specs.Knowns.{Scope, is_parted_at, kind_of, kinds_known, known_at}
-use Rattle.i7_kinds.specs.Numbers.{number_in}
+use Rattle.i7_claims.specs.Numbers.{number_in}
 use Rattle.i7_kinds.specs.Places.{Places, place_of, put, thing_of}
-use Rattle.i7_kinds.specs.Scans.{lowest}
-use Rattle.i7_kinds.specs.declared.claim.Claim.{Claim}
-use Rattle.i7_kinds.specs.declared.claim.Fact.{Fact}
-use Rattle.i7_kinds.specs.declared.claim.Fact.TheVariants.{Has, Placed, Usually}
-use Rattle.i7_kinds.specs.declared.claim.Having.{Having}
-use Rattle.i7_kinds.specs.declared.claim.Usual.{Usual}
+use Rattle.i7_claims.specs.Scans.{lowest}
+use Rattle.i7_claims.specs.declared.claim.Claim.{Claim}
+use Rattle.i7_claims.specs.declared.claim.Fact.{Fact}
+use Rattle.i7_claims.specs.declared.claim.Fact.TheVariants.{Has, Placed, Usually}
+use Rattle.i7_claims.specs.declared.claim.Having.{Having}
+use Rattle.i7_claims.specs.declared.claim.Usual.{Usual}
 use Rattle.i7_kinds.specs.declared.knowns.Known.{Known}
 
 -- the kinds allow the place: the player is directly in a room

@@ -23,10 +23,10 @@ use Rattle.i7_sentences.specs.declared.name.NameArticle.TheVariants as written
 use Rattle.i7_sentences.specs.declared.sentence.Sentence.{Sentence}
 use Rattle.i7_kinds.specs.Demands.{wrong_kind, descriptions_of, description_of, second_description, second_target, target_of, first_of_author, line_at, line_of_description}
 use Rattle.object_words.specs.Words.{words_for}
-use Rattle.i7_kinds.specs.Claims.{claims_of}
+use Rattle.i7_claims.specs.Claims.{claims_of}
 use Rattle.i7_kinds.specs.Grants.{first_base, givens_of, other_bases}
 use Rattle.i7_kinds.specs.Doors.{door_twice, doors_of}
-use Rattle.i7_kinds.specs.Firsts.{first_of}
+use Rattle.i7_claims.specs.Firsts.{first_of}
 use Rattle.i7_kinds.specs.KindClaims.{declared_by, kind_cycle, kind_names, kind_too_many, parents_of, unknown_kind}
 use Rattle.i7_kinds.specs.Knowns.{Scope, kinds_of, knowns_of, off_path}
 use Rattle.i7_kinds.specs.LongNames.{longer_name}
@@ -35,19 +35,19 @@ use Rattle.i7_kinds.specs.Values.{Values, usual_of, value_twice, values_by}
 use Rattle.i7_kinds.specs.declared.values.Bearer.TheVariants.{Objects, Kinds, Variables}
 use Rattle.i7_kinds.specs.Suits.{first_room, unsuited, with_player}
 use Rattle.i7_kinds.specs.declared.knowns.Known.{Known}
-use Rattle.i7_kinds.specs.NameScans.{book_twice, name_twice}
-use Rattle.i7_kinds.specs.declared.claim.Claim.{Claim}
-use Rattle.i7_kinds.specs.declared.claim.Value.{Value}
-use Rattle.i7_kinds.specs.declared.claim.Value.TheVariants.{Truth, Amount}
+use Rattle.i7_claims.specs.NameScans.{book_twice, name_twice}
+use Rattle.i7_claims.specs.declared.claim.Claim.{Claim}
+use Rattle.i7_claims.specs.declared.claim.Value.{Value}
+use Rattle.i7_claims.specs.declared.claim.Value.TheVariants.{Truth, Amount}
 use Rattle.i7_kinds.specs.declared.entries.Entry.{Entry}
 use Rattle.i7_kinds.specs.declared.faults.Faults.{Faults}
-use Rattle.i7_kinds.specs.Scans.{earlier}
-use Rattle.i7_kinds.specs.Sorts.{name_too_many, names_as, property_names}
-use Rattle.i7_kinds.specs.declared.sorts.Sort.TheVariants as sort
+use Rattle.i7_claims.specs.Scans.{earlier}
+use Rattle.i7_claims.specs.Sorts.{name_too_many, names_as, property_names}
+use Rattle.i7_claims.specs.declared.sorts.Sort.TheVariants as sort
 use Rattle.i7_kinds.specs.declared.descriptions.Description.{Description}
-use Rattle.i7_kinds.specs.declared.statements.NumberedSentence.{NumberedSentence}
+use Rattle.i7_claims.specs.declared.statements.NumberedSentence.{NumberedSentence}
 use Rattle.i7_kinds.specs.declared.ways.Target.{Target}
-use Rattle.i7_kinds.specs.Statements.{NameAt, named_by, stated_by}
+use Rattle.i7_claims.specs.Statements.{NameAt, named_by, stated_by}
 
 -- C12: the object that is one too many; the player and the directions are among the 1,000
 abbrev pub object_too_many : List NameAt → Option ℕ

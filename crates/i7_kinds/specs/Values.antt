@@ -2,15 +2,15 @@
 -- first that is said of each stands, and another value is a fault.
 use Rattle.std.specs.Prelude.{◌≡◌, ◌≢◌, ℕ, ℤ, pos, negsuc, Bool, false, not, ◌&&◌, ◌==◌, List, [], ◌∷◌, fold, slice_get, Option, Some, None, if◌then◌else◌}
 use Rattle.indexmap.specs.IndexMap.{IndexMap, get}
-use Rattle.i7_kinds.specs.Firsts.{first_of}
+use Rattle.i7_claims.specs.Firsts.{first_of}
 use Rattle.i7_kinds.specs.Knowns.{Scope}
-use Rattle.i7_kinds.specs.Numbers.{has_name, number_in}
-use Rattle.i7_kinds.specs.Scans.{lowest}
-use Rattle.i7_kinds.specs.declared.claim.Claim.{Claim}
-use Rattle.i7_kinds.specs.declared.claim.Fact.{Fact}
-use Rattle.i7_kinds.specs.declared.claim.Fact.TheVariants.{Has, Starts, Usually}
-use Rattle.i7_kinds.specs.declared.claim.Value.{Value}
-use Rattle.i7_kinds.specs.declared.claim.Value.TheVariants.{Truth, Amount}
+use Rattle.i7_claims.specs.Numbers.{has_name, number_in}
+use Rattle.i7_claims.specs.Scans.{lowest}
+use Rattle.i7_claims.specs.declared.claim.Claim.{Claim}
+use Rattle.i7_claims.specs.declared.claim.Fact.{Fact}
+use Rattle.i7_claims.specs.declared.claim.Fact.TheVariants.{Has, Starts, Usually}
+use Rattle.i7_claims.specs.declared.claim.Value.{Value}
+use Rattle.i7_claims.specs.declared.claim.Value.TheVariants.{Truth, Amount}
 use Rattle.i7_kinds.specs.declared.values.Bearer.{Bearer}
 use Rattle.i7_kinds.specs.declared.values.Bearer.TheVariants.{Objects, Kinds, Variables}
 use Rattle.i7_kinds.specs.declared.values.Told.{Told}

@@ -1,23 +1,11 @@
 -- The compiler's tables as contracts see them.
-use Rattle.std.specs.Prelude.{◌≡◌, Bool, ◌==◌, ◌&&◌, if◌then◌else◌, List, [], ◌∷◌, ℕ, map, nat_eq, option_copied, Option, Some, None}
+use Rattle.std.specs.Prelude.{◌≡◌, Bool, ◌==◌, ◌&&◌, if◌then◌else◌, List, [], ◌∷◌, ℕ, nat_eq, option_copied, Option, Some, None}
 use Rattle.std.specs.Borrow.{Bor}
 use Rattle.indexmap.specs.IndexMap.{IndexMap, get}
-use Rattle.i7_kinds.specs.Firsts.{first_of}
-use Rattle.i7_kinds.specs.Statements.{NameAt, Named}
-use Rattle.i7_kinds.specs.declared.names.Names.{Names}
+use Rattle.i7_claims.specs.Firsts.{first_of}
 use Rattle.i7_kinds.specs.declared.descriptions.Description.{Description}
-use Rattle.i7_kinds.specs.declared.names.Mention.{Mention}
 use Rattle.i7_kinds.specs.declared.ways.Exit.{Exit}
 use Rattle.i7_kinds.specs.declared.ways.Target.{Target}
-
-abbrev pub mention_of : Mention → NameAt
-mention_of mention = record { name = mention.name.now; line = mention.line }
-
-abbrev pub mentions_of : List Mention → List NameAt
-mentions_of mentions = map mention_of mentions
-
-abbrev pub names_of : Names → Named
-names_of names = record { keys = names.keys; mentions = mentions_of names.mentions.items }
 
 abbrev pub found_descriptions : Option Description → List Description
 found_descriptions None = []

@@ -3,10 +3,7 @@ ghost use Rattle.std.specs.Prelude.{◌≡◌, ◌++◌, IfOk, OnOk, map};
 ghost use Rattle.world_meaning.specs.Kinds.{built_in_parents, is_under};
 ghost use Rattle.i7_kinds.specs.KindClaims.{AreSmallKinds, IsSmallKind, is_cycle, is_kind_too_many, is_unknown, kind_cycle, kind_names, kind_too_many, parents_of, unknown_kind, with_count, with_kind, with_parent};
 
-use crate::claim::{Claim, Fact};
-use crate::names::number_in;
-use crate::scans::lower;
-use crate::sorts::built_in_kinds;
+use i7_claims::{Claim, Fact, built_in_kinds, lower, number_in};
 use object_words::Strings;
 use std::alloc::{AllocError, Global};
 use world_meaning::{KINDS, KindNo, KindRow};

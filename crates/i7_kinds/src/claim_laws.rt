@@ -1,34 +1,15 @@
 //! Laws: the lines that scans over claims find are the lowest that show what is looked for.
 ghost use Rattle.std.specs.Prelude.{ℕ, Decides, List, Option};
 ghost use Rattle.i7_kinds.specs.Doors.{IsDoorDemanded, IsToldAgain, door_twice, doors_of};
-ghost use Rattle.i7_kinds.specs.Numbers.{has_name};
+ghost use Rattle.i7_claims.specs.Numbers.{has_name};
 ghost use Rattle.i7_kinds.specs.KindClaims.{IsCycle, IsKindTooMany, IsUnknown, kind_cycle, kind_too_many, unknown_kind};
 ghost use Rattle.i7_kinds.specs.LongNames.{IsLonger, longer_name};
-ghost use Rattle.i7_kinds.specs.NameScans.{book_twice, name_twice};
 ghost use Rattle.i7_kinds.specs.Places.{IsHolderCycle, IsSecond, holder_cycle, second_place};
-ghost use Rattle.i7_kinds.specs.Scans.{IsLowest, ShownBy};
+ghost use Rattle.i7_claims.specs.Scans.{IsLowest, ShownBy};
 ghost use Rattle.i7_kinds.specs.Knowns.{Scope};
-ghost use Rattle.i7_kinds.specs.Sorts.{IsTooMany, too_many_as};
-ghost use Rattle.i7_kinds.specs.Standings.{IsBookTwice, IsTwice};
 ghost use Rattle.i7_kinds.specs.Values.{IsContrary, told_by, value_twice, values_by};
 ghost use Rattle.i7_kinds.specs.declared.values.Bearer.{Bearer};
-ghost use Rattle.i7_kinds.specs.declared.claim.Claim.{Claim};
-ghost use Rattle.i7_kinds.specs.declared.sorts.Sort.{Sort};
-
-/// A name that stands for two things is found at its lowest line.
-pub fn names_twice_are_found()
-    ensures { (claims : List Claim) → IsLowest (ShownBy (λ before c. IsTwice before c.fact) claims) (name_twice claims) }
-{}
-
-/// A rulebook whose name is another's is found at its lowest line.
-pub fn books_twice_are_found()
-    ensures { (claims : List Claim) → IsLowest (ShownBy (λ before c. IsBookTwice before c.fact) claims) (book_twice claims) }
-{}
-
-/// A name that is one too many of its sort is found at its lowest line.
-pub fn names_too_many_are_found()
-    ensures { (sort : Sort) (claims : List Claim) → IsLowest (ShownBy (λ before c. IsTooMany sort before c.fact) claims) (too_many_as sort claims) }
-{}
+ghost use Rattle.i7_claims.specs.declared.claim.Claim.{Claim};
 
 /// A kind that isn't there is found at the lowest line that names it.
 pub fn unknown_kinds_are_found()

@@ -4,9 +4,8 @@ ghost use Rattle.i7_kinds.specs.Grants.{built_in_bases};
 ghost use Rattle.i7_kinds.specs.KindClaims.{AreSmallKinds, declared_by, flags_by, givens_by, kind_names, numbers_by, parents_of, start_in, start_of, starts_of};
 
 use crate::author_kinds::{kind_nos, parents_of};
-use crate::claim::{Claim, Fact};
 use crate::grants::{Given, flags_from, givens_of};
-use crate::sorts::{Sort, names_as, property_names};
+use i7_claims::{Claim, Fact, Sort, names_as, property_names};
 use object_words::Strings;
 use std::alloc::{AllocError, Global};
 use world_meaning::{Declared, Granted, KindNo, Listed, PROPERTIES};

@@ -1,13 +1,13 @@
 //! Texts that describe objects; one alone describes the room that is the subject of the sentence before it.
 ghost use Rattle.std.specs.Prelude.{◌≡◌, ℕ, nat_eq, option_copied, IfOk, OnOk};
 ghost use Rattle.i7_kinds.specs.Demands.{described_by, description_of, descriptions_of, is_second, second_description, subject_of, told_alone};
-ghost use Rattle.i7_kinds.specs.Firsts.{first_of, given};
+ghost use Rattle.i7_claims.specs.Firsts.{first_of, given};
 ghost use Rattle.i7_kinds.specs.Views.{found_descriptions, text_at};
 
 use crate::kinds::is_room;
 use crate::knowns::Known;
 use crate::lent_text::LentText;
-use crate::statements::{Numbered, NumberedSentence};
+use i7_claims::{Numbered, NumberedSentence};
 use indexmap::IndexMap;
 use std::alloc::{AllocError, Global};
 

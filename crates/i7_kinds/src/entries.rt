@@ -2,10 +2,10 @@
 ghost use Rattle.std.specs.Prelude.{◌≡◌, ◌++◌, ◌∷◌, [], IfOk, OnOk, map};
 ghost use Rattle.world_meaning.specs.Directions.{all_directions};
 ghost use Rattle.i7_kinds.specs.Tales.{article_of, author_entry, direction_entry, entries_of, is_vowel, plain_article, player_entry};
-ghost use Rattle.i7_kinds.specs.Views.{mention_of, mentions_of};
+ghost use Rattle.i7_claims.specs.Views.{mention_of, mentions_of};
 
 use crate::lent_text::LentText;
-use crate::names::Mention;
+use i7_claims::Mention;
 use i7_sentences::NameArticle;
 use std::alloc::{AllocError, Global};
 use world_meaning::{Article, Direction};

@@ -5,10 +5,10 @@ ghost use Rattle.i7_kinds.specs.Described.{descriptions_in};
 ghost use Rattle.i7_kinds.specs.Doors.{door_twice};
 ghost use Rattle.i7_kinds.specs.KindClaims.{kind_cycle};
 ghost use Rattle.i7_kinds.specs.Knowns.{off_path};
-ghost use Rattle.i7_kinds.specs.NameScans.{book_twice, name_twice};
+ghost use Rattle.i7_claims.specs.NameScans.{book_twice, name_twice};
 ghost use Rattle.i7_kinds.specs.Places.{holder_cycle, second_place};
-ghost use Rattle.i7_kinds.specs.Scans.{earlier};
-ghost use Rattle.i7_kinds.specs.Sorts.{name_too_many};
+ghost use Rattle.i7_claims.specs.Scans.{earlier};
+ghost use Rattle.i7_claims.specs.Sorts.{name_too_many};
 ghost use Rattle.i7_kinds.specs.StatedWays.{stated};
 ghost use Rattle.i7_kinds.specs.Suits.{unsuited};
 ghost use Rattle.i7_kinds.specs.Tales.{faults_of};
@@ -16,20 +16,16 @@ ghost use Rattle.i7_kinds.specs.Values.{value_twice};
 ghost use Rattle.i7_kinds.specs.declared.values.Bearer.TheVariants.{Objects, Kinds, Variables};
 
 use crate::author_kinds::{kind_cycle, kind_too_many, unknown_kind};
-use crate::claim::Claim;
 use crate::descriptions::Descriptions;
 use crate::doors::door_twice;
 use crate::kinds::wrong_kind;
 use crate::knowns::{Known, off_path};
 use crate::places::{holder_cycle, second_place};
-use crate::scans::earlier;
 use crate::scope::Scope;
-use crate::sorts::{Sort, too_many_as};
-use crate::standings::{book_twice, name_twice};
-use crate::statements::NumberedSentence;
 use crate::suits::unsuited;
 use crate::values::{Bearer, value_twice};
 use crate::ways::Ways;
+use i7_claims::{Claim, NumberedSentence, Sort, book_twice, earlier, name_twice, too_many_as};
 use std::alloc::{AllocError, Global};
 
 /// The lowest line of each fault.

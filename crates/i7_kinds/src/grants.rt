@@ -2,10 +2,9 @@
 ghost use Rattle.std.specs.Prelude.{◌≡◌, ◌≤◌, ◌++◌, IfOk, OnOk, length, map};
 ghost use Rattle.world_meaning.specs.Declarations.{is_among};
 ghost use Rattle.i7_kinds.specs.Grants.{first_base, flag_of, flags_from, givens_in, givens_of, kind_given, kinds_given, other_bases, rising_of};
-ghost use Rattle.i7_kinds.specs.declared.claim.Fact.TheVariants.{CanBe};
+ghost use Rattle.i7_claims.specs.declared.claim.Fact.TheVariants.{CanBe};
 
-use crate::claim::{Claim, Fact, Grant};
-use crate::names::number_in;
+use i7_claims::{Claim, Fact, Grant, number_in};
 use object_words::Strings;
 use std::alloc::{AllocError, Global};
 use world_meaning::{Granted, KindNo, Listed, PropertyRow};

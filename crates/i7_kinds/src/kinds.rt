@@ -4,7 +4,7 @@ ghost use Rattle.i7_kinds.specs.Demands.{is_door, is_no_room, is_room, is_wrong,
 
 use crate::descriptions::subject_of;
 use crate::knowns::{Known, is_of, is_parted_at};
-use crate::statements::{Numbered, NumberedDoor, NumberedSentence};
+use i7_claims::{Numbered, NumberedDoor, NumberedSentence};
 use world_meaning::KindNo;
 
 /// Whether an object is a room.

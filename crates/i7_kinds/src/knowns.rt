@@ -4,10 +4,8 @@ ghost use Rattle.world_meaning.specs.Kinds.{direction_kind, person_kind};
 ghost use Rattle.i7_kinds.specs.Knowns.{deepen, deepened, first_knowns, is_of, is_off, is_parted, is_parted_at, kind_by, kind_of, known_as, known_at, knowns_of, off_path, thing_or_container, unknown, with_demand, with_holder, with_kind, with_known, with_room};
 
 use crate::author_kinds::is_under;
-use crate::claim::{Claim, Demand, Fact, Placing};
-use crate::names::FIRST_OF_AUTHOR;
-use crate::scans::lower;
 use crate::scope::Scope;
+use i7_claims::{Claim, Demand, FIRST_OF_AUTHOR, Fact, Placing, lower};
 use std::alloc::{AllocError, Global};
 use world_meaning::{KindNo, Rel};
 

@@ -3,12 +3,8 @@
 #![tactic(auto)]
 
 mod author_kinds;
-mod built_in;
-mod claim;
 mod claim_laws;
-mod claiming;
 mod declaring;
-mod demanding;
 mod descriptions;
 mod doors;
 mod entries;
@@ -16,36 +12,23 @@ mod faults;
 mod grants;
 mod kinds;
 mod knowns;
-mod leading;
 mod lent_text;
 mod limits;
 mod making;
-mod names;
-mod numbering;
 mod numbers;
 mod objects;
-mod phrases;
 mod places;
-mod plurals;
 mod properties;
-mod quotes;
-mod reserved_names;
-mod scans;
 mod scope;
-mod sorts;
-mod standings;
-mod statements;
 mod suits;
 mod tale;
-mod usuals;
 mod values;
 mod ways;
-mod wording;
 
 pub use claim_laws::{
-    books_twice_are_found, cycles_are_found, doors_are_those_demanded, doors_twice_are_found,
-    holder_cycles_are_found, kinds_too_many_are_found, longer_names_are_found,
-    names_too_many_are_found, names_twice_are_found, second_places_are_found,
+    cycles_are_found, doors_are_those_demanded, doors_twice_are_found, holder_cycles_are_found,
+    kinds_too_many_are_found, longer_names_are_found, second_places_are_found,
     unknown_kinds_are_found, values_twice_are_found,
 };
+pub use i7_claims::{books_twice_are_found, names_too_many_are_found, names_twice_are_found};
 pub use tale::tale_of;

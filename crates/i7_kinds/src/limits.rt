@@ -3,12 +3,10 @@ ghost use Rattle.std.specs.Prelude.{◌≡◌, IfOk, count_by};
 ghost use Rattle.object_words.specs.Words.{is_blank};
 ghost use Rattle.i7_kinds.specs.LongNames.{is_longer, longer_name};
 ghost use Rattle.i7_kinds.specs.Tales.{is_too_long, name_too_long, object_too_many, text_too_long};
-ghost use Rattle.i7_kinds.specs.Views.{mentions_of};
+ghost use Rattle.i7_claims.specs.Views.{mentions_of};
 
-use crate::claim::{Claim, Fact};
 use crate::descriptions::Description;
-use crate::names::{FIRST_OF_AUTHOR, Mention};
-use crate::scans::lower;
+use i7_claims::{Claim, FIRST_OF_AUTHOR, Fact, Mention, lower};
 use object_words::words_for;
 use std::alloc::{AllocError, Global};
 

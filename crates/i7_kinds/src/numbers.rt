@@ -3,10 +3,10 @@ ghost use Rattle.std.specs.Prelude.{◌≡◌, ◌≤◌, IfOk, length};
 ghost use Rattle.i7_kinds.specs.Making.{made_of};
 ghost use Rattle.i7_kinds.specs.Tales.{amount_or, begins_with, numbers_from};
 
-use crate::claim::Value;
 use crate::objects::Makings;
 use crate::properties::{is_had, usual_of};
 use crate::values::{Slot, value_in};
+use i7_claims::Value;
 use std::alloc::{AllocError, Global};
 use world_meaning::KindNo;
 

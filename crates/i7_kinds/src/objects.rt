@@ -7,15 +7,15 @@ ghost use Rattle.i7_kinds.specs.Demands.{target_of};
 ghost use Rattle.i7_kinds.specs.Making.{made_of};
 ghost use Rattle.i7_kinds.specs.StatedWays.{stated};
 ghost use Rattle.i7_kinds.specs.Tales.{entries_of, exits_by, exits_of, kind_at, object_as, object_of, objects_of, way_to};
-ghost use Rattle.i7_kinds.specs.Views.{mentions_of};
+ghost use Rattle.i7_claims.specs.Views.{mentions_of};
 
 use crate::descriptions::Descriptions;
 use crate::entries::{Entry, entries_of};
-use crate::names::Mention;
 use crate::numbers::numbers_of;
 use crate::properties::properties_of;
 use crate::values::Values;
 use crate::ways::Ways;
+use i7_claims::Mention;
 use std::alloc::{AllocError, Global};
 use world_meaning::{
     Direction, Exits, Granted, KindNo, Listed, ObjNo, Object, Place, TextBytes, Way, is_under,

@@ -6,9 +6,9 @@ ghost use Rattle.i7_kinds.specs.Making.{made_of};
 ghost use Rattle.i7_kinds.specs.Values.{usual_of, value_at};
 ghost use Rattle.i7_kinds.specs.Tales.{begins, begins_by_default, built_in_truths, properties_from, truth_or};
 
-use crate::claim::Value;
 use crate::objects::Makings;
 use crate::values::{Slot, Values, value_in};
+use i7_claims::Value;
 use std::alloc::{AllocError, Global};
 use world_meaning::{Granted, KindNo, PROPERTIES, PropertyRow, is_under_one};
 

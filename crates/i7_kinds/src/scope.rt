@@ -4,7 +4,7 @@ ghost use Rattle.std.specs.Prelude.{◌≡◌};
 
 use crate::author_kinds::is_under;
 use crate::grants::Given;
-use crate::names::number_in;
+use i7_claims::number_in;
 use object_words::Strings;
 use std::marker::Model;
 
@@ -22,17 +22,18 @@ pub struct Scope<'a> {
 }
 
 impl<'a> Model for Scope<'a> {
-    ghost use Rattle.i7_kinds.specs.Knowns.{Scope as Names};
+    ghost use Rattle.i7_kinds.specs.Knowns.{Scope as Names, scope_of_names};
 
     ghost Value = { Names };
 
-    ghost view = { λ s. record { objects = s.objects.now; kinds = s.kinds.now; parents = s.parents.now; properties = s.properties.now; givens = s.givens.now; doors = s.doors.now; variables = s.variables.now } };
+    ghost view = { λ s. scope_of_names s.objects.now s.kinds.now s.parents.now s.properties.now s.givens.now s.doors.now s.variables.now };
 }
 
 impl<'a> Scope<'a> {
     ghost use Rattle.std.specs.Prelude.{length};
     ghost use Rattle.world_meaning.specs.Kinds.{is_under};
-    ghost use Rattle.i7_kinds.specs.Numbers.{has_name, number_in};
+    ghost use Rattle.i7_kinds.specs.Knowns.{scope_of_names};
+    ghost use Rattle.i7_claims.specs.Numbers.{has_name, number_in};
 
     /// Objects of these names, kinds, properties and variables of these.
     pub fn new(
@@ -44,7 +45,7 @@ impl<'a> Scope<'a> {
         doors: &'a Strings,
         variables: &'a Strings,
     ) -> Scope<'a>
-        ensures { result ≡ record { objects = objects.now; kinds = kinds.now; parents = parents.now; properties = properties.now; givens = givens.now; doors = doors.now; variables = variables.now } }
+        ensures { result ≡ scope_of_names objects.now kinds.now parents.now properties.now givens.now doors.now variables.now }
     {
         Scope {
             objects,

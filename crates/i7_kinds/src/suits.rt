@@ -8,13 +8,11 @@ ghost use Rattle.i7_kinds.specs.Grants.{built_in_bases};
 ghost use Rattle.i7_kinds.specs.Suits.{can_be, first_room, kinds_in, is_lacking, is_never, is_unsuited, room_from, suits, unsuited, with_player};
 
 use crate::author_kinds::is_under;
-use crate::claim::{Claim, Fact, Having, Usual};
 use crate::grants::Given;
 use crate::knowns::{Known, is_of, is_parted_at, kind_of, known_at};
-use crate::names::FIRST_OF_AUTHOR;
 use crate::places::{Spot, place_of, put};
-use crate::scans::lower;
 use crate::scope::Scope;
+use i7_claims::{Claim, FIRST_OF_AUTHOR, Fact, Having, Usual, lower};
 use world_meaning::{KindNo, PROPERTIES, PropertyRow, Rel};
 
 fn can_hold(parents: &[Option<usize>], knowns: &[Known], place: Spot) -> bool

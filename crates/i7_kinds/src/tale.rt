@@ -10,11 +10,9 @@ ghost use Rattle.i7_kinds.specs.Places.{places_by};
 ghost use Rattle.i7_kinds.specs.StatedWays.{stated};
 ghost use Rattle.i7_kinds.specs.Suits.{first_room, with_player};
 ghost use Rattle.i7_kinds.specs.Tales.{entries_of, frame_refusal, judged, limit_refusal, made_of, no_room, objects_of, refusal_at, refusal_of, said_by, said_in, scope_of, tale_said};
-ghost use Rattle.i7_kinds.specs.Views.{mentions_of};
+ghost use Rattle.i7_claims.specs.Views.{mentions_of};
 
 use crate::author_kinds::{kind_names, kind_nos, parents_of};
-use crate::claim::Claim;
-use crate::claiming::claims_of;
 use crate::declaring::declared_by;
 use crate::descriptions::Descriptions;
 use crate::doors::doors_of;
@@ -23,16 +21,16 @@ use crate::grants::givens_of;
 use crate::knowns::{Known, knowns_of};
 use crate::limits::{MOST_BYTES, longer_name, name_too_long, object_too_many, text_too_long};
 use crate::making::{kinds_of, places_in};
-use crate::names::{Mention, names_of};
 use crate::objects::{Makings, objects_of};
 use crate::places::places_by;
-use crate::scans::earlier;
 use crate::scope::Scope;
-use crate::sorts::{Sort, names_as, property_names};
-use crate::statements::{NumberedSentence, statements_in};
 use crate::suits::{first_room, put_player};
 use crate::values::{Bearer, values_by};
 use crate::ways::Ways;
+use i7_claims::{
+    Claim, Mention, NumberedSentence, Sort, claims_of, earlier, names_as, names_of, property_names,
+    statements_in,
+};
 use i7_sentences::Sentence;
 use object_words::Strings;
 use std::alloc::{AllocError, Global};

@@ -1,15 +1,14 @@
 //! What sentences say of the properties of objects, or usually of those of kinds, and of variables, and the lowest
 //! line of what says another value.
 ghost use Rattle.std.specs.Prelude.{◌≡◌, IfOk, OnOk};
-ghost use Rattle.i7_kinds.specs.Numbers.{number_in};
+ghost use Rattle.i7_claims.specs.Numbers.{number_in};
 ghost use Rattle.i7_kinds.specs.Values.{is_contrary, is_other, is_same, told_as, told_by, value_at, value_in, value_twice, values_by, with_slot, with_told};
-ghost use Rattle.i7_kinds.specs.declared.claim.Fact.TheVariants.{Usually};
-ghost use Rattle.i7_kinds.specs.declared.claim.Value.TheVariants.{Amount};
+ghost use Rattle.i7_claims.specs.declared.claim.Fact.TheVariants.{Usually};
+ghost use Rattle.i7_claims.specs.declared.claim.Value.TheVariants.{Amount};
 ghost use Rattle.i7_kinds.specs.declared.values.Bearer.TheVariants.{Kinds};
 
-use crate::claim::{Claim, Fact, Having, Start, Usual, Value};
-use crate::scans::lower;
 use crate::scope::Scope;
+use i7_claims::{Claim, Fact, Having, Start, Usual, Value, lower};
 use indexmap::IndexMap;
 use std::alloc::{AllocError, Global};
 

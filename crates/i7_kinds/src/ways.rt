@@ -3,7 +3,7 @@ ghost use Rattle.std.specs.Prelude.{◌≡◌, ℕ, ◌∷◌, [], IfOk, OnOk};
 ghost use Rattle.i7_kinds.specs.Demands.{first_target, implied_in, implied_leads, is_elsewhere, is_same_door, is_target, lead_to, leads_elsewhere, second_target, stated_in, stated_leads, target_of, way_back, way_there, way_through};
 ghost use Rattle.i7_kinds.specs.Views.{LeadsOn, given_exit, target_at};
 
-use crate::statements::{Numbered, NumberedSentence, NumberedSide, NumberedWay};
+use i7_claims::{Numbered, NumberedSentence, NumberedSide, NumberedWay};
 use indexmap::IndexMap;
 use std::alloc::{AllocError, Global};
 use world_meaning::{Direction, ObjNo};

@@ -21,28 +21,28 @@ use Rattle.world_meaning.specs.declared.place.Place.{Place}
 use Rattle.world_meaning.specs.declared.tale.Tale.{Tale}
 use Rattle.i7_sentences.specs.declared.sentence.Sentence.{Sentence}
 use Rattle.object_words.specs.Words.{more_words, words_for}
-use Rattle.i7_kinds.specs.Claims.{claims_of}
+use Rattle.i7_claims.specs.Claims.{claims_of}
 use Rattle.i7_kinds.specs.Demands.{descriptions_of, description_of, first_target, implied_in, implied_leads, is_exit, is_wrong, line_at, line_of_description, stated_in, stated_leads, subject_of, target_of, way_back, way_there, way_through, wrong_after, wrong_kind}
-use Rattle.i7_kinds.specs.Firsts.{first_of}
+use Rattle.i7_claims.specs.Firsts.{first_of}
 use Rattle.i7_kinds.specs.KindClaims.{declared_by, kind_cycle, kind_names, kind_too_many, parents_of, starts_of}
 use Rattle.i7_kinds.specs.Knowns.{is_of, is_parted_at, kinds_known, kinds_of, known_at, knowns_of, off_path}
 use Rattle.i7_kinds.specs.Places.{Places, holder_cycle, places_by, put}
-use Rattle.i7_kinds.specs.Scans.{earlier}
-use Rattle.i7_kinds.specs.Sorts.{built_in_either_ors, name_too_many, names_as, too_many_as}
-use Rattle.i7_kinds.specs.Statements.{NameAt, named_by, stated_by}
+use Rattle.i7_claims.specs.Scans.{earlier}
+use Rattle.i7_claims.specs.Sorts.{built_in_either_ors, name_too_many, names_as, too_many_as}
+use Rattle.i7_claims.specs.Statements.{NameAt, named_by, stated_by}
 use Rattle.i7_kinds.specs.Suits.{first_room, unsuited, with_player}
 use Rattle.i7_kinds.specs.Values.{Values, values_by}
 use Rattle.i7_kinds.specs.declared.values.Bearer.TheVariants as bearer
 use Rattle.i7_kinds.specs.LongNames.{longer_name}
 use Rattle.i7_kinds.specs.Tales.{Made, author_entry, entries_of, faults_of, frame_refusal, has_long_name, has_long_text, is_too_long, limit_refusal, made_of, name_too_long, no_room, object_as, object_of, objects_of, or_refused, refusal_of, scope_of, tale_said, text_too_long, way_to}
-use Rattle.i7_kinds.specs.declared.claim.Claim.{Claim}
+use Rattle.i7_claims.specs.declared.claim.Claim.{Claim}
 use Rattle.i7_kinds.specs.declared.descriptions.Description.{Description as Described}
 use Rattle.i7_kinds.specs.declared.entries.Entry.{Entry}
 use Rattle.i7_kinds.specs.declared.knowns.Known.{Known}
-use Rattle.i7_kinds.specs.declared.sorts.Sort.TheVariants as sort
-use Rattle.i7_kinds.specs.declared.statements.Numbered.{Numbered}
-use Rattle.i7_kinds.specs.declared.statements.Numbered.TheVariants as numbered
-use Rattle.i7_kinds.specs.declared.statements.NumberedSentence.{NumberedSentence}
+use Rattle.i7_claims.specs.declared.sorts.Sort.TheVariants as sort
+use Rattle.i7_claims.specs.declared.statements.Numbered.{Numbered}
+use Rattle.i7_claims.specs.declared.statements.Numbered.TheVariants as numbered
+use Rattle.i7_claims.specs.declared.statements.NumberedSentence.{NumberedSentence}
 use Rattle.i7_kinds.specs.declared.ways.Lead.{Lead}
 use Rattle.i7_kinds.specs.declared.ways.Target.{Target}
 use Rattle.i7_kinds.proofs.Bounds.{NoFaults, counted-source, earlier_none, first_none_both, frame_parts, unmapped, unrefused}
@@ -50,7 +50,8 @@ use Rattle.i7_kinds.proofs.Fines.{AreFine, base, kind_few, knowns_counted}
 use Rattle.i7_kinds.proofs.Granting.{either_ors_behind}
 use Rattle.i7_kinds.proofs.KindScans.{either_ors_few, numbers_few, parents_few, variables_few}
 use Rattle.i7_kinds.proofs.Placed.{AreSuited, IsSuited, judged, places_counted, places_suited, places_tree, put_length}
-use Rattle.i7_kinds.proofs.Ranged.{AreRanged, AreRangedSentences, AreRangedValues, said_ranged, source_ranged, starts_in_range}
+use Rattle.i7_claims.proofs.Ranged.{AreRanged, AreRangedSentences, source_ranged}
+use Rattle.i7_kinds.proofs.Ranged.{AreRangedValues, said_ranged, starts_in_range}
 use Rattle.i7_kinds.proofs.Readiness.{fine_of}
 use Rattle.i7_kinds.proofs.Rooted.{authors_behind, authors_rooted}
 use Rattle.story_file.proofs.MadeDeclarations.{Behind, behind_of, declared_held, declared_is, declared_with, kinds_many, kinds_with, starts_counted, suited_held}

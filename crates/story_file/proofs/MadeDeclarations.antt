@@ -9,9 +9,9 @@ use Rattle.world_meaning.specs.declared.declared.Declared.{Declared}
 use Rattle.world_meaning.specs.declared.declared.Granted.{Granted}
 use Rattle.world_meaning.specs.Kinds.{built_in_parents}
 use Rattle.i7_kinds.specs.KindClaims.{declared_by, givens_by, kind_names, starts_of}
-use Rattle.i7_kinds.specs.Sorts.{built_in_either_ors, names_as}
-use Rattle.i7_kinds.specs.declared.sorts.Sort.TheVariants as sort
-use Rattle.i7_kinds.specs.declared.claim.Claim.{Claim}
+use Rattle.i7_claims.specs.Sorts.{built_in_either_ors, names_as}
+use Rattle.i7_claims.specs.declared.sorts.Sort.TheVariants as sort
+use Rattle.i7_claims.specs.declared.claim.Claim.{Claim}
 use Rattle.i7_kinds.proofs.Granting.{begin_built_in, either_ors_behind, flags_counted, flags_right}
 use Rattle.i7_kinds.specs.Grants.{built_in_bases, first_base, flags_from, other_bases}
 use Rattle.i7_kinds.specs.declared.grants.Given.{Given}

@@ -17,10 +17,10 @@ use Rattle.world_meaning.specs.declared.sorts.Sorts.{Sorts}
 use Rattle.i7_kinds.specs.Demands.{target_of}
 use Rattle.i7_kinds.specs.Knowns.{is_of, kinds_known, kinds_of}
 use Rattle.i7_kinds.specs.Places.{Places}
-use Rattle.i7_kinds.specs.Statements.{NameAt}
+use Rattle.i7_claims.specs.Statements.{NameAt}
 use Rattle.i7_kinds.specs.declared.entries.Entry.{Entry}
 use Rattle.i7_kinds.specs.declared.knowns.Known.{Known}
-use Rattle.i7_kinds.specs.declared.statements.NumberedSentence.{NumberedSentence}
+use Rattle.i7_claims.specs.declared.statements.NumberedSentence.{NumberedSentence}
 use Rattle.i7_kinds.specs.declared.ways.Target.{Target}
 use Rattle.i7_kinds.specs.Tales.{Made, author_entry, direction_entry, entries_of, exits_of, kind_at, object_as, object_of, objects_of, way_to}
 use Rattle.i7_kinds.proofs.Placed.{AreSuited, IsSuited}

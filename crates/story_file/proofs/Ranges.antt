@@ -20,7 +20,7 @@ use Rattle.i7_sentences.specs.declared.sentence.Assertion.{Assertion}
 use Rattle.i7_sentences.specs.declared.sentence.Assertion.TheVariants as assertion
 use Rattle.i7_sentences.specs.declared.sentence.Sentence.{Sentence}
 use Rattle.i7_sentences.specs.declared.sentence.Side.{Side}
-use Rattle.i7_kinds.proofs.Ranged.{AreRangedSentences, IsRangedSaid}
+use Rattle.i7_claims.proofs.Ranged.{AreRangedSentences, IsRangedSaid}
 use Rattle.story_file.specs.Compilations.{Says}
 
 -- ---- a literal

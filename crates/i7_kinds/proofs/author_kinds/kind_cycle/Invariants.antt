@@ -1,5 +1,5 @@
 use Rattle.std.proofs.Common.{◌≡◌, length}
-use Rattle.i7_kinds.specs.Scans.{lowest}
+use Rattle.i7_claims.specs.Scans.{lowest}
 use Rattle.i7_kinds.specs.KindClaims.{kind_cycle, shows_cycle, with_parent_of}
 use Rattle.i7_kinds.proofs.author_kinds.kind_cycle.Given as goal
 

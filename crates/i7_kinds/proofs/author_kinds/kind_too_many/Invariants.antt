@@ -1,5 +1,5 @@
 use Rattle.std.proofs.Common.{◌≡◌, ◌+◌, ◌≤◌, length}
-use Rattle.i7_kinds.specs.Scans.{lowest}
+use Rattle.i7_claims.specs.Scans.{lowest}
 use Rattle.i7_kinds.specs.KindClaims.{kind_too_many, shows_kind_too_many, with_count_of}
 use Rattle.i7_kinds.proofs.author_kinds.kind_too_many.Given as goal
 

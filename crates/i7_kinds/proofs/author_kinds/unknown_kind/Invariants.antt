@@ -1,5 +1,5 @@
 use Rattle.std.proofs.Common.{◌≡◌, length}
-use Rattle.i7_kinds.specs.Scans.{lowest}
+use Rattle.i7_claims.specs.Scans.{lowest}
 use Rattle.i7_kinds.specs.KindClaims.{same_names, shows_unknown, unknown_kind}
 use Rattle.i7_kinds.proofs.author_kinds.unknown_kind.Given as goal
 

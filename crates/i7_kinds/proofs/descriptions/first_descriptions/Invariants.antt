@@ -1,6 +1,6 @@
 use Rattle.std.proofs.Common.{◌≡◌, ℕ, length}
 use Rattle.i7_kinds.specs.Demands.{description_of}
-use Rattle.i7_kinds.specs.Firsts.{first_of}
+use Rattle.i7_claims.specs.Firsts.{first_of}
 use Rattle.i7_kinds.specs.Views.{text_at}
 use Rattle.i7_kinds.proofs.descriptions.first_descriptions.Given as goal
 

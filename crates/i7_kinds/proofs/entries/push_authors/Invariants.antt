@@ -1,6 +1,6 @@
 use Rattle.std.proofs.Common.{◌≡◌, ◌++◌, length, map}
 use Rattle.i7_kinds.specs.Tales.{author_entry}
-use Rattle.i7_kinds.specs.Views.{mentions_of}
+use Rattle.i7_claims.specs.Views.{mentions_of}
 use Rattle.i7_kinds.proofs.entries.push_authors.Given as goal
 
 abbrev pub invariant-loop-rest : goal.invariant-loop-rest

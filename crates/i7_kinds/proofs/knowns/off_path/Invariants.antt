@@ -1,6 +1,6 @@
 use Rattle.std.proofs.Common.{◌≡◌, length}
 use Rattle.i7_kinds.specs.Knowns.{off_path, shows_off, with_known_of}
-use Rattle.i7_kinds.specs.Scans.{lowest}
+use Rattle.i7_claims.specs.Scans.{lowest}
 use Rattle.i7_kinds.proofs.knowns.off_path.Given as goal
 
 abbrev pub invariant-loop-rest : goal.invariant-loop-rest

@@ -1,6 +1,6 @@
 use Rattle.std.proofs.Common.{◌≡◌, length}
 use Rattle.i7_kinds.specs.LongNames.{longer_name, same_most, shows_longer}
-use Rattle.i7_kinds.specs.Scans.{lowest}
+use Rattle.i7_claims.specs.Scans.{lowest}
 use Rattle.i7_kinds.proofs.limits.longer_name.Given as goal
 
 abbrev pub invariant-loop-rest : goal.invariant-loop-rest

@@ -1,6 +1,6 @@
 use Rattle.std.proofs.Common.{◌≡◌, length}
 use Rattle.i7_kinds.specs.Tales.{name_too_long}
-use Rattle.i7_kinds.specs.Views.{mentions_of}
+use Rattle.i7_claims.specs.Views.{mentions_of}
 use Rattle.i7_kinds.proofs.limits.name_too_long.Given as goal
 
 abbrev pub invariant-loop-rest : goal.invariant-loop-rest

@@ -1,5 +1,5 @@
 use Rattle.std.proofs.Common.{◌≡◌, length}
-use Rattle.i7_kinds.specs.Scans.{lowest}
+use Rattle.i7_claims.specs.Scans.{lowest}
 use Rattle.i7_kinds.specs.Suits.{same_knowns, shows_unsuited, unsuited}
 use Rattle.i7_kinds.proofs.suits.unsuited.Given as goal
 

@@ -1,6 +1,6 @@
 use Rattle.std.proofs.Common.{sym, ◌∙◌, subst, length, ◌≤◌, List, ℕ}
 use Rattle.i7_kinds.specs.KindClaims.{AreSmallKinds, parents_of}
-use Rattle.i7_kinds.specs.Views.{mentions_of}
+use Rattle.i7_claims.specs.Views.{mentions_of}
 use Rattle.i7_kinds.proofs.Readiness.{ready_at}
 use Rattle.i7_kinds.proofs.tale.judged.Goals as goal
 

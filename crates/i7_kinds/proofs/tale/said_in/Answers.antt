@@ -1,9 +1,9 @@
 use Rattle.std.proofs.Common.{◌+◌, sym, ◌∙◌, subst, ap, length, List, ℕ}
 use Rattle.i7_kinds.specs.Bounds.{AreWithin}
 use Rattle.i7_kinds.specs.Knowns.{Scope}
-use Rattle.i7_kinds.specs.Statements.{NameAt}
-use Rattle.i7_kinds.specs.Views.{mentions_of, names_of}
-use Rattle.i7_kinds.specs.declared.statements.NumberedSentence.{NumberedSentence}
+use Rattle.i7_claims.specs.Statements.{NameAt}
+use Rattle.i7_claims.specs.Views.{mentions_of, names_of}
+use Rattle.i7_claims.specs.declared.statements.NumberedSentence.{NumberedSentence}
 use Rattle.i7_kinds.proofs.Readiness.{named_counted, named_within, said_same, scope_meant, scope_same}
 use Rattle.i7_kinds.proofs.tale.said_in.Goals as goal
 

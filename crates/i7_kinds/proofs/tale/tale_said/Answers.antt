@@ -1,6 +1,6 @@
 use Rattle.std.proofs.Common.{◌∙◌, ap, List}
 use Rattle.i7_kinds.specs.Tales.{said_by}
-use Rattle.i7_kinds.specs.declared.claim.Claim.{Claim}
+use Rattle.i7_claims.specs.declared.claim.Claim.{Claim}
 use Rattle.i7_kinds.proofs.tale.tale_said.Goals as goal
 
 pub returns : goal.returns

@@ -1,5 +1,5 @@
 use Rattle.std.proofs.Common.{◌≡◌, length}
-use Rattle.i7_kinds.specs.Scans.{lowest}
+use Rattle.i7_claims.specs.Scans.{lowest}
 use Rattle.i7_kinds.specs.Values.{shows_contrary, value_at, value_twice, with_value_of}
 use Rattle.i7_kinds.proofs.values.value_twice.Given as goal
 

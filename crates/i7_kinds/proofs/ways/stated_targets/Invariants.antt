@@ -1,6 +1,6 @@
 use Rattle.std.proofs.Common.{◌≡◌, ℕ, length}
 use Rattle.i7_kinds.specs.Demands.{first_target, stated_leads}
-use Rattle.i7_kinds.specs.Firsts.{first_of}
+use Rattle.i7_claims.specs.Firsts.{first_of}
 use Rattle.i7_kinds.specs.Views.{target_at}
 use Rattle.i7_kinds.proofs.ways.stated_targets.Given as goal
 

@@ -25,11 +25,11 @@ use Rattle.play_meaning.specs.Turns.{beginning_of, ending_of, opening, pass, tur
 use Rattle.play_meaning.specs.Values.{is_one, number_in, object_in, those}
 use Rattle.play_meaning.specs.Worlds.{chain, is_true_of, number_of, set_flag, set_number}
 use Rattle.i7_kinds.specs.Grants.{built_in_bases}
-use Rattle.i7_kinds.specs.NameScans.{built_in_standings}
-use Rattle.i7_kinds.specs.Sorts.{built_in_either_ors, built_in_kinds}
-use Rattle.i7_kinds.specs.Standings.{built_in_namings}
-use Rattle.i7_kinds.specs.Phrases.{is_phrase, kind_said, phrase_said}
-use Rattle.i7_kinds.specs.Wording.{can_begin, cut}
+use Rattle.i7_claims.specs.NameScans.{built_in_standings}
+use Rattle.i7_claims.specs.Sorts.{built_in_either_ors, built_in_kinds}
+use Rattle.i7_claims.specs.Standings.{built_in_namings}
+use Rattle.i7_claims.specs.Phrases.{is_phrase, kind_said, phrase_said}
+use Rattle.i7_claims.specs.Wording.{can_begin, cut}
 use Rattle.i7_kinds.specs.Tales.{built_in_truths, entries_of, exits_of, frame_refusal, limit_refusal, object_as}
 use Rattle.story_file.proofs.worked_rows.two_rooms_are_played.Goals as goal
 

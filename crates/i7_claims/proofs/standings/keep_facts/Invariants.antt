@@ -1,0 +1,10 @@
+use Rattle.std.proofs.Common.{◌≡◌, length}
+use Rattle.std.specs.Prelude.{fold}
+use Rattle.i7_claims.specs.NameScans.{standing_at, with_claim}
+use Rattle.i7_claims.proofs.standings.keep_facts.Given as goal
+
+abbrev pub invariant-loop-rest : goal.invariant-loop-rest
+invariant-loop-rest l = fold with_claim (standing_at l.known) l.rest ≡ fold with_claim (standing_at l.initial.known) l.claims
+
+abbrev pub decreases-loop-rest : goal.decreases-loop-rest
+decreases-loop-rest l = length l.rest

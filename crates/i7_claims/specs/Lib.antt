@@ -1,0 +1,14 @@
+pub mod Beings
+pub mod Claims
+pub mod Firsts
+pub mod NameScans
+pub mod Numbers
+pub mod Phrases
+pub mod Plurals
+pub mod Quotes
+pub mod Scans
+pub mod Sorts
+pub mod Standings
+pub mod Statements
+pub mod Views
+pub mod Wording

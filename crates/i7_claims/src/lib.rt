@@ -1,0 +1,35 @@
+//! What a source's sentences claim, each by itself: what its names stand for, what words say that something is, and
+//! what is stated and demanded of objects, kinds and properties.
+#![tactic(auto)]
+
+mod built_in;
+mod claim;
+mod claim_laws;
+mod claiming;
+mod demanding;
+mod leading;
+mod names;
+mod numbering;
+mod phrases;
+mod plurals;
+mod quotes;
+mod reserved_names;
+mod scans;
+mod sorts;
+mod standings;
+mod statements;
+mod usuals;
+mod wording;
+
+pub use claim::{
+    Claim, Demand, Fact, Grant, Having, Lying, Naming, Placing, Standing, Start, Usual, Value,
+};
+pub use claim_laws::{books_twice_are_found, names_too_many_are_found, names_twice_are_found};
+pub use claiming::claims_of;
+pub use names::{FIRST_OF_AUTHOR, Mention, Names, names_of, number_in};
+pub use scans::{earlier, lower};
+pub use sorts::{Sort, built_in_kinds, names_as, property_names, too_many_as};
+pub use standings::{book_twice, name_twice};
+pub use statements::{
+    Numbered, NumberedDoor, NumberedSentence, NumberedSide, NumberedWay, statements_in,
+};

@@ -1,9 +1,0 @@
-use Rattle.std.proofs.Common.{◌≡◌, length, map}
-use Rattle.i7_kinds.specs.Sorts.{mention_firsts}
-use Rattle.i7_kinds.proofs.sorts.mention_properties.Given as goal
-
-abbrev pub invariant-loop-rest : goal.invariant-loop-rest
-invariant-loop-rest l = mention_firsts l.names (map (λ property. property.0.now) l.rest) ≡ mention_firsts l.initial.names (map (λ property. property.0.now) l.properties)
-
-abbrev pub decreases-loop-rest : goal.decreases-loop-rest
-decreases-loop-rest l = length l.rest
