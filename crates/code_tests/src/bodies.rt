@@ -50,13 +50,13 @@ fn sizes(role: Use, own: u16, codes: u16) -> Sizes {
 /// Codes by their bytes, each with its use; those that aren't sound are left out.
 fn codes(alloc: Global, all: &[(Use, &[u8])]) -> Result<Vec<Verified>, AllocError> {
     let mut kept = Vec::new(alloc);
-    let mut own = 0;
-    for (role, bytes) in all {
+    let count = u16::try_from(all.len()).unwrap_or(0);
+    for (own, (role, bytes)) in all.iter().enumerate() {
         let bytes = Vec::from_slice(alloc, bytes)?;
-        if let Some(code) = Verified::new(bytes, sizes(*role, own, all.len() as u16)) {
+        let own = u16::try_from(own).unwrap_or(0);
+        if let Some(code) = Verified::new(bytes, sizes(*role, own, count)) {
             kept.push(code)?;
         }
-        own += 1;
     }
     Ok(kept)
 }
