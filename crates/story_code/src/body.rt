@@ -234,6 +234,7 @@ pub fn step_plain<G: GroundMut>(
     requires stands { MayDo codes.now state.old }
     ensures step { StepsSo (G.fixed ground.old) codes.now now.now (G.world ground.old) state.old text.old.items result (G.world ground.new) state.new text.new.items }
     ensures stands { (came : Step) → result ≡ Ok came → leads_on came ≡ true → MayDo codes.now state.new }
+    ensures same { state.new.code ≡ state.old.code }
     ensures kept { OnErr result (G.world ground.new ≡ G.world ground.old) }
     ensures fixed { G.fixed ground.new ≡ G.fixed ground.old }
 {
