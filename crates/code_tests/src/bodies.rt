@@ -203,7 +203,14 @@ fn loops_turn_to_what_passes_when_they_come_to_it(rt: HostRuntime) -> Result<(),
     let open: &[u8] = &[0x11, 0, 0x12, 0, 1, 0x3B];
     let codes = codes(rt.alloc(), &[(Use::Body, body), (Use::Test(1), open)])?;
     let mut text = Vec::new(rt.alloc());
-    let ended = run(rt.alloc(), &mut world, codes.as_slice(), &NOTHING, 0, &mut text);
+    let ended = run(
+        rt.alloc(),
+        &mut world,
+        codes.as_slice(),
+        &NOTHING,
+        0,
+        &mut text,
+    );
     assert_eq!(rt; ended, Ended::Left(Step::Done));
     assert_eq!(rt; text.as_slice(), b"chestjar".as_slice());
     Ok(())
@@ -213,8 +220,8 @@ fn loops_turn_to_what_passes_when_they_come_to_it(rt: HostRuntime) -> Result<(),
 fn ten_thousand_turns_are_the_most(rt: HostRuntime) -> Result<(), Fail> {
     let mut world = begun(rt.alloc(), FURNISHED)?;
     let body: &[u8] = &[
-        0x34, 0, 0x35, 0, 0, 1, 0, 33, 0x34, 1, 0x35, 1, 0, 2, 0, 30, 0x34, 2, 0x35, 2, 0, 3, 0, 27,
-        0x33, 0, 18, 0x33, 0, 10, 0x33, 0, 2, 0x37,
+        0x34, 0, 0x35, 0, 0, 1, 0, 33, 0x34, 1, 0x35, 1, 0, 2, 0, 30, 0x34, 2, 0x35, 2, 0, 3, 0,
+        27, 0x33, 0, 18, 0x33, 0, 10, 0x33, 0, 2, 0x37,
     ];
     let all = &[
         (Use::Body, body),
@@ -224,7 +231,14 @@ fn ten_thousand_turns_are_the_most(rt: HostRuntime) -> Result<(), Fail> {
     ];
     let codes = codes(rt.alloc(), all)?;
     let mut text = Vec::new(rt.alloc());
-    let ended = run(rt.alloc(), &mut world, codes.as_slice(), &NOTHING, 0, &mut text);
+    let ended = run(
+        rt.alloc(),
+        &mut world,
+        codes.as_slice(),
+        &NOTHING,
+        0,
+        &mut text,
+    );
     assert_eq!(rt; ended, Ended::Broken(Abandon::TooMuchWork));
     Ok(())
 }
@@ -237,7 +251,14 @@ fn descriptions_are_said_on_a_line(rt: HostRuntime) -> Result<(), Fail> {
     let all = &[(Use::Describing, described), (Use::Body, body)];
     let codes = codes(rt.alloc(), all)?;
     let mut text = Vec::new(rt.alloc());
-    let ended = run(rt.alloc(), &mut world, codes.as_slice(), &NOTHING, 1, &mut text);
+    let ended = run(
+        rt.alloc(),
+        &mut world,
+        codes.as_slice(),
+        &NOTHING,
+        1,
+        &mut text,
+    );
     assert_eq!(rt; ended, Ended::Left(Step::Done));
     assert_eq!(rt; text.as_slice(), b"A bare hall.\n".as_slice());
     Ok(())
@@ -249,17 +270,45 @@ fn codes_that_do_not_fit_are_told(rt: HostRuntime) -> Result<(), Fail> {
     let mut text = Vec::new(rt.alloc());
     let body: &[u8] = &[0x20, 0, 0, 1, 0x28, 0, 0x37];
     let inner = codes(rt.alloc(), &[(Use::Body, body), (Use::Test(2), TRUE)])?;
-    let ended = run(rt.alloc(), &mut world, inner.as_slice(), &NOTHING, 0, &mut text);
+    let ended = run(
+        rt.alloc(),
+        &mut world,
+        inner.as_slice(),
+        &NOTHING,
+        0,
+        &mut text,
+    );
     assert_eq!(rt; ended, Ended::Unsound);
     let undescribed = codes(rt.alloc(), &[(Use::Body, &[0x37])])?;
-    let ended = run(rt.alloc(), &mut world, undescribed.as_slice(), &NOTHING, 0, &mut text);
+    let ended = run(
+        rt.alloc(),
+        &mut world,
+        undescribed.as_slice(),
+        &NOTHING,
+        0,
+        &mut text,
+    );
     assert_eq!(rt; ended, Ended::Unsound);
     let mut furnished = begun(rt.alloc(), FURNISHED)?;
     let fits = codes(rt.alloc(), &[(Use::Body, body), (Use::Test(1), TRUE)])?;
-    let ended = run(rt.alloc(), &mut furnished, fits.as_slice(), &NOTHING, 0, &mut text);
+    let ended = run(
+        rt.alloc(),
+        &mut furnished,
+        fits.as_slice(),
+        &NOTHING,
+        0,
+        &mut text,
+    );
     assert_eq!(rt; ended, Ended::Left(Step::Done));
     assert_eq!(rt; furnished.variable(0), 23);
-    let ended = run(rt.alloc(), &mut furnished, fits.as_slice(), &NOTHING, 1, &mut text);
+    let ended = run(
+        rt.alloc(),
+        &mut furnished,
+        fits.as_slice(),
+        &NOTHING,
+        1,
+        &mut text,
+    );
     assert_eq!(rt; ended, Ended::Unsound);
     Ok(())
 }

@@ -3,7 +3,7 @@ use Rattle.std.proofs.Common.{◌≡◌, ◌∙◌, ap, sym, subst, ℕ, zero, s
 use lib.Signed.{mag}
 use mir.ValLaws.{to_z-of_z}
 use Rattle.std.specs.List.{range_with_len}
-use Rattle.std.specs.Prelude.{◌≢◌, MatchResult, OnOk, Result, slice_get}
+use Rattle.std.specs.Prelude.{◌≢◌, OnOk, Result, slice_get}
 use Rattle.play_meaning.specs.Attempts.{Attempt, next}
 use Rattle.play_meaning.specs.Codes.{answered, no_inner, test_within}
 use Rattle.play_meaning.specs.Grounds.{Fixed}
@@ -22,7 +22,7 @@ use Rattle.play_meaning.proofs.States.{begins, within}
 use Rattle.world_meaning.specs.declared.session.Abandon.{Abandon}
 use Rattle.world_meaning.specs.declared.session.Abandon.TheVariants.{Memory}
 use Rattle.story_code.specs.Laws.{BodiesBeginStanding, RunsBeginStanding, RunsStandBehindAnyWork}
-use Rattle.story_code.specs.Runs.{AreSoundTogether, BreaksOff, CameTo, Describes, DoesSo, IsFetched, IsStanding, IsTestAt, Leads, LeadsOn, MayDo, MayRead, LoopsSuit, Standing, TestIs, behind, code_at, code_told, codes_of, count_passing, counted_if, frame_in, over, passes_in, state_in, telling_in}
+use Rattle.story_code.specs.Runs.{AreSoundTogether, BreaksOff, CameTo, Describes, DoesSo, IsFetched, IsStanding, IsTestAt, Leads, LeadsOn, MayRead, LoopsSuit, Standing, TestIs, behind, code_at, code_told, codes_of, count_passing, counted_if, frame_in, over, passes_in, state_in, telling_in}
 use Rattle.story_code.specs.Soundness.{Judged}
 use Rattle.story_code.specs.declared.came.Came.{Came}
 use Rattle.story_code.specs.declared.came.Came.TheVariants.{Answered, Left, On}

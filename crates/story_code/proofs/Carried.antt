@@ -1,6 +1,6 @@
 -- What an instruction of a test or a description does, it does in a body.
-use Rattle.std.proofs.Common.{◌≡◌, ◌∙◌, ap, ℕ, suc, ◌≤◌, ◌+◌, List, [], ◌∷◌, length, refl, Ok, Err, Option, Some, arith}
-use Rattle.std.specs.Prelude.{◌≢◌, MatchResult, Result, map}
+use Rattle.std.proofs.Common.{◌≡◌, ap, ℕ, suc, ◌≤◌, ◌+◌, List, [], ◌∷◌, length, refl, Ok, Err, arith}
+use Rattle.std.specs.Prelude.{Result, map}
 use Rattle.play_meaning.specs.Grounds.{Fixed, said_by_code}
 use Rattle.play_meaning.specs.Worlds.{World}
 use Rattle.play_meaning.specs.declared.action.ActionNow.{ActionNow}

@@ -1,6 +1,6 @@
 -- The code of a description, run whole, says its text.
-use Rattle.std.proofs.Common.{◌≡◌, ◌∙◌, ap, sym, subst, ℕ, suc, ◌+◌, ◌≤◌, Bool, true, List, [], ◌∷◌, length, refl, Option, Some, Ok, ◌⊎◌, inl, inr, arith}
-use Rattle.std.specs.Prelude.{map, slice_get}
+use Rattle.std.proofs.Common.{◌≡◌, ◌∙◌, ap, sym, subst, ℕ, suc, ◌+◌, ◌≤◌, Bool, true, List, [], length, Ok, ◌⊎◌, inl, inr, arith}
+use Rattle.std.specs.Prelude.{map}
 use Rattle.play_meaning.specs.Codes.{description_said, no_inner, text_said}
 use Rattle.play_meaning.specs.Grounds.{Fixed}
 use Rattle.play_meaning.specs.Instructions.{sizes}
@@ -8,11 +8,10 @@ use Rattle.play_meaning.specs.Machines.{Abandons, Answers, Leaves, Step, run}
 use Rattle.play_meaning.specs.Progress.{fresh}
 use Rattle.play_meaning.specs.Scripts.{undescribed}
 use Rattle.play_meaning.specs.SoundCodes.{IsSound, loops_around}
-use Rattle.play_meaning.specs.SoundRuns.{AlwaysEnds, IsAbandoned}
+use Rattle.play_meaning.specs.SoundRuns.{IsAbandoned}
 use Rattle.play_meaning.specs.Stands.{is_body}
 use Rattle.play_meaning.specs.Worlds.{World}
 use Rattle.play_meaning.specs.declared.action.ActionNow.{ActionNow}
-use Rattle.play_meaning.specs.declared.operand.Use.{Use}
 use Rattle.play_meaning.specs.declared.operand.Use.TheVariants.{Describing}
 use Rattle.play_meaning.specs.declared.outcome.Flow.{Flow}
 use Rattle.play_meaning.specs.declared.outcome.Flow.TheVariants.{GoesOn}

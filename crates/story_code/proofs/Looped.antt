@@ -5,14 +5,14 @@ use Rattle.std.proofs.lemmas.Bool.{le-ltb, lt-ltb}
 use Rattle.play_meaning.specs.Attempts.{Attempt, next}
 use Rattle.play_meaning.specs.Doing.{Inner}
 use Rattle.play_meaning.specs.Grounds.{Fixed}
-use Rattle.play_meaning.specs.Machines.{Abandons, Goes, State, Step, does, first_passing, next_object, or_later, turns_to, unless_abandoned, with_object}
+use Rattle.play_meaning.specs.Machines.{Abandons, Goes, Step, does, first_passing, or_later, turns_to, unless_abandoned, with_object}
 use Rattle.play_meaning.specs.Progress.{Progress, most_work, spend}
 use Rattle.play_meaning.specs.Worlds.{World}
 use Rattle.play_meaning.specs.declared.action.ActionNow.{ActionNow}
 use Rattle.play_meaning.specs.declared.instruction.Instruction.TheVariants.{Next}
 use Rattle.world_meaning.specs.declared.session.Abandon.{Abandon}
 use Rattle.world_meaning.specs.declared.session.Abandon.TheVariants.{Memory, TooMuchWork}
-use Rattle.story_code.specs.Runs.{LoopsSuit, NextIs, Standing, behind, code_told, state_in}
+use Rattle.story_code.specs.Runs.{NextIs, Standing, behind, code_told, state_in}
 use Rattle.story_code.specs.Soundness.{Judged}
 use Rattle.story_code.specs.Steps.{body_frame}
 use Rattle.story_code.proofs.Carried.{by_code, many}

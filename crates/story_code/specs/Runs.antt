@@ -1,11 +1,12 @@
 -- Runs of a story's codes over a ground: how they stand, and what a step of them comes to.
 use Rattle.std.specs.Prelude.{◌≡◌, ◌≢◌, ℕ, zero, suc, ℤ, ◌+◌, ◌-◌, ◌<◌, ◌≤◌, Bool, true, false, List, [], ◌∷◌, ◌++◌, map, length, MatchResult, Option, None, Result, Some, Ok, is_some, slice_get, slice_index_or, take}
+use Rattle.std.specs.List.{range_with_len}
 use Rattle.play_meaning.specs.Attempts.{Attempt, next}
 use Rattle.play_meaning.specs.Codes.{Codes, frame_of, test_within}
 use Rattle.play_meaning.specs.Doing.{Inner}
 use Rattle.play_meaning.specs.Grounds.{Fixed}
 use Rattle.play_meaning.specs.Instructions.{at_place, row_of, size_of}
-use Rattle.play_meaning.specs.Machines.{Abandons, Answers, Frame, Goes, Leaves, State, Step, does, first_passing, number_behind}
+use Rattle.play_meaning.specs.Machines.{Abandons, Answers, Frame, Goes, Leaves, State, Step, does, first_passing, number_behind, passing}
 use Rattle.play_meaning.specs.Progress.{Progress}
 use Rattle.play_meaning.specs.Saying.{Telling}
 use Rattle.play_meaning.specs.SoundCodes.{IsSound}
@@ -181,6 +182,16 @@ pub record IsNamedTest (judged : List Judged) (code : ℕ) (outer : ℕ) (test :
   pub few : outer < 9
   pub later : code < test
   pub there : IsTestAt judged test (outer + 1)
+
+-- how many objects pass a test that a code names, inside these loops
+abbrev pub CountIs : Fixed → List Judged → ActionNow → World → List (Option ℕ) → ℕ → Attempt ℕ → Type 0
+CountIs fixed judged now w loops test answer =
+    (depth : ℕ) (describes : Describes) → length judged ≤ test + depth → count_passing (passes_in fixed judged now w depth describes test loops) fixed.setting.count 0 ≡ answer
+
+-- which objects pass it, by rising number
+abbrev pub PassingAre : Fixed → List Judged → ActionNow → World → List (Option ℕ) → ℕ → Attempt (List ℕ) → Type 0
+PassingAre fixed judged now w loops test answer =
+    (depth : ℕ) (describes : Describes) → length judged ≤ test + depth → passing (passes_in fixed judged now w depth describes test loops) (range_with_len 0 fixed.setting.count) ≡ answer
 
 -- which object a loop turns to next: the first one behind that of its last turn that passes its test
 abbrev pub NextIs : Fixed → List Judged → ActionNow → World → List (Option ℕ) → ℕ → ℕ → Attempt (Option ℕ) → Type 0

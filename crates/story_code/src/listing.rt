@@ -1,9 +1,7 @@
 //! The objects that pass a test, and their names.
-ghost use Rattle.std.specs.Prelude.{◌≡◌, ◌≢◌, ◌+◌, ◌≤◌, ℕ, Err, Ok, MatchResult, OnErr, OnOk, length};
-ghost use Rattle.std.specs.List.{range_with_len};
-ghost use Rattle.play_meaning.specs.Machines.{passing};
+ghost use Rattle.std.specs.Prelude.{◌≡◌, ◌≢◌, Err, Ok, MatchResult, OnErr, OnOk, length};
 ghost use Rattle.play_meaning.specs.declared.instruction.Instruction.TheVariants.{Names};
-ghost use Rattle.story_code.specs.Runs.{AreSoundTogether, Describes, IsNamedTest, IsServed, Proceeds, LoopsSuit, kept_if, passes_in};
+ghost use Rattle.story_code.specs.Runs.{AreSoundTogether, IsNamedTest, IsServed, LoopsSuit, PassingAre, Proceeds, kept_if};
 ghost use Rattle.world_meaning.specs.declared.session.Abandon.TheVariants.{Memory};
 
 use crate::naming::say_listed;
@@ -47,11 +45,8 @@ fn passing_in<G: Ground>(
 ) -> Result<Vec<ObjNo>, Abandon>
     requires sound { AreSoundTogether codes.now }
     requires named { IsNamedTest codes.now state.now.code (length state.now.loops) test }
-    ensures { MatchResult result
-        (λ objects. (depth : ℕ) (describes : Describes) → length codes.now ≤ test + depth
-        → passing (passes_in (G.fixed ground.now) codes.now now.now (G.world ground.now) depth describes test state.now.loops) (range_with_len 0 (G.fixed ground.now).setting.count) ≡ Ok objects.items)
-        (λ reason. reason ≢ Memory → (depth : ℕ) (describes : Describes) → length codes.now ≤ test + depth
-        → passing (passes_in (G.fixed ground.now) codes.now now.now (G.world ground.now) depth describes test state.now.loops) (range_with_len 0 (G.fixed ground.now).setting.count) ≡ Err reason) }
+    ensures { MatchResult result (λ objects. PassingAre (G.fixed ground.now) codes.now now.now (G.world ground.now) state.now.loops test (Ok objects.items))
+        (λ reason. reason ≢ Memory → PassingAre (G.fixed ground.now) codes.now now.now (G.world ground.now) state.now.loops test (Err reason)) }
 {
     let mut objects = Vec::new(alloc);
     for number in 0..ground.object_count() {

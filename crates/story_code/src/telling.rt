@@ -4,7 +4,7 @@ ghost use Rattle.play_meaning.specs.Machines.{does};
 ghost use Rattle.play_meaning.specs.Operands.{gives};
 ghost use Rattle.play_meaning.specs.Stands.{GivesObject};
 ghost use Rattle.play_meaning.specs.declared.operand.Counts.{Counts};
-ghost use Rattle.story_code.specs.Runs.{AreSoundTogether, CameTo, IsServed, Proceeds, LoopsSuit};
+ghost use Rattle.story_code.specs.Runs.{AreSoundTogether, CameTo, IsServed, LoopsSuit, Proceeds};
 
 use crate::came::Came;
 use crate::listing::{Listing, say_passing};

@@ -1,10 +1,10 @@
 //! Tests: what they answer, and which objects pass one.
-ghost use Rattle.std.specs.Prelude.{◌≡◌, ◌≢◌, ◌+◌, ◌-◌, ◌<◌, ◌≤◌, ℕ, List, Err, Ok, MatchResult, OnOk, length};
+ghost use Rattle.std.specs.Prelude.{◌≡◌, ◌≢◌, ◌<◌, ℕ, List, Err, Ok, MatchResult, OnOk, length};
 ghost use Rattle.play_meaning.specs.Machines.{does};
 ghost use Rattle.play_meaning.specs.Operands.{gives};
 ghost use Rattle.play_meaning.specs.Stands.{GivesObject};
 ghost use Rattle.play_meaning.specs.declared.operand.Counts.{Counts};
-ghost use Rattle.story_code.specs.Runs.{AreSoundTogether, CameTo, Describes, IsNamedTest, IsServed, IsTestAt, Proceeds, LoopsSuit, TestIs, count_passing, counted_if, passes_in};
+ghost use Rattle.story_code.specs.Runs.{AreSoundTogether, CameTo, CountIs, IsNamedTest, IsServed, IsTestAt, LoopsSuit, Proceeds, TestIs, counted_if};
 ghost use Rattle.world_meaning.specs.declared.session.Abandon.TheVariants.{Memory};
 
 use crate::came::Came;
@@ -121,11 +121,8 @@ fn count_in<G: Ground>(
 ) -> Result<u16, Abandon>
     requires sound { AreSoundTogether codes.now }
     requires named { IsNamedTest codes.now state.now.code (length state.now.loops) test }
-    ensures { MatchResult result
-        (λ count. (depth : ℕ) (describes : Describes) → length codes.now ≤ test + depth
-        → count_passing (passes_in (G.fixed ground.now) codes.now now.now (G.world ground.now) depth describes test state.now.loops) (G.fixed ground.now).setting.count 0 ≡ Ok count)
-        (λ reason. reason ≢ Memory → (depth : ℕ) (describes : Describes) → length codes.now ≤ test + depth
-        → count_passing (passes_in (G.fixed ground.now) codes.now now.now (G.world ground.now) depth describes test state.now.loops) (G.fixed ground.now).setting.count 0 ≡ Err reason) }
+    ensures { MatchResult result (λ count. CountIs (G.fixed ground.now) codes.now now.now (G.world ground.now) state.now.loops test (Ok count))
+        (λ reason. reason ≢ Memory → CountIs (G.fixed ground.now) codes.now now.now (G.world ground.now) state.now.loops test (Err reason)) }
 {
     let mut count = 0;
     for number in 0..ground.object_count() {

@@ -1,5 +1,4 @@
-use Rattle.std.proofs.Common.{◌∙◌, ◌+◌, ap, sym, subst, take, Option, Some, None, Ok, ℕ, arith}
-use Rattle.play_meaning.specs.Machines.{with_object}
+use Rattle.std.proofs.Common.{◌∙◌, ap, subst, take, Ok, arith}
 use Rattle.play_meaning.specs.declared.instruction.Instruction.TheVariants.{Next}
 use Rattle.story_code.specs.Runs.{NextIs, Standing, behind}
 use Rattle.story_code.proofs.Looped.{broken_off, closed, too_much, turned}

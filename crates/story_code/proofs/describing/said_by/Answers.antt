@@ -1,9 +1,8 @@
-use Rattle.std.proofs.Common.{◌≡◌, ◌∙◌, ap, sym, subst, [], List, ℕ, inl, inr, ◌⊎◌}
-use Rattle.play_meaning.specs.Codes.{description_said}
-use Rattle.play_meaning.specs.Machines.{Abandons, Answers, Leaves}
+use Rattle.std.proofs.Common.{sym, subst, []}
+use Rattle.play_meaning.specs.Machines.{Abandons}
 use Rattle.story_code.specs.Runs.{MayRead, Standing}
 use Rattle.story_code.specs.Testing.{EndsSo, begun}
-use Rattle.story_code.proofs.Described.{never_answers, reads_description, says_so, said_as}
+use Rattle.story_code.proofs.Described.{reads_description, says_so, said_as}
 use Rattle.story_code.proofs.describing.said_by.Goals as goal
 
 pub read_plain-requires-clause-stands : goal.read_plain-requires-clause-stands

@@ -1,4 +1,4 @@
-use Rattle.std.proofs.Common.{◌∙◌, ◌++◌, ◌-◌, ap, sym, subst, true, false, [], ◌∷◌, length, take, None, Some, Ok, Err, List, Option, ℕ, arith}
+use Rattle.std.proofs.Common.{◌∙◌, ◌++◌, ◌-◌, ap, sym, subst, true, false, [], ◌∷◌, take, None, Some, Ok, Err, List, Option, ℕ, arith}
 use Rattle.std.specs.Prelude.{slice_index_or}
 use Rattle.play_meaning.specs.Machines.{first_passing, number_behind}
 use Rattle.story_code.specs.Runs.{Standing, TestIs, passes_in}

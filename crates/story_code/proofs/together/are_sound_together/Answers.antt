@@ -1,4 +1,4 @@
-use Rattle.std.proofs.Common.{◌∙◌, ap, refl, subst}
+use Rattle.std.proofs.Common.{refl}
 use Rattle.story_code.proofs.TestsNamed.{all_together, below_next, together_or_not}
 use Rattle.story_code.proofs.together.are_sound_together.Goals as goal
 

@@ -1,4 +1,4 @@
-use Rattle.std.proofs.Common.{◌∙◌, sym, ap, arith}
+use Rattle.std.proofs.Common.{◌∙◌, sym, arith}
 use Rattle.story_code.proofs.FrontLemmas.{front_fits}
 use Rattle.story_code.proofs.TestsNamed.{named_end, named_next, named_stop}
 use Rattle.story_code.proofs.WalkLemmas.{nil_length}

@@ -1,4 +1,4 @@
-use Rattle.std.proofs.Common.{◌∙◌, ap, sym}
+use Rattle.std.proofs.Common.{sym}
 use Rattle.story_code.proofs.TestsNamed.{one_found}
 use Rattle.story_code.proofs.together.stands_rightly.Goals as goal
 
