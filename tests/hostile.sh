@@ -39,6 +39,8 @@ open("nested.i7", "wb").write(b"[" * half + b"]" * half)
 open("random.i7", "wb").write(random.Random(7).randbytes(longest))
 rooms = "".join(f"Room{n} is north of Room{n - 1}. \"The walls of room {n} are bare and cold here.\"\n\n" for n in range(1, 980))
 open("rooms.i7", "w").write("Room0 is a room.\n\n" + rooms)
+open("long_rulebook.i7", "w").write("The Hall is a room. The " + "x" * 65536 + " rules is a rulebook.")
+open("long_property.i7", "w").write("The Hall is a room. A thing can be " + "x" * 65536 + ".")
 words = "".join(f"Hall is a room.\n\n" for n in range(longest // 17))
 open("one_room.i7", "w").write(words[:longest])
 PY
