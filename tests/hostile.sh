@@ -1,5 +1,6 @@
 #!/usr/bin/env bash
-# Sources of the greatest length that are hard on a reader: each is answered within a second.
+# Sources of the greatest length that are hard on a reader: each is answered within a second, and those of few
+# sentences with at most 40 bytes of memory for each of theirs.
 # Use: tests/hostile.sh PROGRAM
 set -u
 program=$(realpath "$1")
@@ -44,14 +45,29 @@ open("long_property.i7", "w").write("The Hall is a room. A thing can be " + "x" 
 words = "".join(f"Hall is a room.\n\n" for n in range(longest // 17))
 open("one_room.i7", "w").write(words[:longest])
 PY
+# The least address space, in KiB, in which an empty source is answered.
+least_space() {
+  local low=1024 high=1048576 middle
+  while [ $((high - low)) -gt 16 ]; do
+    middle=$(((low + high) / 2))
+    (ulimit -v $middle; exec "$program" compile empty story) >out 2>&1 </dev/null
+    if [ $? -le 1 ]; then high=$middle; else low=$middle; fi
+  done
+  echo $high
+}
+: >empty
+space=$(($(least_space) + 40 * 256))
 passed=0
 failed=0
 for source in *.i7; do
-  timeout 1 "$program" compile "$source" story 2>err </dev/null
-  status=$?
   want=1
-  [ "$source" = rooms.i7 ] && want=0
-  [ "$source" = one_room.i7 ] && want=0
+  limit=$space
+  case $source in
+    rooms.i7 | one_room.i7) want=0 limit=unlimited ;;
+    closed_texts.i7 | long_*) limit=unlimited ;;
+  esac
+  (ulimit -v "$limit"; exec timeout 1 "$program" compile "$source" story) 2>err </dev/null
+  status=$?
   if [ $status = $want ] && { [ $want = 0 ] || grep -qE "^$source:[0-9]+: C[0-9]+ [A-Za-z]+\$" err; }; then
     passed=$((passed + 1))
   else

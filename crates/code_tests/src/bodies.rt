@@ -11,7 +11,7 @@ use world_meaning::{Abandon, ObjNo, Place, Rel};
 use world_store::World;
 
 /// No action, and no nouns.
-const NOTHING: ActionNow = ActionNow {
+pub(crate) const NOTHING: ActionNow = ActionNow {
     action: ActNo::NONE,
     noun: None,
     second: None,
@@ -22,13 +22,13 @@ const NOTHING: ActionNow = ActionNow {
 const TRUE: &[u8] = &[0x04, 0x04, 0x08, 0x3B];
 
 /// A story's world as it begins.
-fn begun(alloc: Global, story: &[u8]) -> Result<World, Fail> {
+pub(crate) fn begun(alloc: Global, story: &[u8]) -> Result<World, Fail> {
     let story = Rc::new(alloc, load(alloc, story)?)?;
     Ok(World::start(alloc, &story)?)
 }
 
 /// What a code is judged by, as the one of this number among so many.
-fn sizes(role: Use, own: u16, codes: u16) -> Sizes {
+pub(crate) fn sizes(role: Use, own: u16, codes: u16) -> Sizes {
     Sizes {
         counts: Counts {
             objects: 23,

@@ -3,6 +3,8 @@
 
 #[cfg(test)]
 mod bodies;
+#[cfg(test)]
+mod emitted;
 mod runner;
 #[cfg(test)]
 mod soundness;

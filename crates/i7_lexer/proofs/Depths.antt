@@ -1,16 +1,10 @@
 -- How deep lines are, read from left to right.
-use Rattle.std.proofs.Common.{◌≡◌, ◌-◌, ◌≤◌, suc, Bool, false, List, [], ◌∷◌, ◌++◌, length, take, drop, get_or, refl, sym, ap, ◌⊎◌, inl, inr, ◌∙◌, append_assoc, arith}
-use Rattle.std.proofs.lemmas.List.{take_all}
+use Rattle.std.proofs.Common.{◌≡◌, ℕ, Bool, false, true, if◌then◌else◌, List, [], ◌∷◌, ◌++◌, Option, Some, None, subst, refl, sym, ap, ◌⊎◌, inl, inr, ◌∙◌, append_assoc}
+use Rattle.std.specs.Prelude.{MatchOption}
 use Rattle.std.proofs.lemmas.List.Sums.{fold_push}
 use Rattle.i7_lexer.specs.declared.indents.LineBefore.{LineBefore}
 use Rattle.i7_lexer.specs.declared.placed.Placed.{Placed}
-use Rattle.i7_lexer.specs.Indents.{AreIndented, forbids, line_of, line_with}
-
-pub record IsIndentedSoFar (tokens rest : List Placed) (line : LineBefore) : Type 0 where
-  pub done : List Placed
-  pub parts : tokens ≡ done ++ rest
-  pub line_is : line ≡ line_of done
-  pub indented : AreIndented done
+use Rattle.i7_lexer.specs.Indents.{AreIndented, IsTooDeep, deep_with, forbids, line_of, line_with}
 
 no_part : (before rest : List Placed) (token : Placed) → [] ≡ before ++ token ∷ rest → ⊥
 no_part [] rest token e = cc
@@ -18,9 +12,6 @@ no_part (k ∷ before) rest token e = cc
 
 pub nothing_indented : AreIndented []
 nothing_indented = λ before rest token e. absurd (no_part before rest token e)
-
-pub depths-start : (tokens : List Placed) → IsIndentedSoFar tokens tokens (record { indent = 0; colon = false })
-depths-start tokens = record { done = []; parts = refl; line_is = refl; indented = nothing_indented }
 
 -- the last token, or one of those before it
 last_or_before : (tokens before rest : List Placed) (last token : Placed) → tokens ++ last ∷ [] ≡ before ++ token ∷ rest → ((rest ≡ []) × (before ≡ tokens) × (token ≡ last)) ⊎ ((front : List Placed) × (tokens ≡ before ++ token ∷ front))
@@ -43,14 +34,47 @@ indented-push tokens last indented shallow = λ before rest token e. by_place be
     by_place before rest token (inl (a, b, c)) = rw (b, c) shallow
     by_place before rest token (inr (front, parts)) = indented before front token parts
 
-pub depths-push : (tokens rest : List Placed) (line line' : LineBefore) (token : Placed) (forbidden : Bool) → 1 ≤ length rest → IsIndentedSoFar tokens rest line → token ≡ get_or rest 0 token → forbidden ≡ false → forbidden ≡ forbids line token.at.start → line' ≡ line_with line token → IsIndentedSoFar tokens (take (length rest - 1) (drop 1 rest)) line'
-depths-push tokens [] line line' token forbidden l so_far is_first shallow is_forbidden is_line = absurd (omega arith)
-depths-push tokens (first ∷ rest) line line' token forbidden l so_far is_first shallow is_forbidden is_line =
-    let whole : take (suc (length rest) - 1) rest ≡ rest = take_all _ rest (omega arith) in
-    let allowed : forbids (line_of so_far.done) token.at.start ≡ false = ap (λ k. forbids k token.at.start) (sym so_far.line_is) ∙ (sym is_forbidden ∙ shallow) in
-    rw whole (record {
-      done = so_far.done ++ token ∷ [];
-      parts = so_far.parts ∙ (ap (λ k. so_far.done ++ k ∷ rest) (sym is_first) ∙ sym (append_assoc so_far.done (token ∷ []) rest));
-      line_is = is_line ∙ (ap (λ k. line_with k token) so_far.line_is ∙ sym (fold_push line_with (record { indent = 0; colon = false }) so_far.done token));
-      indented = indented-push so_far.done token so_far.indented allowed;
-    })
+-- what the depth of the tokens so far tells
+abbrev pub Told : List Placed → LineBefore → Option ℕ → Type 0
+Told tokens before None = (before ≡ line_of tokens) × AreIndented tokens
+Told tokens before (Some line) = IsTooDeep tokens line
+
+told-by : (tokens : List Placed) (before : LineBefore) (token : Placed) (v : Bool) → forbids before token.at.start ≡ v → before ≡ line_of tokens → AreIndented tokens → Told (tokens ++ token ∷ []) (line_with before token) (if v then Some token.at.line else None)
+told-by tokens before token true e line_is indented = record {
+  before = tokens;
+  token = token;
+  rest = [];
+  parts = refl;
+  indented = indented;
+  deep = ap (λ k. forbids k token.at.start) (sym line_is) ∙ e;
+  line_is = refl;
+}
+told-by tokens before token false e line_is indented = (
+  ap (λ k. line_with k token) line_is ∙ sym (fold_push line_with (record { indent = 0; colon = false }) tokens token),
+  indented-push tokens token indented (ap (λ k. forbids k token.at.start) (sym line_is) ∙ e),
+)
+
+-- one more token
+pub told-push : (tokens : List Placed) (before : LineBefore) (deep : Option ℕ) (token : Placed) → Told tokens before deep → Told (tokens ++ token ∷ []) (line_with before token) (deep_with deep before token)
+told-push tokens before (Some line) token too_deep = record {
+  before = too_deep.before;
+  token = too_deep.token;
+  rest = too_deep.rest ++ token ∷ [];
+  parts = ap (λ k. k ++ token ∷ []) too_deep.parts ∙ append_assoc too_deep.before (too_deep.token ∷ too_deep.rest) (token ∷ []);
+  indented = too_deep.indented;
+  deep = too_deep.deep;
+  line_is = too_deep.line_is;
+}
+told-push tokens before None token (line_is, indented) = told-by tokens before token (forbids before token.at.start) refl line_is indented
+
+pub told-all : (tokens : List Placed) (before : LineBefore) (deep : Option ℕ) → Told tokens before deep → MatchOption deep (AreIndented tokens) (IsTooDeep tokens)
+told-all tokens before None told = told.1
+told-all tokens before (Some line) told = told
+
+pub told-shallow : (tokens : List Placed) (deep : Option ℕ) → MatchOption deep (AreIndented tokens) (IsTooDeep tokens) → deep ≡ None → AreIndented tokens
+told-shallow tokens None told e = told
+told-shallow tokens (Some line) told e = cc
+
+pub told-deep : (tokens : List Placed) (deep : Option ℕ) (line : ℕ) → MatchOption deep (AreIndented tokens) (IsTooDeep tokens) → deep ≡ Some line → IsTooDeep tokens line
+told-deep tokens None line told e = cc
+told-deep tokens (Some k) line told e = let same : k ≡ line = cc in let P : ℕ → Type 0 = λ t. IsTooDeep tokens t in subst P same told

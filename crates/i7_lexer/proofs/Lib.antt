@@ -11,6 +11,8 @@ mod Cutting
 mod Depths
 mod Verdicts
 mod Readings
+mod Placing
+mod Joining
 pub mod LawLemmas
 mod FoldingLaws
 mod Lines

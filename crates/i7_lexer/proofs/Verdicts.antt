@@ -1,23 +1,24 @@
 -- What the lexer's steps say of a source, together.
 use Rattle.std.proofs.Common.{◌≡◌, ℕ, ◌≤◌, List, length, sym, ap, ◌∙◌, subst}
 use Rattle.world_meaning.specs.declared.fault.FaultCode.{FaultCode}
-use Rattle.world_meaning.specs.declared.fault.FaultCode.TheVariants.{Unclosed, BadIndent, Memory}
+use Rattle.world_meaning.specs.declared.fault.FaultCode.TheVariants.{Unclosed, BadIndent}
 use Rattle.i7_lexer.specs.declared.placed.Placed.{Placed}
 use Rattle.i7_lexer.specs.declared.token.Token.{Token}
 use Rattle.i7_lexer.specs.Sources.{text_of, IsText}
 use Rattle.i7_lexer.specs.Cuts.{IsPlaced, IsUnclosedIn}
 use Rattle.i7_lexer.specs.Indents.{AreIndented, IsTooDeep}
 use Rattle.i7_lexer.specs.Tokens.{tokens_of}
-use Rattle.i7_lexer.specs.Refusals.{IsReadable, Stands, Uncut, longest}
+use Rattle.i7_lexer.specs.Refusals.{IsReadable, Stands, longest}
 use Rattle.i7_lexer.specs.Readings.{HasTokens}
 
 pub readable : (source checked : List ℕ) → length source ≤ longest → IsText checked → checked ≡ text_of source → IsReadable source
 readable source checked short text e = record { short = short; text = let P : List ℕ → Type 0 = λ t. IsText t in subst P e text }
 
-pub uncut : (code : FaultCode) (line : ℕ) (source checked cut : List ℕ) → checked ≡ text_of source → cut ≡ text_of source → length source ≤ longest → IsText checked → Uncut code line cut → Stands code line source
-uncut Unclosed line source checked cut e d short text h = (readable source checked short text e, let P : List ℕ → Type 0 = λ t. IsUnclosedIn t line in subst P d h)
-uncut Memory line source checked cut e d short text h = (short, h)
-uncut _ line source checked cut e d short text h = absurd h
+pub unclosed : (code : FaultCode) (line : ℕ) (source checked cut : List ℕ) → checked ≡ text_of source → cut ≡ text_of source → length source ≤ longest → IsText checked → code ≡ Unclosed → IsUnclosedIn cut line → Stands code line source
+unclosed code line source checked cut e d short text is_unclosed h =
+    let P : List ℕ → Type 0 = λ t. IsUnclosedIn t line in
+    let R : FaultCode → Type 0 = λ t. Stands t line source in
+    subst R (sym is_unclosed) (readable source checked short text e, subst P d h)
 
 pub deep : (code : FaultCode) (line : ℕ) (source checked cut : List ℕ) (placed asked : List Placed) → checked ≡ text_of source → cut ≡ text_of source → asked ≡ placed → length source ≤ longest → IsText checked → IsPlaced cut placed → code ≡ BadIndent → IsTooDeep asked line → Stands code line source
 deep code line source checked cut placed asked e d a short text parts is_bad too_deep =

@@ -1,5 +1,5 @@
 -- How deep a line may be.
-use Rattle.std.specs.Prelude.{◌≡◌, ℕ, ◌+◌, Bool, true, false, ◌==◌, nat_lt, if◌then◌else◌, List, ◌∷◌, ◌++◌, fold}
+use Rattle.std.specs.Prelude.{◌≡◌, ℕ, ◌+◌, Bool, true, false, ◌==◌, nat_lt, if◌then◌else◌, List, ◌∷◌, ◌++◌, fold, Option, Some, None}
 use Rattle.i7_lexer.specs.declared.indents.LineBefore.{LineBefore}
 use Rattle.i7_lexer.specs.declared.token.Start.{Start}
 use Rattle.i7_lexer.specs.declared.token.Start.TheVariants.{Paragraph, Line, Within}
@@ -31,6 +31,11 @@ abbrev pub forbids : LineBefore → Start → Bool
 forbids before Paragraph = false
 forbids before (Line tabs) = nat_lt (if before.colon then before.indent + 1 else before.indent) tabs
 forbids before Within = false
+
+-- the first line that is too deep, one token later
+abbrev pub deep_with : Option ℕ → LineBefore → Placed → Option ℕ
+deep_with (Some line) before token = Some line
+deep_with None before token = if forbids before token.at.start then Some token.at.line else None
 
 -- no token begins a line that is too deep
 abbrev pub AreIndented : List Placed → Type 0

@@ -2,10 +2,12 @@ pub mod Bytes
 pub mod Lexemes
 pub mod Scans
 pub mod Places
+pub mod Lexing
 pub mod Indents
 pub mod Sources
 pub mod Cuts
 pub mod Refusals
 pub mod Readings
 pub mod Texts
+pub mod Packing
 pub mod Tokens

@@ -40,9 +40,3 @@ Stands _ line source = ⊥
 
 abbrev pub IsRefused : List ℕ → Fault → Type 0
 IsRefused source fault = Stands fault.code fault.line source
-
--- a text can't be cut into lexemes, with that code at that line; memory may be refused at any text
-abbrev pub Uncut : FaultCode → ℕ → List ℕ → Type 0
-Uncut Unclosed line text = IsUnclosedIn text line
-Uncut Memory line text = line ≡ 1
-Uncut _ line text = ⊥

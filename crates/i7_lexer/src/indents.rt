@@ -1,6 +1,6 @@
 //! How deep a line may be: as deep as the line before, and one tab deeper behind a colon.
-ghost use Rattle.std.specs.Prelude.{◌≡◌, MatchOption};
-ghost use Rattle.i7_lexer.specs.Indents.{AreIndented, IsTooDeep, forbids, indent_with, is_colon, line_with};
+ghost use Rattle.std.specs.Prelude.{◌≡◌, false, None};
+ghost use Rattle.i7_lexer.specs.Indents.{deep_with, forbids, indent_with, is_colon, line_with};
 
 use crate::Start;
 use crate::lexeme::Piece;
@@ -8,30 +8,43 @@ use crate::placed::Placed;
 
 /// The line before, as far as it says how deep the next may be.
 #[derive(Clone, Copy, Debug)]
-struct LineBefore {
+pub(crate) struct LineBefore {
     indent: u32,
     /// Whether its last token is a colon.
     colon: bool,
 }
 
-/// The line of the first token that begins a line deeper than the line before lets it: as deep, and
-/// one deeper behind a colon.
-pub(crate) fn deep_line(placed: &[Placed<'_>]) -> Option<u32>
-    ensures { MatchOption result (AreIndented placed.now) (IsTooDeep placed.now) }
-{
-    let mut before = LineBefore {
-        indent: 0,
-        colon: false,
-    };
-    let mut rest = placed;
-    while let [token, after @ ..] = rest {
-        if before.forbids(token.at.start) {
-            return Some(token.at.line);
+/// A text so far: the line that it has come to, and the first of its lines that is deeper than the line before
+/// lets it be.
+#[derive(Clone, Copy, Debug)]
+pub(crate) struct Depth {
+    before: LineBefore,
+    pub deep: Option<u32>,
+}
+
+impl Depth {
+    /// The front of a text.
+    pub(crate) fn at_front() -> Depth
+        ensures { result ≡ record { before = record { indent = 0; colon = false }; deep = None } }
+    {
+        Depth {
+            before: LineBefore {
+                indent: 0,
+                colon: false,
+            },
+            deep: None,
         }
-        before = before.with(token);
-        rest = after;
     }
-    None
+
+    /// The text with one more token.
+    pub(crate) fn with(self, token: &Placed<'_>) -> Depth
+        ensures { result ≡ record { before = line_with self.before token.now; deep = deep_with self.deep self.before token.now } }
+    {
+        Depth {
+            before: self.before.with(token),
+            deep: self.before.deep_with(self.deep, token),
+        }
+    }
 }
 
 impl LineBefore {
@@ -48,6 +61,22 @@ impl LineBefore {
                 deepest < u64::from(indent)
             }
             Start::Paragraph | Start::Within => false,
+        }
+    }
+
+    /// The first line that is too deep, one token later.
+    fn deep_with(self, deep: Option<u32>, token: &Placed<'_>) -> Option<u32>
+        ensures { result ≡ deep_with deep self token.now }
+    {
+        match deep {
+            Some(line) => Some(line),
+            None => {
+                if self.forbids(token.at.start) {
+                    Some(token.at.line)
+                } else {
+                    None
+                }
+            }
         }
     }
 

@@ -1,46 +1,153 @@
 //! Tokens from placed lexemes: `fixed in place`, `switched on` and `switched off` become one word.
-ghost use Rattle.std.specs.Prelude.{◌≡◌, ◌≤◌, ◌++◌, length, IfOk, OnOk};
+ghost use Rattle.std.specs.Prelude.{◌≡◌, ◌≤◌, ◌++◌, length, ◌∷◌, ◌||◌, codes, drop, take, IfOk, OnOk};
 ghost use Rattle.std.specs.List.{flat_map};
-ghost use Rattle.i7_lexer.specs.Tokens.{tokens_of, joined_len, is_switched, is_fixed_in_place, says, continues, goes_on, token_of, kind_of, spaced};
+ghost use Rattle.i7_lexer.specs.Texts.{folded};
+ghost use Rattle.i7_lexer.specs.Tokens.{tokens_of, joined_len, is_switched, is_fixed_in_place, says, continues, goes_on, spaced};
+ghost use Rattle.i7_lexer.specs.declared.lexeme.Piece.TheVariants.{Word};
+ghost use Rattle.i7_lexer.specs.declared.token.TokenKind.TheVariants.{Text as TextToken};
 
+use crate::cursor::{Cursor, newlines};
 use crate::lexeme::Piece;
-use crate::placed::Placed;
+use crate::packed::Sort;
+use crate::placed::{Placed, Places};
 use crate::text::folded;
-use crate::{Start, Token, TokenKind};
+use crate::{PackedToken, Start};
 use std::alloc::{AllocError, Global};
-use world_meaning::TextBytes;
 
-/// The tokens of these lexemes.
-pub(crate) fn tokens_of(alloc: Global, placed: &[Placed<'_>]) -> Result<Vec<Token>, AllocError>
+/// The tokens of these lexemes, at most so many of which are kept at once.
+pub(crate) fn tokens_of(
+    alloc: Global,
+    placed: &Places<'_>,
+    count: usize,
+) -> Result<Vec<PackedToken>, AllocError>
     ensures { IfOk result (λ tokens. tokens.items ≡ tokens_of placed.now) }
 {
-    let mut tokens = Vec::with_capacity(alloc, placed.len())?;
-    let mut rest = placed;
-    while let [first, after @ ..] = rest {
-        let count = joined_len(first, after);
-        tokens.push(token(alloc, first, &after[..count])?)?;
-        rest = &after[count..];
+    let mut tokens = Vec::with_capacity(alloc, count)?;
+    let mut rest = placed.again();
+    while let Some((first, after)) = rest.first() {
+        let (token, behind) = front_token(alloc, &first, &after)?;
+        tokens.push(token)?;
+        rest = behind;
     }
     Ok(tokens)
 }
 
-/// How many of the lexemes behind the first are one word with it.
-fn joined_len(first: &Placed<'_>, after: &[Placed<'_>]) -> usize
-    ensures value { result ≡ joined_len first.now after.now }
-    ensures bound { result ≤ length after.now }
+/// The first token, and the lexemes behind it.
+fn front_token<'a>(
+    alloc: Global,
+    first: &Placed<'_>,
+    after: &Places<'a>,
+) -> Result<(PackedToken, Places<'a>), AllocError>
+    ensures front { IfOk result (λ front. front.0 ∷ tokens_of front.1 ≡ tokens_of (first.now ∷ after.now)) }
+    ensures within { IfOk result (λ front. length front.1 ≤ length after.now) }
 {
-    match after {
-        [] => 0,
-        [second] => usize::from(is_switched(first, second)),
-        [second, third, ..] => {
-            if is_switched(first, second) {
-                1
-            } else if is_fixed_in_place(first, second, third) {
-                2
-            } else {
-                0
+    match &first.piece {
+        Piece::Word(word) => Ok(word_token(alloc, first, word.as_slice(), after)?),
+        Piece::Text(inner) => Ok((
+            text_token(alloc, inner.as_slice(), first.at)?,
+            after.again(),
+        )),
+        Piece::Mark(byte) => Ok((
+            PackedToken::mark(*byte, first.at.line, first.at.start),
+            after.again(),
+        )),
+    }
+}
+
+/// The token of a text.
+#[tactic(auto, using(crate::proofs::Folding::folded_unbroken))]
+fn text_token(alloc: Global, inner: &[u8], at: Cursor) -> Result<PackedToken, AllocError>
+    ensures { IfOk result (λ token. token ≡ record { kind = TextToken (folded inner.now); line = at.line; start = at.start }) }
+{
+    if newlines(inner) == 0 {
+        return Ok(PackedToken::copied(alloc, Sort::Text, inner, at.line, at.start)?);
+    }
+    let text = folded(alloc, inner)?;
+    Ok(PackedToken::copied(alloc, Sort::Text, text.as_slice(), at.line, at.start)?)
+}
+
+/// The token of a word and of the words that are one word with it, and the lexemes behind them.
+fn word_token<'a>(
+    alloc: Global,
+    first: &Placed<'_>,
+    word: &[u8],
+    after: &Places<'a>,
+) -> Result<(PackedToken, Places<'a>), AllocError>
+    requires { first.now.piece ≡ Word word.now }
+    ensures front { IfOk result (λ front. front.0 ∷ tokens_of front.1 ≡ tokens_of (first.now ∷ after.now)) }
+    ensures within { IfOk result (λ front. length front.1 ≤ length after.now) }
+{
+    let at = first.at;
+    let count = joined_len(first, after);
+    if count == 0 {
+        let token = PackedToken::copied(alloc, Sort::Word, word, at.line, at.start)?;
+        return Ok((token, after.again()));
+    }
+    let mut bytes = Vec::from_slice(alloc, word)?;
+    let behind = push_spaced_words(&mut bytes, after, count)?;
+    let token = PackedToken::copied(alloc, Sort::Word, bytes.as_slice(), at.line, at.start)?;
+    Ok((token, behind))
+}
+
+/// Writes so many words, a space before each, and answers the lexemes behind them.
+fn push_spaced_words<'a>(
+    bytes: &mut Vec<u8>,
+    others: &Places<'a>,
+    count: usize,
+) -> Result<Places<'a>, AllocError>
+    ensures words { OnOk result (bytes.new.items ≡ bytes.old.items ++ flat_map (λ other. spaced other.piece) (take count others.now)) }
+    ensures rest { IfOk result (λ rest. rest ≡ drop count others.now) }
+{
+    let mut left = count;
+    let mut rest = others.again();
+    while left > 0 {
+        let Some((other, after)) = rest.first() else {
+            return Ok(rest);
+        };
+        push_spaced(bytes, &other.piece)?;
+        left -= 1;
+        rest = after;
+    }
+    Ok(rest)
+}
+
+/// Whether other words may be one word with this: `fixed` and `switched` alone have such.
+fn may_join(first: &Placed<'_>) -> bool
+    ensures { result ≡ says (codes "switched") first.now.piece || says (codes "fixed") first.now.piece }
+{
+    says(first, b"switched") || says(first, b"fixed")
+}
+
+/// How many of the lexemes behind the first are one word with it.
+#[tactic(auto, using(crate::proofs::Joining::never_joined))]
+fn joined_len(first: &Placed<'_>, after: &Places<'_>) -> usize
+    ensures { result ≡ joined_len first.now after.now }
+{
+    if may_join(first) {
+        len_joined(first, after)
+    } else {
+        0
+    }
+}
+
+/// How many of the lexemes behind the first are one word with it, any word.
+fn len_joined(first: &Placed<'_>, after: &Places<'_>) -> usize
+    ensures { result ≡ joined_len first.now after.now }
+{
+    match after.first() {
+        None => 0,
+        Some((second, behind)) => match behind.first() {
+            None => usize::from(is_switched(first, &second)),
+            Some((third, _)) => {
+                if is_switched(first, &second) {
+                    1
+                } else if is_fixed_in_place(first, &second, &third) {
+                    2
+                } else {
+                    0
+                }
             }
-        }
+        },
     }
 }
 
@@ -83,38 +190,6 @@ fn goes_on(start: Start) -> bool
         Start::Paragraph => false,
         Start::Line { .. } | Start::Within => true,
     }
-}
-
-/// The token of a lexeme and of the words that are one word with it.
-fn token(alloc: Global, first: &Placed<'_>, others: &[Placed<'_>]) -> Result<Token, AllocError>
-    ensures { IfOk result (λ token. token ≡ token_of first.now others.now) }
-{
-    Ok(Token {
-        kind: kind_of(alloc, &first.piece, others)?,
-        line: first.at.line,
-        start: first.at.start,
-    })
-}
-
-fn kind_of(alloc: Global, first: &Piece<'_>, others: &[Placed<'_>]) -> Result<TokenKind, AllocError>
-    ensures { IfOk result (λ kind. kind ≡ kind_of first.now others.now) }
-{
-    match first {
-        Piece::Word(word) => Ok(TokenKind::Word(joined_word(alloc, word.as_slice(), others)?)),
-        Piece::Text(inner) => Ok(TokenKind::Text(folded(alloc, inner.as_slice())?)),
-        Piece::Mark(byte) => Ok(TokenKind::Mark(*byte)),
-    }
-}
-
-/// The words, parted by one space each.
-fn joined_word(alloc: Global, first: &[u8], others: &[Placed<'_>]) -> Result<TextBytes, AllocError>
-    ensures { IfOk result (λ word. word ≡ first.now ++ flat_map (λ other. spaced other.piece) others.now) }
-{
-    let mut bytes = Vec::from_slice(alloc, first)?;
-    for other in others {
-        push_spaced(&mut bytes, &other.piece)?;
-    }
-    Ok(TextBytes::new(bytes))
 }
 
 /// Writes a space and the word.

@@ -1,16 +1,15 @@
 //! The one way from bytes to tokens.
-ghost use Rattle.std.specs.Prelude.{◌≡◌, ◌<◌, ◌≤◌, ◌^◌, length, IfErr, MatchResult, OnOk, OnErr};
-ghost use Rattle.i7_lexer.specs.Indents.{AreIndented, IsTooDeep};
+ghost use Rattle.std.specs.Prelude.{◌≡◌, ◌<◌, ◌≤◌, ◌^◌, length, IfErr, MatchResult, None, OnOk, OnErr, Some};
 ghost use Rattle.i7_lexer.specs.Readings.{HasTokens};
 ghost use Rattle.i7_lexer.specs.Refusals.{IsRefused, IsNoText, longest};
 ghost use Rattle.i7_lexer.specs.Sources.{line_at, IsText};
 
 use crate::Lexed;
 use crate::cursor::newlines;
-use crate::indents::deep_line;
 use crate::joins::tokens_of;
-use crate::placed::{Placed, place};
+use crate::placed::Places;
 use crate::source::{LONGEST, bad_place, text_of};
+use crate::survey::survey_of;
 use std::alloc::Global;
 use world_meaning::{Fault, FaultCode};
 
@@ -32,9 +31,9 @@ pub fn lex(alloc: Global, source: &[u8]) -> Result<Lexed, Fault>
         return Err(Fault::OUT_OF_MEMORY);
     };
     refuse_controls(text.as_slice())?;
-    let placed = place(alloc, text.as_slice())?;
-    refuse_depth(placed.as_slice())?;
-    match tokens_of(alloc, placed.as_slice()) {
+    let found = survey_of(text.as_slice())?;
+    refuse_depth(found.deep)?;
+    match tokens_of(alloc, &Places::new(text.as_slice()), found.count) {
         Ok(tokens) => Ok(Lexed::new(tokens)),
         Err(_) => Err(Fault::OUT_OF_MEMORY),
     }
@@ -71,11 +70,11 @@ fn refuse_controls(text: &[u8]) -> Result<(), Fault>
 }
 
 /// `BadIndent` where a line is too deep.
-fn refuse_depth(placed: &[Placed<'_>]) -> Result<(), Fault>
-    ensures indented { OnOk result (AreIndented placed.now) }
-    ensures fault { IfErr result (λ f. (f.code ≡ FaultCode.BadIndent) × IsTooDeep placed.now f.line) }
+fn refuse_depth(deep: Option<u32>) -> Result<(), Fault>
+    ensures shallow { OnOk result (deep ≡ None) }
+    ensures fault { IfErr result (λ f. (f.code ≡ FaultCode.BadIndent) × (deep ≡ Some f.line)) }
 {
-    match deep_line(placed) {
+    match deep {
         Some(line) => Err(Fault {
             code: FaultCode::BadIndent,
             line,

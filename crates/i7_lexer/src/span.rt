@@ -1,11 +1,11 @@
-//! A piece of the source, lent to the lexeme that it spells.
+//! Bytes that are lent: to a lexeme by the source, or to who asks by a token.
 ghost use Rattle.std.specs.Prelude.{◌≡◌};
 
 use std::marker::Model;
 
-/// Bytes of the source, seen by contracts as their list.
+/// Bytes that are lent, seen by contracts as their list.
 #[derive(Debug, Drop)]
-pub(crate) struct Span<'a> {
+pub struct Span<'a> {
     bytes: &'a [u8],
 }
 
@@ -24,7 +24,8 @@ impl<'a> Span<'a> {
         Span { bytes }
     }
 
-    pub(crate) fn as_slice(&self) -> &'a [u8]
+    /// The bytes, in order.
+    pub fn as_slice(&self) -> &'a [u8]
         ensures { result.now ≡ self.now }
     {
         self.bytes

@@ -1,5 +1,5 @@
 -- Whether the phrases of a body stand where they may.
-use Rattle.std.specs.Prelude.{ℕ, ◌-◌, ◌==◌, nat_lt, Bool, true, false, not, ◌&&◌, ◌||◌, List, [], ◌∷◌, ◌++◌, codes, drop, length, take, Option, Some, None, if◌then◌else◌}
+use Rattle.std.specs.Prelude.{ℕ, ◌+◌, ◌-◌, ◌==◌, nat_lt, Bool, true, false, not, ◌&&◌, ◌||◌, List, [], ◌∷◌, ◌++◌, codes, drop, length, take, Option, Some, None, if◌then◌else◌}
 use Rattle.std.specs.List.{before_first, position_or_len}
 use Rattle.i7_lexer.specs.declared.token.Token.{Token}
 use Rattle.i7_sentences.specs.Bodies.{Phrase, is_spelled_so}
@@ -7,16 +7,16 @@ use Rattle.i7_sentences.specs.Dues.{is_awaiting, is_then, lacks_deeper, line_due
 use Rattle.i7_sentences.specs.PhraseMarks.{is_colon_mark, is_comma_mark, is_no_mark, is_pause, is_semicolon_mark}
 use Rattle.i7_sentences.specs.PhraseForms.{shape_in}
 use Rattle.i7_sentences.specs.declared.phrase_mark.PhraseMark.{PhraseMark}
-use Rattle.i7_sentences.specs.declared.body_order.Block.{Block}
+use Rattle.i7_sentences.specs.declared.body_place.Block.{Block}
 use Rattle.i7_sentences.specs.declared.due.Due.{Due}
 use Rattle.i7_sentences.specs.declared.due.DueKind.{DueKind}
 use Rattle.i7_sentences.specs.declared.due.DueKind.TheVariants.{First, Free, Deeper, Then, Else, AfterThen}
-use Rattle.i7_sentences.specs.declared.body_order.Place.{Place as PlaceOf}
+use Rattle.i7_sentences.specs.declared.body_place.Place.{Place as PlaceOf}
 use Rattle.i7_sentences.specs.declared.phrase_form.PhraseForm.{PhraseForm}
 use Rattle.i7_sentences.specs.declared.phrase_form.PhraseForm.TheVariants as form
 use Rattle.i7_sentences.specs.declared.phrase_form.PhraseShape.{PhraseShape}
 
--- the open blocks, the outermost first, and what is due
+-- the open blocks, the outermost first, and what is due; a block that an `if C,` or an inline `otherwise` opens is no `if` of its own lines
 pub record Place : Type 0 where
   pub blocks : List Block
   pub due : Due
@@ -68,11 +68,21 @@ abbrev pub blocks_left : List Block → DueKind → PhraseForm → PhraseMark �
 blocks_left blocks kind form mark indent =
     if wants_phrase kind || is_inline form mark then blocks else before_first (is_at_least indent) blocks
 
--- a phrase with a colon opens its own block
-abbrev pub opened : List Block → PhraseForm → Phrase → List Block
-opened blocks form phrase =
-    if is_colon_mark phrase.mark then blocks ++ record { indent = phrase.indent; is_if = is_if_form form } ∷ []
+-- the block of the `if C,` or the `otherwise` that the phrase stands behind
+abbrev pub inline_block : DueKind → ℕ → List Block
+inline_block kind indent = if wants_phrase kind then record { indent = indent; is_if = false } ∷ [] else []
+
+-- a phrase with a colon opens its own block, within that of the `if C,` or the `otherwise` in front of it
+abbrev pub opened : List Block → DueKind → PhraseForm → Phrase → List Block
+opened blocks kind form phrase =
+    if is_colon_mark phrase.mark then (blocks ++ inline_block kind phrase.indent) ++ record { indent = phrase.indent; is_if = is_if_form form } ∷ []
     else blocks
+
+-- How many blocks stand around a phrase: those that stay open at it, and one more where it stands behind `if C,` or `otherwise`. So an
+-- `otherwise` stands as deep as its `if`, and what belongs to either is one deeper, be it on the same line or below.
+abbrev pub depth_of : Place → PhraseForm → Phrase → ℕ
+depth_of place form phrase =
+    length (blocks_left place.blocks place.due.kind form phrase.mark phrase.indent) + (if wants_phrase place.due.kind then 1 else 0)
 
 abbrev pub kind_after : DueKind → PhraseForm → PhraseMark → DueKind
 kind_after kind form mark =
@@ -87,7 +97,7 @@ indent_due phrase = if is_colon_mark phrase.mark then phrase.indent else phrase.
 
 abbrev pub after_phrase : Place → PhraseForm → Phrase → Place
 after_phrase place form phrase = record {
-  blocks = opened (blocks_left place.blocks place.due.kind form phrase.mark phrase.indent) form phrase;
+  blocks = opened (blocks_left place.blocks place.due.kind form phrase.mark phrase.indent) place.due.kind form phrase;
   due = record { kind = kind_after place.due.kind form phrase.mark; indent = indent_due phrase; line = phrase.line };
 }
 
@@ -100,10 +110,14 @@ opens_head [] = false
 opens_head (token ∷ tokens) =
     is_spelled_so token (codes "if") || is_spelled_so token (codes "otherwise") || is_spelled_so token (codes "repeat")
 
+-- an `instead` closes the phrase
+abbrev pub has_instead : List Token → Bool
+has_instead tokens = is_instead (drop (length tokens - 1) tokens) && not (opens_head tokens)
+
 -- a phrase without its closing `instead`, which belongs to the condition or description of `if`, `otherwise` and `repeat`
 abbrev pub without_instead : List Token → List Token
 without_instead tokens =
-    if is_instead (drop (length tokens - 1) tokens) && not (opens_head tokens) then take (length tokens - 1) tokens else tokens
+    if has_instead tokens then take (length tokens - 1) tokens else tokens
 
 -- what a phrase is by its shape
 abbrev pub shape_of : Phrase → Option PhraseShape

@@ -3,6 +3,7 @@ pub mod Bodies
 pub mod BodyOrder
 pub mod BracketedWords
 pub mod Classes
+pub mod Conditions
 pub mod Cuts
 pub mod Dues
 pub mod Forms
@@ -17,8 +18,12 @@ pub mod Pieces
 pub mod Read
 pub mod Assertions
 pub mod Reserved
+pub mod RuleBodies
+pub mod RuleHeads
+pub mod Rules
 pub mod Seams
 pub mod Sources
+pub mod SpokenPhrases
 pub mod Tags
 pub mod TextPieces
 pub mod Words

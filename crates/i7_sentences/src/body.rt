@@ -9,14 +9,14 @@ ghost use Rattle.i7_sentences.specs.Pieces.{piece_len};
 use crate::cut::{ends_sentence, is_colon, is_full_stop, is_mark, may_begin};
 use crate::phrase_mark::{PhraseMark, is_no_mark, is_pause};
 use crate::word::word_of;
-use i7_lexer::{Start, Token};
+use i7_lexer::{PackedToken, Start};
 use std::alloc::{AllocError, Global};
 use world_meaning::is_spelled;
 
 /// A phrase of a body, without the mark that ends it.
 #[derive(Drop)]
 pub struct PhraseLine<'a> {
-    pub tokens: &'a [Token],
+    pub tokens: &'a [PackedToken],
     pub mark: PhraseMark,
     /// The line of its first token.
     pub line: u32,
@@ -34,21 +34,21 @@ struct BodyLines<'a> {
 }
 
 /// Whether the token is a `;`.
-fn is_semicolon(token: &Token) -> bool
+fn is_semicolon(token: &PackedToken) -> bool
     ensures { result ≡ is_semicolon token.now }
 {
     is_mark(b';', token)
 }
 
 /// Whether the token is a `,`.
-fn is_comma(token: &Token) -> bool
+fn is_comma(token: &PackedToken) -> bool
     ensures { result ≡ is_comma token.now }
 {
     is_mark(b',', token)
 }
 
 /// Whether a phrase ends at the token, in front of the next.
-fn ends_phrase(token: &Token, next: &Token) -> bool
+fn ends_phrase(token: &PackedToken, next: &PackedToken) -> bool
     ensures { result ≡ ends_phrase token.now next.now }
 {
     is_semicolon(token)
@@ -58,7 +58,7 @@ fn ends_phrase(token: &Token, next: &Token) -> bool
 }
 
 /// The number of tokens of the first phrase, with its mark.
-fn phrase_len(tokens: &[Token]) -> usize
+fn phrase_len(tokens: &[PackedToken]) -> usize
     ensures len { result ≡ piece_len opens_nothing is_same_phrase tokens.now }
     ensures within { result ≤ length tokens.now }
 {
@@ -80,7 +80,7 @@ fn phrase_len(tokens: &[Token]) -> usize
 }
 
 /// The number of tokens up to the first comma, the comma among them; all of them without one.
-fn comma_len(tokens: &[Token]) -> usize
+fn comma_len(tokens: &[PackedToken]) -> usize
     ensures len { result ≡ comma_len tokens.now }
     ensures within { result ≤ length tokens.now }
 {
@@ -97,14 +97,14 @@ fn comma_len(tokens: &[Token]) -> usize
 }
 
 /// Whether the word is spelled so.
-pub fn is_spelled_so(token: &Token, word: &[u8]) -> bool
+pub fn is_spelled_so(token: &PackedToken, word: &[u8]) -> bool
     ensures { result ≡ is_spelled_so token.now word.now }
 {
     is_spelled(word_of(token), word)
 }
 
 /// Whether a phrase stands behind an `otherwise`, neither a colon nor an `if`.
-fn opens_inline(tokens: &[Token]) -> bool
+fn opens_inline(tokens: &[PackedToken]) -> bool
     ensures { result ≡ opens_inline tokens.now }
 {
     match tokens {
@@ -115,7 +115,7 @@ fn opens_inline(tokens: &[Token]) -> bool
 
 /// How many tokens of a phrase belong to what stands in front of another: `if C,` or `otherwise`; all of
 /// them where it isn't so.
-fn head_len(tokens: &[Token]) -> usize
+fn head_len(tokens: &[PackedToken]) -> usize
     ensures len { result ≡ head_len tokens.now }
     ensures within { result ≤ length tokens.now }
 {
@@ -134,10 +134,10 @@ fn head_len(tokens: &[Token]) -> usize
 }
 
 /// The indent of the line of a token, behind a token of a line with this indent.
-fn indent_at(indent: u32, token: &Token) -> u32
+fn indent_at(indent: u32, token: &PackedToken) -> u32
     ensures { result ≡ indent_at indent token.now }
 {
-    match token.start {
+    match token.start() {
         Start::Paragraph => 0,
         Start::Line { indent: tabs } => tabs,
         Start::Within => indent,
@@ -145,7 +145,7 @@ fn indent_at(indent: u32, token: &Token) -> u32
 }
 
 /// The indent of the line at which these tokens end.
-fn indent_behind(indent: u32, tokens: &[Token]) -> u32
+fn indent_behind(indent: u32, tokens: &[PackedToken]) -> u32
     ensures { result ≡ indent_behind indent tokens.now }
 {
     let mut at = indent;
@@ -158,7 +158,7 @@ fn indent_behind(indent: u32, tokens: &[Token]) -> u32
 }
 
 /// The mark that the last token is.
-fn mark_of(token: &Token) -> PhraseMark
+fn mark_of(token: &PackedToken) -> PhraseMark
     ensures { result ≡ mark_of token.now }
 {
     if is_semicolon(token) {
@@ -175,7 +175,7 @@ fn mark_of(token: &Token) -> PhraseMark
 }
 
 /// The mark that the first of these tokens is.
-fn mark_at(tokens: &[Token]) -> PhraseMark
+fn mark_at(tokens: &[PackedToken]) -> PhraseMark
     ensures { result ≡ mark_at tokens.now }
 {
     match tokens {
@@ -185,7 +185,7 @@ fn mark_at(tokens: &[Token]) -> PhraseMark
 }
 
 /// The mark at the end of these tokens.
-fn mark_behind(run: &[Token]) -> PhraseMark
+fn mark_behind(run: &[PackedToken]) -> PhraseMark
     ensures { result ≡ mark_behind run.now }
 {
     let (_, last) = run.split_at(run.len().saturating_sub(1));
@@ -193,7 +193,7 @@ fn mark_behind(run: &[Token]) -> PhraseMark
 }
 
 /// The tokens without the mark at their end.
-fn unmarked(run: &[Token]) -> &[Token]
+fn unmarked(run: &[PackedToken]) -> &[PackedToken]
     ensures { result.now ≡ unmarked run.now }
 {
     if is_no_mark(mark_behind(run)) {
@@ -204,14 +204,14 @@ fn unmarked(run: &[Token]) -> &[Token]
 }
 
 /// Whether the tokens are no phrase: nothing but a mark that ends one.
-fn is_nothing(run: &[Token]) -> bool
+fn is_nothing(run: &[PackedToken]) -> bool
     ensures { result ≡ is_nothing run.now }
 {
     is_empty_run(unmarked(run)) && is_pause(mark_behind(run))
 }
 
 /// Whether there are no tokens.
-fn is_empty_run(run: &[Token]) -> bool
+fn is_empty_run(run: &[PackedToken]) -> bool
     ensures { result ≡ is_empty_run run.now }
 {
     match run {
@@ -221,17 +221,17 @@ fn is_empty_run(run: &[Token]) -> bool
 }
 
 /// The line of the first token.
-fn line_in(run: &[Token]) -> u32
+pub fn line_in(run: &[PackedToken]) -> u32
     ensures { result ≡ line_in run.now }
 {
     match run {
         [] => 1,
-        [first, ..] => first.line,
+        [first, ..] => first.line(),
     }
 }
 
 /// The indent of the line at which the tokens begin.
-fn indent_before(indent: u32, run: &[Token]) -> u32
+fn indent_before(indent: u32, run: &[PackedToken]) -> u32
     ensures { result ≡ indent_before indent run.now }
 {
     match run {
@@ -241,7 +241,7 @@ fn indent_before(indent: u32, run: &[Token]) -> u32
 }
 
 /// The phrase that these tokens are, behind a line of this indent.
-fn phrase_in(indent: u32, run: &[Token]) -> PhraseLine<'_>
+fn phrase_in(indent: u32, run: &[PackedToken]) -> PhraseLine<'_>
     ensures { phrase_of result ≡ phrase_in indent run.now }
 {
     PhraseLine {
@@ -254,14 +254,14 @@ fn phrase_in(indent: u32, run: &[Token]) -> PhraseLine<'_>
 }
 
 /// Goes on behind tokens that are no phrase.
-fn pass(run: &[Token], lines: &mut BodyLines<'_>)
+fn pass(run: &[PackedToken], lines: &mut BodyLines<'_>)
     ensures { lines_of lines.new ≡ past (lines_of lines.old) run.now }
 {
     lines.indent = indent_behind(lines.indent, run);
 }
 
 /// Adds the phrase that the tokens are, be it an empty one; none where there are no tokens.
-fn add_run<'a>(run: &'a [Token], lines: &mut BodyLines<'a>) -> Result<(), AllocError>
+fn add_run<'a>(run: &'a [PackedToken], lines: &mut BodyLines<'a>) -> Result<(), AllocError>
     ensures { OnOk result (lines_of lines.new ≡ with_run (lines_of lines.old) run.now) }
 {
     if !is_empty_run(run) {
@@ -272,7 +272,7 @@ fn add_run<'a>(run: &'a [Token], lines: &mut BodyLines<'a>) -> Result<(), AllocE
 }
 
 /// Adds the phrases of a piece: what stands in front of another, and that other, be it an empty one.
-fn add_piece<'a>(piece: &'a [Token], lines: &mut BodyLines<'a>) -> Result<(), AllocError>
+fn add_piece<'a>(piece: &'a [PackedToken], lines: &mut BodyLines<'a>) -> Result<(), AllocError>
     ensures { OnOk result (lines_of lines.new ≡ with_piece (lines_of lines.old) piece.now) }
 {
     if is_nothing(piece) {
@@ -287,7 +287,7 @@ fn add_piece<'a>(piece: &'a [Token], lines: &mut BodyLines<'a>) -> Result<(), Al
 /// The phrases of a rule's body, in order, each with its line and indent: one that stands behind `if C,` or
 /// `otherwise` is a phrase of its own.
 #[tactic(auto, using(crate::proofs::Cutting::cut_steps))]
-pub fn phrases_of(alloc: Global, body: &[Token]) -> Result<Vec<PhraseLine<'_>>, AllocError>
+pub fn phrases_of(alloc: Global, body: &[PackedToken]) -> Result<Vec<PhraseLine<'_>>, AllocError>
     ensures { IfOk result (λ lines. phrases_of lines.items ≡ body_lines body.now) }
 {
     let mut lines = BodyLines {

@@ -1,97 +1,17 @@
 //! Whether the phrases of a body stand where they may: blocks, and what `if C,` and `otherwise` want.
-ghost use Rattle.std.specs.Prelude.{◌≡◌, ◌≤◌, length, IfOk, OnOk};
-ghost use Rattle.std.specs.List.{position_or_len};
+ghost use Rattle.std.specs.Prelude.{◌≡◌, IfOk, OnOk};
 ghost use Rattle.i7_sentences.specs.Bodies.{phrase_of, phrases_of};
-ghost use Rattle.i7_sentences.specs.Dues.{is_awaiting, is_then, lacks_deeper, line_due, wants_phrase};
-ghost use Rattle.i7_sentences.specs.PhraseMarks.{is_colon_mark, is_comma_mark, is_no_mark, is_pause, is_semicolon_mark};
-ghost use Rattle.i7_sentences.specs.BodyOrder.{after_phrase, block_at, blocks_left, body_fault, fault_at, fault_of, has_reserved_name, indent_due, is_allowed, is_at_least, is_if_form, is_inline, is_instead, is_simple, kind_after, opened, opens_block, opens_head, place_behind, place_of, reserved_line, shape_of, stands_as, start, without_instead};
+ghost use Rattle.i7_sentences.specs.Dues.{is_awaiting, lacks_deeper, line_due, wants_phrase};
+ghost use Rattle.i7_sentences.specs.PhraseMarks.{is_colon_mark, is_comma_mark, is_no_mark, is_pause};
+ghost use Rattle.i7_sentences.specs.BodyOrder.{body_fault, fault_at, fault_of, has_instead, has_reserved_name, is_allowed, is_instead, is_simple, opens_block, opens_head, place_behind, place_of, reserved_line, shape_of, stands_as, without_instead};
 
 use crate::body::{PhraseLine, is_spelled_so};
-use crate::due::{Due, DueKind, is_awaiting, is_then, lacks_deeper, line_due, wants_phrase};
+use crate::body_place::{Block, Place, advance, is_block_if, is_simple, start};
+use crate::due::{Due, is_awaiting, lacks_deeper, line_due, wants_phrase};
 use crate::phrase_form::{PhraseForm, PhraseShape, shape_in};
-use crate::phrase_mark::{
-    PhraseMark, is_colon_mark, is_comma_mark, is_no_mark, is_pause, is_semicolon_mark,
-};
-use i7_lexer::Token;
+use crate::phrase_mark::{PhraseMark, is_colon_mark, is_comma_mark, is_no_mark, is_pause};
+use i7_lexer::PackedToken;
 use std::alloc::{AllocError, Global};
-
-/// An `if`, an `otherwise` or a `repeat` whose deeper lines may go on.
-#[derive(Clone, Copy, Debug, PartialEq, Eq)]
-pub struct Block {
-    pub indent: u32,
-    /// Whether an `otherwise` may follow.
-    pub is_if: bool,
-}
-
-/// A place in a body: the blocks that are open, the outermost first, and what is due.
-#[derive(Drop)]
-struct Place {
-    blocks: Vec<Block>,
-    due: Due,
-}
-
-/// The place behind the head of a rule at this line.
-fn start(alloc: Global, line: u32) -> Place
-    ensures { place_of result ≡ start line }
-{
-    Place {
-        blocks: Vec::new(alloc),
-        due: Due {
-            kind: DueKind::First,
-            indent: 0,
-            line,
-        },
-    }
-}
-
-/// How many blocks are less deep.
-fn below_len(indent: u32, blocks: &[Block]) -> usize
-    ensures count { result ≡ position_or_len (is_at_least indent) blocks.now }
-    ensures within { result ≤ length blocks.now }
-{
-    blocks
-        .iter()
-        .take_while(|block| block.indent < indent)
-        .count()
-}
-
-/// Whether the first of these blocks is an if of this indent.
-fn block_at(indent: u32, blocks: &[Block]) -> bool
-    ensures { result ≡ block_at indent blocks.now }
-{
-    match blocks {
-        [] => false,
-        [block, ..] => block.indent == indent && block.is_if,
-    }
-}
-
-/// Whether an `if` of this indent is open.
-fn is_block_if(indent: u32, blocks: &[Block]) -> bool
-    ensures { result ≡ opens_block indent blocks.now }
-{
-    let (_, rest) = blocks.split_at(below_len(indent, blocks));
-    block_at(indent, rest)
-}
-
-/// Whether the phrase is neither an `if` nor an `otherwise`.
-fn is_simple(form: PhraseForm) -> bool
-    ensures { result ≡ is_simple form }
-{
-    match form {
-        PhraseForm::If | PhraseForm::OtherwiseIf | PhraseForm::Otherwise => false,
-        _ => true,
-    }
-}
-
-/// Whether the phrase is an `otherwise` in front of its phrase.
-fn is_inline(form: PhraseForm, mark: PhraseMark) -> bool
-    ensures { result ≡ is_inline form mark }
-{
-    match form {
-        PhraseForm::Otherwise => is_no_mark(mark),
-        _ => false,
-    }
-}
 
 /// Whether a phrase of this form may end with this mark here.
 fn stands_as(due: Due, blocks: &[Block], form: PhraseForm, mark: PhraseMark, indent: u32) -> bool
@@ -126,95 +46,8 @@ fn is_allowed(place: &Place, form: PhraseForm, phrase: &PhraseLine<'_>) -> bool
         )
 }
 
-/// Whether an `otherwise` may follow a block of this form.
-fn is_if_form(form: PhraseForm) -> bool
-    ensures { result ≡ is_if_form form }
-{
-    match form {
-        PhraseForm::If | PhraseForm::OtherwiseIf => true,
-        _ => false,
-    }
-}
-
-/// What is due behind a phrase of this form, where this was due.
-fn kind_after(kind: DueKind, form: PhraseForm, mark: PhraseMark) -> DueKind
-    ensures { result ≡ kind_after kind form mark }
-{
-    if is_colon_mark(mark) {
-        DueKind::Deeper
-    } else if is_comma_mark(mark) {
-        DueKind::Then
-    } else if is_simple(form) {
-        if is_then(kind) && is_semicolon_mark(mark) {
-            DueKind::AfterThen
-        } else {
-            DueKind::Free
-        }
-    } else {
-        DueKind::Else
-    }
-}
-
-/// Closes the blocks that aren't less deep than a phrase; what belongs to an inline `if` closes none.
-fn close_blocks(
-    blocks: &mut Vec<Block>,
-    kind: DueKind,
-    form: PhraseForm,
-    mark: PhraseMark,
-    indent: u32,
-)
-    ensures { blocks.new.items ≡ blocks_left blocks.old.items kind form mark indent }
-{
-    if !(wants_phrase(kind) || is_inline(form, mark)) {
-        blocks.truncate(below_len(indent, blocks.as_slice()));
-    }
-}
-
-/// Opens the block of a phrase, if it has a colon.
-fn open_block(
-    blocks: &mut Vec<Block>,
-    form: PhraseForm,
-    phrase: &PhraseLine<'_>,
-) -> Result<(), AllocError>
-    ensures { OnOk result (blocks.new.items ≡ opened blocks.old.items form (phrase_of phrase.now)) }
-{
-    if is_colon_mark(phrase.mark) {
-        blocks.push(Block {
-            indent: phrase.indent,
-            is_if: is_if_form(form),
-        })?;
-    }
-    Ok(())
-}
-
-/// The indent that what comes behind a phrase is measured by.
-fn indent_due(phrase: &PhraseLine<'_>) -> u32
-    ensures { result ≡ indent_due (phrase_of phrase.now) }
-{
-    if is_colon_mark(phrase.mark) {
-        phrase.indent
-    } else {
-        phrase.last_indent
-    }
-}
-
-/// Goes on behind a phrase of this form.
-fn advance(place: &mut Place, form: PhraseForm, phrase: &PhraseLine<'_>) -> Result<(), AllocError>
-    ensures { OnOk result (place_of place.new ≡ after_phrase (place_of place.old) form (phrase_of phrase.now)) }
-{
-    let kind = place.due.kind;
-    close_blocks(&mut place.blocks, kind, form, phrase.mark, phrase.indent);
-    open_block(&mut place.blocks, form, phrase)?;
-    place.due = Due {
-        kind: kind_after(kind, form, phrase.mark),
-        indent: indent_due(phrase),
-        line: phrase.line,
-    };
-    Ok(())
-}
-
 /// Whether an `instead` stands in front.
-fn is_instead(tokens: &[Token]) -> bool
+fn is_instead(tokens: &[PackedToken]) -> bool
     ensures { result ≡ is_instead tokens.now }
 {
     match tokens {
@@ -224,7 +57,7 @@ fn is_instead(tokens: &[Token]) -> bool
 }
 
 /// Whether the phrase opens with `if`, `otherwise` or `repeat`.
-fn opens_head(tokens: &[Token]) -> bool
+fn opens_head(tokens: &[PackedToken]) -> bool
     ensures { result ≡ opens_head tokens.now }
 {
     match tokens {
@@ -237,16 +70,23 @@ fn opens_head(tokens: &[Token]) -> bool
     }
 }
 
+/// Whether an `instead` closes the phrase.
+pub fn has_instead(tokens: &[PackedToken]) -> bool
+    ensures { result ≡ has_instead tokens.now }
+{
+    let (_, last) = tokens.split_at(tokens.len().saturating_sub(1));
+    is_instead(last) && !opens_head(tokens)
+}
+
 /// The phrase without its closing `instead`.
-fn without_instead(tokens: &[Token]) -> &[Token]
+pub fn without_instead(tokens: &[PackedToken]) -> &[PackedToken]
     ensures { result.now ≡ without_instead tokens.now }
 {
-    let (front, last) = tokens.split_at(tokens.len().saturating_sub(1));
-    if is_instead(last) && !opens_head(tokens) {
-        front
-    } else {
-        tokens
+    if !has_instead(tokens) {
+        return tokens;
     }
+    let (front, _) = tokens.split_at(tokens.len().saturating_sub(1));
+    front
 }
 
 /// What a phrase is by its shape.

@@ -109,7 +109,7 @@ fn is_head_token(token: &Tagged<'_>) -> bool
 }
 
 /// Whether the word is one of these.
-fn is_any(word: &[u8], words: &[&[u8]]) -> bool
+pub fn is_any(word: &[u8], words: &[&[u8]]) -> bool
     ensures { result ≡ list_any (λ other. is_spelled word.now other.now) words.now }
 {
     words.iter().any(|other| is_spelled(word, other))

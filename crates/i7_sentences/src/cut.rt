@@ -8,7 +8,7 @@ ghost use Rattle.i7_sentences.specs.Words.{is_word};
 
 use crate::part::{Part, PartKind};
 use crate::word::{is_text, is_word, word_of};
-use i7_lexer::{Start, Token, TokenKind};
+use i7_lexer::{PackedToken, Start, TokenKind};
 use std::alloc::{AllocError, Global};
 use world_meaning::is_spelled;
 
@@ -16,11 +16,11 @@ use world_meaning::is_spelled;
 pub const HEADINGS: [&[u8]; 5] = [b"volume", b"book", b"part", b"chapter", b"section"];
 
 /// Whether the next token belongs to the same paragraph.
-fn is_same_paragraph(token: &Token, next: &Token) -> bool
+fn is_same_paragraph(token: &PackedToken, next: &PackedToken) -> bool
     ensures { result ≡ is_same_paragraph false token.now next.now }
 {
     let _ = token;
-    match next.start {
+    match next.start() {
         Start::Paragraph => false,
         Start::Line { .. } | Start::Within => true,
     }
@@ -44,14 +44,14 @@ fn opens_heading(word: &[u8]) -> bool
 }
 
 /// Whether all tokens stand within their line.
-fn are_within_line(tokens: &[Token]) -> bool
+fn are_within_line(tokens: &[PackedToken]) -> bool
     ensures { result ≡ list_all (λ token. is_within_line token.start) tokens.now }
 {
-    tokens.iter().all(|token| is_within_line(token.start))
+    tokens.iter().all(|token| is_within_line(token.start()))
 }
 
 /// Whether a paragraph is a heading.
-fn is_heading(paragraph: &[Token]) -> bool
+fn is_heading(paragraph: &[PackedToken]) -> bool
     ensures { result ≡ is_heading paragraph.now }
 {
     match paragraph {
@@ -61,24 +61,24 @@ fn is_heading(paragraph: &[Token]) -> bool
 }
 
 /// Whether the token is this mark.
-pub fn is_mark(byte: u8, token: &Token) -> bool
+pub fn is_mark(byte: u8, token: &PackedToken) -> bool
     ensures { result ≡ is_mark_kind byte token.now.kind }
 {
-    match &token.kind {
-        TokenKind::Mark(mark) => *mark == byte,
+    match token.kind() {
+        TokenKind::Mark(mark) => mark == byte,
         TokenKind::Text(_) | TokenKind::Word(_) => false,
     }
 }
 
 /// Whether the token is a full stop.
-pub fn is_full_stop(token: &Token) -> bool
+pub fn is_full_stop(token: &PackedToken) -> bool
     ensures { result ≡ is_full_stop token.now }
 {
     is_mark(b'.', token)
 }
 
 /// Whether the token is a colon.
-pub fn is_colon(token: &Token) -> bool
+pub fn is_colon(token: &PackedToken) -> bool
     ensures { result ≡ is_colon token.now }
 {
     is_mark(b':', token)
@@ -112,10 +112,10 @@ fn has_final_end(text: &[u8]) -> bool
 }
 
 /// Whether the token is a text that ends as a sentence does.
-pub fn ends_sentence(token: &Token) -> bool
+pub fn ends_sentence(token: &PackedToken) -> bool
     ensures { result ≡ ends_sentence_kind token.now.kind }
 {
-    match &token.kind {
+    match token.kind() {
         TokenKind::Text(text) => has_final_end(text.as_slice()),
         TokenKind::Word(_) | TokenKind::Mark(_) => false,
     }
@@ -132,10 +132,10 @@ fn is_capitalised(word: &[u8]) -> bool
 }
 
 /// Whether a sentence may begin with this token behind a text: a text, or a word with a capital.
-pub fn may_begin(token: &Token) -> bool
+pub fn may_begin(token: &PackedToken) -> bool
     ensures { result ≡ may_begin_kind token.now.kind }
 {
-    match &token.kind {
+    match token.kind() {
         TokenKind::Text(_) => true,
         TokenKind::Word(word) => is_capitalised(word.as_slice()),
         TokenKind::Mark(_) => false,
@@ -145,18 +145,18 @@ pub fn may_begin(token: &Token) -> bool
 /// Whether the next token of a paragraph belongs to the same sentence: behind a colon if it begins no
 /// line of indent 0; else none does at a full stop, which is in no sentence, and behind a text that
 /// ends as a sentence does.
-fn is_same_sentence(has_colon: bool, token: &Token, next: &Token) -> bool
+fn is_same_sentence(has_colon: bool, token: &PackedToken, next: &PackedToken) -> bool
     ensures { result ≡ is_same_sentence has_colon token.now next.now }
 {
     if has_colon {
-        !is_unindented(next.start)
+        !is_unindented(next.start())
     } else {
         !(is_full_stop(token) || is_full_stop(next) || ends_sentence(token) && may_begin(next))
     }
 }
 
 /// Whether a piece of a paragraph is a full stop.
-fn is_stop_alone(piece: &[Token]) -> bool
+fn is_stop_alone(piece: &[PackedToken]) -> bool
     ensures { result ≡ is_stop_alone piece.now }
 {
     match piece {
@@ -166,14 +166,14 @@ fn is_stop_alone(piece: &[Token]) -> bool
 }
 
 /// Whether each of the tokens is a word.
-fn are_words(tokens: &[Token]) -> bool
+fn are_words(tokens: &[PackedToken]) -> bool
     ensures { result ≡ list_all is_word tokens.now }
 {
     tokens.iter().all(|token| is_word(token))
 }
 
 /// Whether a sentence is a text alone, or a text, `by` and words alone.
-fn is_title(sentence: &[Token]) -> bool
+fn is_title(sentence: &[PackedToken]) -> bool
     ensures { result ≡ is_title sentence.now }
 {
     match sentence {
@@ -188,7 +188,7 @@ fn is_title(sentence: &[Token]) -> bool
 }
 
 /// What a sentence is read as, with these parts before it: only the first part may be a title.
-fn kind_of(parts: &[Part<'_>], sentence: &[Token]) -> PartKind
+fn kind_of(parts: &[Part<'_>], sentence: &[PackedToken]) -> PartKind
     ensures { result ≡ kind_of (pieces_of parts.now) sentence.now }
 {
     match parts {
@@ -204,7 +204,7 @@ fn kind_of(parts: &[Part<'_>], sentence: &[Token]) -> PartKind
 }
 
 /// The number of tokens of the first paragraph.
-fn paragraph_len(tokens: &[Token]) -> usize
+fn paragraph_len(tokens: &[PackedToken]) -> usize
     ensures len { result ≡ piece_len opens_nothing is_same_paragraph tokens.now }
     ensures within { result ≤ length tokens.now }
 {
@@ -226,7 +226,7 @@ fn paragraph_len(tokens: &[Token]) -> usize
 }
 
 /// The number of tokens of the first piece of a paragraph: a sentence or a full stop.
-fn sentence_len(tokens: &[Token]) -> usize
+fn sentence_len(tokens: &[PackedToken]) -> usize
     ensures len { result ≡ piece_len is_colon is_same_sentence tokens.now }
     ensures within { result ≤ length tokens.now }
 {
@@ -250,7 +250,7 @@ fn sentence_len(tokens: &[Token]) -> usize
 }
 
 /// Adds a sentence to the parts; a full stop alone is none.
-fn add_sentence<'a>(piece: &'a [Token], parts: &mut Vec<Part<'a>>) -> Result<(), AllocError>
+fn add_sentence<'a>(piece: &'a [PackedToken], parts: &mut Vec<Part<'a>>) -> Result<(), AllocError>
     ensures { OnOk result (pieces_of parts.new.items ≡ with_sentence (pieces_of parts.old.items) piece.now) }
 {
     if is_stop_alone(piece) {
@@ -266,7 +266,10 @@ fn add_sentence<'a>(piece: &'a [Token], parts: &mut Vec<Part<'a>>) -> Result<(),
 
 /// Adds the sentences of a paragraph to the parts.
 #[tactic(auto, using(crate::proofs::Cutting::cut_steps))]
-fn add_sentences<'a>(paragraph: &'a [Token], parts: &mut Vec<Part<'a>>) -> Result<(), AllocError>
+fn add_sentences<'a>(
+    paragraph: &'a [PackedToken],
+    parts: &mut Vec<Part<'a>>,
+) -> Result<(), AllocError>
     ensures { OnOk result (pieces_of parts.new.items ≡ fold with_sentence (pieces_of parts.old.items) (cut is_colon is_same_sentence paragraph.now)) }
 {
     let mut rest = paragraph;
@@ -279,7 +282,10 @@ fn add_sentences<'a>(paragraph: &'a [Token], parts: &mut Vec<Part<'a>>) -> Resul
 }
 
 /// Adds a paragraph's parts: the heading that it is, or its sentences.
-fn add_paragraph<'a>(paragraph: &'a [Token], parts: &mut Vec<Part<'a>>) -> Result<(), AllocError>
+fn add_paragraph<'a>(
+    paragraph: &'a [PackedToken],
+    parts: &mut Vec<Part<'a>>,
+) -> Result<(), AllocError>
     ensures { OnOk result (pieces_of parts.new.items ≡ with_paragraph (pieces_of parts.old.items) paragraph.now) }
 {
     if !is_heading(paragraph) {
@@ -294,7 +300,7 @@ fn add_paragraph<'a>(paragraph: &'a [Token], parts: &mut Vec<Part<'a>>) -> Resul
 
 /// The parts of a source, in order.
 #[tactic(auto, using(crate::proofs::Cutting::cut_steps))]
-pub fn parts_of(alloc: Global, tokens: &[Token]) -> Result<Vec<Part<'_>>, AllocError>
+pub fn parts_of(alloc: Global, tokens: &[PackedToken]) -> Result<Vec<Part<'_>>, AllocError>
     ensures { IfOk result (λ parts. pieces_of parts.items ≡ parts_of tokens.now) }
 {
     let mut parts = Vec::new(alloc);

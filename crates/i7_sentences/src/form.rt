@@ -1,5 +1,6 @@
 //! The sentence forms as data, the lowest first.
 use crate::form::Piece::{Letter, Word};
+use crate::rule_head::{HeadBook, HeadParts};
 use crate::{Class, Keyword, PhraseForm};
 use world_meaning::Rel;
 
@@ -77,6 +78,8 @@ pub enum Form {
     Is,
     /// A phrase of a rule's body, which is no sentence.
     Phrase(PhraseForm),
+    /// A rule by all that stands in its head, which is no form of its own.
+    Head(HeadBook, HeadParts),
 }
 
 const WORDS: Piece = Letter(Class::Words);

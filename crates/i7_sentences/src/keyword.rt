@@ -3,7 +3,7 @@ ghost use Rattle.std.specs.Prelude.{◌≡◌, length, map};
 ghost use Rattle.std.specs.List.{slice_get};
 ghost use Rattle.i7_sentences.specs.Keywords.{keyword_among, keyword_in, keyword_of, keyword_spelled};
 
-use i7_lexer::{Token, TokenKind};
+use i7_lexer::{PackedToken, TokenKind};
 use world_meaning::is_spelled;
 
 /// A word or mark that stands in a sentence form or in no name.
@@ -88,6 +88,7 @@ pub enum Keyword {
     Succeeds,
     That,
     The,
+    This,
     Through,
     To,
     Try,
@@ -154,6 +155,7 @@ pub const KEYWORDS: [&[(&[u8], Keyword)]; 12] = [
         (b"some", Keyword::Some),
         (b"stop", Keyword::Stop),
         (b"that", Keyword::That),
+        (b"this", Keyword::This),
         (b"turn", Keyword::Turn),
         (b"when", Keyword::When),
         (b"with", Keyword::With),
@@ -274,12 +276,12 @@ fn keyword_spelled(word: &[u8]) -> Option<Keyword>
 }
 
 /// The keyword that a token is, if it is one; texts are none.
-pub fn keyword_of(token: &Token) -> Option<Keyword>
+pub fn keyword_of(token: &PackedToken) -> Option<Keyword>
     ensures { result ≡ keyword_of token.now }
 {
-    match &token.kind {
+    match token.kind() {
         TokenKind::Text(_) => None,
         TokenKind::Word(word) => keyword_spelled(word.as_slice()),
-        TokenKind::Mark(mark) => keyword_spelled(&[*mark]),
+        TokenKind::Mark(mark) => keyword_spelled(&[mark]),
     }
 }

@@ -1,8 +1,9 @@
 //! Laws of the definitions that the reader is proved against.
-ghost use Rattle.std.specs.Prelude.{◌≡◌, ◌≢◌, ◌⊎◌, Bool, List};
+ghost use Rattle.std.specs.Prelude.{◌≡◌, ◌≢◌, ◌⊎◌, Bool, List, None, Some};
 ghost use Rattle.i7_lexer.specs.declared.token.Token.{Token};
 ghost use Rattle.i7_sentences.specs.Cuts.{Piece, cut};
 ghost use Rattle.i7_sentences.specs.Forms.{IsReading, IsUnread, Variant, all_forms};
+ghost use Rattle.i7_sentences.specs.Matching.{Found, lowest_fit};
 ghost use Rattle.i7_sentences.specs.Seams.{IsCut, IsOnlyCut};
 ghost use Rattle.i7_sentences.specs.Sources.{HasSentences, IsRefused, IsSpeaking};
 ghost use Rattle.i7_sentences.specs.declared.sentence.Sentence.{Sentence};
@@ -25,6 +26,13 @@ pub fn one_reading()
 pub fn read_or_unread()
     ensures one { (forms : List (List Variant)) (words : List Token) → ((v : Variant) × (letters : List (List Token)) × IsReading forms words v letters) ⊎ IsUnread forms words }
     ensures never_both { (forms : List (List Variant)) (words : List Token) (v : Variant) (letters : List (List Token)) → IsReading forms words v letters → IsUnread forms words → ⊥ }
+{}
+
+/// What the definitions find from left to right is the reading, whatever the forms, and where they find
+/// nothing the words are unread: so it is for the heads of rules and for phrases too.
+pub fn found_is_read()
+    ensures some { (forms : List (List Variant)) (words : List Token) (found : Found) → lowest_fit forms words ≡ Some found → IsReading forms words found.variant found.letters }
+    ensures none { (forms : List (List Variant)) (words : List Token) → lowest_fit forms words ≡ None → IsUnread forms words }
 {}
 
 /// No tokens spell two lists of sentences.

@@ -26,7 +26,7 @@ pub(crate) fn plain_text(
     ensures { IfOk result (λ text. text ≡ plain_text letter.now) }
 {
     match letter {
-        [token] => match &token.token().kind {
+        [token] => match token.token().kind() {
             TokenKind::Text(text) => {
                 if is_plain(text.as_slice()) {
                     Ok(Some(TextBytes::copied(alloc, text.as_slice())?))

@@ -7,8 +7,10 @@
 mod assertion;
 mod body;
 mod body_order;
+mod body_place;
 mod brackets;
 mod class;
+mod condition;
 mod cut;
 mod declaration;
 mod due;
@@ -27,7 +29,13 @@ mod phrase_mark;
 mod reader;
 mod reading;
 mod reserved;
+mod rule;
+mod rule_body;
+mod rule_head;
+mod rule_reader;
 mod sentence;
+mod spoken;
+mod spoken_reader;
 mod tagged;
 mod text_ifs;
 mod text_piece;
@@ -42,16 +50,19 @@ pub use cut::HEADINGS;
 pub use form::{FORMS, Form, Piece};
 pub use keyword::{ARTICLES, KEYWORDS, Keyword, RESERVED};
 pub use laws::{
-    cut_is_exact, forms_that_fit_speak, one_list_of_sentences, one_reading, one_refusal,
-    read_or_unread, spelled_or_refused,
+    cut_is_exact, forms_that_fit_speak, found_is_read, one_list_of_sentences, one_reading,
+    one_refusal, read_or_unread, spelled_or_refused,
 };
 pub use name::{Name, NameArticle};
 pub use names::Names;
 pub use part::{Part, PartKind};
-pub use phrase_form::{PHRASE_FORMS, PhraseForm, PhraseShape, shape_in};
+pub use phrase_form::{NowVerb, PHRASE_FORMS, PhraseForm, PhraseShape, shape_in};
 pub use phrase_mark::PhraseMark;
 pub use reader::read;
+pub use rule::{Rule, RuleBody, RuleBook, RulePhrase, RuleRead};
+pub use rule_reader::rule_in;
 pub use sentence::{Assertion, Being, Holder, Sentence, Side, Way};
+pub use spoken::Spoken;
 pub use text_piece::{TextPiece, TextPieces};
 pub use text_reader::read_text;
 pub use word_list::WordList;

@@ -1,5 +1,6 @@
 //! Lists of names, parted by `,` or `and`.
-ghost use Rattle.std.specs.Prelude.{◌≡◌, true, ◌<◌, ◌≤◌, length, map, IfOk, OnOk};
+ghost use Rattle.std.specs.Prelude.{◌≡◌, true, ◌+◌, ◌<◌, ◌≤◌, count_by, length, map, IfOk, OnOk};
+ghost use Rattle.i7_sentences.specs.Classes.{is_joint};
 ghost use Rattle.i7_sentences.specs.Names.{name_len, name_of, names_from, unjoined};
 
 use crate::Name;
@@ -61,12 +62,19 @@ pub fn name_len(words: &[Tagged<'_>]) -> usize
     }
 }
 
+/// How many names a list has at most.
+fn most_names(words: &[Tagged<'_>]) -> usize
+    ensures { result ≡ count_by is_joint words.now + 1 }
+{
+    words.iter().filter(|word| is_joint(word)).count() + 1
+}
+
 /// The names that a list holds.
 #[tactic(auto, using(crate::proofs::Naming::names_steps))]
 pub fn names_of(alloc: Global, letter: &[Tagged<'_>]) -> Result<Names, AllocError>
     ensures { IfOk result (λ names. names ≡ map name_of (names_from true letter.now)) }
 {
-    let mut all = Vec::new(alloc);
+    let mut all = Vec::with_capacity(alloc, most_names(letter))?;
     let mut rest = letter;
     while !rest.is_empty() {
         let (name, behind) = rest.split_at(name_len(rest));

@@ -1,5 +1,5 @@
 //! The parts of a source.
-use i7_lexer::Token;
+use i7_lexer::PackedToken;
 
 /// What a part of a source is read as.
 #[derive(Clone, Copy, Debug, PartialEq, Eq)]
@@ -15,5 +15,5 @@ pub enum PartKind {
 #[derive(Clone, Copy, Debug)]
 pub struct Part<'a> {
     pub kind: PartKind,
-    pub tokens: &'a [Token],
+    pub tokens: &'a [PackedToken],
 }

@@ -10,14 +10,23 @@ use crate::reading::{Reading, lowest_fit};
 use crate::reserved::has_reserved_among;
 use crate::tagged::{Tagged, with_tags};
 use crate::{Class, Form, Keyword, Piece};
-use i7_lexer::Token;
+use i7_lexer::PackedToken;
 use std::alloc::{AllocError, Global};
+
+/// How a `now` relates its first words to its last.
+#[derive(Clone, Copy, Debug, PartialEq, Eq)]
+pub enum NowVerb {
+    /// `is` or `are`
+    Is,
+    Carries,
+    Wears,
+}
 
 /// What a phrase is, by its shape.
 #[derive(Clone, Copy, Debug, PartialEq, Eq)]
 pub enum PhraseForm {
     Say,
-    Now,
+    Now(NowVerb),
     Move,
     Increase,
     Decrease,
@@ -72,15 +81,15 @@ pub const PHRASE_FORMS: [&[(Form, &[Piece])]; 20] = [
     &[(Form::Phrase(PhraseForm::Say), &[Word(Keyword::Say), TEXT])],
     &[
         (
-            Form::Phrase(PhraseForm::Now),
+            Form::Phrase(PhraseForm::Now(NowVerb::Is)),
             &[NOW, WORDS, Word(Keyword::Is), WORDS],
         ),
         (
-            Form::Phrase(PhraseForm::Now),
+            Form::Phrase(PhraseForm::Now(NowVerb::Carries)),
             &[NOW, WORDS, Word(Keyword::Carries), WORDS],
         ),
         (
-            Form::Phrase(PhraseForm::Now),
+            Form::Phrase(PhraseForm::Now(NowVerb::Wears)),
             &[NOW, WORDS, Word(Keyword::Wears), WORDS],
         ),
     ],
@@ -158,7 +167,7 @@ pub const PHRASE_FORMS: [&[(Form, &[Piece])]; 20] = [
 ];
 
 /// The phrase's form, if a form is one of a phrase.
-fn is_phrase_form(form: Form) -> Option<PhraseForm>
+pub fn is_phrase_form(form: Form) -> Option<PhraseForm>
     ensures { result ≡ is_phrase_form form }
 {
     match form {
@@ -185,7 +194,7 @@ fn shape_found(reading: Option<Reading<'_, '_>>) -> Option<PhraseShape>
 
 /// The first of the forms of phrases that fits the words.
 #[tactic(auto, unfolding(crate::specs::PhraseForms::phrase_forms))]
-fn phrase_reading<'a, 'b>(
+pub fn phrase_reading<'a, 'b>(
     alloc: Global,
     tokens: &'a [Tagged<'b>],
 ) -> Result<Option<Reading<'a, 'b>>, AllocError>
@@ -196,7 +205,7 @@ fn phrase_reading<'a, 'b>(
 }
 
 /// What a phrase is by its shape, without its mark and a closing `instead`; none where no form fits.
-pub fn shape_in(alloc: Global, tokens: &[Token]) -> Result<Option<PhraseShape>, AllocError>
+pub fn shape_in(alloc: Global, tokens: &[PackedToken]) -> Result<Option<PhraseShape>, AllocError>
     ensures { IfOk result (λ shape. shape ≡ shape_in tokens.now) }
 {
     let words = with_tags(alloc, tokens)?;

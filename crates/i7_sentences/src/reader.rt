@@ -18,7 +18,7 @@ use crate::reading::{Reading, reading_of};
 use crate::reserved::has_reserved_among;
 use crate::tagged::with_tags;
 use crate::{Assertion, Part, PartKind, Sentence};
-use i7_lexer::{Lexed, Token, TokenKind};
+use i7_lexer::{Lexed, PackedToken, TokenKind};
 use std::alloc::{AllocError, Global};
 use world_meaning::{Fault, FaultCode};
 
@@ -44,7 +44,7 @@ fn line_of(part: &Part<'_>) -> u32
     ensures { result ≡ line_of (piece_of part.now) }
 {
     match part.tokens {
-        [first, ..] => first.line,
+        [first, ..] => first.line(),
         [] => 1,
     }
 }
@@ -67,10 +67,10 @@ fn is_sentence(kind: PartKind) -> bool
 }
 
 /// Whether a token is a literal out of range, or a text with one between its brackets.
-fn holds_bad_literal(token: &Token) -> bool
+fn holds_bad_literal(token: &PackedToken) -> bool
     ensures { result ≡ holds_bad_literal token.now }
 {
-    match &token.kind {
+    match token.kind() {
         TokenKind::Text(text) => has_bad_bracket(text.as_slice()),
         TokenKind::Word(word) => is_out_of_range(word.as_slice()),
         TokenKind::Mark(_) => false,
@@ -78,7 +78,7 @@ fn holds_bad_literal(token: &Token) -> bool
 }
 
 /// Whether a token holds a literal out of range.
-fn any_holds_bad_literal(tokens: &[Token]) -> bool
+fn any_holds_bad_literal(tokens: &[PackedToken]) -> bool
     ensures { result ≡ list_any holds_bad_literal tokens.now }
 {
     tokens.iter().any(|token| holds_bad_literal(token))
@@ -132,7 +132,7 @@ fn heard_by(alloc: Global, reading: &Reading<'_, '_>) -> Result<Option<Heard>, A
 }
 
 /// What the words of a sentence say.
-fn heard_words(alloc: Global, tokens: &[Token]) -> Result<Option<Heard>, AllocError>
+fn heard_words(alloc: Global, tokens: &[PackedToken]) -> Result<Option<Heard>, AllocError>
     ensures { IfOk result (λ heard. heard ≡ heard_by (lowest_fit all_forms tokens.now)) }
 {
     let words = with_tags(alloc, tokens)?;

@@ -9,7 +9,7 @@ use crate::Keyword;
 use crate::keyword::{ARTICLES, RESERVED, keyword_of};
 use crate::literal::is_literal;
 use crate::word::{direction_of, is_text, is_word, word_of};
-use i7_lexer::Token;
+use i7_lexer::PackedToken;
 use std::alloc::{AllocError, Global};
 use std::marker::Model;
 use world_meaning::Direction;
@@ -17,7 +17,7 @@ use world_meaning::Direction;
 /// A token, seen by contracts as the token alone.
 #[derive(Drop)]
 pub struct Tagged<'a> {
-    token: &'a Token,
+    token: &'a PackedToken,
     keyword: Option<Keyword>,
     direction: Option<Direction>,
     is_number: bool,
@@ -37,7 +37,7 @@ impl<'a> Model for Tagged<'a> {
 }
 
 impl<'a> Tagged<'a> {
-    fn new(token: &'a Token) -> Tagged<'a>
+    fn new(token: &'a PackedToken) -> Tagged<'a>
         ensures { result ≡ token.now }
     {
         let word = word_of(token);
@@ -101,7 +101,7 @@ impl<'a> Tagged<'a> {
         is_text(self.token)
     }
 
-    pub fn token(&self) -> &'a Token
+    pub fn token(&self) -> &'a PackedToken
         ensures { result.now ≡ self.now }
     {
         self.token
@@ -137,7 +137,10 @@ impl<'a> Tagged<'a> {
 }
 
 /// The tokens of a sentence with their tags.
-pub fn with_tags<'a>(alloc: Global, tokens: &'a [Token]) -> Result<Vec<Tagged<'a>>, AllocError>
+pub fn with_tags<'a>(
+    alloc: Global,
+    tokens: &'a [PackedToken],
+) -> Result<Vec<Tagged<'a>>, AllocError>
     ensures { IfOk result (λ tagged. tagged.items ≡ tokens.now) }
 {
     let mut out = Vec::with_capacity(alloc, tokens.len())?;

@@ -54,7 +54,7 @@ fn printed_byte(is_behind: bool, byte: u8, bytes: &[u8]) -> u8
 }
 
 /// What bytes of a text print that stand outside brackets.
-fn printed(alloc: Global, bytes: &[u8]) -> Result<TextBytes, AllocError>
+pub fn printed(alloc: Global, bytes: &[u8]) -> Result<TextBytes, AllocError>
     ensures { IfOk result (λ text. text ≡ printed bytes.now) }
 {
     let mut out = Vec::new(alloc);

@@ -2,34 +2,34 @@
 ghost use Rattle.std.specs.Prelude.{◌≡◌, find};
 ghost use Rattle.i7_sentences.specs.Words.{direction_named, is_text, is_word, names_direction, word_of};
 
-use i7_lexer::{Token, TokenKind};
+use i7_lexer::{PackedToken, TokenKind};
 use world_meaning::{Direction, is_spelled};
 
 /// The bytes of a word as written; none of a text or a mark.
-pub fn word_of(token: &Token) -> &[u8]
+pub fn word_of(token: &PackedToken) -> &[u8]
     ensures { result.now ≡ word_of token.now }
 {
-    match &token.kind {
+    match token.kind() {
         TokenKind::Word(word) => word.as_slice(),
         TokenKind::Text(_) | TokenKind::Mark(_) => &[],
     }
 }
 
 /// Whether the token is a word.
-pub fn is_word(token: &Token) -> bool
+pub fn is_word(token: &PackedToken) -> bool
     ensures { result ≡ is_word token.now }
 {
-    match &token.kind {
+    match token.kind() {
         TokenKind::Word(_) => true,
         TokenKind::Text(_) | TokenKind::Mark(_) => false,
     }
 }
 
 /// Whether the token is a text.
-pub fn is_text(token: &Token) -> bool
+pub fn is_text(token: &PackedToken) -> bool
     ensures { result ≡ is_text token.now }
 {
-    match &token.kind {
+    match token.kind() {
         TokenKind::Text(_) => true,
         TokenKind::Word(_) | TokenKind::Mark(_) => false,
     }

@@ -1,10 +1,13 @@
-//! The words between the brackets of a text.
+//! Lists of words: those between the brackets of a text, and those of a form's letter.
 ghost use Rattle.std.specs.Prelude.{◌≡◌, ◌<◌, ◌≤◌, ◌++◌, length, map, IfOk, MatchOption, OnOk};
 ghost use Rattle.std.specs.List.{after_first, before_first, position_or_len};
 ghost use Rattle.i7_sentences.specs.BracketedWords.{is_gap};
+ghost use Rattle.i7_sentences.specs.SpokenPhrases.{words_in};
 ghost use Rattle.i7_sentences.specs.TextPieces.{are_spelled, behind_first, run_word, words_of};
 
 use crate::brackets::is_gap;
+use crate::tagged::Tagged;
+use crate::word::word_of;
 use std::alloc::{AllocError, Global};
 use std::marker::Model;
 use world_meaning::{TextBytes, is_spelled};
@@ -116,5 +119,18 @@ pub fn words_of(alloc: Global, bytes: &[u8]) -> Result<WordList, AllocError>
         rest = behind;
     }
     add_run(alloc, rest, &mut all)?;
+    Ok(WordList { all })
+}
+
+/// The words of a letter of a form.
+pub fn words_in(alloc: Global, letter: &[Tagged<'_>]) -> Result<WordList, AllocError>
+    ensures { IfOk result (λ words. words ≡ words_in letter.now) }
+{
+    let mut all = Vec::with_capacity(alloc, letter.len())?;
+    let mut rest = letter;
+    while let [word, after @ ..] = rest {
+        all.push(TextBytes::copied(alloc, word_of(word.token()))?)?;
+        rest = after;
+    }
     Ok(WordList { all })
 }

@@ -1,9 +1,10 @@
 -- The code of a body, by itself, comes to what the body means.
-use Rattle.std.proofs.Common.{Some, ◌-◌, ◌≡◌, ◌∙◌, ap, sym, subst, ℕ, suc, ◌+◌, Bool, true, false, not, List, [], ◌∷◌, ◌++◌, length, append_assoc, length-append, refl, Ok, Err, arith}
+use Rattle.std.proofs.Common.{Some, ◌-◌, ◌≡◌, ◌<◌, ◌∙◌, ap, sym, subst, ℕ, zero, suc, ◌+◌, Bool, true, false, not, List, [], ◌∷◌, ◌++◌, length, append_assoc, length-append, refl, Ok, Err, arith}
 use Rattle.std.specs.Prelude.{slice_index_or, if◌then◌else◌}
-use Rattle.std.specs.List.{position_or_len}
+use Rattle.std.specs.List.{AllByRecursion, position_or_len}
 use Rattle.std.specs.Str.{bytes_eq}
 use Rattle.std.proofs.lemmas.Slice.Eq.{bytes_eq-Decides}
+use Rattle.play_meaning.specs.AmongCodes.{IsAmong, IsTestAmong}
 use Rattle.play_meaning.specs.Attempts.{Attempt, next}
 use Rattle.play_meaning.specs.Codes.{Codes, RunsTo, answered, code_of, frame_of, leaves_so, no_inner, start_at, test_of, test_within}
 use Rattle.play_meaning.specs.Doing.{Inner, do_body}
@@ -14,6 +15,7 @@ use Rattle.play_meaning.specs.Progress.{Done, Progress, fresh}
 use Rattle.play_meaning.specs.Saying.{Telling}
 use Rattle.play_meaning.specs.Scoping.{BodyIsWithin, ConditionIsWithin}
 use Rattle.play_meaning.specs.Scripts.{scope_of}
+use Rattle.play_meaning.specs.TranslatedScripts.{test_part}
 use Rattle.play_meaning.specs.Translation.{body_part, condition_part, seq, strings_of_body, translated, translated_condition}
 use Rattle.play_meaning.specs.Trees.{Body, Condition}
 use Rattle.play_meaning.specs.Truth.{truth_in}
@@ -134,3 +136,60 @@ body_means body t inner now p within =
     let comes = body_comes f c string body [] 1 0 p within (all_found f c [] (strings_of_body body) (strings_of_body body) refl (λ n. refl))
     (tests_front f 1 part.tests [] tests) (has_front c 0 part.code (code.Done ∷ []) has) in
     ended f c (0 + sizes part.code) p (do_body t inner body (scope_of now) p) (has_back c 0 part.code (code.Done ∷ []) has) comes
+
+-- ---- a body among the codes of a story
+
+all_stand : (f : Frame) (c : List Instruction) (string : List ℕ → ℕ) (strings all : List (List ℕ)) → ((n : ℕ) → f.strings n ≡ slice_index_or strings n [])
+    → AllByRecursion (λ bytes. slice_index_or strings (string bytes) [] ≡ bytes) all → AllStand f c string all
+all_stand f c string strings [] is stand = tt
+all_stand f c string strings (bytes ∷ all) is stand = (is (string bytes) ∙ stand.0, all_stand f c string strings all is stand.1)
+
+-- tests among a story's codes, with a level for each
+some_tests : (c : Codes) (t : Telling) (inner : Inner) (now : ActionNow) (front back : List (List Instruction)) → c.codes ≡ front ++ back → HasTests (frame_of c t inner (test_of c t now) now) (length front) back
+some_tests c t inner now front [] parts = tt
+some_tests c t inner now front (is ∷ back) parts =
+    all_tests c t inner now (length c.codes) (length front + length back) front (is ∷ back) (omega (arith, ap length parts, length-append front (is ∷ back))) parts
+
+pub body_among : (body : Body) (c : Codes) (string : List ℕ → ℕ) (n first : ℕ) (t : Telling) (inner : Inner) (now : ActionNow) (p : Progress) → BodyIsWithin 0 body
+    → IsAmong c string n first body → RunsTo c t inner n now p (do_body t inner body (scope_of now) p)
+unfolding seq
+body_among body c string n first t inner now p within is =
+    let part = body_part string 0 body first 0 in
+    let all = part.code ++ code.Done ∷ [] in
+    let f = frame_of c t inner (test_of c t now) now in
+    let has = has_all all in
+    let tests : HasTests f first (part.tests ++ []) =
+    subst (λ k. HasTests f k (part.tests ++ [])) is.place (tests_front f (length is.front) (part.tests ++ []) is.back (some_tests c t inner now is.front ((part.tests ++ []) ++ is.back) is.tests)) in
+    let comes = body_comes f all string body [] first 0 p within (all_stand f all string c.strings (strings_of_body body) (λ n. refl) is.strings)
+    (tests_front f first part.tests [] tests) (has_front all 0 part.code (code.Done ∷ []) has) in
+    let r = ended f all (0 + sizes part.code) p (do_body t inner body (scope_of now) p) (has_back all 0 part.code (code.Done ∷ []) has) comes in
+    (r.0, ap (λ is. run f is r.0 (start_at [] p)) is.code ∙ r.1)
+
+-- ---- a condition among the codes of a story
+
+-- tests behind another code, with a level for each but one
+tests_below : (c : Codes) (t : Telling) (now : ActionNow) (left : ℕ) (front back : List (List Instruction)) → 0 < length front → length c.codes ≡ suc left → c.codes ≡ front ++ back
+    → HasTests (frame_of c t no_inner (test_within left c t now) now) (length front) back
+tests_below c t now left front [] some count parts = tt
+tests_below c t now left front (is ∷ back) some count parts =
+    all_tests c t no_inner now left (left - 1) front (is ∷ back) (omega (arith, some, count, ap length parts, length-append front (is ∷ back))) parts
+
+pub test_among : (condition : Condition) (c : Codes) (n first : ℕ) (t : Telling) (now : ActionNow) (w : World) → ConditionIsWithin 0 condition → IsTestAmong c n first condition
+    → test_of c t now n [] w ≡ truth_in t.setting (scope_of now) w condition
+unfolding seq test_within
+test_among condition c n first t now w within is = by_levels (length c.codes) refl
+  where
+    by_levels : (levels : ℕ) → length c.codes ≡ levels → test_within levels c t now n [] w ≡ truth_in t.setting (scope_of now) w condition
+    by_levels zero count = absurd (omega (arith, count, ap length is.tests, length-append is.front ((test_part condition first 0).tests ++ is.back), is.place, is.behind))
+    by_levels (suc left) count =
+        let part = condition_part 0 condition first 0 in
+        let all = part.code ++ code.Answer ∷ [] in
+        let f = frame_of c t no_inner (test_within left c t now) now in
+        let m = sizes part.code - length part.code in
+        let size : sizes all ≡ length part.code + suc m = omega (arith, sizes-append part.code (code.Answer ∷ []), length-sizes part.code) in
+        let has = has_all all in
+        let below = tests_below c t now left is.front ((part.tests ++ []) ++ is.back) (omega (arith, is.place, is.behind)) count is.tests in
+        let tests : HasTests f first (part.tests ++ []) = subst (λ k. HasTests f k (part.tests ++ [])) is.place (tests_front f (length is.front) (part.tests ++ []) is.back below) in
+        let gives = condition_gives f all [] (fresh w) condition first 0 [] within (tests_front f first part.tests [] tests) (has_front all 0 part.code (code.Answer ∷ []) has) (suc m) in
+        ap (λ l. answered (run f l (sizes l) (start_at [] (fresh w)))) is.code ∙ ap (λ n. answered (run f all n (start_at [] (fresh w)))) size
+        ∙ (ap answered gives ∙ said_to f all (0 + sizes part.code) m w (truth_in t.setting (scope_of now) w condition) (has_back all 0 part.code (code.Answer ∷ []) has).0)

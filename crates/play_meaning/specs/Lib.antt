@@ -2,11 +2,13 @@ pub mod Acting
 pub mod ActionRows
 pub mod Admitting
 pub mod Agreement
+pub mod AmongCodes
 pub mod Attempts
 pub mod Changes
 pub mod CodedStories
 pub mod Codes
 pub mod Commands
+pub mod Composed
 pub mod Consulting
 pub mod Deeds
 pub mod Doing
@@ -16,6 +18,7 @@ pub mod Grammar
 pub mod Grounds
 pub mod Instructions
 pub mod Machines
+pub mod Meant
 pub mod Operands
 pub mod Order
 pub mod PhraseRows

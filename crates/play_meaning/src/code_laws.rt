@@ -1,6 +1,7 @@
 //! What holds of the codes of trees.
 ghost use Rattle.std.specs.Prelude.{◌≡◌, ◌<◌, ℕ, false, List, [], length, Option, Some};
-ghost use Rattle.play_meaning.specs.Codes.{RunsTo, start_at, test_of};
+ghost use Rattle.play_meaning.specs.AmongCodes.{IsAmong, IsTestAmong};
+ghost use Rattle.play_meaning.specs.Codes.{Codes, RunsTo, start_at, test_of};
 ghost use Rattle.play_meaning.specs.Doing.{Inner, do_body};
 ghost use Rattle.play_meaning.specs.Instructions.{Instruction, at_place, sizes};
 ghost use Rattle.play_meaning.specs.Machines.{Frame, Goes, State, does};
@@ -25,12 +26,25 @@ pub fn tests_mean_their_conditions()
         → test_of (translated_condition condition) t now 0 [] w ≡ truth_in t.setting (scope_of now) w condition }
 {}
 
+/// The same of a condition's code among the codes of a story, whatever numbers the story gives to the tests that it names.
+pub fn tests_mean_among_codes()
+    ensures { (condition : Condition) (c : Codes) (n first : ℕ) (t : Telling) (now : ActionNow) (w : World) → ConditionIsWithin 0 condition → IsTestAmong c n first condition
+        → test_of c t now n [] w ≡ truth_in t.setting (scope_of now) w condition }
+{}
+
 /// A run of a body's code does what the body means: in every world, whatever the actions that it tries and the rulebooks
 /// that it follows do, through repeats and choices, up to its end, a decision or what abandons it. The body names the
 /// object of no loop that isn't open.
 pub fn bodies_run_as_they_mean()
     ensures { (body : Body) (t : Telling) (inner : Inner) (now : ActionNow) (p : Progress) → BodyIsWithin 0 body
         → RunsTo (translated body) t inner 0 now p (do_body t inner body (scope_of now) p) }
+{}
+
+/// The same of a body's code among the codes of a story, whatever numbers the story gives to the strings that it says and
+/// to the tests that it names.
+pub fn bodies_run_among_codes()
+    ensures { (body : Body) (c : Codes) (string : List ℕ → ℕ) (n first : ℕ) (t : Telling) (inner : Inner) (now : ActionNow) (p : Progress)
+        → BodyIsWithin 0 body → IsAmong c string n first body → RunsTo c t inner n now p (do_body t inner body (scope_of now) p) }
 {}
 
 /// A run of a sound code never lacks an instruction or an operand. A sound test answers and a sound description ends, within

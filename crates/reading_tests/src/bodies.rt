@@ -1,5 +1,5 @@
 //! Bodies of rules with their phrases, and the lines at which they are refused.
-use i7_lexer::{Token, lex};
+use i7_lexer::{PackedToken, lex};
 use i7_sentences::{PhraseLine, PhraseMark, body_fault, phrases_of, reserved_line};
 use std::alloc::{AllocError, Global};
 use std::test::Fail;
@@ -39,9 +39,9 @@ fn verdict(alloc: Global, line: u32, phrases: &[PhraseLine<'_>]) -> Result<Strin
 }
 
 /// The line of a rule, and its body behind a head of two words and a colon or a comma.
-fn body_of(tokens: &[Token]) -> (u32, &[Token]) {
+fn body_of(tokens: &[PackedToken]) -> (u32, &[PackedToken]) {
     match tokens {
-        [first, _, _, body @ ..] => (first.line, body),
+        [first, _, _, body @ ..] => (first.line(), body),
         _ => (1, &[]),
     }
 }
@@ -101,7 +101,7 @@ fn rows() -> &'static [(&'static str, &'static str)] {
     ]
 }
 
-fn refused() -> &'static [(&'static str, &'static str)] {
+pub fn refused() -> &'static [(&'static str, &'static str)] {
     &[
         ("frob.", "C5 3"),
         ("\"b\".", "C5 3"),

@@ -1,5 +1,5 @@
 //! Sources with the tokens that they spell, and such that are hard on the lexer.
-use i7_lexer::{Lexed, Start, Token, TokenKind, lex};
+use i7_lexer::{Lexed, PackedToken, Start, TokenKind, lex};
 use std::alloc::{AllocError, Global};
 use std::fmt::Write;
 use std::str;
@@ -22,22 +22,22 @@ fn tokens_shown(alloc: Global, lexed: &Lexed) -> Result<String, AllocError> {
     Ok(out)
 }
 
-fn show(out: &mut String, token: &Token) -> Result<(), AllocError> {
-    match token.start {
+fn show(out: &mut String, token: &PackedToken) -> Result<(), AllocError> {
+    match token.start() {
         Start::Paragraph => out.push_str("P")?,
         Start::Line { indent } => write!(out, "L{indent} ")?,
         Start::Within => {}
     }
-    let line = token.line;
+    let line = token.line();
     write!(out, "{line}:")?;
-    match &token.kind {
+    match token.kind() {
         TokenKind::Text(bytes) => {
             out.push_str("\"")?;
             out.push_str(str::from_utf8(bytes.as_slice()).unwrap_or("?"))?;
             out.push_str("\"")?;
         }
         TokenKind::Word(bytes) => out.push_str(str::from_utf8(bytes.as_slice()).unwrap_or("?"))?,
-        TokenKind::Mark(byte) => out.push_str(str::from_utf8(&[*byte]).unwrap_or("?"))?,
+        TokenKind::Mark(byte) => out.push_str(str::from_utf8(&[byte]).unwrap_or("?"))?,
     }
     out.push_str("|")
 }
@@ -104,6 +104,46 @@ fn joins_three_phrases(rt: HostRuntime) -> Result<(), Fail> {
         shown(alloc, b"switched\n\ton")?.as_str(),
         "2: C4 BadIndent"
     );
+    Ok(())
+}
+
+#[test]
+fn keeps_words_and_texts_of_any_length(rt: HostRuntime) -> Result<(), Fail> {
+    let alloc = rt.alloc();
+    assert_eq!(rt;
+        shown(
+            alloc,
+            b"seventh eighthly \"7 bytes\" \"8  bytes\" \"\" \"7\n\nmore\" fixed in a fixed in place"
+        )?
+        .as_str(),
+        "P1:seventh|1:eighthly|1:\"7 bytes\"|1:\"8  bytes\"|1:\"\"|1:\"7\n\nmore\"|3:fixed|3:in|3:a|3:fixed in place|"
+    );
+    Ok(())
+}
+
+/// A source each of whose lines is a mark and a word, one tab deeper than the line before, and its
+/// tokens.
+fn deeper_and_deeper(alloc: Global, lines: usize) -> Result<(String, String), AllocError> {
+    let mut source = String::from_str(alloc, "+x:")?;
+    let mut tokens = String::from_str(alloc, "P1:+|1:x|1::|")?;
+    for indent in 1..lines {
+        let line = indent + 1;
+        source.push_str("\n")?;
+        for _ in 0..indent {
+            source.push_str("\t")?;
+        }
+        source.push_str("+x:")?;
+        write!(tokens, "L{indent} {line}:+|{line}:x|{line}::|")?;
+        source.push_str(" ")?;
+    }
+    Ok((source, tokens))
+}
+
+#[test]
+fn keeps_deep_lines(rt: HostRuntime) -> Result<(), Fail> {
+    let alloc = rt.alloc();
+    let (source, tokens) = deeper_and_deeper(alloc, 260)?;
+    assert_eq!(rt; shown(alloc, source.as_bytes())?.as_str(), tokens.as_str());
     Ok(())
 }
 

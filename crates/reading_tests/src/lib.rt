@@ -1,4 +1,4 @@
-//! Tests of what the lexer and the readers of sentences, texts and bodies answer.
+//! Tests of what the lexer and the readers of sentences, texts, bodies and rules answer.
 #![tactic(auto)]
 
 #[cfg(test)]
@@ -7,6 +7,8 @@ mod bodies;
 mod cutting;
 #[cfg(test)]
 mod lexing;
+#[cfg(test)]
+mod rules;
 #[cfg(test)]
 mod sentences;
 #[cfg(test)]

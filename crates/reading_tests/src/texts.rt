@@ -4,7 +4,12 @@ use std::alloc::{AllocError, Global};
 use std::test::Fail;
 
 /// Adds words, parted by commas, between two brackets of a kind.
-fn add_words(text: &mut Vec<u8>, open: u8, words: &WordList, close: u8) -> Result<(), AllocError> {
+pub fn add_words(
+    text: &mut Vec<u8>,
+    open: u8,
+    words: &WordList,
+    close: u8,
+) -> Result<(), AllocError> {
     text.push(open)?;
     let mut is_first = true;
     for word in words.as_slice() {
@@ -19,7 +24,7 @@ fn add_words(text: &mut Vec<u8>, open: u8, words: &WordList, close: u8) -> Resul
 }
 
 /// Adds a piece: `|bytes|` printed, `<words>`, `{condition`, `/` and `}`.
-fn add_piece(text: &mut Vec<u8>, piece: &TextPiece) -> Result<(), AllocError> {
+pub fn add_piece(text: &mut Vec<u8>, piece: &TextPiece) -> Result<(), AllocError> {
     match piece {
         TextPiece::Printed(bytes) => {
             text.push(b'|')?;

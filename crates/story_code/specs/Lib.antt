@@ -1,4 +1,7 @@
 pub mod Asking
+pub mod Choosing
+pub mod Emits
+pub mod Emitting
 pub mod Fronts
 pub mod Laws
 pub mod Passes

@@ -10,6 +10,8 @@ mod changing;
 mod decoding;
 mod describing;
 mod effect;
+mod emit;
+mod emitting;
 mod encoding;
 mod fetching;
 mod known;
@@ -35,6 +37,7 @@ mod verifying;
 
 pub use body::step_plain;
 pub use decoding::front;
+pub use emit::{EmitFault, body_codes, condition_codes, description_codes};
 pub use encoding::spell;
 pub use laws::{one_code, runs_begin_standing, verified_code_is_sound};
 pub use plain::read_plain;

@@ -1,0 +1,54 @@
+-- A map in which what comes first to a name stays.
+use Rattle.std.proofs.Common.{◌≡◌, ℕ, ◌+◌, ◌-◌, ◌≤◌, Bool, true, false, cond, not, ◌||◌, List, [], ◌∷◌, ◌++◌, refl, ap, ◌∙◌, inl, inr, length, take, drop, get_or, arith}
+use Rattle.std.specs.Prelude.{Option, Some, None, bytes_eq, is_some, option_copied}
+use Rattle.std.specs.Borrow.{Bor}
+use Rattle.std.specs.Global.{Vec}
+use Rattle.std.specs.Map.{lookup}
+use Rattle.std.specs.Option.{option_or}
+use Rattle.std.proofs.lemmas.List.{take_all}
+use Rattle.world_meaning.specs.declared.tale.Object.{Object}
+use Rattle.world_meaning.proofs.Bools.{either}
+use Rattle.i7_conditions.specs.NamesOf.{any_named_by_operator}
+use Rattle.i7_conditions.specs.Operators.{holds_operator}
+use Rattle.i7_conditions.specs.Meanings.{Meanings, given, with_object, with_objects}
+
+pub copied_none : {X : Type 0} (found : Option (Bor X)) (none : Bool) → is_some found ≡ not none → none ≡ true → option_copied found ≡ None
+copied_none None none e is = refl
+copied_none (Some x) true e is = absurd cc
+copied_none (Some x) false e is = absurd cc
+
+-- ---- a map with one entry more
+
+looked_behind : {K X : Type 0} (test : K → Bool) (es : List (K × X)) (k : K) (x : X) → lookup test (es ++ (k, x) ∷ []) ≡ option_or (lookup test es) (cond (test k) (Some x) None)
+looked_behind test [] k x = refl
+looked_behind test (e ∷ es) k x =
+    elim (either (test e.0)) [
+      | inl is ↦ rw is refl
+      | inr isnt ↦ rw isnt (looked_behind test es k x)
+    ]
+
+pub told_behind : {X : Type 0} (old new : List (Vec ℕ × X)) (key : Vec ℕ) (x : X) → new ≡ old ++ (key, x) ∷ [] → (name : List ℕ)
+    → lookup (λ k. bytes_eq name k.items) new ≡ option_or (lookup (λ k. bytes_eq name k.items) old) (given key.items x name)
+told_behind old new key x e name = ap (lookup (λ k. bytes_eq name k.items)) e ∙ looked_behind (λ (k : Vec ℕ). bytes_eq name k.items) old key x
+
+-- ---- the objects of a tale, one after the other
+
+pub objects_step : (old new : Meanings) (number : ℕ) (rest : List Object) (object : Object) (all : Meanings) → 1 ≤ length rest → object ≡ get_or rest 0 object → new ≡ with_object old number object
+    → with_objects old number rest ≡ all → with_objects new (number + 1) (take (length rest - 1) (drop 1 rest)) ≡ all
+objects_step old new number [] object all l e n h = absurd (omega arith)
+objects_step old new number (first ∷ rest) object all l e n h =
+    let whole : take (length (first ∷ rest) - 1) rest ≡ rest = take_all _ rest (omega arith) in
+    rw (whole, n, e) h
+
+-- ---- operators among their names
+
+or_first : (a b c : Bool) → ((a || b) || c) ≡ (a || (b || c))
+or_first true b c = refl
+or_first false b c = refl
+
+pub operators_step : (was now : Bool) (rest : List Object) (object : Object) (all : Bool) → 1 ≤ length rest → object ≡ get_or rest 0 object → now ≡ (was || holds_operator object.name)
+    → (was || any_named_by_operator rest) ≡ all → (now || any_named_by_operator (take (length rest - 1) (drop 1 rest))) ≡ all
+operators_step was now [] object all l e n h = absurd (omega arith)
+operators_step was now (first ∷ rest) object all l e n h =
+    let whole : take (length (first ∷ rest) - 1) rest ≡ rest = take_all _ rest (omega arith) in
+    rw (whole, n, e) (or_first was (holds_operator first.name) (any_named_by_operator rest) ∙ h)

@@ -1,0 +1,10 @@
+use Rattle.std.proofs.Common.{◌≡◌, ◌≤◌, length, drop}
+use Rattle.i7_conditions.specs.Joining.{column_of}
+use Rattle.i7_conditions.specs.Scopes.{scope_of}
+use Rattle.i7_conditions.proofs.joining.column_of.Given as goal
+
+abbrev pub invariant-loop-place : goal.invariant-loop-place
+invariant-loop-place l = record { within : l.place ≤ length l.words; same : l.column.items ≡ column_of (scope_of l.scope) (drop l.place l.words) }
+
+abbrev pub decreases-loop-place : goal.decreases-loop-place
+decreases-loop-place l = l.place

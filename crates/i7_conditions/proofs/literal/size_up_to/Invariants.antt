@@ -1,0 +1,10 @@
+use Rattle.std.proofs.Common.{◌≡◌, ◌≤◌, length}
+use Rattle.std.specs.Prelude.{fold}
+use Rattle.i7_conditions.specs.Literals.{magnitude, with_digit}
+use Rattle.i7_conditions.proofs.literal.size_up_to.Given as goal
+
+abbrev pub invariant-loop-rest : goal.invariant-loop-rest
+invariant-loop-rest l = (l.number ≤ l.most) × (fold with_digit l.number l.rest ≡ magnitude l.digits)
+
+abbrev pub decreases-loop-rest : goal.decreases-loop-rest
+decreases-loop-rest l = length l.rest

@@ -1,0 +1,58 @@
+-- What clauses with an `is` ask, by their words: one form after the other is tried.
+use Rattle.std.specs.Prelude.{ℕ, Bool, List, Option, Some, None, if◌then◌else◌}
+use Rattle.play_meaning.specs.Meant.{basic_meant, clause_meant}
+use Rattle.play_meaning.specs.Trees as tree
+use Rattle.play_meaning.specs.declared.tree.condition.Basic.{Basic}
+use Rattle.play_meaning.specs.declared.tree.condition.Clause.{Clause}
+use Rattle.i7_conditions.specs.Clauses.{behind_not, compared, comparison_at, is_happening, scene_named}
+use Rattle.i7_conditions.specs.Joining.{number_said}
+use Rattle.i7_conditions.specs.Predicates.{object_said, predicate_said, said_of}
+use Rattle.i7_conditions.specs.Readings.{one, or_else, two}
+use Rattle.i7_conditions.specs.Scopes.{Scope}
+use Rattle.i7_conditions.specs.Words.{Word}
+use Rattle.i7_conditions.specs.declared.comparison.Comparison.{Comparison}
+use Rattle.i7_conditions.specs.declared.found.Found.{Found}
+use Rattle.i7_conditions.specs.declared.found.Found.TheVariants.{Read, TooMany, Unread}
+
+abbrev pub found_basic : Found Basic → Found tree.Condition
+found_basic (Read basic) = Read (basic_meant basic)
+found_basic TooMany = TooMany
+found_basic Unread = Unread
+
+abbrev pub found_clause : Found Clause → Found tree.Condition
+found_clause (Read clause) = Read (clause_meant clause)
+found_clause TooMany = TooMany
+found_clause Unread = Unread
+
+abbrev pub of_object : Scope → List Word → List Word → Found tree.Condition
+of_object s subject predicate = two said_of (object_said s subject) (predicate_said s predicate)
+
+abbrev pub of_numbers : Scope → List Word → List Word → Found tree.Condition
+of_numbers s subject predicate = two tree.Equals (number_said s subject) (number_said s predicate)
+
+abbrev pub scene_by : Option ℕ → Bool → Found tree.Condition
+scene_by None happens = Unread
+scene_by (Some k) happens = if happens then Read (tree.Happens k) else Unread
+
+abbrev pub of_scene : Scope → List Word → List Word → Found tree.Condition
+of_scene s subject predicate = scene_by (scene_named s subject) (is_happening predicate)
+
+abbrev pub from_numbers : Scope → List Word → List Word → Found tree.Condition
+from_numbers s subject predicate = or_else (of_numbers s subject predicate) (of_scene s subject predicate)
+
+unfoldable pub plain_said : Scope → List Word → List Word → Found tree.Condition
+plain_said s subject predicate = or_else (of_object s subject predicate) (from_numbers s subject predicate)
+
+abbrev pub denied_by : Scope → List Word → Option (List Word) → Found tree.Condition
+denied_by s subject None = Unread
+denied_by s subject (Some rest) = one tree.Not (plain_said s subject rest)
+
+abbrev pub compared_by : Scope → List Word → Option (Comparison × List Word) → Found tree.Condition
+compared_by s subject None = Unread
+compared_by s subject (Some parts) = two (compared parts.0) (number_said s subject) (number_said s parts.1)
+
+abbrev pub from_denied : Scope → List Word → List Word → Found tree.Condition
+from_denied s subject predicate = or_else (denied_by s subject (behind_not predicate)) (compared_by s subject (comparison_at predicate))
+
+unfoldable pub asked_by : Scope → List Word → List Word → Found tree.Condition
+asked_by s subject predicate = or_else (plain_said s subject predicate) (from_denied s subject predicate)

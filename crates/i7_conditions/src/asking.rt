@@ -1,0 +1,250 @@
+//! What clauses with an `is` ask (*Writing with Inform*, 11.8): `the box is not open`, `the score is at least 5`.
+ghost use Rattle.std.specs.Prelude.{◌≡◌, ◌≤◌, length, Some, option_map, IfOk};
+ghost use Rattle.play_meaning.specs.Meant.{not_if};
+ghost use Rattle.play_meaning.specs.Trees as tree;
+ghost use Rattle.i7_conditions.specs.Asking.{asked_by, compared_by, denied_by, found_basic, found_clause, from_denied, from_numbers, of_numbers, of_object, of_scene, plain_said};
+ghost use Rattle.i7_conditions.specs.Clauses.{behind_not, compared, comparison_at, is_happening, scene_in};
+ghost use Rattle.i7_conditions.specs.Joining.{found_number};
+ghost use Rattle.i7_conditions.specs.Objects.{found_meant};
+ghost use Rattle.i7_conditions.specs.Predicates.{found_predicate, said_of};
+ghost use Rattle.i7_conditions.specs.Readings.{one, two};
+ghost use Rattle.i7_conditions.specs.Scopes.{scope_of};
+
+use crate::comparison::{Comparison, compared, comparison_at};
+use crate::found::Found;
+use crate::joining::number_said;
+use crate::key::known;
+use crate::meaning::Meaning;
+use crate::object::object_said;
+use crate::predicate::{Predicate, predicate_said, said_of};
+use crate::scope::Scope;
+use crate::word::is_not;
+use play_meaning::tree::{Basic, Clause, Number, Referent};
+use std::alloc::{AllocError, Global};
+use world_meaning::{TextBytes, is_spelled};
+
+/// What is asked of an object.
+fn of_object(object: Found<Referent>, predicate: Found<Predicate>) -> Found<Basic>
+    ensures { found_basic result ≡ two said_of (found_meant object) (found_predicate predicate) }
+{
+    match object {
+        Found::Read(object) => match predicate {
+            Found::Read(predicate) => Found::Read(said_of(object, predicate)),
+            Found::TooMany => Found::TooMany,
+            Found::Unread => Found::Unread,
+        },
+        Found::TooMany => match predicate {
+            Found::Read(_) | Found::TooMany => Found::TooMany,
+            Found::Unread => Found::Unread,
+        },
+        Found::Unread => Found::Unread,
+    }
+}
+
+/// Whether two numbers are equal.
+fn of_numbers(first: Found<Number>, second: Found<Number>) -> Found<Basic>
+    ensures { found_basic result ≡ two tree.Equals (found_number first) (found_number second) }
+{
+    match first {
+        Found::Read(first) => match second {
+            Found::Read(second) => Found::Read(Basic::Equals(first, second)),
+            Found::TooMany => Found::TooMany,
+            Found::Unread => Found::Unread,
+        },
+        Found::TooMany => match second {
+            Found::Read(_) | Found::TooMany => Found::TooMany,
+            Found::Unread => Found::Unread,
+        },
+        Found::Unread => Found::Unread,
+    }
+}
+
+/// How a number is to another.
+fn of_compared(how: Comparison, first: Found<Number>, second: Found<Number>) -> Found<Basic>
+    ensures { found_basic result ≡ two (compared how) (found_number first) (found_number second) }
+{
+    match first {
+        Found::Read(first) => match second {
+            Found::Read(second) => Found::Read(compared(how, first, second)),
+            Found::TooMany => Found::TooMany,
+            Found::Unread => Found::Unread,
+        },
+        Found::TooMany => match second {
+            Found::Read(_) | Found::TooMany => Found::TooMany,
+            Found::Unread => Found::Unread,
+        },
+        Found::Unread => Found::Unread,
+    }
+}
+
+/// The scene that a name stands for.
+fn scene_in(meaning: Option<Meaning>) -> Option<u8>
+    ensures { result ≡ scene_in meaning }
+{
+    match meaning {
+        Some(Meaning::Scene(scene)) => Some(scene),
+        _ => None,
+    }
+}
+
+/// Whether words are `happening` alone.
+fn is_happening(words: &[TextBytes]) -> bool
+    ensures { result ≡ is_happening words.now }
+{
+    match words {
+        [word] => is_spelled(word.as_slice(), b"happening"),
+        _ => false,
+    }
+}
+
+/// `S is happening`.
+fn of_scene(
+    alloc: Global,
+    scope: &Scope<'_>,
+    subject: &[TextBytes],
+    predicate: &[TextBytes],
+) -> Result<Found<Basic>, AllocError>
+    ensures { IfOk result (λ found. found_basic found ≡ of_scene (scope_of scope.now) subject.now predicate.now) }
+{
+    let meaning = known(alloc, scope, subject)?;
+    match scene_in(meaning) {
+        None => Ok(Found::Unread),
+        Some(scene) => {
+            if is_happening(predicate) {
+                Ok(Found::Read(Basic::Happens(scene)))
+            } else {
+                Ok(Found::Unread)
+            }
+        }
+    }
+}
+
+/// `E is E`, or else `S is happening`.
+fn from_numbers(
+    alloc: Global,
+    scope: &Scope<'_>,
+    subject: &[TextBytes],
+    predicate: &[TextBytes],
+) -> Result<Found<Basic>, AllocError>
+    requires few { length (scope_of scope.now).repeats ≤ 8 }
+    ensures { IfOk result (λ found. found_basic found ≡ from_numbers (scope_of scope.now) subject.now predicate.now) }
+{
+    let first = number_said(alloc, scope, subject)?;
+    let second = number_said(alloc, scope, predicate)?;
+    match of_numbers(first, second) {
+        Found::Unread => Ok(of_scene(alloc, scope, subject, predicate)?),
+        found => Ok(found),
+    }
+}
+
+/// What is asked without a `not` of its own.
+#[tactic(auto, unfolding(crate::specs::Asking::plain_said))]
+fn plain_said(
+    alloc: Global,
+    scope: &Scope<'_>,
+    subject: &[TextBytes],
+    predicate: &[TextBytes],
+) -> Result<Found<Basic>, AllocError>
+    requires few { length (scope_of scope.now).repeats ≤ 8 }
+    ensures { IfOk result (λ found. found_basic found ≡ plain_said (scope_of scope.now) subject.now predicate.now) }
+{
+    let object = object_said(alloc, scope, subject)?;
+    let said = predicate_said(alloc, scope, predicate)?;
+    match of_object(object, said) {
+        Found::Unread => Ok(from_numbers(alloc, scope, subject, predicate)?),
+        found => Ok(found),
+    }
+}
+
+/// A clause, perhaps with a `not`.
+pub fn clause(basic: Found<Basic>, denied: bool) -> Found<Clause>
+    ensures { found_clause result ≡ one (not_if denied) (found_basic basic) }
+{
+    match basic {
+        Found::Read(basic) => Found::Read(Clause { basic, denied }),
+        Found::TooMany => Found::TooMany,
+        Found::Unread => Found::Unread,
+    }
+}
+
+/// The words behind `not`.
+pub fn behind_not(words: &[TextBytes]) -> Option<&[TextBytes]>
+    ensures { option_map (λ rest. rest.now) result ≡ behind_not words.now }
+{
+    match words {
+        [] => None,
+        [word, rest @ ..] => { if is_not(word) { Some(rest) } else { None } }
+    }
+}
+
+/// `is not` in front of what is asked plainly.
+fn denied_by(
+    alloc: Global,
+    scope: &Scope<'_>,
+    subject: &[TextBytes],
+    predicate: &[TextBytes],
+) -> Result<Found<Clause>, AllocError>
+    requires few { length (scope_of scope.now).repeats ≤ 8 }
+    ensures { IfOk result (λ found. found_clause found ≡ denied_by (scope_of scope.now) subject.now (behind_not predicate.now)) }
+{
+    match behind_not(predicate) {
+        None => Ok(Found::Unread),
+        Some(rest) => {
+            let found = plain_said(alloc, scope, subject, rest)?;
+            Ok(clause(found, true))
+        }
+    }
+}
+
+/// A number compared with another.
+fn compared_by(
+    alloc: Global,
+    scope: &Scope<'_>,
+    subject: &[TextBytes],
+    predicate: &[TextBytes],
+) -> Result<Found<Clause>, AllocError>
+    requires few { length (scope_of scope.now).repeats ≤ 8 }
+    ensures { IfOk result (λ found. found_clause found ≡ compared_by (scope_of scope.now) subject.now (comparison_at predicate.now)) }
+{
+    match comparison_at(predicate) {
+        None => Ok(Found::Unread),
+        Some((how, words)) => {
+            let first = number_said(alloc, scope, subject)?;
+            let second = number_said(alloc, scope, words)?;
+            Ok(clause(of_compared(how, first, second), false))
+        }
+    }
+}
+
+/// What is denied, or else compared.
+fn from_denied(
+    alloc: Global,
+    scope: &Scope<'_>,
+    subject: &[TextBytes],
+    predicate: &[TextBytes],
+) -> Result<Found<Clause>, AllocError>
+    requires few { length (scope_of scope.now).repeats ≤ 8 }
+    ensures { IfOk result (λ found. found_clause found ≡ from_denied (scope_of scope.now) subject.now predicate.now) }
+{
+    match denied_by(alloc, scope, subject, predicate)? {
+        Found::Unread => Ok(compared_by(alloc, scope, subject, predicate)?),
+        found => Ok(found),
+    }
+}
+
+/// What a clause asks, by the words in front of its `is` and those behind it.
+#[tactic(auto, unfolding(crate::specs::Asking::asked_by))]
+pub fn asked_by(
+    alloc: Global,
+    scope: &Scope<'_>,
+    subject: &[TextBytes],
+    predicate: &[TextBytes],
+) -> Result<Found<Clause>, AllocError>
+    requires few { length (scope_of scope.now).repeats ≤ 8 }
+    ensures { IfOk result (λ found. found_clause found ≡ asked_by (scope_of scope.now) subject.now predicate.now) }
+{
+    match clause(plain_said(alloc, scope, subject, predicate)?, false) {
+        Found::Unread => Ok(from_denied(alloc, scope, subject, predicate)?),
+        found => Ok(found),
+    }
+}

@@ -1,0 +1,43 @@
+//! What the words of rules and descriptions mean once names are known: objects, descriptions, numbers and conditions, as
+//! the trees of `play_meaning`.
+#![tactic(auto)]
+
+mod adjective;
+mod asking;
+mod clause;
+mod comparison;
+mod description;
+mod doing;
+mod found;
+mod front;
+mod joining;
+mod key;
+mod line;
+mod literal;
+mod mark;
+mod meaning;
+mod names;
+mod nesting;
+mod number;
+mod object;
+mod operator;
+mod part;
+mod plain;
+mod predicate;
+mod relation;
+mod run;
+mod scope;
+mod term;
+mod verb;
+mod word;
+
+pub use clause::clause_of;
+pub use description::{description_of, one_description_is_meant};
+pub use found::Found;
+pub use line::{Line, Step};
+pub use meaning::Meaning;
+pub use names::Names;
+pub use nesting::{nest, one_body_is_nested};
+pub use number::{number_of, one_number_is_meant};
+pub use object::{object_of, one_object_is_meant};
+pub use scope::Scope;

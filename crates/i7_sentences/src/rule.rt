@@ -1,0 +1,82 @@
+//! Rules as their sentences say them, the words in them not yet resolved.
+ghost use Rattle.std.specs.Prelude.{◌≡◌};
+
+use crate::{Spoken, WordList};
+use std::marker::Model;
+use world_meaning::Fault;
+
+/// The book that a rule's head names.
+#[derive(Debug, Drop)]
+pub enum RuleBook {
+    /// `every turn`
+    EveryTurn,
+    /// `when play begins`
+    PlayBegins,
+    /// `a cleanup rule`: the words between the free article and `rule`
+    Own(WordList),
+}
+
+/// A phrase of a rule's body.
+#[derive(Debug, Drop)]
+pub struct RulePhrase {
+    /// The line of its first token, counted from 1.
+    pub line: u32,
+    /// How many blocks stand around it. What belongs to an `if`, an `otherwise` or a `repeat` stands right
+    /// behind it and is deeper; an `otherwise` stands as deep as its `if`.
+    pub depth: usize,
+    pub said: Spoken,
+    /// Whether an `instead` closes it.
+    pub is_instead: bool,
+}
+
+/// The phrases of a rule's body, in order.
+#[derive(Debug, Drop)]
+pub struct RuleBody {
+    all: Vec<RulePhrase>,
+}
+
+impl Model for RuleBody {
+    ghost use Rattle.std.specs.Prelude.{List};
+    ghost use Rattle.i7_sentences.specs.declared.rule.RulePhrase.{RulePhrase};
+
+    ghost Value = { List RulePhrase };
+
+    ghost view = { λ body. body.all.items };
+}
+
+impl RuleBody {
+    /// These phrases.
+    pub(crate) fn new(all: Vec<RulePhrase>) -> RuleBody
+        ensures { result ≡ all.items }
+    {
+        RuleBody { all }
+    }
+
+    /// The phrases, in order.
+    pub fn as_slice(&self) -> &[RulePhrase]
+        ensures { result.now ≡ self.now }
+    {
+        self.all.as_slice()
+    }
+}
+
+/// A rule that a sentence says.
+#[derive(Debug, Drop)]
+pub struct Rule {
+    pub book: RuleBook,
+    /// The words behind `when`, which have the shape of a condition.
+    pub condition: Option<WordList>,
+    /// The words of `(this is the tidy rule)` between `the` and `rule`.
+    pub name: Option<WordList>,
+    pub body: RuleBody,
+}
+
+/// What a sentence is as a rule.
+#[derive(Debug, Drop)]
+pub enum RuleRead {
+    Says(Rule),
+    /// It isn't understood (C5), or a reserved word stands in a name (C6).
+    Refused(Fault),
+    /// It is no rule of a head that is read.
+    NoRule,
+}

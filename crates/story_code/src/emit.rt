@@ -1,0 +1,167 @@
+//! The codes of trees: of a rule's body, of a condition, of a description, each with the tests that it names.
+ghost use Rattle.std.specs.Prelude.{◌≡◌, ℕ, ◌∷◌, false, IfErr, IfOk};
+ghost use Rattle.object_words.specs.Mentions.{number_in};
+ghost use Rattle.play_meaning.specs.Meant.{body_meant, condition_meant, text_meant};
+ghost use Rattle.play_meaning.specs.TranslatedScripts.{description_part, test_part};
+ghost use Rattle.play_meaning.specs.Translation.{Part};
+ghost use Rattle.story_code.specs.Emits.{AreEmitted, AreSpelled, whole_body};
+ghost use Rattle.story_code.specs.Emitting.{can_say_all, emitted, nothing_from};
+
+use crate::emitting::condition::emit_condition;
+use crate::emitting::output::Output;
+use crate::emitting::phrase::emit_body;
+use crate::emitting::text::emit_text;
+use crate::encoding::spell;
+use object_words::Strings;
+use play_meaning::Instruction;
+use play_meaning::tree::{Condition, Phrase, Text};
+use std::alloc::{AllocError, Global};
+use thiserror::Error;
+use world_meaning::{Listed, TextBytes};
+
+/// Why no codes were emitted.
+#[derive(Clone, Copy, Debug, Drop, PartialEq, Eq, Error)]
+pub enum EmitFault {
+    /// A code takes more than 65,535 bytes or opens more than nine loops, or a test's number takes more than two bytes.
+    #[error("too long")]
+    TooLong,
+    #[error("out of memory")]
+    Memory,
+}
+
+/// The bytes of the code of a rule's body, and behind it those of the tests that it names, which are numbered from `first`
+/// on. Each string goes by its number among `strings`.
+///
+/// # Errors
+///
+/// `TooLong` only where bytes can't say the codes, and `Memory`.
+pub fn body_codes(
+    alloc: Global,
+    strings: &Strings,
+    first: u16,
+    body: &[Phrase],
+) -> Result<Vec<TextBytes>, EmitFault>
+    ensures codes { IfOk result (λ codes. AreEmitted (whole_body (number_in strings.now) (body_meant body.now) first 0) codes.items) }
+    ensures too_long { IfErr result (λ fault. fault ≡ EmitFault.TooLong → can_say_all (whole_body (number_in strings.now) (body_meant body.now) first 0) ≡ false) }
+{
+    let Ok(out) = body_output(alloc, strings, first, body) else {
+        return Err(EmitFault::Memory);
+    };
+    finish(alloc, &out)
+}
+
+/// The bytes of the code that answers a condition, and behind it those of the tests that it names, which are numbered from
+/// `first` on.
+///
+/// # Errors
+///
+/// `TooLong` only where bytes can't say the codes, and `Memory`.
+pub fn condition_codes(
+    alloc: Global,
+    first: u16,
+    condition: &Condition,
+) -> Result<Vec<TextBytes>, EmitFault>
+    ensures codes { IfOk result (λ codes. AreEmitted (test_part (condition_meant condition.now) first 0) codes.items) }
+    ensures too_long { IfErr result (λ fault. fault ≡ EmitFault.TooLong → can_say_all (test_part (condition_meant condition.now) first 0) ≡ false) }
+{
+    let Ok(out) = condition_output(alloc, first, condition) else {
+        return Err(EmitFault::Memory);
+    };
+    finish(alloc, &out)
+}
+
+/// The bytes of the code that says a description, and behind it those of the tests that it names, which are numbered from
+/// `first` on. Each string goes by its number among `strings`.
+///
+/// # Errors
+///
+/// `TooLong` only where bytes can't say the codes, and `Memory`.
+pub fn description_codes(
+    alloc: Global,
+    strings: &Strings,
+    first: u16,
+    text: &Text,
+) -> Result<Vec<TextBytes>, EmitFault>
+    ensures codes { IfOk result (λ codes. AreEmitted (description_part (number_in strings.now) (text_meant text.now) first 0) codes.items) }
+    ensures too_long { IfErr result (λ fault. fault ≡ EmitFault.TooLong → can_say_all (description_part (number_in strings.now) (text_meant text.now) first 0) ≡ false) }
+{
+    let Ok(out) = description_output(alloc, strings, first, text) else {
+        return Err(EmitFault::Memory);
+    };
+    finish(alloc, &out)
+}
+
+/// What is emitted of a rule's body, its end included.
+#[tactic(auto, using(crate::proofs::Followed::emitted_seq))]
+fn body_output(
+    alloc: Global,
+    strings: &Strings,
+    first: u16,
+    body: &[Phrase],
+) -> Result<Output, AllocError>
+    ensures { IfOk result (λ out. out ≡ emitted (nothing_from first) (whole_body (number_in strings.now) (body_meant body.now))) }
+{
+    let mut out = Output::new(alloc, first);
+    emit_body(alloc, &mut out, strings, 0, body)?;
+    out.push(Instruction::Done)?;
+    Ok(out)
+}
+
+/// What is emitted of a condition, its answer included.
+#[tactic(auto, using(crate::proofs::Followed::emitted_seq))]
+fn condition_output(alloc: Global, first: u16, condition: &Condition) -> Result<Output, AllocError>
+    ensures { IfOk result (λ out. out ≡ emitted (nothing_from first) (test_part (condition_meant condition.now))) }
+{
+    let mut out = Output::new(alloc, first);
+    emit_condition(alloc, &mut out, 0, condition)?;
+    out.push(Instruction::Answer)?;
+    Ok(out)
+}
+
+/// What is emitted of a description, its end included.
+#[tactic(auto, using(crate::proofs::Followed::emitted_seq))]
+fn description_output(
+    alloc: Global,
+    strings: &Strings,
+    first: u16,
+    text: &Text,
+) -> Result<Output, AllocError>
+    ensures { IfOk result (λ out. out ≡ emitted (nothing_from first) (description_part (number_in strings.now) (text_meant text.now))) }
+{
+    let mut out = Output::new(alloc, first);
+    emit_text(alloc, &mut out, strings, 0, text)?;
+    out.push(Instruction::Done)?;
+    Ok(out)
+}
+
+/// The bytes of what was emitted, whatever it was.
+fn finish(alloc: Global, out: &Output) -> Result<Vec<TextBytes>, EmitFault>
+    ensures codes { (first : ℕ) (part : Part) → out.now ≡ emitted (nothing_from first) part → IfOk result (λ codes. AreEmitted (part first 0) codes.items) }
+    ensures too_long { (first : ℕ) (part : Part) → out.now ≡ emitted (nothing_from first) part → IfErr result (λ fault. fault ≡ EmitFault.TooLong → can_say_all (part first 0) ≡ false) }
+{
+    let Some((code, tests)) = out.kept() else {
+        return Err(EmitFault::TooLong);
+    };
+    match spell_all(alloc, code, tests) {
+        Ok(codes) => Ok(codes),
+        Err(_) => Err(EmitFault::Memory),
+    }
+}
+
+/// The bytes of a code, and of others.
+fn spell_all(
+    alloc: Global,
+    code: &[Instruction],
+    tests: &[Listed<Instruction>],
+) -> Result<Vec<TextBytes>, AllocError>
+    ensures { IfOk result (λ bytes. AreSpelled bytes.items (code.now ∷ tests.now)) }
+{
+    let mut all = Vec::new(alloc);
+    all.push(TextBytes::new(spell(alloc, code)?))?;
+    let mut rest = tests;
+    while let [test, after @ ..] = rest {
+        all.push(TextBytes::new(spell(alloc, test.as_slice())?))?;
+        rest = after;
+    }
+    Ok(all)
+}
