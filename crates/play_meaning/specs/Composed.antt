@@ -19,7 +19,7 @@ branch_rows n end_of-Branch others = refl
 branch_rows n (more_of-Branch condition m phrases rest) others =
     ap (λ x. tree.Then (tree.If (condition_meant condition) (row_meant phrases) x) tree.End) (branch_rows _ rest others)
     ∙ ap (λ x. tree.Then (tree.If (condition_meant condition) x (branches_meant (items-the_row-Branch _ rest) others)) tree.End)
-        (row_is_body _ phrases ∙ sym (ap body_meant (items_shown-the_row-Phrase-0 m phrases)))
+    (row_is_body _ phrases ∙ sym (ap body_meant (items_shown-the_row-Phrase-0 m phrases)))
 
 abbrev first_row : Phrase → (n : Count) × Row_of-Phrase n
 first_row (phrase.If' condition _ phrases _ branches _ others) = (_, phrases)
@@ -42,13 +42,13 @@ if_meant p first v w a b is is_a is_b =
     let branches = branch_row (phrase.If first v w) in
     ap (λ a. tree.If (condition_meant first.condition) (body_meant first.phrases.items) (branches_meant a (body_meant b))) (is_a ∙ sym (items_hidden-the_row-Branch-1 v))
     ∙ ap (λ b. tree.If (condition_meant first.condition) (body_meant first.phrases.items) (branches_meant (items-the_row-Branch branches.0 branches.1) (body_meant b)))
-        (is_b ∙ sym (items_hidden-the_row-Phrase-0 w))
+    (is_b ∙ sym (items_hidden-the_row-Phrase-0 w))
     ∙ ap (λ c. tree.If (condition_meant first.condition) (body_meant c) (branches_meant (items-the_row-Branch branches.0 branches.1) (body_meant (items-the_row-Phrase other.0 other.1))))
-        (sym (items_hidden-the_row-Phrase-0 first.phrases))
+    (sym (items_hidden-the_row-Phrase-0 first.phrases))
     ∙ ap (λ x. tree.If (condition_meant first.condition) x (branches_meant (items-the_row-Branch branches.0 branches.1) (body_meant (items-the_row-Phrase other.0 other.1))))
-        (sym (row_is_body done.0 done.1))
+    (sym (row_is_body done.0 done.1))
     ∙ ap (λ x. tree.If (condition_meant first.condition) (row_meant done.1) (branches_meant (items-the_row-Branch branches.0 branches.1) x))
-        (sym (row_is_body other.0 other.1))
+    (sym (row_is_body other.0 other.1))
     ∙ ap (λ x. tree.If (condition_meant first.condition) (row_meant done.1) x) (sym (branch_rows branches.0 branches.1 (row_meant other.1)))
     ∙ ap phrase_meant (sym is)
 
