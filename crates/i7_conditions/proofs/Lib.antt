@@ -2,6 +2,7 @@ mod Alone
 mod Asked
 mod Chains
 mod Columns
+mod Conjoined
 mod Counting
 mod Cutting
 mod Described

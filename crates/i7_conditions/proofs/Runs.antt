@@ -1,9 +1,9 @@
 -- Words cut at their first `from`.
-use Rattle.std.proofs.Common.{◌≡◌, ℕ, ◌+◌, ◌<◌, ◌≤◌, Bool, List, [], ◌∷◌, ◌++◌, length, take, drop, refl, ◌∙◌, append_assoc, arith, inl, inr}
+use Rattle.std.proofs.Common.{◌≡◌, ℕ, ◌+◌, ◌<◌, ◌≤◌, Bool, List, [], ◌∷◌, ◌++◌, length, take, drop, refl, sym, ap, ◌∙◌, append_assoc, arith, inl, inr}
 use Rattle.std.specs.Prelude.{flat_map}
 use Rattle.std.specs.List.{position_or_len, slice_split}
 use Rattle.std.proofs.lemmas.List.Splits.{slice_split_first, slice_split-cons_no}
-use Rattle.std.proofs.lemmas.List.{append-nil, drop-drop, length-drop}
+use Rattle.std.proofs.lemmas.List.{append-nil, drop-drop, length-drop, take_all}
 use Rattle.world_meaning.proofs.Bools.{either}
 
 split_whole : {A : Type 0} (p : A → Bool) (xs : List A) → length xs ≤ position_or_len p xs → slice_split p xs ≡ xs ∷ []
@@ -37,3 +37,6 @@ pub flat_last : {A B : Type 0} (f : A → List B) (before more : List B) (parts 
 flat_last f before more parts part e m = rw (e, append-nil) m
 
 pub ruleset run_steps = (flat_more, flat_last)
+
+pub no_cut : {A : Type 0} (p : A → Bool) (xs front : List A) (n : ℕ) → n ≡ position_or_len p xs → length xs ≤ n → front ≡ take n xs → slice_split p xs ≡ front ∷ []
+no_cut p xs front n e le f = split_whole p xs (omega arith) ∙ ap (λ part. part ∷ []) (sym (f ∙ take_all n xs le))

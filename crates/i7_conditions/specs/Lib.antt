@@ -2,6 +2,8 @@ pub mod Adjectives
 pub mod Asking
 pub mod ClauseForms
 pub mod Clauses
+pub mod Conditions
+pub mod Conjoining
 pub mod Cuts
 pub mod Descriptions
 pub mod Describing

@@ -93,7 +93,7 @@ fn asked_in(
 
 /// What a clause asks.
 #[tactic(auto, unfolding(crate::specs::ClauseForms::clause_said))]
-fn clause_said(
+pub fn clause_said(
     alloc: Global,
     scope: &Scope<'_>,
     words: &[TextBytes],
