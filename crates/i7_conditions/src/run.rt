@@ -1,11 +1,10 @@
 //! Words that name an object as openings and names, in their order: of `the room north from the Hall` they are an opening,
 //! `north` and `the Hall`.
-ghost use Rattle.std.specs.Prelude.{◌≡◌, ◌≤◌, ◌<◌, ◌++◌, ◌∷◌, [], length, option_map, IfOk, MatchOption, OnOk};
-ghost use Rattle.std.specs.List.{position_or_len, slice_split};
+ghost use Rattle.std.specs.Prelude.{◌≡◌, ◌≤◌, ◌++◌, length, option_map, IfOk, OnOk};
 ghost use Rattle.i7_conditions.specs.Marks.{has_from, mark_named, marks_beyond, marks_in, marks_of, opened, opening, run_marks, split_opening};
 ghost use Rattle.i7_conditions.specs.Scopes.{scope_of};
-ghost use Rattle.i7_conditions.specs.Words.{is_from};
 
+use crate::joint::{Joint, cut};
 use crate::mark::Mark;
 use crate::plain::plainly_named;
 use crate::scope::Scope;
@@ -68,31 +67,7 @@ fn add_run(
     Ok(())
 }
 
-/// How many words stand in front of the first `from`.
-fn run_len(words: &[TextBytes]) -> usize
-    ensures place { result ≡ position_or_len is_from words.now }
-    ensures within { result ≤ length words.now }
-{
-    words.iter().take_while(|word| !is_from(*word)).count()
-}
-
-/// The words in front of the first `from`, and those behind it; none where there is none.
-fn first_run(words: &[TextBytes]) -> Option<(&[TextBytes], &[TextBytes])>
-    ensures { MatchOption result (slice_split is_from words.now ≡ words.now ∷ []) (λ parts.
-        (slice_split is_from words.now ≡ parts.0.now ∷ slice_split is_from parts.1.now) × (length parts.1.now < length words.now)) }
-{
-    let (front, rest) = words.split_at(run_len(words));
-    match rest {
-        [] => None,
-        [_, ..] => {
-            let (_, behind) = rest.split_at(1);
-            Some((front, behind))
-        }
-    }
-}
-
 /// Adds the marks of runs that are parted by `from`.
-#[tactic(auto, using(crate::proofs::Runs::run_steps))]
 fn add_runs(
     alloc: Global,
     scope: &Scope<'_>,
@@ -102,12 +77,14 @@ fn add_runs(
     requires few { length (scope_of scope.now).repeats ≤ 8 }
     ensures { OnOk result (marks.new.items ≡ marks.old.items ++ marks_in (scope_of scope.now) words.now) }
 {
-    let mut rest = words;
-    while let Some((run, behind)) = first_run(rest) {
+    let (first, mut behind) = cut(Joint::From, words);
+    add_run(alloc, scope, first, marks)?;
+    while let Some(rest) = behind {
+        let (run, after) = cut(Joint::From, rest);
         add_run(alloc, scope, run, marks)?;
-        rest = behind;
+        behind = after;
     }
-    add_run(alloc, scope, rest, marks)
+    Ok(())
 }
 
 /// The words behind the opening at the front of words that hold a `from`, and what it opens.
