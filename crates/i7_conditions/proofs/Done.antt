@@ -60,7 +60,7 @@ place_later : (s : Scope) (verb : Verb) (words : List Word) (start : ℕ) (found
 place_later s verb words start None never later = λ n le stands. not_at s verb words start never n le stands (λ more. later n more stands)
 place_later s verb words start (Some n) never later = (later.0, λ m le lt stands. not_at s verb words start never m le stands (λ more. later.1 m more lt stands))
 
-same_place : (words rest : List Word) (n : ℕ) (word other : Word) (more : List Word) → drop n words ≡ word ∷ rest → drop n words ≡ other ∷ more → (other ≡ word) × (more ≡ rest)
+pub same_place : (words rest : List Word) (n : ℕ) (word other : Word) (more : List Word) → drop n words ≡ word ∷ rest → drop n words ≡ other ∷ more → (other ≡ word) × (more ≡ rest)
 same_place words rest n word other more e f = let both : other ∷ more ≡ word ∷ rest = sym f ∙ e in (cc, cc)
 
 stands_here : (s : Scope) (verb : Verb) (words rest : List Word) (n : ℕ) (word : Word) → drop n words ≡ word ∷ rest → fits s verb words n word rest ≡ true → Stands s verb words n
@@ -143,7 +143,7 @@ three_long (a ∷ b ∷ []) e = absurd cc
 three_long (a ∷ b ∷ c ∷ []) e = refl
 three_long (a ∷ b ∷ c ∷ d ∷ words) e = absurd cc
 
-at_end : (words : List Word) (n : ℕ) → is_a_description (drop n words) ≡ true → n ≡ length words - 3
+pub at_end : (words : List Word) (n : ℕ) → is_a_description (drop n words) ≡ true → n ≡ length words - 3
 at_end words n e = omega (arith, three_long (drop n words) e, length-drop n words)
 
 text_as : (s : Scope) (words : List Word) (n : ℕ) → n ≡ length words - 3 → is_a_description (drop n words) ≡ true → (found : Found tree.Condition) → IsFoundAs (Made tree.HasDescription (Means s (take n words))) asks_over found

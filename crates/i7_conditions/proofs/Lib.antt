@@ -12,6 +12,7 @@ mod Kept
 mod Leveled
 mod Listing
 mod Nested
+mod Once
 mod Predicated
 mod Questions
 mod Readings

@@ -6,7 +6,8 @@ ghost use Rattle.i7_conditions.specs.Clauses.{asks_over};
 ghost use Rattle.i7_conditions.specs.Conditions.{IsCondition};
 ghost use Rattle.i7_conditions.specs.Conjoining.{condition_said, conjunction_said, found_condition, found_conjunction};
 ghost use Rattle.i7_conditions.specs.Readings.{IsFoundAs, two};
-ghost use Rattle.i7_conditions.specs.Scopes.{scope_of};
+ghost use Rattle.i7_conditions.specs.Scopes.{Scope as Names, scope_of};
+ghost use Rattle.i7_conditions.specs.Words.{Word};
 
 use crate::clause::clause_said;
 use crate::found::Found;
@@ -145,3 +146,8 @@ pub fn condition_of(
 {
     condition_said(alloc, scope, words)
 }
+
+/// Words ask one condition at most.
+pub fn one_condition_is_meant()
+    ensures { (s : Names) (words : List Word) (c d : tree.Condition) → IsCondition s words c → IsCondition s words d → c ≡ d }
+{}

@@ -34,7 +34,7 @@ mod verb;
 mod word;
 
 pub use clause::clause_of;
-pub use condition::condition_of;
+pub use condition::{condition_of, one_condition_is_meant};
 pub use description::{description_of, one_description_is_meant};
 pub use found::Found;
 pub use line::{Line, Step};
