@@ -27,7 +27,7 @@ number_as s words (Read m) h = h
 number_as s words TooMany h = h
 number_as s words Unread h = λ m counts. h m (counted s words m counts)
 
-number_found : (s : Scope) (words : List Word) → IsFoundAs (CountsAs s words) is_over (number_said s words)
+pub number_found : (s : Scope) (words : List Word) → IsFoundAs (CountsAs s words) is_over (number_said s words)
 number_found s words = number_as s words (number_said s words) (numbers_found s words (number_said s words) refl)
 
 -- ---- without a `not` of its own

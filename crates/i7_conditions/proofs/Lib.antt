@@ -1,5 +1,5 @@
 mod Alone
-mod Asked
+pub mod Asked
 mod Chains
 mod Columns
 mod Conjoined
@@ -10,10 +10,10 @@ mod Digits
 mod Done
 mod Kept
 mod Leveled
-mod Listing
+pub mod Listing
 mod Nested
 mod Once
-mod Predicated
+pub mod Predicated
 mod Questions
 mod Readings
 mod Runs

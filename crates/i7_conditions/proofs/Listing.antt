@@ -1,5 +1,6 @@
 -- What is found of readings, from what is found of their parts.
 use Rattle.std.proofs.Common.{◌≡◌, ◌⊎◌, Bool, true, false, ◌||◌, refl, sym, ap, ◌∙◌, subst, inl, inr}
+use Rattle.std.specs.Prelude.{Option, None, Some}
 use Rattle.i7_conditions.specs.Readings.{FirstOf, IsFoundAs, one, or_else, two}
 use Rattle.i7_conditions.specs.declared.found.Found.{Found}
 use Rattle.i7_conditions.specs.declared.found.Found.TheVariants.{Read, TooMany, Unread}
@@ -43,6 +44,21 @@ two_found make First Second fst snd is_over same TooMany TooMany h k = (make h.0
 two_found make First Second fst snd is_over same TooMany Unread h k = λ c made. k made.1 made.3
 two_found make First Second fst snd is_over same Unread b h k = λ c made. h made.0 made.2
 
+-- what is made of what stands there
+abbrev pub MadeAt : {A C : Type 0} → Option A → (A → C → Type 0) → C → Type 0
+MadeAt {A} found Makes c = (x : A) × (found ≡ Some x) × Makes x c
+
+pub none_found : {A C : Type 0} (found : Option A) (Makes : A → C → Type 0) (over : C → Bool) → found ≡ None → IsFoundAs (MadeAt found Makes) over Unread
+none_found found Makes over e = λ c made. let same : None ≡ Some made.0 = sym e ∙ made.1 in absurd cc
+
+pub some_found : {A C : Type 0} (found : Option A) (Makes : A → C → Type 0) (over : C → Bool) (x : A) → found ≡ Some x → (answer : Found C) → IsFoundAs (Makes x) over answer → IsFoundAs (MadeAt found Makes) over answer
+some_found found Makes over x e (Read c) h = ((x, e, h.0), h.1)
+some_found found Makes over x e TooMany h = (h.0, (x, e, h.1), h.2)
+some_found {A} found Makes over x e Unread h = λ c made.
+    let both : Some made.0 ≡ Some x = sym made.1 ∙ e in
+    let one : made.0 ≡ x = cc in
+    h c (subst (λ (y : A). Makes y c) one made.2)
+
 -- ---- one reading
 
 abbrev pub IsOnce : {A : Type 0} → (A → Type 0) → Type 0
@@ -60,3 +76,9 @@ made_once make Means once c d a b = a.2 ∙ ap make (once a.0 b.0 a.1 b.1) ∙ s
 pub two_once : {A B C : Type 0} (make : A → B → C) (First : A → Type 0) (Second : B → Type 0) → IsOnce First → IsOnce Second → IsOnce (MadeOfTwo make First Second)
 two_once {A} {B} make First Second f s c d a b =
     a.4 ∙ ap (λ (x : A). make x a.1) (f a.0 b.0 a.2 b.2) ∙ ap (make b.0) (s a.1 b.1 a.3 b.3) ∙ sym b.4
+
+pub at_once : {A C : Type 0} (found : Option A) (Makes : A → C → Type 0) → ((x : A) → IsOnce (Makes x)) → IsOnce (MadeAt found Makes)
+at_once {A} found Makes once c d a b =
+    let both : Some a.0 ≡ Some b.0 = sym a.1 ∙ b.1 in
+    let one : a.0 ≡ b.0 = cc in
+    once a.0 c d a.2 (subst (λ (x : A). Makes x d) (sym one) b.2)

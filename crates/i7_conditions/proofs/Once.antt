@@ -26,18 +26,8 @@ use Rattle.i7_conditions.specs.declared.verb.Verb.TheVariants.{Carries, Encloses
 use Rattle.i7_conditions.proofs.Counting.{counted_once}
 use Rattle.i7_conditions.proofs.Described.{described_once}
 use Rattle.i7_conditions.proofs.Done.{at_end, same_place}
-use Rattle.i7_conditions.proofs.Listing.{IsOnce, Made, first_once, made_once, two_once}
+use Rattle.i7_conditions.proofs.Listing.{IsOnce, Made, at_once, first_once, made_once, two_once}
 use Rattle.i7_conditions.proofs.Readings.{meant_once}
-
--- what is made of what stands there
-abbrev MadeAt : {A C : Type 0} → Option A → (A → C → Type 0) → C → Type 0
-MadeAt {A} found Makes c = (x : A) × (found ≡ Some x) × Makes x c
-
-at_once : {A C : Type 0} (found : Option A) (Makes : A → C → Type 0) → ((x : A) → IsOnce (Makes x)) → IsOnce (MadeAt found Makes)
-at_once {A} found Makes once c d a b =
-    let both : Some a.0 ≡ Some b.0 = sym a.1 ∙ b.1 in
-    let one : a.0 ≡ b.0 = cc in
-    once a.0 c d a.2 (subst (λ (x : A). Makes x d) (sym one) b.2)
 
 -- ---- clauses with an `is`
 

@@ -1,0 +1,144 @@
+-- What phrases that change the world are found to do is what they do.
+use Rattle.std.proofs.Common.{◌≡◌, ℕ, Bool, true, false, ◌||◌, List, refl, sym, ap, ◌∙◌, subst, inl, inr}
+use Rattle.std.specs.Prelude.{Option, Some, None}
+use Rattle.world_meaning.proofs.Bools.{either}
+use Rattle.world_meaning.specs.declared.place.Rel.{Rel}
+use Rattle.play_meaning.specs.Meant.{by_operator}
+use Rattle.play_meaning.specs.Trees as tree
+use Rattle.play_meaning.specs.declared.tree.number.Operator.{Operator}
+use Rattle.play_meaning.specs.declared.tree.number.Operator.TheVariants.{Minus, Plus, Times}
+use Rattle.i7_conditions.specs.Adjectives.{adjective_named}
+use Rattle.i7_conditions.specs.Joining.{number_said}
+use Rattle.i7_conditions.specs.Keys.{property_named, split_of, variable_named}
+use Rattle.i7_conditions.specs.Numbers.{CountsAs}
+use Rattle.i7_conditions.specs.Objects.{Means}
+use Rattle.i7_conditions.specs.Predicates.{is_deep, object_said}
+use Rattle.i7_conditions.specs.Readings.{FirstOf, IsFoundAs, one, two}
+use Rattle.i7_conditions.specs.Relations.{relation_at}
+use Rattle.i7_conditions.specs.Scopes.{Scope}
+use Rattle.i7_conditions.specs.Terms.{is_over}
+use Rattle.i7_conditions.specs.Words.{Word}
+use Rattle.i7_conditions.specs.declared.found.Found.{Found}
+use Rattle.i7_conditions.specs.declared.found.Found.TheVariants.{Read, TooMany, Unread}
+use Rattle.i7_conditions.proofs.Asked.{number_found}
+use Rattle.i7_conditions.proofs.Listing.{Made, MadeAt, MadeOfTwo, none_found, one_found, or_found, some_found, two_found}
+use Rattle.i7_conditions.proofs.Predicated.{object_found}
+use Rattle.i7_phrases.specs.CellForms.{cell_said, property_by, property_said, variable_said}
+use Rattle.i7_phrases.specs.Cells.{Cell, IsCell, IsProperty, IsVariable, PropertyOf, Variable, read, set}
+use Rattle.i7_phrases.specs.ChangeForms.{added, adds_said, away_said, from_away, from_put, given_so, gives_said, held_so, made_so, moves_said, now_said, put_said, set_said, so_said}
+use Rattle.i7_phrases.specs.Changes.{Adds, Gives, MakesSo, Moves, Now, PutsIn, Sets, TakesAway, change_is_over, flag_of, is_nowhere}
+
+-- ---- what holds a number
+
+abbrev pub cell_is_over : Cell → Bool
+cell_is_over (Variable v) = false
+cell_is_over (PropertyOf p o) = is_deep o
+
+property_by_found : (s : Scope) (name object : List Word) (p : Option ℕ) → property_named s name ≡ p
+    → IsFoundAs (MadeAt (property_named s name) (λ (p : ℕ). Made (PropertyOf p) (Means s object))) cell_is_over (property_by s p object)
+property_by_found s name object None e = none_found (property_named s name) (λ (p : ℕ). Made (PropertyOf p) (Means s object)) cell_is_over e
+property_by_found s name object (Some p) e =
+    some_found (property_named s name) (λ (p : ℕ). Made (PropertyOf p) (Means s object)) cell_is_over p e (one (PropertyOf p) (object_said s object))
+    (one_found (PropertyOf p) (Means s object) is_deep cell_is_over (λ o. refl) (object_said s object) (object_found s object))
+
+abbrev Around : Type 0
+Around = List Word × List Word
+
+property_found : (s : Scope) (words : List Word) (parts : Option Around) → split_of words ≡ parts → IsFoundAs (IsProperty s words) cell_is_over (property_said s parts)
+property_found s words None e =
+    none_found (split_of words) (λ (parts : Around). MadeAt (property_named s parts.0) (λ (p : ℕ). Made (PropertyOf p) (Means s parts.1))) cell_is_over e
+property_found s words (Some parts) e =
+    some_found (split_of words) (λ (parts : Around). MadeAt (property_named s parts.0) (λ (p : ℕ). Made (PropertyOf p) (Means s parts.1))) cell_is_over parts e (property_said s (Some parts))
+    (property_by_found s parts.0 parts.1 (property_named s parts.0) refl)
+
+variable_found : (s : Scope) (words : List Word) (v : Option ℕ) → variable_named s words ≡ v → IsFoundAs (IsVariable s words) cell_is_over (variable_said v)
+variable_found s words None e = none_found (variable_named s words) (λ (v : ℕ) (cell : Cell). cell ≡ Variable v) cell_is_over e
+variable_found s words (Some v) e = ((v, e, refl), refl)
+
+cell_found : (s : Scope) (words : List Word) → IsFoundAs (IsCell s words) cell_is_over (cell_said s words)
+unfolding cell_said
+cell_found s words =
+    or_found (IsProperty s words) (IsVariable s words) cell_is_over (property_said s (split_of words)) (variable_said (variable_named s words)) (property_found s words (split_of words) refl)
+    (variable_found s words (variable_named s words) refl)
+
+-- ---- `now OBJECT is ..`
+
+so_found : (s : Scope) (subject behind : List Word) (flag : Option (ℕ × Bool)) → flag_of (adjective_named s behind) ≡ flag → IsFoundAs (MakesSo s subject behind) change_is_over (so_said s subject flag)
+so_found s subject behind None e = none_found (flag_of (adjective_named s behind)) (λ (flag : ℕ × Bool). Made (made_so flag) (Means s subject)) change_is_over e
+so_found s subject behind (Some flag) e =
+    some_found (flag_of (adjective_named s behind)) (λ (flag : ℕ × Bool). Made (made_so flag) (Means s subject)) change_is_over flag e (one (made_so flag) (object_said s subject))
+    (one_found (made_so flag) (Means s subject) is_deep change_is_over (λ o. refl) (object_said s subject) (object_found s subject))
+
+abbrev Place : Type 0
+Place = Rel × List Word
+
+put_found : (s : Scope) (subject behind : List Word) (place : Option Place) → relation_at behind ≡ place → IsFoundAs (PutsIn s subject behind) change_is_over (put_said s subject place)
+put_found s subject behind None e = none_found (relation_at behind) (λ (place : Place). MadeOfTwo (held_so place.0) (Means s subject) (Means s place.1)) change_is_over e
+put_found s subject behind (Some place) e =
+    some_found (relation_at behind) (λ (place : Place). MadeOfTwo (held_so place.0) (Means s subject) (Means s place.1)) change_is_over place e (put_said s subject (Some place))
+    (two_found (held_so place.0) (Means s subject) (Means s place.1) is_deep is_deep change_is_over (λ o h. refl) (object_said s subject) (object_said s place.1) (object_found s subject) (object_found s place.1))
+
+away_if : (s : Scope) (subject behind : List Word) (found : Found tree.Phrase) → is_nowhere behind ≡ true → IsFoundAs (Made tree.NowNowhere (Means s subject)) change_is_over found → IsFoundAs (TakesAway s subject behind) change_is_over found
+away_if s subject behind (Read p) is h = ((is, h.0), h.1)
+away_if s subject behind TooMany is h = (h.0, (is, h.1), h.2)
+away_if s subject behind Unread is h = λ p takes. h p takes.1
+
+away_found : (s : Scope) (subject behind : List Word) → IsFoundAs (TakesAway s subject behind) change_is_over (away_said s subject behind)
+away_found s subject behind =
+    elim (either (is_nowhere behind)) [
+      | inl is ↦ rw is (away_if s subject behind (one tree.NowNowhere (object_said s subject)) is (one_found tree.NowNowhere (Means s subject) is_deep change_is_over (λ o. refl) (object_said s subject) (object_found s subject)))
+      | inr isnt ↦ rw isnt (λ p takes. let is = takes.0 in absurd cc)
+    ]
+
+over_set : (cell : Cell) (n : tree.Number) → change_is_over (set cell n) ≡ (cell_is_over cell || is_over n)
+over_set (Variable v) n = refl
+over_set (PropertyOf p o) n = refl
+
+set_found : (s : Scope) (subject behind : List Word) → IsFoundAs (Sets s subject behind) change_is_over (set_said s subject behind)
+set_found s subject behind =
+    two_found set (IsCell s subject) (CountsAs s behind) cell_is_over is_over change_is_over over_set (cell_said s subject) (number_said s behind) (cell_found s subject) (number_found s behind)
+
+pub now_found : (s : Scope) (subject behind : List Word) → IsFoundAs (Now s subject behind) change_is_over (now_said s subject behind)
+unfolding now_said
+now_found s subject behind =
+    or_found (MakesSo s subject behind) (FirstOf (PutsIn s subject behind) (FirstOf (TakesAway s subject behind) (Sets s subject behind))) change_is_over (so_said s subject (flag_of (adjective_named s behind)))
+    (from_put s subject behind) (so_found s subject behind (flag_of (adjective_named s behind)) refl)
+    (or_found (PutsIn s subject behind) (FirstOf (TakesAway s subject behind) (Sets s subject behind)) change_is_over (put_said s subject (relation_at behind)) (from_away s subject behind)
+    (put_found s subject behind (relation_at behind) refl)
+    (or_found (TakesAway s subject behind) (Sets s subject behind) change_is_over (away_said s subject behind) (set_said s subject behind) (away_found s subject behind) (set_found s subject behind)))
+
+-- ---- the others
+
+or_swapped : (a b : Bool) → (b || a) ≡ (a || b)
+or_swapped true true = refl
+or_swapped true false = refl
+or_swapped false true = refl
+or_swapped false false = refl
+
+pub gives_found : (relation : Rel) (s : Scope) (holder thing : List Word) → IsFoundAs (Gives relation s holder thing) change_is_over (gives_said relation s holder thing)
+unfolding gives_said
+gives_found relation s holder thing =
+    two_found (given_so relation) (Means s holder) (Means s thing) is_deep is_deep change_is_over (λ h o. or_swapped (is_deep h) (is_deep o)) (object_said s holder) (object_said s thing) (object_found s holder) (object_found s thing)
+
+pub moves_found : (s : Scope) (thing holder : List Word) → IsFoundAs (Moves s thing holder) change_is_over (moves_said s thing holder)
+unfolding moves_said
+moves_found s thing holder =
+    two_found tree.Move (Means s thing) (Means s holder) is_deep is_deep change_is_over (λ o h. refl) (object_said s thing) (object_said s holder) (object_found s thing) (object_found s holder)
+
+or_twice : (a b : Bool) → (a || (a || b)) ≡ (a || b)
+or_twice true b = refl
+or_twice false b = refl
+
+over_joined : (operator : Operator) (m n : tree.Number) → is_over (by_operator operator m n) ≡ (is_over m || is_over n)
+over_joined Plus m n = refl
+over_joined Minus m n = refl
+over_joined Times m n = refl
+
+over_added : (operator : Operator) (cell : Cell) (n : tree.Number) → change_is_over (added operator cell n) ≡ (cell_is_over cell || is_over n)
+over_added operator (Variable v) n = over_joined operator (tree.Variable v) n
+over_added operator (PropertyOf p o) n = ap (λ (b : Bool). is_deep o || b) (over_joined operator (tree.PropertyOf p o) n) ∙ or_twice (is_deep o) (is_over n)
+
+pub adds_found : (operator : Operator) (s : Scope) (value amount : List Word) → IsFoundAs (Adds operator s value amount) change_is_over (adds_said operator s value amount)
+unfolding adds_said
+adds_found operator s value amount =
+    two_found (added operator) (IsCell s value) (CountsAs s amount) cell_is_over is_over change_is_over (over_added operator) (cell_said s value) (number_said s amount) (cell_found s value) (number_found s amount)

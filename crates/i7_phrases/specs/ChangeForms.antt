@@ -1,0 +1,75 @@
+-- What phrases that change the world do, by their words: one form after the other is tried.
+use Rattle.std.specs.Prelude.{ℕ, Bool, List, Option, None, Some, if◌then◌else◌}
+use Rattle.world_meaning.specs.declared.place.Rel.{Rel}
+use Rattle.play_meaning.specs.Meant.{by_operator, simple_meant}
+use Rattle.play_meaning.specs.Trees as tree
+use Rattle.play_meaning.specs.declared.tree.number.Operator.{Operator}
+use Rattle.play_meaning.specs.declared.tree.phrase.Simple.{Simple}
+use Rattle.i7_conditions.specs.Adjectives.{adjective_named}
+use Rattle.i7_conditions.specs.Joining.{number_said}
+use Rattle.i7_conditions.specs.Predicates.{object_said}
+use Rattle.i7_conditions.specs.Readings.{one, or_else, two}
+use Rattle.i7_conditions.specs.Relations.{relation_at}
+use Rattle.i7_conditions.specs.Scopes.{Scope}
+use Rattle.i7_conditions.specs.Words.{Word}
+use Rattle.i7_conditions.specs.declared.found.Found.{Found}
+use Rattle.i7_conditions.specs.declared.found.Found.TheVariants.{Read, TooMany, Unread}
+use Rattle.i7_phrases.specs.CellForms.{cell_said}
+use Rattle.i7_phrases.specs.Cells.{Cell, read, set}
+use Rattle.i7_phrases.specs.Changes.{flag_of, is_nowhere}
+
+abbrev pub found_simple : Found Simple → Found tree.Phrase
+found_simple (Read phrase) = Read (simple_meant phrase)
+found_simple TooMany = TooMany
+found_simple Unread = Unread
+
+-- what is done with an object
+abbrev pub made_so : ℕ × Bool → tree.Object → tree.Phrase
+made_so flag o = tree.NowIs o flag.0 flag.1
+
+abbrev pub held_so : Rel → tree.Object → tree.Object → tree.Phrase
+held_so relation o holder = tree.NowHeld o relation holder
+
+abbrev pub given_so : Rel → tree.Object → tree.Object → tree.Phrase
+given_so relation holder o = tree.NowHeld o relation holder
+
+-- what is done with what holds a number
+abbrev pub added : Operator → Cell → tree.Number → tree.Phrase
+added operator cell n = set cell (by_operator operator (read cell) n)
+
+-- ---- `now OBJECT is ..`
+
+abbrev pub so_said : Scope → List Word → Option (ℕ × Bool) → Found tree.Phrase
+so_said s subject None = Unread
+so_said s subject (Some flag) = one (made_so flag) (object_said s subject)
+
+abbrev pub put_said : Scope → List Word → Option (Rel × List Word) → Found tree.Phrase
+put_said s subject None = Unread
+put_said s subject (Some place) = two (held_so place.0) (object_said s subject) (object_said s place.1)
+
+abbrev pub away_said : Scope → List Word → List Word → Found tree.Phrase
+away_said s subject behind = if is_nowhere behind then one tree.NowNowhere (object_said s subject) else Unread
+
+abbrev pub set_said : Scope → List Word → List Word → Found tree.Phrase
+set_said s subject behind = two set (cell_said s subject) (number_said s behind)
+
+-- the forms from one of the list on
+abbrev pub from_away : Scope → List Word → List Word → Found tree.Phrase
+from_away s subject behind = or_else (away_said s subject behind) (set_said s subject behind)
+
+abbrev pub from_put : Scope → List Word → List Word → Found tree.Phrase
+from_put s subject behind = or_else (put_said s subject (relation_at behind)) (from_away s subject behind)
+
+unfoldable pub now_said : Scope → List Word → List Word → Found tree.Phrase
+now_said s subject behind = or_else (so_said s subject (flag_of (adjective_named s behind))) (from_put s subject behind)
+
+-- ---- the others
+
+unfoldable pub gives_said : Rel → Scope → List Word → List Word → Found tree.Phrase
+gives_said relation s holder thing = two (given_so relation) (object_said s holder) (object_said s thing)
+
+unfoldable pub moves_said : Scope → List Word → List Word → Found tree.Phrase
+moves_said s thing holder = two tree.Move (object_said s thing) (object_said s holder)
+
+unfoldable pub adds_said : Operator → Scope → List Word → List Word → Found tree.Phrase
+adds_said operator s value amount = two (added operator) (cell_said s value) (number_said s amount)

@@ -1,0 +1,88 @@
+-- What phrases that change the world do (*Writing with Inform*, chapters 8 and 15): `now`, `move`, `increase`, `decrease`.
+use Rattle.std.specs.Prelude.{◌≡◌, ℕ, Bool, true, false, not, ◌||◌, List, [], ◌∷◌, Option, None, Some, codes}
+use Rattle.world_meaning.specs.Spelling.{is_spelled}
+use Rattle.world_meaning.specs.declared.place.Rel.{Rel}
+use Rattle.play_meaning.specs.Meant.{by_operator}
+use Rattle.play_meaning.specs.Trees as tree
+use Rattle.play_meaning.specs.declared.tree.number.Operator.{Operator}
+use Rattle.play_meaning.specs.declared.tree.object.Adjective.{Adjective}
+use Rattle.play_meaning.specs.declared.tree.object.Quality.{Quality}
+use Rattle.play_meaning.specs.declared.tree.object.Quality.TheVariants.{Is, Touchable, Visible}
+use Rattle.play_meaning.specs.declared.tree.object.Side.{Side}
+use Rattle.play_meaning.specs.declared.tree.object.Side.TheVariants.{First, Second}
+use Rattle.i7_conditions.specs.Adjectives.{adjective_named}
+use Rattle.i7_conditions.specs.Numbers.{CountsAs}
+use Rattle.i7_conditions.specs.Objects.{Means}
+use Rattle.i7_conditions.specs.Predicates.{is_deep}
+use Rattle.i7_conditions.specs.Readings.{FirstOf}
+use Rattle.i7_conditions.specs.Relations.{relation_at}
+use Rattle.i7_conditions.specs.Scopes.{Scope}
+use Rattle.i7_conditions.specs.Terms.{is_over}
+use Rattle.i7_conditions.specs.Words.{Word}
+use Rattle.i7_phrases.specs.Cells.{IsCell, read, set}
+
+-- ---- `now OBJECT is ..`
+
+-- a property's second name takes it away, and `not` turns that round
+abbrev pub value_by : Side → Bool → Bool
+value_by First denied = not denied
+value_by Second denied = denied
+
+-- the either-or property that an adjective names, and the value that it gives it; nothing is made visible
+abbrev pub flag_in : Quality → Bool → Option (ℕ × Bool)
+flag_in (Is property side) denied = Some (property, value_by side denied)
+flag_in Visible denied = None
+flag_in Touchable denied = None
+
+abbrev pub flag_of : Option Adjective → Option (ℕ × Bool)
+flag_of None = None
+flag_of (Some adjective) = flag_in adjective.quality adjective.denied
+
+abbrev pub MakesSo : Scope → List Word → List Word → tree.Phrase → Type 0
+MakesSo s subject behind p = (flag : ℕ × Bool) × (flag_of (adjective_named s behind) ≡ Some flag) × ((o : tree.Object) × Means s subject o × (p ≡ tree.NowIs o flag.0 flag.1))
+
+-- `in the box`, `carried by Bob`
+abbrev pub PutsIn : Scope → List Word → List Word → tree.Phrase → Type 0
+PutsIn s subject behind p =
+    (place : Rel × List Word) × (relation_at behind ≡ Some place) × ((o : tree.Object) × (holder : tree.Object) × Means s subject o × Means s place.1 holder × (p ≡ tree.NowHeld o place.0 holder))
+
+abbrev pub is_nowhere : List Word → Bool
+is_nowhere [] = false
+is_nowhere (word ∷ []) = is_spelled word (codes "nowhere")
+is_nowhere (word ∷ other ∷ words) = false
+
+abbrev pub TakesAway : Scope → List Word → List Word → tree.Phrase → Type 0
+TakesAway s subject behind p = (is_nowhere behind ≡ true) × ((o : tree.Object) × Means s subject o × (p ≡ tree.NowNowhere o))
+
+abbrev pub Sets : Scope → List Word → List Word → tree.Phrase → Type 0
+Sets s subject behind p = (cell : _) × (n : tree.Number) × IsCell s subject cell × CountsAs s behind n × (p ≡ set cell n)
+
+-- what `now SUBJECT is ..` does
+abbrev pub Now : Scope → List Word → List Word → tree.Phrase → Type 0
+Now s subject behind = FirstOf (MakesSo s subject behind) (FirstOf (PutsIn s subject behind) (FirstOf (TakesAway s subject behind) (Sets s subject behind)))
+
+-- ---- the others
+
+-- `now HOLDER carries OBJECT`, `now HOLDER wears OBJECT`
+abbrev pub Gives : Rel → Scope → List Word → List Word → tree.Phrase → Type 0
+Gives relation s holder thing p = (h : tree.Object) × (o : tree.Object) × Means s holder h × Means s thing o × (p ≡ tree.NowHeld o relation h)
+
+-- `move OBJECT to HOLDER`
+abbrev pub Moves : Scope → List Word → List Word → tree.Phrase → Type 0
+Moves s thing holder p = (o : tree.Object) × (h : tree.Object) × Means s thing o × Means s holder h × (p ≡ tree.Move o h)
+
+-- `increase .. by ..`, `decrease .. by ..`
+abbrev pub Adds : Operator → Scope → List Word → List Word → tree.Phrase → Type 0
+Adds operator s value amount p = (cell : _) × (n : tree.Number) × IsCell s value cell × CountsAs s amount n × (p ≡ set cell (by_operator operator (read cell) n))
+
+-- ---- beyond the limits
+
+-- more than 9 adjectives, or more than 8 `from`s within one another
+abbrev pub change_is_over : tree.Phrase → Bool
+change_is_over (tree.NowIs o property value) = is_deep o
+change_is_over (tree.NowHeld o relation holder) = is_deep o || is_deep holder
+change_is_over (tree.NowNowhere o) = is_deep o
+change_is_over (tree.Move o holder) = is_deep o || is_deep holder
+change_is_over (tree.NowNumber property o n) = is_deep o || is_over n
+change_is_over (tree.NowVariable v n) = is_over n
+change_is_over _ = false

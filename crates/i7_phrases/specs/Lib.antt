@@ -1,0 +1,4 @@
+pub mod CellForms
+pub mod Cells
+pub mod ChangeForms
+pub mod Changes

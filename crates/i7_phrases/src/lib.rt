@@ -1,0 +1,7 @@
+//! What the phrases of rules do, once names are known, as the trees of `play_meaning`.
+#![tactic(auto)]
+
+mod adding;
+mod cell;
+mod change;
+mod moving;
