@@ -2,3 +2,5 @@ pub mod CellForms
 pub mod Cells
 pub mod ChangeForms
 pub mod Changes
+pub mod PhraseForms
+pub mod Phrases

@@ -5,3 +5,6 @@ mod adding;
 mod cell;
 mod change;
 mod moving;
+mod phrase;
+
+pub use phrase::{change_of, ending_of};
