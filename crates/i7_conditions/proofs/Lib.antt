@@ -2,7 +2,7 @@ mod Alone
 pub mod Asked
 mod Chains
 mod Columns
-mod Conjoined
+pub mod Conjoined
 mod Counting
 mod Cutting
 mod Described

@@ -1,3 +1,5 @@
+pub mod BlockForms
+pub mod Blocks
 pub mod CellForms
 pub mod Cells
 pub mod ChangeForms

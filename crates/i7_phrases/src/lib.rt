@@ -2,9 +2,11 @@
 #![tactic(auto)]
 
 mod adding;
+mod block;
 mod cell;
 mod change;
 mod moving;
 mod phrase;
 
+pub use block::block_of;
 pub use phrase::{change_of, ending_of};

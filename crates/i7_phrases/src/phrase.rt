@@ -27,7 +27,7 @@ fn by_verb(
     verb: NowVerb,
     behind: &[TextBytes],
 ) -> Result<Found<Simple>, AllocError>
-    requires few { length (scope_of scope.now).repeats ≤ 8 }
+    requires few { length (scope_of scope.now).repeats ≤ 255 }
     ensures { IfOk result (λ found. found_simple found ≡ by_verb verb (scope_of scope.now) subject.now behind.now) }
 {
     match verb {
@@ -43,7 +43,7 @@ fn change_said(
     scope: &Scope<'_>,
     said: &Spoken,
 ) -> Result<Option<Found<Simple>>, AllocError>
-    requires few { length (scope_of scope.now).repeats ≤ 8 }
+    requires few { length (scope_of scope.now).repeats ≤ 255 }
     ensures { IfOk result (λ found. option_map found_simple found ≡ change_said (scope_of scope.now) said.now) }
 {
     let found = match said {
@@ -81,7 +81,7 @@ pub fn change_of(
     scope: &Scope<'_>,
     said: &Spoken,
 ) -> Result<Option<Found<Simple>>, AllocError>
-    requires few { length (scope_of scope.now).repeats ≤ 8 }
+    requires few { length (scope_of scope.now).repeats ≤ 255 }
     ensures { IfOk result (λ change. MatchOption change (is_change said.now ≡ false) (λ found. IsFoundAs (Changes (scope_of scope.now) said.now) change_is_over (found_simple found))) }
 {
     change_said(alloc, scope, said)
