@@ -3,18 +3,18 @@ pub mod Asked
 mod Chains
 mod Columns
 pub mod Conjoined
-mod Counting
+pub mod Counting
 mod Cutting
-mod Described
+pub mod Described
 mod Digits
 mod Done
 mod Kept
 mod Leveled
 pub mod Listing
 mod Nested
-mod Once
+pub mod Once
 pub mod Predicated
 mod Questions
-mod Readings
+pub mod Readings
 mod Runs
 mod Stacks

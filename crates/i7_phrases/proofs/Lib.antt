@@ -1,2 +1,3 @@
 mod Changed
+mod Once
 mod Opened

@@ -4,10 +4,11 @@ ghost use Rattle.std.specs.Prelude.{◌≡◌, ◌≤◌, false, length, option_
 ghost use Rattle.i7_conditions.specs.Conjoining.{found_condition};
 ghost use Rattle.i7_conditions.specs.Descriptions.{found_described};
 ghost use Rattle.i7_conditions.specs.Readings.{IsFoundAs, one};
-ghost use Rattle.i7_conditions.specs.Scopes.{scope_of};
+ghost use Rattle.i7_conditions.specs.Scopes.{Scope as Names, scope_of};
 ghost use Rattle.i7_phrases.specs.BlockForms.{block_said, found_block};
 ghost use Rattle.i7_phrases.specs.Blocks as block;
 ghost use Rattle.i7_phrases.specs.Blocks.{Opens, block_is_over, is_block};
+ghost use Rattle.i7_sentences.specs.declared.spoken.Spoken.{Spoken as Phrase};
 
 use i7_conditions::{Found, Scope, Step, condition_said, description_said};
 use i7_sentences::Spoken;
@@ -82,3 +83,8 @@ pub fn block_of(
 {
     block_said(alloc, scope, said)
 }
+
+/// A phrase says one thing at most of what belongs to it.
+pub fn one_block_is_opened()
+    ensures { (s : Names) (said : Phrase) (b c : block.Block) → Opens s said b → Opens s said c → b ≡ c }
+{}

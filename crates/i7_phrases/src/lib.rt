@@ -8,5 +8,5 @@ mod change;
 mod moving;
 mod phrase;
 
-pub use block::block_of;
-pub use phrase::{change_of, ending_of};
+pub use block::{block_of, one_block_is_opened};
+pub use phrase::{change_of, ending_of, one_change_is_made};

@@ -1,13 +1,15 @@
 //! What phrases do that name no action, no rulebook and no text.
 ghost use Rattle.std.specs.Prelude.{◌≡◌, ◌≤◌, false, length, option_map, IfOk, MatchOption};
 ghost use Rattle.i7_conditions.specs.Readings.{IsFoundAs};
-ghost use Rattle.i7_conditions.specs.Scopes.{scope_of};
+ghost use Rattle.i7_conditions.specs.Scopes.{Scope as Names, scope_of};
 ghost use Rattle.i7_phrases.specs.ChangeForms.{found_simple};
 ghost use Rattle.i7_phrases.specs.Changes.{change_is_over};
 ghost use Rattle.i7_phrases.specs.PhraseForms.{by_verb, change_said};
 ghost use Rattle.i7_phrases.specs.Phrases.{Changes, closing, ending_of, is_change};
+ghost use Rattle.i7_sentences.specs.declared.spoken.Spoken.{Spoken as Phrase};
 ghost use Rattle.i7_sentences.specs.declared.spoken.Spoken.TheVariants as spoken;
 ghost use Rattle.play_meaning.specs.Meant.{simple_meant};
+ghost use Rattle.play_meaning.specs.Trees as tree;
 
 use crate::adding::adds_said;
 use crate::change::now_said;
@@ -86,6 +88,11 @@ pub fn change_of(
 {
     change_said(alloc, scope, said)
 }
+
+/// A phrase changes the world in one way at most.
+pub fn one_change_is_made()
+    ensures { (s : Names) (said : Phrase) (p q : tree.Phrase) → Changes s said p → Changes s said q → p ≡ q }
+{}
 
 /// What is printed at the end of a story, in place of `The End` if the phrase says it.
 fn closing(alloc: Global, text: Option<&TextBytes>) -> Result<TextBytes, AllocError>
