@@ -2,8 +2,15 @@
 use Rattle.std.specs.Prelude.{◌≡◌, ℕ, false, List, [], Some, slice_get}
 use Rattle.play_meaning.specs.SoundCodes.{loops_around}
 use Rattle.play_meaning.specs.Stands.{is_body}
+use Rattle.play_meaning.specs.TranslatedScripts.{description_part, test_part}
+use Rattle.play_meaning.specs.Trees as tree
 use Rattle.play_meaning.specs.declared.instruction.Instruction.{Instruction}
+use Rattle.play_meaning.specs.declared.operand.Counts.{Counts}
+use Rattle.play_meaning.specs.declared.operand.Use.TheVariants.{Body, Describing, Test}
+use Rattle.story_code.specs.Emits.{whole_body}
+use Rattle.story_code.specs.Fitting.{BodyFits, ConditionFits, TextFits}
 use Rattle.story_code.specs.Runs.{AreSoundTogether, IsBody, MayDo, MayRead, Standing}
+use Rattle.story_code.specs.SoundlyEmitted.{AreNumbered, IsSoundlyEmitted}
 use Rattle.story_code.specs.Soundness.{Judged}
 use Rattle.story_code.specs.Spelling.{Spells}
 
@@ -23,3 +30,18 @@ BodiesBeginStanding = (judged : List Judged) (number work : ℕ) → AreSoundTog
 -- it stands whatever work was done
 abbrev pub RunsStandBehindAnyWork : Type 0
 RunsStandBehindAnyWork = (judged : List Judged) (s : Standing) (work : ℕ) → MayDo judged s → MayDo judged (record s { work = work })
+
+-- ---- what is emitted of trees that fit
+
+-- whatever number the first test has, as long as there are codes of these numbers, each behind the code's own
+abbrev pub BodiesAreSound : Type 0
+BodiesAreSound = (z : Counts) (string : List ℕ → ℕ) (first : ℕ) (body : tree.Body) → BodyFits z string 0 body → AreNumbered z first (whole_body string body first 0).tests
+    → IsSoundlyEmitted z Body first (whole_body string body first 0)
+
+abbrev pub ConditionsAreSound : Type 0
+ConditionsAreSound = (z : Counts) (first : ℕ) (condition : tree.Condition) → ConditionFits z 0 0 condition → AreNumbered z first (test_part condition first 0).tests
+    → IsSoundlyEmitted z (Test 0) first (test_part condition first 0)
+
+abbrev pub DescriptionsAreSound : Type 0
+DescriptionsAreSound = (z : Counts) (string : List ℕ → ℕ) (first : ℕ) (text : tree.Text) → TextFits z Describing string 0 text → AreNumbered z first (description_part string text first 0).tests
+    → IsSoundlyEmitted z Describing first (description_part string text first 0)
