@@ -3,7 +3,7 @@ use Rattle.std.proofs.Common.{◌≡◌, subst, refl, ℕ, ◌+◌, ◌<◌, ◌
 use Rattle.play_meaning.specs.declared.instruction.Instruction.{Instruction}
 use Rattle.play_meaning.specs.declared.operand.Counts.{Counts}
 use Rattle.story_code.specs.Runs.{test_named}
-use Rattle.story_code.specs.SoundlyEmitted.{AreNumbered, IsSoundTest, NameInTurn, NamesNext}
+use Rattle.story_code.specs.SoundlyEmitted.{AreNumbered, IsSoundTest, NameInTurn, NamesNext, NamesNone}
 
 module _ (z : Counts) where
   none_first : (b : List Instruction) (n : ℕ) (first later : List (List Instruction)) → first ≡ [] → NameInTurn (IsSoundTest z) b (n + length first) later → NameInTurn (IsSoundTest z) b n (first ++ later)
@@ -35,3 +35,12 @@ module _ (z : Counts) where
 
   pub numbered_later : (n : ℕ) (first later : List (List Instruction)) → AreNumbered z n (first ++ later) → AreNumbered z (n + length first) later
   numbered_later n first later all = record { behind = omega (arith, all.behind); there = omega (arith, all.there, length-append first later) }
+
+-- a code that names nothing in turn names no test
+pub none_in_turn : {A : Type 0} (is_test : ℕ → ℕ → A → Type 0) (is : List Instruction) (n : ℕ) → NameInTurn is_test is n [] → NamesNone is
+none_in_turn is_test [] n names = tt
+none_in_turn {A = A} is_test (i ∷ is) n names = by_name (test_named i) refl names (none_in_turn is_test is n)
+  where
+    by_name : (named : Option (ℕ × ℕ)) → test_named i ≡ named → NamesNext is_test (λ m (more : List A). NameInTurn is_test is m more) n named [] → (NameInTurn is_test is n [] → NamesNone is) → NamesNone (i ∷ is)
+    by_name None e names later = (e, later names)
+    by_name (Some named) e names later = absurd names

@@ -4,6 +4,7 @@ pub mod Carried
 pub mod Described
 pub mod Exact
 pub mod Fetched
+pub mod FittingShown
 pub mod Followed
 pub mod FrontLemmas
 pub mod InTurn
@@ -17,6 +18,7 @@ pub mod Phrases
 pub mod Places
 pub mod Rooms
 pub mod Served
+pub mod SoundBytes
 pub mod SoundConditions
 pub mod SoundDescriptions
 pub mod SoundParts

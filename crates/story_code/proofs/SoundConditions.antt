@@ -2,7 +2,7 @@
 use Rattle.std.proofs.Common.{◌≡◌, ◌∙◌, ap, refl, ℕ, ◌+◌, ◌<◌, ◌≤◌, ◌==◌, ◌&&◌, nat_lt, Bool, true, false, List, [], ◌∷◌, ◌++◌, length, Option, None, Some, if◌then◌else◌, arith}
 use Rattle.std.proofs.lemmas.Bool.{and_from, eq-eqb, lt-ltb}
 use Rattle.play_meaning.specs.Operands.{below, is_object, may_hold, names_what_is_there, operands_behind, serves, with_given}
-use Rattle.play_meaning.specs.SoundCodes.{IsSound, loops_around}
+use Rattle.play_meaning.specs.SoundCodes.{loops_around}
 use Rattle.play_meaning.specs.Translation.{condition_part, description_code, held_code, number_part, object_code, one, test_code}
 use Rattle.play_meaning.specs.Trees as tree
 use Rattle.play_meaning.specs.Trees.{Condition, Description}
@@ -17,7 +17,8 @@ use Rattle.play_meaning.specs.declared.way.OpenLoop.{OpenLoop}
 use Rattle.world_meaning.specs.declared.place.Rel.{Rel}
 use Rattle.world_meaning.specs.declared.place.Rel.TheVariants.{Carried, Worn}
 use Rattle.story_code.specs.Fitting.{ConditionFits, DescriptionFits, HasRoom, MayOpen, NumberFits, ObjectFits, TestFits}
-use Rattle.story_code.specs.SoundlyEmitted.{AreNumbered}
+use Rattle.story_code.specs.SoundlyEmitted.{AreNumbered, IsSoundTest}
+use Rattle.story_code.proofs.InTurn.{names-append, none_in_turn}
 use Rattle.story_code.proofs.SoundParts.{carries_one}
 use Rattle.story_code.proofs.SoundDescriptions.{Gives, GivesCode, adjective_gives, not_so, two_parts, IsAsking, alike_numbers, alike_objects, asked_of_one, asked_of_two, asks, description_gives, gives_of_codes, gives_of_one, gives_of_two, gives_one, named_here, object_gives, one_below, pushed, two_below}
 use Rattle.story_code.proofs.SoundWholes.{sound_whole}
@@ -38,7 +39,7 @@ description_more : (z : Counts) (k : ℕ) (o : ℕ → Type 0) (d : Description)
 description_more z k o (tree.Those all kind) n fits = fits
 description_more z k o (tree.ThoseHeld all kind r holder) n fits = (fits.0, (fits.1.0, object_more z k holder (n + 1 + 1) fits.1.1))
 
-pub test_sound : (z : Counts) (k : ℕ) (d : Description) (t : ℕ) → DescriptionFits z k HasRoom 0 d → t + 1 ≤ z.codes → IsSound (record z { own = t }) (Test (k + 1)) (test_code k d)
+pub test_sound : (z : Counts) (k : ℕ) (d : Description) (t : ℕ) → DescriptionFits z k HasRoom 0 d → t + 1 ≤ z.codes → IsSoundTest z t (k + 1) (test_code k d)
 unfolding may_hold names_what_is_there operands_behind
 test_sound z k d t fits there =
     let deep : k + 1 + 0 ≡ k + 1 = omega arith in
@@ -47,7 +48,11 @@ test_sound z k d t fits there =
         (record { asking = refl; none = refl; way = refl; names = and_from (nat_lt k (k + 1)) true (lt-ltb k (k + 1) (omega arith)) refl }) refl (pushed Object) low in
     let g = description_gives z t (Test (k + 1)) [] (k + 1) deep (i.Loop k ∷ []) HasRoom looped d 0 (description_more z k HasRoom d 0 fits) in
     let r = g.gives [] refl (t + 1) 0 (record { behind = omega arith; there = omega (arith, there) }) in
-    sound_whole (record z { own = t }) (Test (k + 1)) (description_code (i.Loop k ∷ []) d) i.Answer (r.0 ∷ []) [] r.1.1.0 refl refl refl (ap (with_given None) (one_below r.0 Truth [] r.1.0)) refl
+    let y : Counts = record z { own = t } in
+    (
+      sound_whole y (Test (k + 1)) (description_code (i.Loop k ∷ []) d) i.Answer (r.0 ∷ []) [] r.1.1.0 refl refl refl (ap (with_given None) (one_below r.0 Truth [] r.1.0)) refl,
+      none_in_turn (IsSoundTest y) (test_code k d) (t + 1) (names-append y (description_code (i.Loop k ∷ []) d) (i.Answer ∷ []) (t + 1) [] [] r.1.1.1 refl),
+    )
 
 module _ (z : Counts) (own : ℕ) (whose : Use) (loops : List OpenLoop) (k : ℕ) (deep : loops_around whose + length loops ≡ k) where
   abbrev GivesNumber : ℕ → tree.Number → Type 0

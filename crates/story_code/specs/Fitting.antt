@@ -6,11 +6,11 @@ use Rattle.play_meaning.specs.declared.operand.Use.{Use}
 use Rattle.play_meaning.specs.declared.operand.Use.TheVariants as role
 use Rattle.play_meaning.specs.Trees.{Adjective, And, Body, Bytes, Condition, CountOf, Description, DescriptionOf, DoorFrom, Encloses, End, EndStory, Equals, Figure, Follow, Has, HasDescription, Happens, If, IfSaid, InDarkness, Instead, IsAtMost, IsHeld, IsHeldByOne, IsLess, IsOne, IsSame, IsSo, Leave, Listing, Literal, Minus, Move, Name, Not, NotSo, NowHeld, NowIs, NowNowhere, NowNumber, NowVariable, Number, Object, Or, Phrase, Plus, PropertyOf, Quality, Repeat, RoomFrom, Say, Silence, Text, The, Then, Those, ThoseHeld, Times, Try, TurnCount, Turning, Variable}
 
--- one more operand has room
+-- one more operand has room over so many
 abbrev pub HasRoom : ℕ → Type 0
 HasRoom n = n < 64
 
--- one more loop may be opened, the tenth may not
+-- one more loop may be opened, though no tenth
 abbrev pub MayOpen : ℕ → Type 0
 MayOpen k = k < 9
 
@@ -23,28 +23,28 @@ ObjectFits z k n (RoomFrom d room) = ObjectFits z k n d × ObjectFits z k (n + 1
 ObjectFits z k n (DoorFrom d room) = ObjectFits z k n d × ObjectFits z k (n + 1) room
 ObjectFits z k n _ = HasRoom n
 
--- the object that is asked about fits below so many operands
-abbrev pub Asked : Type 1
-Asked = ℕ → Type 0
+-- the object that is asked about fits over so many operands
+abbrev pub FitsOver : Type 1
+FitsOver = ℕ → Type 0
 
 -- it is compared with nothing
-abbrev pub IsThereFits : Asked → ℕ → Type 0
+abbrev pub IsThereFits : FitsOver → ℕ → Type 0
 IsThereFits o n = o n × HasRoom (n + 1)
 
-abbrev pub AdjectiveFits : Counts → Asked → ℕ → Adjective → Type 0
+abbrev pub AdjectiveFits : Counts → FitsOver → ℕ → Adjective → Type 0
 AdjectiveFits z o n (Quality p side) = (p < z.flags) × o n
 AdjectiveFits z o n (NotSo adjective) = IsThereFits o n × AdjectiveFits z o (n + 1) adjective
 AdjectiveFits z o n _ = o n
 
-abbrev pub AdjectivesFit : Counts → Asked → ℕ → List Adjective → Type 0
+abbrev pub AdjectivesFit : Counts → FitsOver → ℕ → List Adjective → Type 0
 AdjectivesFit z o n [] = IsThereFits o n
 AdjectivesFit z o n (adjective ∷ adjectives) = AdjectiveFits z o n adjective × AdjectivesFit z o (n + 1) adjectives
 
-abbrev pub ThoseFit : Counts → Asked → ℕ → List Adjective → Option ℕ → Type 0
+abbrev pub ThoseFit : Counts → FitsOver → ℕ → List Adjective → Option ℕ → Type 0
 ThoseFit z o n adjectives None = AdjectivesFit z o n adjectives
 ThoseFit z o n adjectives (Some kind) = ((kind < z.kinds) × o n) × AdjectivesFit z o (n + 1) adjectives
 
-abbrev pub DescriptionFits : Counts → ℕ → Asked → ℕ → Description → Type 0
+abbrev pub DescriptionFits : Counts → ℕ → FitsOver → ℕ → Description → Type 0
 DescriptionFits z k o n (Those adjectives kind) = ThoseFit z o n adjectives kind
 DescriptionFits z k o n (ThoseHeld adjectives kind r holder) = ThoseFit z o n adjectives kind × (o (n + 1) × ObjectFits z k (n + 1 + 1) holder)
 

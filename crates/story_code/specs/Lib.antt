@@ -3,6 +3,7 @@ pub mod Choosing
 pub mod Emits
 pub mod Emitting
 pub mod Fitting
+pub mod FittingRows
 pub mod Fronts
 pub mod Laws
 pub mod Passes
