@@ -20,7 +20,7 @@ use Rattle.story_code.specs.Fitting.{ConditionFits, DescriptionFits, HasRoom, Ma
 use Rattle.story_code.specs.SoundlyEmitted.{AreNumbered, IsSoundTest}
 use Rattle.story_code.proofs.InTurn.{names-append, none_in_turn}
 use Rattle.story_code.proofs.SoundParts.{carries_one}
-use Rattle.story_code.proofs.SoundDescriptions.{Gives, GivesCode, adjective_gives, not_so, two_parts, IsAsking, alike_numbers, alike_objects, asked_of_one, asked_of_two, asks, description_gives, gives_of_codes, gives_of_one, gives_of_two, gives_one, named_here, object_gives, one_below, pushed, two_below}
+use Rattle.story_code.proofs.SoundDescriptions.{Gives, GivesCode, adjective_gives, not_so, two_parts, IsAsking, alike_numbers, alike_objects, asked_of_one, asked_of_two, asks, description_gives, gives_of_codes, gives_of_one, gives_of_two, gives_one, named_here, object_gives, one_below, pushed, two_below, is_below}
 use Rattle.story_code.proofs.SoundWholes.{sound_whole}
 
 -- ---- inside one loop more
@@ -45,7 +45,7 @@ test_sound z k d t fits there =
     let deep : k + 1 + 0 ≡ k + 1 = omega arith in
     let looped : (n : ℕ) → HasRoom n → Gives z t (Test (k + 1)) [] (k + 1) deep Object n (one (i.Loop k)) =
     λ n low. gives_one z t (Test (k + 1)) [] (k + 1) deep Object n (i.Loop k) Object
-        (record { asking = refl; none = refl; way = refl; names = and_from (nat_lt k (k + 1)) true (lt-ltb k (k + 1) (omega arith)) refl }) refl (pushed Object) low in
+        (refl, refl, refl, and_from (nat_lt k (k + 1)) true (lt-ltb k (k + 1) (omega arith)) refl) refl (pushed Object) low in
     let g = description_gives z t (Test (k + 1)) [] (k + 1) deep (i.Loop k ∷ []) HasRoom looped d 0 (description_more z k HasRoom d 0 fits) in
     let r = g.gives [] refl (t + 1) 0 (record { behind = omega arith; there = omega (arith, there) }) in
     let y : Counts = record z { own = t } in
@@ -98,20 +98,20 @@ module _ (z : Counts) (own : ℕ) (whose : Use) (loops : List OpenLoop) (k : ℕ
   unfolding number_part names_what_is_there operands_behind
   number_gives (tree.Literal a) m fits =
       let is = is_object (record z { own = own }) a in
-      gives_one z own whose loops k deep Number m (i.Num a) (if is then NumberOrObject else Number) (record { asking = refl; none = refl; way = refl; names = refl }) (literal_serves is)
+      gives_one z own whose loops k deep Number m (i.Num a) (if is then NumberOrObject else Number) (refl, refl, refl, refl) (literal_serves is)
       (literal_typed is) fits
   number_gives (tree.Variable v) m fits =
       gives_one z own whose loops k deep Number m (i.Var v) Number
-      (record { asking = refl; none = refl; way = refl; names = and_from (nat_lt v z.variables) true (lt-ltb v z.variables fits.0) refl }) refl (pushed Number) fits.1
+      (refl, refl, refl, is_below v z.variables fits.0) refl (pushed Number) fits.1
   number_gives (tree.PropertyOf p o) m fits =
       asked_of_one z own whose loops k deep Number m (object_code o) (i.Prop p) Number
-      (record { asking = refl; none = refl; way = refl; names = and_from (nat_lt p z.numbers) true (lt-ltb p z.numbers fits.0) refl }) refl (λ a sorts. refl)
+      (refl, refl, refl, is_below p z.numbers fits.0) refl (λ a sorts. refl)
       (object_gives z own whose loops k deep o m fits.1)
   number_gives (tree.CountOf d) m fits = counted d m fits.0 fits.1
-  number_gives tree.TurnCount m fits = gives_one z own whose loops k deep Number m i.Turns Number (record { asking = refl; none = refl; way = refl; names = refl }) refl (pushed Number) fits
-  number_gives (tree.Plus a b) m fits = made_of_two m a b i.Add (record { asking = refl; none = refl; way = refl; names = refl }) (λ a b sorts. refl) (number_gives a m fits.0) (number_gives b (m + 1) fits.1)
-  number_gives (tree.Minus a b) m fits = made_of_two m a b i.Sub (record { asking = refl; none = refl; way = refl; names = refl }) (λ a b sorts. refl) (number_gives a m fits.0) (number_gives b (m + 1) fits.1)
-  number_gives (tree.Times a b) m fits = made_of_two m a b i.Mul (record { asking = refl; none = refl; way = refl; names = refl }) (λ a b sorts. refl) (number_gives a m fits.0) (number_gives b (m + 1) fits.1)
+  number_gives tree.TurnCount m fits = gives_one z own whose loops k deep Number m i.Turns Number (refl, refl, refl, refl) refl (pushed Number) fits
+  number_gives (tree.Plus a b) m fits = made_of_two m a b i.Add (refl, refl, refl, refl) (λ a b sorts. refl) (number_gives a m fits.0) (number_gives b (m + 1) fits.1)
+  number_gives (tree.Minus a b) m fits = made_of_two m a b i.Sub (refl, refl, refl, refl) (λ a b sorts. refl) (number_gives a m fits.0) (number_gives b (m + 1) fits.1)
+  number_gives (tree.Times a b) m fits = made_of_two m a b i.Mul (refl, refl, refl, refl) (λ a b sorts. refl) (number_gives a m fits.0) (number_gives b (m + 1) fits.1)
 
   -- ---- conditions
 
@@ -131,7 +131,7 @@ module _ (z : Counts) (own : ℕ) (whose : Use) (loops : List OpenLoop) (k : ℕ
   held : (m : ℕ) (o holder : tree.Object) (r : Rel) → ObjectFits z k m o → ObjectFits z k (m + 1) holder → GivesCode z own whose loops k deep Truth m (held_code (object_code o) r (object_code holder))
   unfolding names_what_is_there operands_behind
   held m o holder r fits more =
-      asked_of_two z own whose loops k deep m (object_code o) (object_code holder) (i.Held r) (record { asking = refl; none = refl; way = refl; names = refl }) (λ a b sorts. refl)
+      asked_of_two z own whose loops k deep m (object_code o) (object_code holder) (i.Held r) (refl, refl, refl, refl) (λ a b sorts. refl)
       (object_gives z own whose loops k deep o m fits) (object_gives z own whose loops k deep holder (m + 1) more)
 
   pub condition_gives : (c : Condition) (m : ℕ) → ConditionFits z k m c → GivesTruth m c
@@ -140,34 +140,34 @@ module _ (z : Counts) (own : ℕ) (whose : Use) (loops : List OpenLoop) (k : ℕ
       adjective_gives z own whose loops k deep (object_code o) (λ n. ObjectFits z k n o) (object_gives z own whose loops k deep o) adjective m fits
   condition_gives (tree.IsOne o d) m fits = description_gives z own whose loops k deep (object_code o) (λ n. ObjectFits z k n o) (object_gives z own whose loops k deep o) d m fits
   condition_gives (tree.IsSame a b) m fits =
-      gives_of_codes z own whose loops k deep Truth Object Object m (object_code a) (object_code b) i.Eq Truth (record { asking = refl; none = refl; way = refl; names = refl }) refl
+      gives_of_codes z own whose loops k deep Truth Object Object m (object_code a) (object_code b) i.Eq Truth (refl, refl, refl, refl) refl
       (λ a b sorts x y few. ap (with_given (Some Truth)) (alike_objects a b sorts x y) ∙ pushed Truth sorts few)
       (object_gives z own whose loops k deep a m fits.0) (object_gives z own whose loops k deep b (m + 1) fits.1)
   condition_gives (tree.IsHeld o r holder) m fits = held m o holder r fits.0 fits.1
   condition_gives (tree.IsHeldByOne o r d) m fits =
       description_gives z own whose loops k deep (object_code o ++ i.Holder r ∷ []) (λ n. ObjectFits z k n o)
-      (λ n over. asked_of_one z own whose loops k deep Object n (object_code o) (i.Holder r) Object (record { asking = refl; none = refl; way = refl; names = refl }) refl (λ a sorts. refl)
+      (λ n over. asked_of_one z own whose loops k deep Object n (object_code o) (i.Holder r) Object (refl, refl, refl, refl) refl (λ a sorts. refl)
       (object_gives z own whose loops k deep o n over)) d m fits
   condition_gives (tree.Has holder o) m fits =
       gives_of_codes z own whose loops k deep Truth Truth Truth m (held_code (object_code o) Carried (object_code holder)) (held_code (object_code o) Worn (object_code holder)) i.Or Truth
-      (record { asking = refl; none = refl; way = refl; names = refl }) refl
+      (refl, refl, refl, refl) refl
       (λ a b sorts x y few. ap (with_given (Some Truth)) (two_below a b Truth Truth sorts x y) ∙ pushed Truth sorts few)
       (held m o holder Carried fits.0.0 fits.0.1) (held (m + 1) o holder Worn fits.1.0 fits.1.1)
   condition_gives (tree.Encloses holder o) m fits =
-      asked_of_two z own whose loops k deep m (object_code holder) (object_code o) i.Encloses (record { asking = refl; none = refl; way = refl; names = refl }) (λ a b sorts. refl)
+      asked_of_two z own whose loops k deep m (object_code holder) (object_code o) i.Encloses (refl, refl, refl, refl) (λ a b sorts. refl)
       (object_gives z own whose loops k deep holder m fits.0) (object_gives z own whose loops k deep o (m + 1) fits.1)
   condition_gives (tree.HasDescription o) m fits =
-      asked_of_one z own whose loops k deep Truth m (object_code o) i.HasDescription Truth (record { asking = refl; none = refl; way = refl; names = refl }) refl (λ a sorts. refl)
+      asked_of_one z own whose loops k deep Truth m (object_code o) i.HasDescription Truth (refl, refl, refl, refl) refl (λ a sorts. refl)
       (object_gives z own whose loops k deep o m fits)
   condition_gives (tree.Equals a b) m fits =
-      gives_of_two z own whose loops k deep Truth Number Number m (number_part k a) (number_part k b) i.Eq Truth (record { asking = refl; none = refl; way = refl; names = refl }) refl
+      gives_of_two z own whose loops k deep Truth Number Number m (number_part k a) (number_part k b) i.Eq Truth (refl, refl, refl, refl) refl
       (λ a b sorts x y few. ap (with_given (Some Truth)) (alike_numbers a b sorts x y) ∙ pushed Truth sorts few) (number_gives a m fits.0) (number_gives b (m + 1) fits.1)
-  condition_gives (tree.IsLess a b) m fits = compared m a b i.Less (record { asking = refl; none = refl; way = refl; names = refl }) (λ a b sorts. refl) fits.0 fits.1
-  condition_gives (tree.IsAtMost a b) m fits = compared m a b i.AtMost (record { asking = refl; none = refl; way = refl; names = refl }) (λ a b sorts. refl) fits.0 fits.1
+  condition_gives (tree.IsLess a b) m fits = compared m a b i.Less (refl, refl, refl, refl) (λ a b sorts. refl) fits.0 fits.1
+  condition_gives (tree.IsAtMost a b) m fits = compared m a b i.AtMost (refl, refl, refl, refl) (λ a b sorts. refl) fits.0 fits.1
   condition_gives (tree.Happens scene) m fits =
       gives_one z own whose loops k deep Truth m (i.Happens scene) Truth
-      (record { asking = refl; none = refl; way = refl; names = and_from (nat_lt scene z.scenes) true (lt-ltb scene z.scenes fits.0) refl }) refl (pushed Truth) fits.1
-  condition_gives tree.InDarkness m fits = gives_one z own whose loops k deep Truth m i.Dark Truth (record { asking = refl; none = refl; way = refl; names = refl }) refl (pushed Truth) fits
+      (refl, refl, refl, is_below scene z.scenes fits.0) refl (pushed Truth) fits.1
+  condition_gives tree.InDarkness m fits = gives_one z own whose loops k deep Truth m i.Dark Truth (refl, refl, refl, refl) refl (pushed Truth) fits
   condition_gives (tree.Not a) m fits = not_so z own whose loops k deep m (condition_part k a) (condition_gives a m fits)
-  condition_gives (tree.And a b) m fits = joined m a b i.And (record { asking = refl; none = refl; way = refl; names = refl }) (λ a b sorts. refl) (condition_gives a m fits.0) (condition_gives b (m + 1) fits.1)
-  condition_gives (tree.Or a b) m fits = joined m a b i.Or (record { asking = refl; none = refl; way = refl; names = refl }) (λ a b sorts. refl) (condition_gives a m fits.0) (condition_gives b (m + 1) fits.1)
+  condition_gives (tree.And a b) m fits = joined m a b i.And (refl, refl, refl, refl) (λ a b sorts. refl) (condition_gives a m fits.0) (condition_gives b (m + 1) fits.1)
+  condition_gives (tree.Or a b) m fits = joined m a b i.Or (refl, refl, refl, refl) (λ a b sorts. refl) (condition_gives a m fits.0) (condition_gives b (m + 1) fits.1)

@@ -64,6 +64,10 @@ alike_objects a b sorts is last =
 abbrev pub two_parts : Part → Part → Instruction → Part
 two_parts a b x = seq a (seq b (one x))
 
+-- a number of something that is there
+pub is_below : (a n : ℕ) → a < n → (nat_lt a n && true) ≡ true
+is_below a n low = and_from (nat_lt a n) true (lt-ltb a n low) refl
+
 module _ (z : Counts) (own : ℕ) (whose : Use) (loops : List OpenLoop) (k : ℕ) (deep : loops_around whose + length loops ≡ k) where
   -- judged as the code of this number
   abbrev pub judged : Counts
@@ -88,31 +92,26 @@ module _ (z : Counts) (own : ℕ) (whose : Use) (loops : List OpenLoop) (k : ℕ
   pub named_here : (x : Instruction) → Names x → names_what_is_there judged (loops_around whose + length loops) x ≡ true
   named_here x names = ap (λ d. names_what_is_there judged d x) deep ∙ names
 
-  -- one that asks
-  asked_one : (x : Instruction) (operands left : List Sort) (t q : ℕ) → is_from_to 0x01 0x20 x ≡ true → test_named x ≡ None → way_of x ≡ Straight → Names x
-      → operands_behind judged x operands ≡ Some left → Carries operands left t q (one x t q)
-  asked_one x operands left t q asking none way names typed =
-      (carries_one judged whose loops operands left q x (asks whose x asking) (asks Body x asking) (named_here x names) typed way, names_none judged x t none)
-
   -- a part that gives one operand over so many
   pub record Gives (wanted : Sort) (n : ℕ) (p : Part) : Type 0 where
     pub low : HasRoom n
     pub gives : (operands : List Sort) → length operands ≡ n → (t q : ℕ) → AreNumbered judged t (p t q).tests
         → (sort : Sort) × ((serves sort wanted ≡ true) × Carries operands (sort ∷ operands) t q (p t q))
 
-  -- an instruction that asks, straight on
-  pub record IsAsking (x : Instruction) : Type 0 where
-    pub asking : is_from_to 0x01 0x20 x ≡ true
-    pub none : test_named x ≡ None
-    pub way : way_of x ≡ Straight
-    pub names : Names x
+  -- an instruction that asks, straight on, names no test and what is there
+  abbrev pub IsAsking : Instruction → Type 0
+  IsAsking x = (is_from_to 0x01 0x20 x ≡ true) × (test_named x ≡ None) × (way_of x ≡ Straight) × Names x
+
+  asked_one : (x : Instruction) (operands left : List Sort) (t q : ℕ) → IsAsking x → operands_behind judged x operands ≡ Some left → Carries operands left t q (one x t q)
+  asked_one x operands left t q is typed =
+      (carries_one judged whose loops operands left q x (asks whose x is.0) (asks Body x is.0) (named_here x is.3) typed is.2, names_none judged x t is.1)
 
   pub gives_one : (wanted : Sort) (n : ℕ) (x : Instruction) (sort : Sort) → IsAsking x → serves sort wanted ≡ true
       → ((sorts : List Sort) → length sorts < 64 → operands_behind judged x sorts ≡ Some (sort ∷ sorts)) → HasRoom n → Gives wanted n (one x)
   gives_one wanted n x sort is serving typed low = record {
     low = low;
     gives = λ operands many t q numbers.
-      (sort, (serving, asked_one x operands (sort ∷ operands) t q is.asking is.none is.way is.names (typed operands (omega (arith, many, low)))));
+      (sort, (serving, asked_one x operands (sort ∷ operands) t q is (typed operands (omega (arith, many, low)))));
   }
 
   pub gives_of_one : (wanted first : Sort) (n : ℕ) (p : Part) (x : Instruction) (sort : Sort) → IsAsking x → serves sort wanted ≡ true
@@ -129,7 +128,7 @@ module _ (z : Counts) (own : ℕ) (whose : Use) (loops : List OpenLoop) (k : ℕ
         (
           serving,
           carries_then p (one x) operands (r.0 ∷ operands) (sort ∷ operands) t q r.1.1
-              (asked_one x (r.0 ∷ operands) (sort ∷ operands) (t + length e.tests) (q + sizes e.code) is.asking is.none is.way is.names (typed r.0 operands r.1.0 (omega (arith, many, g.low)))),
+              (asked_one x (r.0 ∷ operands) (sort ∷ operands) (t + length e.tests) (q + sizes e.code) is (typed r.0 operands r.1.0 (omega (arith, many, g.low)))),
         ),
       );
   }
@@ -154,7 +153,7 @@ module _ (z : Counts) (own : ℕ) (whose : Use) (loops : List OpenLoop) (k : ℕ
           serving,
           carries_then a (seq b (one x)) operands (r.0 ∷ operands) (sort ∷ operands) t q r.1.1
               (carries_then b (one x) (r.0 ∷ operands) (s.0 ∷ r.0 ∷ operands) (sort ∷ operands) t' q' s.1.1
-              (asked_one x (s.0 ∷ r.0 ∷ operands) (sort ∷ operands) (t' + length f.tests) (q' + sizes f.code) is.asking is.none is.way is.names
+              (asked_one x (s.0 ∷ r.0 ∷ operands) (sort ∷ operands) (t' + length f.tests) (q' + sizes f.code) is
               (typed r.0 s.0 operands r.1.0 s.1.0 (omega (arith, many, g.low))))),
         ),
       );
@@ -177,23 +176,23 @@ module _ (z : Counts) (own : ℕ) (whose : Use) (loops : List OpenLoop) (k : ℕ
   object_number : (n : ℕ) (a : ℤ) → is_object judged a ≡ true → HasRoom n → GivesCode Object n (i.Num a ∷ [])
   unfolding names_what_is_there operands_behind
   object_number n a is low =
-      gives_one Object n (i.Num a) NumberOrObject (record { asking = refl; none = refl; way = refl; names = refl }) refl
+      gives_one Object n (i.Num a) NumberOrObject (refl, refl, refl, refl) refl
       (λ sorts few. ap (λ b. with_given (if b then Some NumberOrObject else Some Number) (Some sorts)) is ∙ pushed NumberOrObject sorts few) low
 
   pub object_gives : (o : tree.Object) (n : ℕ) → ObjectFits z k n o → GivesCode Object n (object_code o)
   unfolding seq names_what_is_there operands_behind
   object_gives (tree.The o) n fits = object_number n (pos o) (lt-ltb o z.objects fits.0) fits.1
-  object_gives tree.Noun n fits = gives_one Object n i.Noun Object (record { asking = refl; none = refl; way = refl; names = refl }) refl (pushed Object) fits
-  object_gives tree.SecondNoun n fits = gives_one Object n i.Second Object (record { asking = refl; none = refl; way = refl; names = refl }) refl (pushed Object) fits
-  object_gives tree.Location n fits = gives_one Object n i.Location Object (record { asking = refl; none = refl; way = refl; names = refl }) refl (pushed Object) fits
+  object_gives tree.Noun n fits = gives_one Object n i.Noun Object (refl, refl, refl, refl) refl (pushed Object) fits
+  object_gives tree.SecondNoun n fits = gives_one Object n i.Second Object (refl, refl, refl, refl) refl (pushed Object) fits
+  object_gives tree.Location n fits = gives_one Object n i.Location Object (refl, refl, refl, refl) refl (pushed Object) fits
   object_gives tree.Nothing n fits = object_number n (negsuc 0) refl fits
   object_gives (tree.Turning j) n fits =
-      gives_one Object n (i.Loop j) Object (record { asking = refl; none = refl; way = refl; names = and_from (nat_lt j k) true (lt-ltb j k fits.0) refl }) refl (pushed Object) fits.1
+      gives_one Object n (i.Loop j) Object (refl, refl, refl, is_below j k fits.0) refl (pushed Object) fits.1
   object_gives (tree.RoomFrom d room) n fits =
-      gives_of_codes Object Object Object n (object_code d) (object_code room) i.Room Object (record { asking = refl; none = refl; way = refl; names = refl }) refl
+      gives_of_codes Object Object Object n (object_code d) (object_code room) i.Room Object (refl, refl, refl, refl) refl
       (λ a b sorts x y few. ap (with_given (Some Object)) (two_below a b Object Object sorts x y) ∙ pushed Object sorts few) (object_gives d n fits.0) (object_gives room (n + 1) fits.1)
   object_gives (tree.DoorFrom d room) n fits =
-      gives_of_codes Object Object Object n (object_code d) (object_code room) i.Door Object (record { asking = refl; none = refl; way = refl; names = refl }) refl
+      gives_of_codes Object Object Object n (object_code d) (object_code room) i.Door Object (refl, refl, refl, refl) refl
       (λ a b sorts x y few. ap (with_given (Some Object)) (two_below a b Object Object sorts x y) ∙ pushed Object sorts few) (object_gives d n fits.0) (object_gives room (n + 1) fits.1)
 
   -- ---- adjectives and descriptions
@@ -201,12 +200,12 @@ module _ (z : Counts) (own : ℕ) (whose : Use) (loops : List OpenLoop) (k : ℕ
   -- two truths, of which both are so
   both_so : (n : ℕ) (a b : List Instruction) → GivesCode Truth n a → GivesCode Truth (n + 1) b → GivesCode Truth n (and_code a b)
   unfolding names_what_is_there operands_behind
-  both_so n a b = gives_of_codes Truth Truth Truth n a b i.And Truth (record { asking = refl; none = refl; way = refl; names = refl }) refl
+  both_so n a b = gives_of_codes Truth Truth Truth n a b i.And Truth (refl, refl, refl, refl) refl
       (λ a b sorts x y few. ap (with_given (Some Truth)) (two_below a b Truth Truth sorts x y) ∙ pushed Truth sorts few)
 
   pub not_so : (n : ℕ) (p : Part) → Gives Truth n p → Gives Truth n (seq p (one i.Not))
   unfolding names_what_is_there operands_behind
-  not_so n p = gives_of_one Truth Truth n p i.Not Truth (record { asking = refl; none = refl; way = refl; names = refl }) refl
+  not_so n p = gives_of_one Truth Truth n p i.Not Truth (refl, refl, refl, refl) refl
       (λ a sorts x few. ap (with_given (Some Truth)) (one_below a Truth sorts x) ∙ pushed Truth sorts few)
 
   -- two objects that an instruction asks about
@@ -229,15 +228,15 @@ module _ (z : Counts) (own : ℕ) (whose : Use) (loops : List OpenLoop) (k : ℕ
     unfolding seq names_what_is_there operands_behind
     there_gives n fits =
         subst (GivesCode Truth n) (append_assoc o (i.Num (negsuc 0) ∷ i.Eq ∷ []) (i.Not ∷ [])) (not_so n (these (o ++ i.Num (negsuc 0) ∷ i.Eq ∷ []))
-        (gives_of_two Truth Object Object n (these o) (these (i.Num (negsuc 0) ∷ [])) i.Eq Truth (record { asking = refl; none = refl; way = refl; names = refl }) refl
+        (gives_of_two Truth Object Object n (these o) (these (i.Num (negsuc 0) ∷ [])) i.Eq Truth (refl, refl, refl, refl) refl
         (λ a b sorts x y few. ap (with_given (Some Truth)) (alike_objects a b sorts x y) ∙ pushed Truth sorts few) (asked n fits.0) (object_number (n + 1) (negsuc 0) refl fits.1)))
 
     pub adjective_gives : (a : Adjective) (n : ℕ) → AdjectiveFits z fits_over n a → GivesCode Truth n (adjective_code o a)
     unfolding adjective_code seq names_what_is_there operands_behind
     adjective_gives (tree.Quality p side) n fits =
-        asked_of_one Truth n o (i.Flag p _) Truth (record { asking = refl; none = refl; way = refl; names = and_from (nat_lt p z.flags) true (lt-ltb p z.flags fits.0) refl }) refl (λ a sorts. refl) (asked n fits.1)
-    adjective_gives tree.Visible n fits = asked_of_one Truth n o i.Visible Truth (record { asking = refl; none = refl; way = refl; names = refl }) refl (λ a sorts. refl) (asked n fits)
-    adjective_gives tree.Touchable n fits = asked_of_one Truth n o i.Touchable Truth (record { asking = refl; none = refl; way = refl; names = refl }) refl (λ a sorts. refl) (asked n fits)
+        asked_of_one Truth n o (i.Flag p _) Truth (refl, refl, refl, is_below p z.flags fits.0) refl (λ a sorts. refl) (asked n fits.1)
+    adjective_gives tree.Visible n fits = asked_of_one Truth n o i.Visible Truth (refl, refl, refl, refl) refl (λ a sorts. refl) (asked n fits)
+    adjective_gives tree.Touchable n fits = asked_of_one Truth n o i.Touchable Truth (refl, refl, refl, refl) refl (λ a sorts. refl) (asked n fits)
     adjective_gives (tree.NotSo a) n fits =
         both_so n (is_there_code o) (adjective_code o a ++ i.Not ∷ []) (there_gives n fits.0) (not_so (n + 1) (these (adjective_code o a)) (adjective_gives a (n + 1) fits.1))
 
@@ -250,7 +249,7 @@ module _ (z : Counts) (own : ℕ) (whose : Use) (loops : List OpenLoop) (k : ℕ
     those_give n all None fits = adjectives_give all n fits
     those_give n all (Some kind) fits =
         both_so n (o ++ i.Kind kind ∷ []) (adjectives_code o all)
-        (asked_of_one Truth n o (i.Kind kind) Truth (record { asking = refl; none = refl; way = refl; names = and_from (nat_lt kind z.kinds) true (lt-ltb kind z.kinds fits.0.0) refl }) refl (λ a sorts. refl) (asked n fits.0.1))
+        (asked_of_one Truth n o (i.Kind kind) Truth (refl, refl, refl, is_below kind z.kinds fits.0.0) refl (λ a sorts. refl) (asked n fits.0.1))
         (adjectives_give all (n + 1) fits.1)
 
     pub description_gives : (d : Description) (n : ℕ) → DescriptionFits z k fits_over n d → GivesCode Truth n (description_code o d)
@@ -258,4 +257,4 @@ module _ (z : Counts) (own : ℕ) (whose : Use) (loops : List OpenLoop) (k : ℕ
     description_gives (tree.Those all kind) n fits = those_give n all kind fits
     description_gives (tree.ThoseHeld all kind r holder) n fits =
         both_so n (kind_code o kind (adjectives_code o all)) (o ++ object_code holder ++ i.Held r ∷ []) (those_give n all kind fits.0)
-        (asked_of_two (n + 1) o (object_code holder) (i.Held r) (record { asking = refl; none = refl; way = refl; names = refl }) (λ a b sorts. refl) (asked (n + 1) fits.1.0) (object_gives holder (n + 1 + 1) fits.1.1))
+        (asked_of_two (n + 1) o (object_code holder) (i.Held r) (refl, refl, refl, refl) (λ a b sorts. refl) (asked (n + 1) fits.1.0) (object_gives holder (n + 1 + 1) fits.1.1))

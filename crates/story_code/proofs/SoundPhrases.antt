@@ -25,7 +25,7 @@ use Rattle.story_code.specs.Runs.{test_named}
 use Rattle.story_code.specs.SoundlyEmitted.{AreNumbered, IsSoundTest, NameInTurn}
 use Rattle.story_code.proofs.SoundWays.{carries_choice, carries_loop}
 use Rattle.story_code.proofs.SoundParts.{carries_end, carries_nothing, carries_one}
-use Rattle.story_code.proofs.SoundDescriptions.{Carries, Gives, Names, carries_then, named_here, object_gives, one_below, two_below}
+use Rattle.story_code.proofs.SoundDescriptions.{Carries, Gives, Names, carries_then, named_here, object_gives, one_below, two_below, is_below}
 use Rattle.story_code.proofs.SoundConditions.{condition_gives, number_gives, opens_test, test_sound}
 use Rattle.story_code.proofs.InTurn.{names-append, names_none, numbered_first, numbered_later}
 use Rattle.story_code.proofs.SoundTexts.{Does, IsPlain, bodies_say, does_choice, does_nothing, does_one, does_seq, takes_one, takes_two, text_does}
@@ -96,29 +96,29 @@ module _ (z : Counts) (own : ℕ) (string : List ℕ → ℕ) where
         → Does z own Body loops k deep (phrase_part string k phrase)
     phrase_does (tree.Say text) loops k deep fits = text_does z own Body loops k deep bodies_say string text fits
     phrase_does (tree.NowIs o p value) loops k deep fits =
-        with_one loops k deep o (i.SetFlag p value) (record { allowed = refl; onward = refl; none = refl; way = refl; names = and_from (nat_lt p z.flags) true (lt-ltb p z.flags fits.0) refl }) (λ a. refl) fits.1
+        with_one loops k deep o (i.SetFlag p value) (refl, refl, refl, refl, is_below p z.flags fits.0) (λ a. refl) fits.1
     phrase_does (tree.NowHeld o r holder) loops k deep fits =
-        with_two loops k deep o holder (i.PutAt r) (record { allowed = refl; onward = refl; none = refl; way = refl; names = refl }) (λ a b. refl) fits
-    phrase_does (tree.NowNowhere o) loops k deep fits = with_one loops k deep o i.Away (record { allowed = refl; onward = refl; none = refl; way = refl; names = refl }) (λ a. refl) fits
+        with_two loops k deep o holder (i.PutAt r) (refl, refl, refl, refl, refl) (λ a b. refl) fits
+    phrase_does (tree.NowNowhere o) loops k deep fits = with_one loops k deep o i.Away (refl, refl, refl, refl, refl) (λ a. refl) fits
     phrase_does (tree.Move o holder) loops k deep fits =
-        with_two loops k deep o holder i.Move (record { allowed = refl; onward = refl; none = refl; way = refl; names = refl }) (λ a b. refl) fits
+        with_two loops k deep o holder i.Move (refl, refl, refl, refl, refl) (λ a b. refl) fits
     phrase_does (tree.NowNumber p o number) loops k deep fits =
         takes_two z own Body loops k deep Object Number (these (object_code o)) (number_part k number) (i.SetProp p)
-        (record { allowed = refl; onward = refl; none = refl; way = refl; names = and_from (nat_lt p z.numbers) true (lt-ltb p z.numbers fits.0) refl }) (λ a b. refl)
+        (refl, refl, refl, refl, is_below p z.numbers fits.0) (λ a b. refl)
         (object_gives z own Body loops k deep o 0 fits.1.0) (number_gives z own Body loops k deep number 1 fits.1.1)
     phrase_does (tree.NowVariable v number) loops k deep fits =
         takes_one z own Body loops k deep Number (number_part k number) (i.SetVar v)
-        (record { allowed = refl; onward = refl; none = refl; way = refl; names = and_from (nat_lt v z.variables) true (lt-ltb v z.variables fits.0) refl }) (λ a. refl)
+        (refl, refl, refl, refl, is_below v z.variables fits.0) (λ a. refl)
         (number_gives z own Body loops k deep number 0 fits.1)
     phrase_does (tree.Try silent action noun second) loops k deep fits =
         with_two loops k deep noun second (i.Try silent action)
-        (record { allowed = refl; onward = refl; none = refl; way = refl; names = and_from (nat_lt action z.actions) true (lt-ltb action z.actions fits.0) refl }) (λ a b. refl) fits.1
+        (refl, refl, refl, refl, is_below action z.actions fits.0) (λ a b. refl) fits.1
     phrase_does (tree.Follow book) loops k deep fits =
-        does_one z own Body loops k deep (i.Follow book) (record { allowed = refl; onward = refl; none = refl; way = refl; names = and_from (nat_lt book z.books) true (lt-ltb book z.books fits) refl }) refl
+        does_one z own Body loops k deep (i.Follow book) (refl, refl, refl, refl, is_below book z.books fits) refl
     phrase_does (tree.Leave flow) loops k deep fits = leaves loops k deep flow
     phrase_does (tree.EndStory text) loops k deep fits =
         does_one z own Body loops k deep (i.EndStory (string text))
-        (record { allowed = refl; onward = refl; none = refl; way = refl; names = and_from (nat_lt (string text) z.strings) true (lt-ltb (string text) z.strings fits) refl }) refl
+        (refl, refl, refl, refl, is_below (string text) z.strings fits) refl
     phrase_does (tree.If condition a b) loops k deep fits =
         does_choice z own Body loops k deep bodies_say (condition_part k condition) (body_part string k a) (body_part string k b)
         (condition_gives z own Body loops k deep condition 0 fits.0) (body_does a loops k deep fits.1.0) (body_does b loops k deep fits.1.1)

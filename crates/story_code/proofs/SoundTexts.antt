@@ -25,7 +25,7 @@ use Rattle.story_code.specs.Runs.{test_named}
 use Rattle.story_code.specs.SoundlyEmitted.{AreNumbered, NameInTurn}
 use Rattle.story_code.proofs.SoundWays.{carries_choice, carries_loop}
 use Rattle.story_code.proofs.SoundParts.{carries_end, carries_nothing, carries_one}
-use Rattle.story_code.proofs.SoundDescriptions.{Carries, Gives, Names, carries_then, named_here, object_gives, one_below, two_below}
+use Rattle.story_code.proofs.SoundDescriptions.{Carries, Gives, Names, carries_then, is_below, named_here, object_gives, one_below, two_below}
 use Rattle.story_code.proofs.SoundConditions.{condition_gives, number_gives, opens_test, test_sound}
 use Rattle.story_code.proofs.InTurn.{names-append, names_none, numbered_first, numbered_later}
 
@@ -65,17 +65,13 @@ module _ (z : Counts) (own : ℕ) (whose : Use) (loops : List OpenLoop) (k : ℕ
       carries_then z own whose loops k deep a b [] [] [] t q (x t q (numbered_first judged t e.tests f.tests numbers))
           (y (t + length e.tests) (q + sizes e.code) (numbered_later judged t e.tests f.tests numbers))
 
-  -- an instruction that goes straight on, and may stand in this code
-  pub record IsPlain (x : Instruction) : Type 0 where
-    pub allowed : may_hold whose x ≡ true
-    pub onward : may_hold Body x ≡ true
-    pub none : test_named x ≡ None
-    pub way : way_of x ≡ Straight
-    pub names : Names z own whose loops k deep x
+  -- an instruction that goes straight on, and may stand in this code, names no test and what is there
+  abbrev pub IsPlain : Instruction → Type 0
+  IsPlain x = (may_hold whose x ≡ true) × (may_hold Body x ≡ true) × (test_named x ≡ None) × (way_of x ≡ Straight) × Names z own whose loops k deep x
 
   plain_one : (x : Instruction) (operands left : List Sort) (t q : ℕ) → IsPlain x → operands_behind judged x operands ≡ Some left → Carries z own whose loops k deep operands left t q (one x t q)
   plain_one x operands left t q is typed =
-      (carries_one judged whose loops operands left q x is.allowed is.onward (named_here z own whose loops k deep x is.names) typed is.way, names_none judged x t is.none)
+      (carries_one judged whose loops operands left q x is.0 is.1 (named_here z own whose loops k deep x is.4) typed is.3, names_none judged x t is.2)
 
   pub does_one : (x : Instruction) → IsPlain x → operands_behind judged x [] ≡ Some [] → Does (one x)
   does_one x is typed t q numbers = plain_one x [] [] t q is typed
@@ -144,21 +140,21 @@ module _ (z : Counts) (own : ℕ) (whose : Use) (loops : List OpenLoop) (k : ℕ
     text_does tree.Silence fits = does_nothing
     text_does (tree.Bytes bytes more) fits =
         does_seq (one (i.Say (string bytes))) (text_part string k more)
-        (does_one (i.Say (string bytes)) (record { allowed = say.string (string bytes); onward = refl; none = refl; way = refl; names = and_from (nat_lt (string bytes) z.strings) true (lt-ltb (string bytes) z.strings fits.0) refl }) refl)
+        (does_one (i.Say (string bytes)) (say.string (string bytes), refl, refl, refl, is_below (string bytes) z.strings fits.0) refl)
         (text_does more fits.1)
     text_does (tree.Figure number more) fits =
         does_seq (seq (number_part k number) (one i.Figure)) (text_part string k more)
-        (takes_one Number (number_part k number) i.Figure (record { allowed = say.figure; onward = refl; none = refl; way = refl; names = refl }) (λ a. refl) (number_gives z own whose loops k deep number 0 fits.0))
+        (takes_one Number (number_part k number) i.Figure (say.figure, refl, refl, refl, refl) (λ a. refl) (number_gives z own whose loops k deep number 0 fits.0))
         (text_does more fits.1)
     text_does (tree.Name naming o more) fits =
         does_seq (these (object_code o ++ i.Name naming ∷ [])) (text_part string k more)
-        (takes_one Object (these (object_code o)) (i.Name naming) (record { allowed = say.name naming; onward = refl; none = refl; way = refl; names = refl }) (λ a. refl) (object_gives z own whose loops k deep o 0 fits.0))
+        (takes_one Object (these (object_code o)) (i.Name naming) (say.name naming, refl, refl, refl, refl) (λ a. refl) (object_gives z own whose loops k deep o 0 fits.0))
         (text_does more fits.1)
     text_does (tree.Listing naming d more) fits = does_seq (testing (i.Names naming k) (test_code k d)) (text_part string k more) (lists say naming d fits.0) (text_does more fits.1)
     text_does (tree.DescriptionOf o more) fits =
         does_seq (these (object_code o ++ i.Description ∷ [])) (text_part string k more)
         (takes_one Object (these (object_code o)) i.Description
-        (record { allowed = subst (λ w. may_hold w i.Description ≡ true) (sym fits.0.0) refl; onward = refl; none = refl; way = refl; names = refl }) (λ a. refl) (object_gives z own whose loops k deep o 0 fits.0.1))
+        (subst (λ w. may_hold w i.Description ≡ true) (sym fits.0.0) refl, refl, refl, refl, refl) (λ a. refl) (object_gives z own whose loops k deep o 0 fits.0.1))
         (text_does more fits.1)
     text_does (tree.IfSaid c a b more) fits =
         does_seq (choice (condition_part k c) (text_part string k a) (text_part string k b)) (text_part string k more)
