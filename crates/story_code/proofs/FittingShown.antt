@@ -1,5 +1,5 @@
 -- The rows of what fits a small story hold.
-use Rattle.std.proofs.Common.{◌≡◌, ap, refl, ℕ, suc, zero, ◌+◌, ◌<◌, ◌≤◌, [], arith}
+use Rattle.std.proofs.Common.{◌≡◌, refl, ℕ, suc, zero, ◌+◌, ◌<◌, ◌≤◌, arith}
 use Rattle.play_meaning.specs.declared.operand.Use.TheVariants as role
 use Rattle.story_code.specs.Fitting.{BodyFits, NumberFits}
 use Rattle.story_code.specs.FittingRows.{FittingRows, repeats, small, sum_of}

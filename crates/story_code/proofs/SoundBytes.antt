@@ -1,5 +1,5 @@
 -- The bytes of what was emitted soundly are sound codes, and stand rightly in a story that holds them.
-use Rattle.std.proofs.Common.{◌≡◌, ◌∙◌, ap, sym, refl, inl, inr, ℕ, ◌+◌, ◌-◌, ◌<◌, ◌≤◌, ◌^◌, ◌⊎◌, ◌&&◌, nat_lt, Bool, true, List, [], ◌∷◌, length, Option, None, Some, slice_get, subst, arith}
+use Rattle.std.proofs.Common.{◌≡◌, ◌∙◌, ap, sym, refl, inl, inr, ℕ, ◌+◌, ◌-◌, ◌<◌, ◌⊎◌, ◌&&◌, nat_lt, true, List, [], ◌∷◌, length, Option, None, Some, slice_get, subst, arith}
 use Rattle.std.proofs.lemmas.Bool.{and_parts, ltb-true}
 use Rattle.std.specs.List.{list_all}
 use Rattle.play_meaning.specs.Instructions.{at_place, size_of, sizes}
@@ -36,8 +36,10 @@ tests_sound z [] n [] (b ∷ bytes) names spelled said = absurd spelled
 tests_sound z [] n (test ∷ tests) bytes names spelled said = let no : ⊥ = cc in absurd no
 tests_sound z (i ∷ is) n tests bytes names spelled said = by_name (λ m more others. tests_sound z is m more others) (test_named i) tests bytes names spelled said
   where
-    by_name : ((m : ℕ) (tests : List (List Instruction)) (bytes : List (List ℕ)) → NameInTurn (IsSoundTest z) is m tests → AreSpelled bytes tests → list_all can_say_code tests ≡ true → NameInTurn (IsSoundTestCode z) is m bytes)
-        → (named : Option (ℕ × ℕ)) (tests : List (List Instruction)) (bytes : List (List ℕ)) → NamesNext (IsSoundTest z) (λ m more. NameInTurn (IsSoundTest z) is m more) n named tests → AreSpelled bytes tests
+    by_name : ((m : ℕ) (tests : List (List Instruction)) (bytes : List (List ℕ)) → NameInTurn (IsSoundTest z) is m tests → AreSpelled bytes tests → list_all can_say_code tests ≡ true
+        → NameInTurn (IsSoundTestCode z) is m bytes)
+        → (named : Option (ℕ × ℕ)) (tests : List (List Instruction)) (bytes : List (List ℕ)) → NamesNext (IsSoundTest z) (λ m more. NameInTurn (IsSoundTest z) is m more) n named tests
+        → AreSpelled bytes tests
         → list_all can_say_code tests ≡ true → NamesNext (IsSoundTestCode z) (λ m more. NameInTurn (IsSoundTestCode z) is m more) n named bytes
     by_name later None tests bytes names spelled said = later n tests bytes names spelled said
     by_name later (Some named) [] bytes names spelled said = absurd names
@@ -106,13 +108,12 @@ module _ (judged : List Judged) (z : Counts) where
       by_name : ((m : ℕ) (tests : List (List ℕ)) → NameInTurn (IsSoundTestCode z) is m tests → NameInTurn Stands is m tests)
           → (named : Option (ℕ × ℕ)) (tests : List (List ℕ)) → NamesNext (IsSoundTestCode z) (λ m more. NameInTurn (IsSoundTestCode z) is m more) n named tests
           → NamesNext Stands
-              (λ m more. NameInTurn Stands is m more) n named tests
+          (λ m more. NameInTurn Stands is m more) n named tests
       by_name later None tests names = later n tests names
       by_name later (Some named) [] names = names
       by_name later (Some named) (test ∷ tests) names =
           let sizes = sizes_as z (Test (named.0 + 1)) n in
-          let sound = names.1.0.0 in
-          (
+          let sound = names.1.0.0 in (
             names.0,
             (
               record {
@@ -126,7 +127,8 @@ module _ (judged : List Judged) (z : Counts) where
             ),
           )
 
-  pub codes_stand : (role : Use) (first : ℕ) (bytes : List ℕ) (tests : List (List ℕ)) (sound : AreSoundCodes z role first (bytes ∷ tests)) → ArePlaced judged z role first sound.0.code bytes tests
+  pub codes_stand : (role : Use) (first : ℕ) (bytes : List ℕ) (tests : List (List ℕ)) (sound : AreSoundCodes z role first (bytes ∷ tests))
+      → ArePlaced judged z role first sound.0.code bytes tests
       → StandsRightly judged z role z.own bytes
       × NameInTurn Stands sound.0.code first tests
   codes_stand role first bytes tests sound placed = (

@@ -1,5 +1,5 @@
 -- The tests of descriptions that fit are sound; the codes of numbers and conditions that fit give one operand.
-use Rattle.std.proofs.Common.{◌≡◌, ◌∙◌, ap, refl, ℕ, ◌+◌, ◌<◌, ◌≤◌, ◌==◌, ◌&&◌, nat_lt, Bool, true, false, List, [], ◌∷◌, ◌++◌, length, Option, None, Some, if◌then◌else◌, arith}
+use Rattle.std.proofs.Common.{◌≡◌, ◌∙◌, ap, refl, ℕ, ◌+◌, ◌<◌, ◌≤◌, ◌==◌, ◌&&◌, nat_lt, Bool, true, false, List, [], ◌∷◌, ◌++◌, length, None, Some, if◌then◌else◌, arith}
 use Rattle.std.proofs.lemmas.Bool.{and_from, eq-eqb, lt-ltb}
 use Rattle.play_meaning.specs.Operands.{below, is_object, may_hold, names_what_is_there, operands_behind, serves, with_given}
 use Rattle.play_meaning.specs.SoundCodes.{loops_around}
@@ -12,15 +12,15 @@ use Rattle.play_meaning.specs.declared.operand.Counts.{Counts}
 use Rattle.play_meaning.specs.declared.operand.Sort.{Sort}
 use Rattle.play_meaning.specs.declared.operand.Sort.TheVariants.{Number, NumberOrObject, Object, Truth}
 use Rattle.play_meaning.specs.declared.operand.Use.{Use}
-use Rattle.play_meaning.specs.declared.operand.Use.TheVariants.{Body, Test}
+use Rattle.play_meaning.specs.declared.operand.Use.TheVariants.{Test}
 use Rattle.play_meaning.specs.declared.way.OpenLoop.{OpenLoop}
 use Rattle.world_meaning.specs.declared.place.Rel.{Rel}
 use Rattle.world_meaning.specs.declared.place.Rel.TheVariants.{Carried, Worn}
 use Rattle.story_code.specs.Fitting.{ConditionFits, DescriptionFits, HasRoom, MayOpen, NumberFits, ObjectFits, TestFits}
-use Rattle.story_code.specs.SoundlyEmitted.{AreNumbered, IsSoundTest}
+use Rattle.story_code.specs.SoundlyEmitted.{IsSoundTest}
 use Rattle.story_code.proofs.InTurn.{names-append, none_in_turn}
 use Rattle.story_code.proofs.SoundParts.{carries_one}
-use Rattle.story_code.proofs.SoundDescriptions.{Gives, GivesCode, adjective_gives, not_so, two_parts, IsAsking, alike_numbers, alike_objects, asked_of_one, asked_of_two, asks, description_gives, gives_of_codes, gives_of_one, gives_of_two, gives_one, named_here, object_gives, one_below, pushed, two_below, is_below}
+use Rattle.story_code.proofs.SoundDescriptions.{Gives, GivesCode, adjective_gives, not_so, two_parts, IsAsking, alike_numbers, alike_objects, asked_of_one, asked_of_two, asks, description_gives, gives_of_codes, gives_of_two, gives_one, named_here, object_gives, one_below, pushed, two_below, is_below}
 use Rattle.story_code.proofs.SoundWholes.{sound_whole}
 
 -- ---- inside one loop more
@@ -45,11 +45,10 @@ test_sound z k d t fits there =
     let deep : k + 1 + 0 ≡ k + 1 = omega arith in
     let looped : (n : ℕ) → HasRoom n → Gives z t (Test (k + 1)) [] (k + 1) deep Object n (one (i.Loop k)) =
     λ n low. gives_one z t (Test (k + 1)) [] (k + 1) deep Object n (i.Loop k) Object
-        (refl, refl, refl, and_from (nat_lt k (k + 1)) true (lt-ltb k (k + 1) (omega arith)) refl) refl (pushed Object) low in
+    (refl, refl, refl, and_from (nat_lt k (k + 1)) true (lt-ltb k (k + 1) (omega arith)) refl) refl (pushed Object) low in
     let g = description_gives z t (Test (k + 1)) [] (k + 1) deep (i.Loop k ∷ []) HasRoom looped d 0 (description_more z k HasRoom d 0 fits) in
     let r = g.gives [] refl (t + 1) 0 (record { behind = omega arith; there = omega (arith, there) }) in
-    let y : Counts = record z { own = t } in
-    (
+    let y : Counts = record z { own = t } in (
       sound_whole y (Test (k + 1)) (description_code (i.Loop k ∷ []) d) i.Answer (r.0 ∷ []) [] r.1.1.0 refl refl refl (ap (with_given None) (one_below r.0 Truth [] r.1.0)) refl,
       none_in_turn (IsSoundTest y) (test_code k d) (t + 1) (names-append y (description_code (i.Loop k ∷ []) d) (i.Answer ∷ []) (t + 1) [] [] r.1.1.1 refl),
     )
@@ -72,10 +71,10 @@ module _ (z : Counts) (own : ℕ) (whose : Use) (loops : List OpenLoop) (k : ℕ
   counted d m low fits = record {
     low = low;
     gives = λ operands many t q numbers.
-      let named = opens_test t fits.0 numbers.behind (omega (arith, numbers.there)) in
-      let carries = carries_one (record z { own = own }) whose loops operands (Number ∷ operands) q (i.Count k t) (asks whose (i.Count k t) refl) refl
-      (named_here z own whose loops k deep (i.Count k t) named) (pushed Number operands (omega (arith, many, low))) refl in
-      (Number, (refl, (carries, (refl, (test_sound z k d t fits.1 (omega (arith, numbers.there)), refl)))));
+        let named = opens_test t fits.0 numbers.behind (omega (arith, numbers.there)) in
+        let carries = carries_one (record z { own = own }) whose loops operands (Number ∷ operands) q (i.Count k t) (asks whose (i.Count k t) refl) refl
+        (named_here z own whose loops k deep (i.Count k t) named) (pushed Number operands (omega (arith, many, low))) refl in
+        (Number, (refl, (carries, (refl, (test_sound z k d t fits.1 (omega (arith, numbers.there)), refl)))));
   }
 
   -- two numbers, of which a number is made
@@ -120,7 +119,8 @@ module _ (z : Counts) (own : ℕ) (whose : Use) (loops : List OpenLoop) (k : ℕ
       → ((a b : Sort) (sorts : List Sort) → operands_behind (record z { own = own }) x (b ∷ a ∷ sorts) ≡ with_given (Some Truth) (below (Number ∷ Number ∷ []) (b ∷ a ∷ sorts)))
       → NumberFits z k m a → NumberFits z k (m + 1) b → Gives z own whose loops k deep Truth m (two_parts (number_part k a) (number_part k b) x)
   compared m a b x is takes fits more = gives_of_two z own whose loops k deep Truth Number Number m (number_part k a) (number_part k b) x Truth is refl
-      (λ a b sorts y w few. takes a b sorts ∙ ap (with_given (Some Truth)) (two_below a b Number Number sorts y w) ∙ pushed Truth sorts few) (number_gives a m fits) (number_gives b (m + 1) more)
+      (λ a b sorts y w few. takes a b sorts ∙ ap (with_given (Some Truth)) (two_below a b Number Number sorts y w) ∙ pushed Truth sorts few) (number_gives a m fits)
+      (number_gives b (m + 1) more)
 
   joined : (m : ℕ) (a b : Condition) (x : Instruction) → IsAsking z own whose loops k deep x
       → ((a b : Sort) (sorts : List Sort) → operands_behind (record z { own = own }) x (b ∷ a ∷ sorts) ≡ with_given (Some Truth) (below (Truth ∷ Truth ∷ []) (b ∷ a ∷ sorts)))
@@ -128,7 +128,8 @@ module _ (z : Counts) (own : ℕ) (whose : Use) (loops : List OpenLoop) (k : ℕ
   joined m a b x is takes = gives_of_two z own whose loops k deep Truth Truth Truth m (condition_part k a) (condition_part k b) x Truth is refl
       (λ a b sorts y w few. takes a b sorts ∙ ap (with_given (Some Truth)) (two_below a b Truth Truth sorts y w) ∙ pushed Truth sorts few)
 
-  held : (m : ℕ) (o holder : tree.Object) (r : Rel) → ObjectFits z k m o → ObjectFits z k (m + 1) holder → GivesCode z own whose loops k deep Truth m (held_code (object_code o) r (object_code holder))
+  held : (m : ℕ) (o holder : tree.Object) (r : Rel) → ObjectFits z k m o → ObjectFits z k (m + 1) holder
+      → GivesCode z own whose loops k deep Truth m (held_code (object_code o) r (object_code holder))
   unfolding names_what_is_there operands_behind
   held m o holder r fits more =
       asked_of_two z own whose loops k deep m (object_code o) (object_code holder) (i.Held r) (refl, refl, refl, refl) (λ a b sorts. refl)

@@ -1,10 +1,9 @@
 -- The codes of objects, descriptions, numbers and conditions that fit find what they need, and give one operand.
-use Rattle.std.proofs.Common.{◌≡◌, ◌∙◌, ap, sym, subst, refl, ℕ, suc, ◌+◌, ◌<◌, ◌≤◌, ◌==◌, ◌&&◌, ◌||◌, nat_lt, nat_le, Bool, true, false, List, [], ◌∷◌, ◌++◌, append_assoc, length, length-append, Option, None, Some, if◌then◌else◌, ℤ, pos, negsuc, arith}
+use Rattle.std.proofs.Common.{◌≡◌, ◌∙◌, ap, sym, subst, refl, ℕ, ◌+◌, ◌<◌, ◌≤◌, ◌&&◌, ◌||◌, nat_lt, nat_le, Bool, true, false, List, [], ◌∷◌, ◌++◌, append_assoc, length, Option, None, Some, if◌then◌else◌, ℤ, pos, negsuc, arith}
 use Rattle.std.proofs.lemmas.Bool.{and_from, le-leb, leb-true, lt-ltb, or_left, or_right}
 use Rattle.play_meaning.specs.Instructions.{opcode, sizes}
-use Rattle.play_meaning.specs.Instructions as code
-use Rattle.play_meaning.specs.Operands.{are_alike, behind_eq, below, is_from_to, is_object, may_hold, names_what_is_there, operands_behind, serves, with_given}
-use Rattle.play_meaning.specs.SoundCodes.{IsSound, loops_around, way_of}
+use Rattle.play_meaning.specs.Operands.{behind_eq, below, is_from_to, is_object, may_hold, names_what_is_there, operands_behind, serves, with_given}
+use Rattle.play_meaning.specs.SoundCodes.{loops_around, way_of}
 use Rattle.play_meaning.specs.Translation.{Emitted, Part, adjective_code, adjectives_code, and_code, description_code, is_there_code, kind_code, object_code, one, seq, these}
 use Rattle.play_meaning.specs.Trees as tree
 use Rattle.play_meaning.specs.Trees.{Adjective, Description, Side}
@@ -36,7 +35,8 @@ pub asks : (whose : Use) (x : Instruction) → is_from_to 0x01 0x20 x ≡ true �
 unfolding may_hold
 asks (Test loops) x h = or_left (is_from_to 0x01 0x20 x) (is_from_to 0x3B 0x3B x) h
 asks Describing x h =
-    or_left (is_from_to 0x01 0x24 x || is_from_to 0x32 0x33 x) (is_from_to 0x37 0x37 x) (or_left (is_from_to 0x01 0x24 x) (is_from_to 0x32 0x33 x) (up_to (opcode x) 0x20 0x24 (omega arith) h))
+    or_left (is_from_to 0x01 0x24 x || is_from_to 0x32 0x33 x) (is_from_to 0x37 0x37 x)
+    (or_left (is_from_to 0x01 0x24 x) (is_from_to 0x32 0x33 x) (up_to (opcode x) 0x20 0x24 (omega arith) h))
 asks Body x h = up_to (opcode x) 0x20 0x3A (omega arith) h
 
 -- ---- what instructions leave
@@ -111,7 +111,7 @@ module _ (z : Counts) (own : ℕ) (whose : Use) (loops : List OpenLoop) (k : ℕ
   gives_one wanted n x sort is serving typed low = record {
     low = low;
     gives = λ operands many t q numbers.
-      (sort, (serving, asked_one x operands (sort ∷ operands) t q is (typed operands (omega (arith, many, low)))));
+        (sort, (serving, asked_one x operands (sort ∷ operands) t q is (typed operands (omega (arith, many, low)))));
   }
 
   pub gives_of_one : (wanted first : Sort) (n : ℕ) (p : Part) (x : Instruction) (sort : Sort) → IsAsking x → serves sort wanted ≡ true
@@ -121,16 +121,15 @@ module _ (z : Counts) (own : ℕ) (whose : Use) (loops : List OpenLoop) (k : ℕ
   gives_of_one wanted first n p x sort is serving typed g = record {
     low = g.low;
     gives = λ operands many t q numbers.
-      let e = p t q in
-      let r = g.gives operands many t q (numbered_first judged t e.tests [] numbers) in
-      (
-        sort,
-        (
-          serving,
-          carries_then p (one x) operands (r.0 ∷ operands) (sort ∷ operands) t q r.1.1
-              (asked_one x (r.0 ∷ operands) (sort ∷ operands) (t + length e.tests) (q + sizes e.code) is (typed r.0 operands r.1.0 (omega (arith, many, g.low)))),
-        ),
-      );
+        let e = p t q in
+        let r = g.gives operands many t q (numbered_first judged t e.tests [] numbers) in (
+          sort,
+          (
+            serving,
+            carries_then p (one x) operands (r.0 ∷ operands) (sort ∷ operands) t q r.1.1
+                (asked_one x (r.0 ∷ operands) (sort ∷ operands) (t + length e.tests) (q + sizes e.code) is (typed r.0 operands r.1.0 (omega (arith, many, g.low)))),
+          ),
+        );
   }
 
   pub gives_of_two : (wanted first second : Sort) (n : ℕ) (a b : Part) (x : Instruction) (sort : Sort) → IsAsking x → serves sort wanted ≡ true
@@ -140,23 +139,22 @@ module _ (z : Counts) (own : ℕ) (whose : Use) (loops : List OpenLoop) (k : ℕ
   gives_of_two wanted first second n a b x sort is serving typed g h = record {
     low = g.low;
     gives = λ operands many t q numbers.
-      let e = a t q in
-      let t' = t + length e.tests in
-      let q' = q + sizes e.code in
-      let f = b t' q' in
-      let r = g.gives operands many t q (numbered_first judged t e.tests (f.tests ++ []) numbers) in
-      let later = numbered_later judged t e.tests (f.tests ++ []) numbers in
-      let s = h.gives (r.0 ∷ operands) (omega (arith, many)) t' q' (numbered_first judged t' f.tests [] later) in
-      (
-        sort,
-        (
-          serving,
-          carries_then a (seq b (one x)) operands (r.0 ∷ operands) (sort ∷ operands) t q r.1.1
-              (carries_then b (one x) (r.0 ∷ operands) (s.0 ∷ r.0 ∷ operands) (sort ∷ operands) t' q' s.1.1
-              (asked_one x (s.0 ∷ r.0 ∷ operands) (sort ∷ operands) (t' + length f.tests) (q' + sizes f.code) is
-              (typed r.0 s.0 operands r.1.0 s.1.0 (omega (arith, many, g.low))))),
-        ),
-      );
+        let e = a t q in
+        let t' = t + length e.tests in
+        let q' = q + sizes e.code in
+        let f = b t' q' in
+        let r = g.gives operands many t q (numbered_first judged t e.tests (f.tests ++ []) numbers) in
+        let later = numbered_later judged t e.tests (f.tests ++ []) numbers in
+        let s = h.gives (r.0 ∷ operands) (omega (arith, many)) t' q' (numbered_first judged t' f.tests [] later) in (
+          sort,
+          (
+            serving,
+            carries_then a (seq b (one x)) operands (r.0 ∷ operands) (sort ∷ operands) t q r.1.1
+                (carries_then b (one x) (r.0 ∷ operands) (s.0 ∷ r.0 ∷ operands) (sort ∷ operands) t' q' s.1.1
+                (asked_one x (s.0 ∷ r.0 ∷ operands) (sort ∷ operands) (t' + length f.tests) (q' + sizes f.code) is
+                (typed r.0 s.0 operands r.1.0 s.1.0 (omega (arith, many, g.low))))),
+          ),
+        );
   }
 
   -- ---- objects

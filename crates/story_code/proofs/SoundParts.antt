@@ -1,16 +1,15 @@
 -- Codes with what is known at each of their places, and parts of codes whose instructions find what they need.
-use Rattle.std.proofs.Common.{◌≡◌, ◌∙◌, ap, sym, subst, refl, inl, inr, ℕ, ◌+◌, ◌-◌, ◌<◌, ◌≤◌, ◌==◌, ◌⊎◌, Bool, true, false, nat_lt, List, [], ◌∷◌, ◌++◌, length, append_assoc, append-nil, Option, None, Some, if◌then◌else◌, arith}
+use Rattle.std.proofs.Common.{◌≡◌, ◌∙◌, ap, sym, subst, refl, inl, inr, ℕ, ◌+◌, ◌-◌, ◌==◌, true, false, nat_lt, List, [], ◌∷◌, ◌++◌, length, Some, if◌then◌else◌, arith}
 use Rattle.std.proofs.lemmas.Grind.{common_steps}
 use Rattle.play_meaning.specs.Instructions.{at_place, size_of, sizes}
 use Rattle.play_meaning.specs.Operands.{may_hold, names_what_is_there, operands_behind}
-use Rattle.play_meaning.specs.SoundCodes.{IsFine, IsPlace, Label, Labelled, LeadsTo, Ways, bare, loops_around, way_of}
+use Rattle.play_meaning.specs.SoundCodes.{IsFine, Label, Labelled, LeadsTo, Ways, bare, loops_around, way_of}
 use Rattle.play_meaning.specs.declared.instruction.Instruction.{Instruction}
 use Rattle.play_meaning.specs.declared.operand.Counts.{Counts}
 use Rattle.play_meaning.specs.declared.operand.Sort.{Sort}
 use Rattle.play_meaning.specs.declared.operand.Use.{Use}
 use Rattle.play_meaning.specs.declared.operand.Use.TheVariants as role
 use Rattle.play_meaning.specs.declared.way.OpenLoop.{OpenLoop}
-use Rattle.play_meaning.specs.declared.way.Way.{Way}
 use Rattle.play_meaning.specs.declared.way.Way.TheVariants.{Ends, Straight}
 use Rattle.story_code.proofs.Followed.{sizes_append}
 use Rattle.story_code.proofs.Places.{at_cases, at_past}
@@ -144,10 +143,10 @@ module _ (z : Counts) (whose : Use) where
     known = x.known ++ y.known;
     spells = codes-append x.known y.known ∙ ap (λ is. is ++ codes_of y.known) x.spells ∙ ap (λ is. a ++ is) y.spells;
     carried = λ c known behind.
-      let e : q + sizes (a ++ b) ≡ q + sizes a + sizes b = omega (arith, sizes_append a b) in
-      let last = y.carried c (known_behind c q x.known y.known a x.spells known) (subst (λ n. LeadsTo c n (label left loops)) e behind) in
-      let first = x.carried c (known_front c q x.known y.known known) last.0 in
-      (first.0, good-append c q a b first.1 last.1);
+        let e : q + sizes (a ++ b) ≡ q + sizes a + sizes b = omega (arith, sizes_append a b) in
+        let last = y.carried c (known_behind c q x.known y.known a x.spells known) (subst (λ n. LeadsTo c n (label left loops)) e behind) in
+        let first = x.carried c (known_front c q x.known y.known known) last.0 in
+        (first.0, good-append c q a b first.1 last.1);
   }
 
   -- one that goes straight on
@@ -158,12 +157,11 @@ module _ (z : Counts) (whose : Use) where
     known = record { instruction = i; label = label operands loops } ∷ [];
     spells = refl;
     carried = λ c known behind.
-      let e : q + (size_of i + 0) ≡ q + size_of i = omega arith in
-      let leads = subst (λ n. LeadsTo c n (label left loops)) e behind in
-      (
-        ((i, known.0.0), known.0.1),
-        (record { fine = fine_by c q i (label operands loops) left known.0.1 allowed named typed (subst (λ w. Ways w c q (q + size_of i) left loops) (sym way) leads); onward = onward }, tt),
-      );
+        let e : q + (size_of i + 0) ≡ q + size_of i = omega arith in
+        let leads = subst (λ n. LeadsTo c n (label left loops)) e behind in (
+          ((i, known.0.0), known.0.1),
+          (record { fine = fine_by c q i (label operands loops) left known.0.1 allowed named typed (subst (λ w. Ways w c q (q + size_of i) left loops) (sym way) leads); onward = onward }, tt),
+        );
   }
 
   -- one that goes nowhere
@@ -174,10 +172,16 @@ module _ (z : Counts) (whose : Use) where
     known = record { instruction = i; label = label operands loops } ∷ [];
     spells = refl;
     carried = λ c known behind.
-      let e : q + (size_of i + 0) ≡ q + size_of i = omega arith in
-      let leads = subst (λ n. LeadsTo c n (bare loops)) e behind in
-      (
-        ((i, known.0.0), known.0.1),
-        (record { fine = fine_by c q i (label operands loops) left known.0.1 allowed named typed (subst (λ w. Ways w c q (q + size_of i) left loops) (sym way) leads.1); onward = onward }, tt),
-      );
+        let e : q + (size_of i + 0) ≡ q + size_of i = omega arith in
+        let leads = subst (λ n. LeadsTo c n (bare loops)) e behind in (
+          ((i, known.0.0), known.0.1),
+          (
+            record {
+              fine = fine_by c q i (label operands loops) left known.0.1 allowed named typed
+                  (subst (λ w. Ways w c q (q + size_of i) left loops) (sym way) leads.1);
+              onward = onward;
+            },
+            tt,
+          ),
+        );
   }

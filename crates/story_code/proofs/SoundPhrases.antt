@@ -1,33 +1,31 @@
 -- The codes of phrases that fit find what they need, and leave nothing.
-use Rattle.std.proofs.Common.{◌≡◌, ◌∙◌, ap, sym, subst, refl, ℕ, ◌+◌, ◌<◌, ◌≤◌, ◌==◌, ◌&&◌, nat_lt, Bool, true, false, List, [], ◌∷◌, ◌++◌, append-nil, length, length-append, Option, None, Some, arith}
-use Rattle.std.proofs.lemmas.Bool.{and_from, and_parts, eq-eqb, lt-ltb}
+use Rattle.std.proofs.Common.{◌≡◌, subst, refl, ℕ, ◌+◌, ◌==◌, ◌&&◌, nat_lt, true, List, [], ◌∷◌, ◌++◌, append-nil, length, None, Some, arith}
+use Rattle.std.proofs.lemmas.Bool.{and_from, and_parts, eq-eqb}
 use Rattle.play_meaning.specs.Instructions.{sizes}
-use Rattle.play_meaning.specs.Operands.{below, may_hold, names_what_is_there, operands_behind, serves, with_given}
+use Rattle.play_meaning.specs.Operands.{below, may_hold, names_what_is_there, operands_behind, with_given}
 use Rattle.play_meaning.specs.SoundCodes.{loops_around, way_of}
-use Rattle.play_meaning.specs.Translation.{Emitted, Part, body_part, choice, condition_part, leave_part, loop, nothing, number_part, object_code, one, phrase_part, seq, test_code, testing, text_part, these}
+use Rattle.play_meaning.specs.Translation.{Part, body_part, condition_part, leave_part, loop, number_part, object_code, one, phrase_part, seq, test_code, these}
 use Rattle.play_meaning.specs.Trees as tree
 use Rattle.play_meaning.specs.Trees.{Description, Phrase, Text}
 use Rattle.play_meaning.specs.declared.instruction.Instruction.{Instruction}
 use Rattle.play_meaning.specs.declared.instruction.Instruction.TheVariants as i
 use Rattle.play_meaning.specs.declared.operand.Counts.{Counts}
 use Rattle.play_meaning.specs.declared.operand.Sort.{Sort}
-use Rattle.play_meaning.specs.declared.operand.Sort.TheVariants.{Number, Object, Truth}
-use Rattle.play_meaning.specs.declared.operand.Use.{Use}
-use Rattle.play_meaning.specs.declared.operand.Use.TheVariants.{Body, Describing, Test}
+use Rattle.play_meaning.specs.declared.operand.Sort.TheVariants.{Number, Object}
+use Rattle.play_meaning.specs.declared.operand.Use.TheVariants.{Body}
 use Rattle.play_meaning.specs.declared.outcome.Flow.{Flow}
 use Rattle.play_meaning.specs.declared.outcome.Flow.TheVariants.{Decides, GoesOn, NoDecision}
 use Rattle.play_meaning.specs.declared.outcome.Outcome.TheVariants.{Failure, Success}
 use Rattle.play_meaning.specs.declared.way.OpenLoop.{OpenLoop}
-use Rattle.play_meaning.specs.declared.way.Way.TheVariants.{Ends, Straight}
-use Rattle.play_meaning.specs.declared.naming.Naming.{Naming}
+use Rattle.play_meaning.specs.declared.way.Way.TheVariants.{Ends}
 use Rattle.story_code.specs.Fitting.{BodyFits, HeldFits, ObjectFits, PhraseFits, TestFits}
 use Rattle.story_code.specs.Runs.{test_named}
-use Rattle.story_code.specs.SoundlyEmitted.{AreNumbered, IsSoundTest, NameInTurn}
-use Rattle.story_code.proofs.SoundWays.{carries_choice, carries_loop}
-use Rattle.story_code.proofs.SoundParts.{carries_end, carries_nothing, carries_one}
-use Rattle.story_code.proofs.SoundDescriptions.{Carries, Gives, Names, carries_then, named_here, object_gives, one_below, two_below, is_below}
+use Rattle.story_code.specs.SoundlyEmitted.{IsSoundTest, NameInTurn}
+use Rattle.story_code.proofs.SoundWays.{carries_loop}
+use Rattle.story_code.proofs.SoundParts.{carries_end}
+use Rattle.story_code.proofs.SoundDescriptions.{Names, named_here, object_gives, is_below}
 use Rattle.story_code.proofs.SoundConditions.{condition_gives, number_gives, opens_test, test_sound}
-use Rattle.story_code.proofs.InTurn.{names-append, names_none, numbered_first, numbered_later}
+use Rattle.story_code.proofs.InTurn.{names-append, names_none}
 use Rattle.story_code.proofs.SoundTexts.{Does, IsPlain, bodies_say, does_choice, does_nothing, does_one, does_seq, takes_one, takes_two, text_does}
 
 module _ (z : Counts) (own : ℕ) (string : List ℕ → ℕ) where
@@ -35,7 +33,8 @@ module _ (z : Counts) (own : ℕ) (string : List ℕ → ℕ) where
     abbrev BodyDoes : Part → Type 0
     BodyDoes = Does z own Body loops k deep
 
-    ends : (x : Instruction) → may_hold Body x ≡ true → test_named x ≡ None → way_of x ≡ Ends → Names z own Body loops k deep x → operands_behind (record z { own = own }) x [] ≡ Some [] → BodyDoes (one x)
+    ends : (x : Instruction) → may_hold Body x ≡ true → test_named x ≡ None → way_of x ≡ Ends → Names z own Body loops k deep x → operands_behind (record z { own = own }) x [] ≡ Some []
+        → BodyDoes (one x)
     ends x allowed none way names typed t q numbers =
         (carries_end (record z { own = own }) Body loops [] [] q x allowed allowed (named_here z own Body loops k deep x names) typed way, names_none (record z { own = own }) x t none)
 
@@ -76,8 +75,7 @@ module _ (z : Counts) (own : ℕ) (string : List ℕ → ℕ) where
         let opens : ((k == k) && nat_lt k 9) && true ≡ true = and_from ((k == k) && nat_lt k 9) true (and_parts ((k == k) && nat_lt k 9) _ may).0 refl in
         let turns : ((k + 1 == k + 1) && ((nat_lt own t && nat_lt t z.codes) && true)) ≡ true =
         and_from (k + 1 == k + 1) ((nat_lt own t && nat_lt t z.codes) && true) (eq-eqb (k + 1) (k + 1) refl) (and_parts ((k == k) && nat_lt k 9) _ may).1 in
-        let code = turn.code ++ i.Jump (q + 2) ∷ [] in
-        (
+        let code = turn.code ++ i.Jump (q + 2) ∷ [] in (
           carries_loop (record z { own = own }) Body loops q k t turn.code refl refl refl (named_here z own Body loops k deep (i.Begin k) opens)
               (named_here z own Body (inside ∷ loops) (k + 1) deeper (i.Next k t exit) turns) turned.0,
           (
@@ -92,6 +90,7 @@ module _ (z : Counts) (own : ℕ) (string : List ℕ → ℕ) where
 
   mutual
     unfolding may_hold phrase_part seq names_what_is_there operands_behind
+
     pub phrase_does : (phrase : Phrase) (loops : List OpenLoop) (k : ℕ) (deep : loops_around Body + length loops ≡ k) → PhraseFits z string k phrase
         → Does z own Body loops k deep (phrase_part string k phrase)
     phrase_does (tree.Say text) loops k deep fits = text_does z own Body loops k deep bodies_say string text fits

@@ -1,10 +1,9 @@
 -- The codes of texts that fit find what they need, and leave nothing.
-use Rattle.std.proofs.Common.{◌≡◌, ◌∙◌, ap, sym, subst, refl, ℕ, ◌+◌, ◌<◌, ◌≤◌, ◌==◌, ◌&&◌, nat_lt, Bool, true, false, List, [], ◌∷◌, ◌++◌, append-nil, length, length-append, Option, None, Some, arith}
-use Rattle.std.proofs.lemmas.Bool.{and_from, eq-eqb, lt-ltb}
+use Rattle.std.proofs.Common.{◌≡◌, ◌∙◌, ap, sym, subst, refl, ℕ, ◌+◌, true, List, [], ◌∷◌, ◌++◌, length, None, Some, arith}
 use Rattle.play_meaning.specs.Instructions.{sizes}
-use Rattle.play_meaning.specs.Operands.{below, may_hold, names_what_is_there, operands_behind, serves, with_given}
+use Rattle.play_meaning.specs.Operands.{below, may_hold, names_what_is_there, operands_behind, with_given}
 use Rattle.play_meaning.specs.SoundCodes.{loops_around, way_of}
-use Rattle.play_meaning.specs.Translation.{Emitted, Part, body_part, choice, condition_part, leave_part, loop, nothing, number_part, object_code, one, phrase_part, seq, test_code, testing, text_part, these}
+use Rattle.play_meaning.specs.Translation.{Part, choice, condition_part, nothing, number_part, object_code, one, seq, test_code, testing, text_part, these}
 use Rattle.play_meaning.specs.Trees as tree
 use Rattle.play_meaning.specs.Trees.{Description, Phrase, Text}
 use Rattle.play_meaning.specs.declared.instruction.Instruction.{Instruction}
@@ -13,18 +12,15 @@ use Rattle.play_meaning.specs.declared.operand.Counts.{Counts}
 use Rattle.play_meaning.specs.declared.operand.Sort.{Sort}
 use Rattle.play_meaning.specs.declared.operand.Sort.TheVariants.{Number, Object, Truth}
 use Rattle.play_meaning.specs.declared.operand.Use.{Use}
-use Rattle.play_meaning.specs.declared.operand.Use.TheVariants.{Body, Describing, Test}
-use Rattle.play_meaning.specs.declared.outcome.Flow.{Flow}
-use Rattle.play_meaning.specs.declared.outcome.Flow.TheVariants.{Decides, GoesOn, NoDecision}
-use Rattle.play_meaning.specs.declared.outcome.Outcome.TheVariants.{Failure, Success}
+use Rattle.play_meaning.specs.declared.operand.Use.TheVariants.{Body, Describing}
 use Rattle.play_meaning.specs.declared.way.OpenLoop.{OpenLoop}
-use Rattle.play_meaning.specs.declared.way.Way.TheVariants.{Ends, Straight}
+use Rattle.play_meaning.specs.declared.way.Way.TheVariants.{Straight}
 use Rattle.play_meaning.specs.declared.naming.Naming.{Naming}
-use Rattle.story_code.specs.Fitting.{BodyFits, HasRoom, PhraseFits, TestFits, TextFits}
+use Rattle.story_code.specs.Fitting.{TestFits, TextFits}
 use Rattle.story_code.specs.Runs.{test_named}
-use Rattle.story_code.specs.SoundlyEmitted.{AreNumbered, NameInTurn}
-use Rattle.story_code.proofs.SoundWays.{carries_choice, carries_loop}
-use Rattle.story_code.proofs.SoundParts.{carries_end, carries_nothing, carries_one}
+use Rattle.story_code.specs.SoundlyEmitted.{AreNumbered}
+use Rattle.story_code.proofs.SoundWays.{carries_choice}
+use Rattle.story_code.proofs.SoundParts.{carries_nothing, carries_one}
 use Rattle.story_code.proofs.SoundDescriptions.{Carries, Gives, Names, carries_then, is_below, named_here, object_gives, one_below, two_below}
 use Rattle.story_code.proofs.SoundConditions.{condition_gives, number_gives, opens_test, test_sound}
 use Rattle.story_code.proofs.InTurn.{names-append, names_none, numbered_first, numbered_later}
@@ -63,13 +59,14 @@ module _ (z : Counts) (own : ℕ) (whose : Use) (loops : List OpenLoop) (k : ℕ
       let e = a t q in
       let f = b (t + length e.tests) (q + sizes e.code) in
       carries_then z own whose loops k deep a b [] [] [] t q (x t q (numbered_first judged t e.tests f.tests numbers))
-          (y (t + length e.tests) (q + sizes e.code) (numbered_later judged t e.tests f.tests numbers))
+      (y (t + length e.tests) (q + sizes e.code) (numbered_later judged t e.tests f.tests numbers))
 
   -- an instruction that goes straight on, and may stand in this code, names no test and what is there
   abbrev pub IsPlain : Instruction → Type 0
   IsPlain x = (may_hold whose x ≡ true) × (may_hold Body x ≡ true) × (test_named x ≡ None) × (way_of x ≡ Straight) × Names z own whose loops k deep x
 
-  plain_one : (x : Instruction) (operands left : List Sort) (t q : ℕ) → IsPlain x → operands_behind judged x operands ≡ Some left → Carries z own whose loops k deep operands left t q (one x t q)
+  plain_one : (x : Instruction) (operands left : List Sort) (t q : ℕ) → IsPlain x → operands_behind judged x operands ≡ Some left
+      → Carries z own whose loops k deep operands left t q (one x t q)
   plain_one x operands left t q is typed =
       (carries_one judged whose loops operands left q x is.0 is.1 (named_here z own whose loops k deep x is.4) typed is.3, names_none judged x t is.2)
 
@@ -84,7 +81,7 @@ module _ (z : Counts) (own : ℕ) (whose : Use) (loops : List OpenLoop) (k : ℕ
       let e = p t q in
       let r = g.gives [] refl t q (numbered_first judged t e.tests [] numbers) in
       carries_then z own whose loops k deep p (one x) [] (r.0 ∷ []) [] t q r.1.1
-          (plain_one x (r.0 ∷ []) [] (t + length e.tests) (q + sizes e.code) is (takes r.0 ∙ ap (with_given None) (one_below r.0 wanted [] r.1.0)))
+      (plain_one x (r.0 ∷ []) [] (t + length e.tests) (q + sizes e.code) is (takes r.0 ∙ ap (with_given None) (one_below r.0 wanted [] r.1.0)))
 
   -- one that takes two
   pub takes_two : (first second : Sort) (a b : Part) (x : Instruction) → IsPlain x
@@ -100,8 +97,9 @@ module _ (z : Counts) (own : ℕ) (whose : Use) (loops : List OpenLoop) (k : ℕ
       let r = g.gives [] refl t q (numbered_first judged t e.tests f.tests both) in
       let s = h.gives (r.0 ∷ []) refl t' q' (numbered_later judged t e.tests f.tests both) in
       carries_then z own whose loops k deep (seq a b) (one x) [] (s.0 ∷ r.0 ∷ []) [] t q
-          (carries_then z own whose loops k deep a b [] (r.0 ∷ []) (s.0 ∷ r.0 ∷ []) t q r.1.1 s.1.1)
-          (plain_one x (s.0 ∷ r.0 ∷ []) [] (t + length (e.tests ++ f.tests)) (q + sizes (e.code ++ f.code)) is (takes r.0 s.0 ∙ ap (with_given None) (two_below r.0 s.0 second first [] r.1.0 s.1.0)))
+      (carries_then z own whose loops k deep a b [] (r.0 ∷ []) (s.0 ∷ r.0 ∷ []) t q r.1.1 s.1.1)
+      (plain_one x (s.0 ∷ r.0 ∷ []) [] (t + length (e.tests ++ f.tests)) (q + sizes (e.code ++ f.code)) is
+      (takes r.0 s.0 ∙ ap (with_given None) (two_below r.0 s.0 second first [] r.1.0 s.1.0)))
 
   pub does_choice : MaySay whose → (c a b : Part) → Gives z own whose loops k deep Truth 0 c → Does a → Does b → Does (choice c a b)
   unfolding choice
@@ -116,8 +114,7 @@ module _ (z : Counts) (own : ℕ) (whose : Use) (loops : List OpenLoop) (k : ℕ
       let r = g.gives [] refl t q (numbered_first judged t asked.tests (first.tests ++ last.tests) numbers) in
       let later = numbered_later judged t asked.tests (first.tests ++ last.tests) numbers in
       let taken = x t1 q1 (numbered_first judged t1 first.tests last.tests later) in
-      let other = y t2 q2 (numbered_later judged t1 first.tests last.tests later) in
-      (
+      let other = y t2 q2 (numbered_later judged t1 first.tests last.tests later) in (
         carries_choice judged whose loops q asked.code first.code last.code r.0 say.branch say.jump r.1.0 r.1.1.0 taken.0 other.0,
         names-append judged asked.code (i.IfZero q2 ∷ (first.code ++ i.Jump (q2 + sizes last.code) ∷ last.code)) t asked.tests (first.tests ++ last.tests) r.1.1.1
             (names-append judged first.code (i.Jump (q2 + sizes last.code) ∷ last.code) t1 first.tests last.tests taken.1 other.1),
@@ -128,8 +125,7 @@ module _ (z : Counts) (own : ℕ) (whose : Use) (loops : List OpenLoop) (k : ℕ
   lists : MaySay whose → (naming : Naming) (d : Description) → TestFits z k d → Does (testing (i.Names naming k) (test_code k d))
   unfolding may_hold names_what_is_there operands_behind
   lists say naming d fits t q numbers =
-      let named = opens_test z own whose loops k deep t fits.0 numbers.behind (omega (arith, numbers.there)) in
-      (
+      let named = opens_test z own whose loops k deep t fits.0 numbers.behind (omega (arith, numbers.there)) in (
         carries_one judged whose loops [] [] q (i.Names naming k t) (say.names naming k t) refl (named_here z own whose loops k deep (i.Names naming k t) named) refl refl,
         (refl, (test_sound z k d t fits.1 (omega (arith, numbers.there)), refl)),
       )
@@ -158,5 +154,6 @@ module _ (z : Counts) (own : ℕ) (whose : Use) (loops : List OpenLoop) (k : ℕ
         (text_does more fits.1)
     text_does (tree.IfSaid c a b more) fits =
         does_seq (choice (condition_part k c) (text_part string k a) (text_part string k b)) (text_part string k more)
-        (does_choice say (condition_part k c) (text_part string k a) (text_part string k b) (condition_gives z own whose loops k deep c 0 fits.0) (text_does a fits.1.0.0) (text_does b fits.1.0.1))
+        (does_choice say (condition_part k c) (text_part string k a) (text_part string k b) (condition_gives z own whose loops k deep c 0 fits.0) (text_does a fits.1.0.0)
+        (text_does b fits.1.0.1))
         (text_does more fits.1.1)

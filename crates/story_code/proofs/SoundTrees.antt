@@ -1,18 +1,17 @@
 -- What is emitted of trees that fit is sound, with the tests that it names.
-use Rattle.std.proofs.Common.{◌≡◌, ap, refl, ℕ, ◌+◌, List, [], ◌∷◌, ◌++◌, length, None}
+use Rattle.std.proofs.Common.{ap, refl, ℕ, List, [], ◌∷◌, None}
 use Rattle.play_meaning.specs.Operands.{may_hold, names_what_is_there, operands_behind, with_given}
-use Rattle.play_meaning.specs.Translation.{Part, body_part, condition_part, one, seq, text_part}
+use Rattle.play_meaning.specs.Translation.{body_part, condition_part, seq, text_part}
 use Rattle.play_meaning.specs.TranslatedScripts.{description_part, test_part}
 use Rattle.play_meaning.specs.Trees.{Condition, Text}
 use Rattle.play_meaning.specs.Trees as tree
 use Rattle.play_meaning.specs.declared.instruction.Instruction.TheVariants.{Answer, Done}
 use Rattle.play_meaning.specs.declared.operand.Counts.{Counts}
 use Rattle.play_meaning.specs.declared.operand.Sort.TheVariants.{Truth}
-use Rattle.play_meaning.specs.declared.operand.Use.{Use}
 use Rattle.play_meaning.specs.declared.operand.Use.TheVariants.{Body, Describing, Test}
 use Rattle.story_code.specs.Emits.{whole_body}
 use Rattle.story_code.specs.Fitting.{BodyFits, ConditionFits, TextFits}
-use Rattle.story_code.specs.SoundlyEmitted.{AreNumbered, IsSoundTest, IsSoundlyEmitted}
+use Rattle.story_code.specs.SoundlyEmitted.{AreNumbered, IsSoundlyEmitted}
 use Rattle.story_code.proofs.SoundDescriptions.{one_below}
 use Rattle.story_code.proofs.SoundConditions.{condition_gives}
 use Rattle.story_code.proofs.InTurn.{names-append, numbered_first}

@@ -1,5 +1,5 @@
 -- A part of a code from its beginning on, and its last instruction, are sound.
-use Rattle.std.proofs.Common.{◌≡◌, ◌∙◌, ap, sym, subst, refl, inl, inr, ℕ, ◌+◌, ◌-◌, ◌≤◌, ◌⊎◌, Bool, true, List, [], ◌∷◌, ◌++◌, length, Some, arith}
+use Rattle.std.proofs.Common.{◌≡◌, ◌∙◌, ap, sym, subst, inl, inr, ℕ, ◌+◌, ◌-◌, ◌≤◌, ◌⊎◌, true, List, [], ◌∷◌, ◌++◌, Some, arith}
 use Rattle.play_meaning.specs.Instructions.{at_place, size_of, sizes}
 use Rattle.play_meaning.specs.Operands.{may_hold, names_what_is_there, operands_behind}
 use Rattle.play_meaning.specs.SoundCodes.{EndsInAnswer, IsFine, IsSound, Labelled, Ways, bare, loops_around, way_of}
@@ -10,7 +10,7 @@ use Rattle.play_meaning.specs.declared.operand.Sort.{Sort}
 use Rattle.play_meaning.specs.declared.operand.Use.{Use}
 use Rattle.play_meaning.specs.declared.operand.Use.TheVariants.{Body, Describing, Test}
 use Rattle.play_meaning.specs.declared.way.Way.TheVariants.{Ends}
-use Rattle.story_code.proofs.SoundParts.{AreGood, CarriesAt, Known, KnownAt, bare_behind, codes-append, codes_of, fine_by, good_there, known_all, known_behind, known_front, label, labelled}
+use Rattle.story_code.proofs.SoundParts.{AreGood, CarriesAt, Known, bare_behind, codes-append, codes_of, fine_by, good_there, known_all, known_behind, known_front, label, labelled}
 use Rattle.story_code.proofs.Followed.{sizes_append}
 use Rattle.story_code.proofs.Places.{at_cases, at_past}
 
@@ -63,7 +63,8 @@ module _ (z : Counts) where
         answered = subst (EndsInAnswer whose) (sym spells) (ends_in_answer whose c is i size r.1);
       })
     where
-      fine_there : (c : Labelled) (is : List Instruction) (i : Instruction) → AreGood z whose c 0 is → IsFine z whose c (0 + sizes is) i → (q : ℕ) (j : Instruction) → at_place (is ++ i ∷ []) q ≡ Some j → IsFine z whose c q j
+      fine_there : (c : Labelled) (is : List Instruction) (i : Instruction) → AreGood z whose c 0 is → IsFine z whose c (0 + sizes is) i → (q : ℕ) (j : Instruction)
+          → at_place (is ++ i ∷ []) q ≡ Some j → IsFine z whose c q j
       fine_there c is i good ends q j at = elim (last_or_front is i q j at) [
         | inl f ↦ let e : 0 + q ≡ q = omega arith in subst (λ n. IsFine z whose c n j) e (good_there z whose c is 0 q j good f).fine
         | inr f ↦ let e : 0 + sizes is ≡ q = omega (arith, f.0) in subst (λ n. IsFine z whose c n j) e (subst (IsFine z whose c (0 + sizes is)) f.1 ends)
