@@ -37,15 +37,18 @@ RunsStandBehindAnyWork = (judged : List Judged) (s : Standing) (work : ℕ) → 
 
 -- whatever number the first test has, as long as there are codes of these numbers, each behind the code's own
 abbrev pub BodiesAreSound : Type 0
-BodiesAreSound = (z : Counts) (string : List ℕ → ℕ) (first : ℕ) (body : tree.Body) → BodyFits z string 0 body → AreNumbered z first (whole_body string body first 0).tests
+BodiesAreSound = (z : Counts) (string : List ℕ → ℕ) (first : ℕ) (body : tree.Body) → BodyFits z string 0 body
+    → AreNumbered z first (whole_body string body first 0).tests
     → IsSoundlyEmitted z Body first (whole_body string body first 0)
 
 abbrev pub ConditionsAreSound : Type 0
-ConditionsAreSound = (z : Counts) (first : ℕ) (condition : tree.Condition) → ConditionFits z 0 0 condition → AreNumbered z first (test_part condition first 0).tests
+ConditionsAreSound = (z : Counts) (first : ℕ) (condition : tree.Condition) → ConditionFits z 0 0 condition
+    → AreNumbered z first (test_part condition first 0).tests
     → IsSoundlyEmitted z (Test 0) first (test_part condition first 0)
 
 abbrev pub DescriptionsAreSound : Type 0
-DescriptionsAreSound = (z : Counts) (string : List ℕ → ℕ) (first : ℕ) (text : tree.Text) → TextFits z Describing string 0 text → AreNumbered z first (description_part string text first 0).tests
+DescriptionsAreSound = (z : Counts) (string : List ℕ → ℕ) (first : ℕ) (text : tree.Text) → TextFits z Describing string 0 text
+    → AreNumbered z first (description_part string text first 0).tests
     → IsSoundlyEmitted z Describing first (description_part string text first 0)
 
 -- ---- their bytes, alone and in a story
@@ -55,6 +58,7 @@ EmittedBytesAreSound = (z : Counts) (role : Use) (first : ℕ) (e : Emitted) (by
 
 -- a story holds a code and the tests that it names, each by its number and for its use
 abbrev pub SoundCodesStandRightly : Type 0
-SoundCodesStandRightly = (judged : List Judged) (z : Counts) (role : Use) (first : ℕ) (bytes : List ℕ) (tests : List (List ℕ)) (sound : AreSoundCodes z role first (bytes ∷ tests))
+SoundCodesStandRightly = (judged : List Judged) (z : Counts) (role : Use) (first : ℕ) (bytes : List ℕ) (tests : List (List ℕ))
+    (sound : AreSoundCodes z role first (bytes ∷ tests))
     → ArePlaced judged z role first sound.0.code bytes tests
     → StandsRightly judged z role z.own bytes × NameInTurn (λ n loops test. StandsRightly judged z (Test loops) n test) sound.0.code first tests

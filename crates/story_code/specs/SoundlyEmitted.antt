@@ -21,6 +21,7 @@ abbrev pub NameInTurn : {A : Type 0} → (ℕ → ℕ → A → Type 0) → List
 NameInTurn is_test [] n tests = tests ≡ []
 NameInTurn is_test (i ∷ is) n tests = NamesNext is_test (λ m more. NameInTurn is_test is m more) n (test_named i) tests
 
+-- a code that names no test
 abbrev pub NamesNone : List Instruction → Type 0
 NamesNone [] = Unit {0}
 NamesNone (i ∷ is) = (test_named i ≡ None) × NamesNone is
@@ -34,6 +35,7 @@ pub record AreNumbered (z : Counts) (first : ℕ) (tests : List (List Instructio
   pub behind : z.own < first
   pub there : first + length tests ≤ z.codes
 
+-- judged by what there is, for its use, with its first test by this number
 pub record IsSoundlyEmitted (z : Counts) (role : Use) (first : ℕ) (e : Emitted) : Type 0 where
   pub code : IsSound z role e.code
   pub tests : NameInTurn (IsSoundTest z) e.code first e.tests
@@ -44,6 +46,7 @@ pub record IsSoundlyEmitted (z : Counts) (role : Use) (first : ℕ) (e : Emitted
 abbrev pub sizes_as : Counts → Use → ℕ → Sizes
 sizes_as z role n = record { counts = record z { own = n }; role = role }
 
+-- the bytes of such a test
 abbrev pub IsSoundTestCode : Counts → ℕ → ℕ → List ℕ → Type 0
 IsSoundTestCode z n loops bytes = (sound : IsSoundCode (sizes_as z (Test loops) n) bytes) × NamesNone sound.code
 
