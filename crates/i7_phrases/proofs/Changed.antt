@@ -19,7 +19,7 @@ use Rattle.i7_conditions.specs.Keys.{property_named, split_of, variable_named}
 use Rattle.i7_conditions.specs.Numbers.{CountsAs}
 use Rattle.i7_conditions.specs.Objects.{Means}
 use Rattle.i7_conditions.specs.Predicates.{is_deep, object_said}
-use Rattle.i7_conditions.specs.Readings.{FirstOf, IsFoundAs, one, two}
+use Rattle.i7_conditions.specs.Readings.{FirstOf, IsFoundAs, one}
 use Rattle.i7_conditions.specs.Relations.{relation_at}
 use Rattle.i7_conditions.specs.Scopes.{Scope}
 use Rattle.i7_conditions.specs.Terms.{is_over}
@@ -30,7 +30,7 @@ use Rattle.i7_conditions.proofs.Asked.{number_found}
 use Rattle.i7_conditions.proofs.Listing.{Made, MadeAt, MadeOfTwo, none_found, one_found, or_found, some_found, two_found}
 use Rattle.i7_conditions.proofs.Predicated.{object_found}
 use Rattle.i7_phrases.specs.CellForms.{cell_said, property_by, property_said, variable_said}
-use Rattle.i7_phrases.specs.Cells.{Cell, IsCell, IsProperty, IsVariable, PropertyOf, Variable, read, set}
+use Rattle.i7_phrases.specs.Cells.{Cell, IsCell, IsProperty, IsVariable, PropertyOf, Variable, set}
 use Rattle.i7_phrases.specs.ChangeForms.{added, adds_said, away_said, found_simple, from_away, from_put, given_so, gives_said, held_so, made_so, moves_said, now_said, put_said, set_said, so_said}
 use Rattle.i7_phrases.specs.Changes.{Adds, Gives, MakesSo, Moves, Now, PutsIn, Sets, TakesAway, change_is_over, flag_of, is_nowhere}
 use Rattle.i7_phrases.specs.PhraseForms.{by_verb, change_said}
