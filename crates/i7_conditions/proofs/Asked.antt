@@ -1,7 +1,6 @@
 -- What a clause with an `is` is found to ask is what it asks.
-use Rattle.std.proofs.Common.{◌≡◌, ℕ, Bool, true, false, ◌||◌, List, [], refl, sym, ap, ◌∙◌, subst, inl, inr}
+use Rattle.std.proofs.Common.{◌≡◌, ℕ, Bool, true, false, ◌||◌, List, [], refl, sym, ap, ◌∙◌, subst}
 use Rattle.std.specs.Prelude.{Option, Some, None}
-use Rattle.world_meaning.proofs.Bools.{either}
 use Rattle.play_meaning.specs.Trees as tree
 use Rattle.i7_conditions.specs.Asking.{asked_by, compared_by, denied_by, from_denied, from_numbers, of_numbers, of_object, of_scene, plain_said, scene_by}
 use Rattle.i7_conditions.specs.Clauses.{AsksBy, Compared, Denied, OfNumbers, OfObject, OfScene, Plainly, asks_over, behind_not, compared, comparison_at, is_happening, scene_named}
@@ -10,10 +9,10 @@ use Rattle.i7_conditions.specs.Numbers.{CountsAs, IsNumberFound}
 use Rattle.i7_conditions.specs.Objects.{Means}
 use Rattle.i7_conditions.specs.Predicates.{Predicate, Says, is_deep, object_said, predicate_said, said_of}
 use Rattle.i7_conditions.specs.Predicates as predicate
-use Rattle.i7_conditions.specs.Readings.{FirstOf, IsFoundAs, one, or_else, two}
+use Rattle.i7_conditions.specs.Readings.{FirstOf, IsFoundAs}
 use Rattle.i7_conditions.specs.Scopes.{Scope}
 use Rattle.i7_conditions.specs.Terms.{is_over}
-use Rattle.i7_conditions.specs.Words.{Word, is_not}
+use Rattle.i7_conditions.specs.Words.{Word}
 use Rattle.i7_conditions.specs.declared.comparison.Comparison.{Comparison}
 use Rattle.i7_conditions.specs.declared.comparison.Comparison.TheVariants.{AtLeast, AtMost, Greater, Less}
 use Rattle.i7_conditions.specs.declared.found.Found.{Found}

@@ -1,5 +1,5 @@
 -- What a clause without an `is` is found to ask is what it asks.
-use Rattle.std.proofs.Common.{◌≡◌, ℕ, zero, suc, ◌+◌, ◌-◌, ◌<◌, ◌≤◌, min, Bool, true, false, ◌&&◌, ◌||◌, List, [], ◌∷◌, length, take, drop, refl, sym, ap, ◌∙◌, subst, arith, inl, inr}
+use Rattle.std.proofs.Common.{◌≡◌, ℕ, suc, ◌+◌, ◌-◌, ◌<◌, ◌≤◌, min, true, false, ◌&&◌, ◌||◌, List, [], ◌∷◌, length, take, drop, refl, sym, ap, ◌∙◌, subst, arith, inl, inr}
 use Rattle.std.specs.Prelude.{Option, Some, None, nat_lt}
 use Rattle.std.proofs.lemmas.List.{length-drop}
 use Rattle.std.proofs.lemmas.Bool.{ltb-true, ltb-false}
@@ -9,9 +9,9 @@ use Rattle.i7_conditions.specs.Clauses.{AsksByVerb, Does, HasText, StandsAt, ask
 use Rattle.i7_conditions.specs.Joining.{is_read}
 use Rattle.i7_conditions.specs.Objects.{Means}
 use Rattle.i7_conditions.specs.Predicates.{is_deep, object_said}
-use Rattle.i7_conditions.specs.Readings.{FirstOf, IsFoundAs, one, or_else, two}
+use Rattle.i7_conditions.specs.Readings.{FirstOf, IsFoundAs, one, two}
 use Rattle.i7_conditions.specs.Scopes.{Scope}
-use Rattle.i7_conditions.specs.Verbs.{around_verb, by_verb, done_at, fits, from_carries, from_has, from_wears, place_from, text_said, verb_said}
+use Rattle.i7_conditions.specs.Verbs.{by_verb, done_at, fits, from_carries, from_has, from_wears, place_from, text_said, verb_said}
 use Rattle.i7_conditions.specs.Words.{Word}
 use Rattle.i7_conditions.specs.declared.found.Found.{Found}
 use Rattle.i7_conditions.specs.declared.found.Found.TheVariants.{Read, TooMany, Unread}

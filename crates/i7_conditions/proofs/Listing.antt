@@ -1,5 +1,5 @@
 -- What is found of readings, from what is found of their parts.
-use Rattle.std.proofs.Common.{◌≡◌, ◌⊎◌, Bool, true, false, ◌||◌, refl, sym, ap, ◌∙◌, subst, inl, inr}
+use Rattle.std.proofs.Common.{◌≡◌, Bool, true, false, ◌||◌, refl, sym, ap, ◌∙◌, subst, inl, inr}
 use Rattle.std.specs.Prelude.{Option, None, Some}
 use Rattle.i7_conditions.specs.Readings.{FirstOf, IsFoundAs, one, or_else, two}
 use Rattle.i7_conditions.specs.declared.found.Found.{Found}

@@ -1,5 +1,5 @@
 -- Words ask one condition at most.
-use Rattle.std.proofs.Common.{◌≡◌, ℕ, ◌<◌, Bool, true, List, [], ◌∷◌, take, drop, refl, sym, ap, ◌∙◌, subst, arith, inl, inr}
+use Rattle.std.proofs.Common.{◌≡◌, ℕ, List, [], ◌∷◌, take, sym, ap, ◌∙◌, subst, arith, inl, inr}
 use Rattle.std.specs.Prelude.{Option, Some, None, nat_lt}
 use Rattle.std.specs.List.{slice_split}
 use Rattle.std.proofs.lemmas.Bool.{ltb-true, ltb-false}
@@ -10,7 +10,7 @@ use Rattle.play_meaning.specs.Trees as tree
 use Rattle.play_meaning.specs.Trees.{Condition, Object}
 use Rattle.play_meaning.specs.declared.tree.object.Adjective.{Adjective}
 use Rattle.i7_conditions.specs.Adjectives.{adjective_named}
-use Rattle.i7_conditions.specs.Clauses.{Asks, AsksBy, AsksByVerb, AsksIn, Compared, Denied, Does, HasText, InTheDark, NotInTheDark, OfNumbers, OfObject, OfScene, Plainly, StandsAt, behind_not, compared, comparison_at, done_by, is_darkness, is_happening, scene_named, split_is}
+use Rattle.i7_conditions.specs.Clauses.{Asks, AsksBy, AsksByVerb, AsksIn, Compared, Denied, Does, HasText, InTheDark, NotInTheDark, OfNumbers, OfObject, OfScene, Plainly, StandsAt, behind_not, compared, comparison_at, done_by, scene_named, split_is}
 use Rattle.i7_conditions.specs.Conditions.{AsksAll, IsCondition, Joins, JoinsBehind, is_and, is_or}
 use Rattle.i7_conditions.specs.Describing.{Describes}
 use Rattle.i7_conditions.specs.Numbers.{CountsAs}

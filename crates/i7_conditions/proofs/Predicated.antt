@@ -1,30 +1,26 @@
 -- What words are found to say of an object is what they say.
-use Rattle.std.proofs.Common.{◌≡◌, ℕ, ◌≤◌, ◌<◌, ◌⊎◌, Bool, true, false, ◌||◌, List, [], refl, sym, ap, ◌∙◌, subst, arith, inl, inr}
+use Rattle.std.proofs.Common.{◌≡◌, ℕ, ◌≤◌, ◌<◌, ◌⊎◌, true, false, ◌||◌, List, [], refl, sym, ap, ◌∙◌, subst, arith, inl, inr}
 use Rattle.std.specs.Prelude.{Option, Some, None, nat_lt}
-use Rattle.std.proofs.lemmas.Bool.{ltb-true, ltb-false}
 use Rattle.std.proofs.lemmas.Bool.Decides.{nat_tests}
 use Rattle.world_meaning.proofs.Bools.{either}
 use Rattle.world_meaning.specs.declared.place.Rel.{Rel}
 use Rattle.world_meaning.specs.declared.place.Rel.TheVariants.{In}
-use Rattle.play_meaning.specs.Meant.{adjective_meant}
 use Rattle.play_meaning.specs.Trees as tree
 use Rattle.play_meaning.specs.declared.tree.object.Adjective.{Adjective}
 use Rattle.i7_conditions.specs.Adjectives.{adjective_named}
 use Rattle.i7_conditions.specs.Describing.{Describes, IsDescriptionFound, adjectives_in, froms_in}
 use Rattle.i7_conditions.specs.Descriptions.{description_said}
-use Rattle.i7_conditions.specs.Marks.{marks_of}
 use Rattle.i7_conditions.specs.Objects.{IsObjectFound, Means, froms}
-use Rattle.i7_conditions.specs.Parts.{put_together}
-use Rattle.i7_conditions.specs.Predicates.{Held, HeldByOne, One, Predicate, Same, Says, SaysHeld, SaysHeldByOne, SaysOne, SaysSame, SaysSo, So, from_held, from_one, from_same, held_by_one_said, held_said, is_deep, is_long, is_over, object_said, predicate_said, so_by}
-use Rattle.i7_conditions.specs.Readings.{FirstOf, IsFoundAs, one, or_else}
+use Rattle.i7_conditions.specs.Predicates.{Held, HeldByOne, One, Predicate, Same, Says, SaysHeld, SaysHeldByOne, SaysOne, SaysSame, SaysSo, from_held, from_one, from_same, held_by_one_said, held_said, is_deep, is_long, is_over, object_said, predicate_said, so_by}
+use Rattle.i7_conditions.specs.Readings.{FirstOf, IsFoundAs, one}
 use Rattle.i7_conditions.specs.Relations.{relation_at}
 use Rattle.i7_conditions.specs.Scopes.{Scope}
 use Rattle.i7_conditions.specs.Words.{Word, without_article}
 use Rattle.i7_conditions.specs.declared.found.Found.{Found}
 use Rattle.i7_conditions.specs.declared.found.Found.TheVariants.{Read, TooMany, Unread}
-use Rattle.i7_conditions.proofs.Described.{described_once, descriptions_found}
-use Rattle.i7_conditions.proofs.Listing.{IsOnce, Made, first_once, made_once, one_found, or_found}
-use Rattle.i7_conditions.proofs.Readings.{meant_once, objects_found}
+use Rattle.i7_conditions.proofs.Described.{descriptions_found}
+use Rattle.i7_conditions.proofs.Listing.{Made, one_found, or_found}
+use Rattle.i7_conditions.proofs.Readings.{objects_found}
 
 within : (n k : ℕ) → n ≤ k → nat_lt k n ≡ false
 within n k le = grind (arith, nat_tests)

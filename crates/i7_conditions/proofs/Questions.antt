@@ -1,9 +1,8 @@
 -- What a clause is found to ask is what it asks.
-use Rattle.std.proofs.Common.{◌≡◌, Bool, true, false, List, [], ◌∷◌, refl, sym, ap, ◌∙◌, subst, inl, inr}
+use Rattle.std.proofs.Common.{◌≡◌, true, List, refl, sym, ap, ◌∙◌, subst, inl, inr}
 use Rattle.std.specs.Prelude.{Option, Some, None}
 use Rattle.world_meaning.proofs.Bools.{either}
 use Rattle.play_meaning.specs.Trees as tree
-use Rattle.i7_conditions.specs.Asking.{asked_by}
 use Rattle.i7_conditions.specs.ClauseForms.{asked_in, clause_said, dark_said, from_not_dark, not_dark}
 use Rattle.i7_conditions.specs.Clauses.{Asks, AsksIn, InTheDark, NotInTheDark, asks_over, behind_not, is_darkness, split_is}
 use Rattle.i7_conditions.specs.Readings.{FirstOf, IsFoundAs}

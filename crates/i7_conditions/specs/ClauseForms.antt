@@ -1,5 +1,5 @@
 -- What clauses ask, by their words.
-use Rattle.std.specs.Prelude.{Bool, List, Option, Some, None, if◌then◌else◌}
+use Rattle.std.specs.Prelude.{List, Option, Some, None, if◌then◌else◌}
 use Rattle.play_meaning.specs.Trees as tree
 use Rattle.i7_conditions.specs.Asking.{asked_by}
 use Rattle.i7_conditions.specs.Clauses.{behind_not, is_darkness, split_is}

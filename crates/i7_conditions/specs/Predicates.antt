@@ -1,5 +1,5 @@
 -- What is said of an object behind `is`: an adjective, a description, an object, or what holds it.
-use Rattle.std.specs.Prelude.{◌≡◌, ℕ, Bool, true, false, ◌||◌, nat_lt, List, Option, Some, None}
+use Rattle.std.specs.Prelude.{◌≡◌, Bool, false, ◌||◌, nat_lt, List, Option, Some, None}
 use Rattle.world_meaning.specs.declared.place.Rel.{Rel}
 use Rattle.play_meaning.specs.Meant.{adjective_meant, description_meant, object_meant}
 use Rattle.play_meaning.specs.Trees as tree
