@@ -5,11 +5,11 @@ use Rattle.std.specs.List.{slice_split}
 use Rattle.std.proofs.lemmas.Bool.{ltb-true, ltb-false}
 use Rattle.world_meaning.proofs.Bools.{either}
 use Rattle.world_meaning.specs.declared.place.Rel.{Rel}
-use Rattle.play_meaning.specs.Meant.{adjective_meant}
+use Rattle.play_meaning.specs.Meant.{quality_meant}
 use Rattle.play_meaning.specs.Trees as tree
 use Rattle.play_meaning.specs.Trees.{Condition, Object}
-use Rattle.play_meaning.specs.declared.tree.object.Adjective.{Adjective}
-use Rattle.i7_conditions.specs.Adjectives.{adjective_named}
+use Rattle.play_meaning.specs.declared.tree.object.Quality.{Quality}
+use Rattle.i7_conditions.specs.Adjectives.{quality_named}
 use Rattle.i7_conditions.specs.Clauses.{Asks, AsksBy, AsksByVerb, AsksIn, Compared, Denied, Does, HasText, InTheDark, NotInTheDark, OfNumbers, OfObject, OfScene, Plainly, StandsAt, behind_not, compared, comparison_at, done_by, scene_named, split_is}
 use Rattle.i7_conditions.specs.Conditions.{AsksAll, IsCondition, Joins, JoinsBehind, is_and, is_or}
 use Rattle.i7_conditions.specs.Describing.{Describes}
@@ -34,7 +34,7 @@ use Rattle.i7_conditions.proofs.Readings.{meant_once}
 says_once : (s : Scope) (words : List Word) → IsOnce (Says s words)
 says_once s words =
     first_once (SaysSo s words) (FirstOf (SaysOne s words) (FirstOf (SaysSame s words) (FirstOf (SaysHeld s words) (SaysHeldByOne s words))))
-    (at_once (adjective_named s words) (λ (a : Adjective) (p : Predicate). p ≡ So (adjective_meant a)) (λ a p q e f. e ∙ sym f))
+    (at_once (quality_named s words) (λ (q : Quality) (p : Predicate). p ≡ So (quality_meant q)) (λ q p r e f. e ∙ sym f))
     (first_once (SaysOne s words) (FirstOf (SaysSame s words) (FirstOf (SaysHeld s words) (SaysHeldByOne s words)))
     (made_once One (Describes s (without_article words)) (described_once s (without_article words)))
     (first_once (SaysSame s words) (FirstOf (SaysHeld s words) (SaysHeldByOne s words)) (made_once Same (Means s words) (meant_once s words))

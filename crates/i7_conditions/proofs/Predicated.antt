@@ -6,8 +6,8 @@ use Rattle.world_meaning.proofs.Bools.{either}
 use Rattle.world_meaning.specs.declared.place.Rel.{Rel}
 use Rattle.world_meaning.specs.declared.place.Rel.TheVariants.{In}
 use Rattle.play_meaning.specs.Trees as tree
-use Rattle.play_meaning.specs.declared.tree.object.Adjective.{Adjective}
-use Rattle.i7_conditions.specs.Adjectives.{adjective_named}
+use Rattle.play_meaning.specs.declared.tree.object.Quality.{Quality}
+use Rattle.i7_conditions.specs.Adjectives.{quality_named}
 use Rattle.i7_conditions.specs.Describing.{Describes, IsDescriptionFound, adjectives_in, froms_in}
 use Rattle.i7_conditions.specs.Descriptions.{description_said}
 use Rattle.i7_conditions.specs.Objects.{IsObjectFound, Means, froms}
@@ -53,7 +53,7 @@ description_found s words = description_as s words (description_said s words) (d
 
 -- ---- each form
 
-so_found : (s : Scope) (words : List Word) (found : Option Adjective) → adjective_named s words ≡ found → IsFoundAs (SaysSo s words) is_over (so_by found)
+so_found : (s : Scope) (words : List Word) (found : Option Quality) → quality_named s words ≡ found → IsFoundAs (SaysSo s words) is_over (so_by found)
 so_found s words None e = λ p says. let same : None ≡ Some says.0 = sym e ∙ says.1 in absurd cc
 so_found s words (Some a) e = ((a, e, refl), refl)
 
@@ -91,8 +91,8 @@ by_one_found s words (Some parts) at =
 pub predicate_found : (s : Scope) (words : List Word) → IsFoundAs (Says s words) is_over (predicate_said s words)
 unfolding predicate_said
 predicate_found s words =
-    or_found (SaysSo s words) (FirstOf (SaysOne s words) (FirstOf (SaysSame s words) (FirstOf (SaysHeld s words) (SaysHeldByOne s words)))) is_over (so_by (adjective_named s words)) (from_one s words)
-    (so_found s words (adjective_named s words) refl)
+    or_found (SaysSo s words) (FirstOf (SaysOne s words) (FirstOf (SaysSame s words) (FirstOf (SaysHeld s words) (SaysHeldByOne s words)))) is_over (so_by (quality_named s words)) (from_one s words)
+    (so_found s words (quality_named s words) refl)
     (or_found (SaysOne s words) (FirstOf (SaysSame s words) (FirstOf (SaysHeld s words) (SaysHeldByOne s words))) is_over (one One (description_said s (without_article words))) (from_same s words)
     (one_found One (Describes s (without_article words)) is_long is_over (λ d. refl) (description_said s (without_article words)) (description_found s (without_article words)))
     (or_found (SaysSame s words) (FirstOf (SaysHeld s words) (SaysHeldByOne s words)) is_over (one Same (object_said s words)) (from_held s (relation_at words))

@@ -1,10 +1,10 @@
 -- What is said of an object behind `is`: an adjective, a description, an object, or what holds it.
 use Rattle.std.specs.Prelude.{◌≡◌, Bool, false, ◌||◌, nat_lt, List, Option, Some, None}
 use Rattle.world_meaning.specs.declared.place.Rel.{Rel}
-use Rattle.play_meaning.specs.Meant.{adjective_meant, description_meant, object_meant}
+use Rattle.play_meaning.specs.Meant.{adjective_meant, description_meant, object_meant, quality_meant}
 use Rattle.play_meaning.specs.Trees as tree
-use Rattle.play_meaning.specs.declared.tree.object.Adjective.{Adjective}
-use Rattle.i7_conditions.specs.Adjectives.{adjective_named}
+use Rattle.play_meaning.specs.declared.tree.object.Quality.{Quality}
+use Rattle.i7_conditions.specs.Adjectives.{quality_named}
 use Rattle.i7_conditions.specs.Describing.{Describes, adjectives_in, froms_in}
 use Rattle.i7_conditions.specs.Descriptions.{description_said}
 use Rattle.i7_conditions.specs.Marks.{marks_of}
@@ -50,9 +50,9 @@ is_over (HeldByOne relation description) = is_long description
 
 -- ---- which of them words are
 
--- an adjective has no article
+-- an adjective has no article, and a `not` in front of it denies what is asked, so that of nothing it is true
 abbrev pub SaysSo : Scope → List Word → Predicate → Type 0
-SaysSo s words p = (a : Adjective) × (adjective_named s words ≡ Some a) × (p ≡ So (adjective_meant a))
+SaysSo s words p = (q : Quality) × (quality_named s words ≡ Some q) × (p ≡ So (quality_meant q))
 
 -- a description may have one
 abbrev pub SaysOne : Scope → List Word → Predicate → Type 0
@@ -75,9 +75,9 @@ Says s words = FirstOf (SaysSo s words) (FirstOf (SaysOne s words) (FirstOf (Say
 abbrev pub object_said : Scope → List Word → Found tree.Object
 object_said s words = put_together (marks_of s words)
 
-abbrev pub so_by : Option Adjective → Found Predicate
+abbrev pub so_by : Option Quality → Found Predicate
 so_by None = Unread
-so_by (Some a) = Read (So (adjective_meant a))
+so_by (Some q) = Read (So (quality_meant q))
 
 abbrev pub held_said : Scope → Option (Rel × List Word) → Found Predicate
 held_said s None = Unread
@@ -97,7 +97,7 @@ abbrev pub from_one : Scope → List Word → Found Predicate
 from_one s words = or_else (one One (description_said s (without_article words))) (from_same s words)
 
 unfoldable pub predicate_said : Scope → List Word → Found Predicate
-predicate_said s words = or_else (so_by (adjective_named s words)) (from_one s words)
+predicate_said s words = or_else (so_by (quality_named s words)) (from_one s words)
 
 -- ---- as they are kept
 

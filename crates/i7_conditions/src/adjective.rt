@@ -56,7 +56,7 @@ fn quality_known(scope: &Scope<'_>, key: &[u8]) -> Option<Quality>
 }
 
 /// What the words of an adjective's name say. No name has more than 32 words.
-fn quality_named(
+pub fn quality_named(
     alloc: Global,
     scope: &Scope<'_>,
     words: &[TextBytes],

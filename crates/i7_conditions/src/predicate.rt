@@ -1,7 +1,7 @@
 //! What is said of an object behind `is` (*Writing with Inform*, 11.8): an adjective, a description, an object, or what
 //! holds it.
 ghost use Rattle.std.specs.Prelude.{◌≡◌, ◌≤◌, length, Some, IfOk};
-ghost use Rattle.play_meaning.specs.Meant.{basic_meant, object_meant};
+ghost use Rattle.play_meaning.specs.Meant.{adjective_meant, basic_meant, object_meant, quality_meant};
 ghost use Rattle.i7_conditions.specs.Descriptions.{found_described};
 ghost use Rattle.i7_conditions.specs.Objects.{found_meant};
 ghost use Rattle.i7_conditions.specs.Predicates.{HeldByOne as IsHeldByOne, One as IsOne, Same as IsSame, Held as IsHeld, found_predicate, from_held, from_one, from_same, held_by_one_said, held_said, predicate_meant, predicate_said, said_of};
@@ -9,14 +9,14 @@ ghost use Rattle.i7_conditions.specs.Readings.{one, or_else};
 ghost use Rattle.i7_conditions.specs.Relations.{relation_at};
 ghost use Rattle.i7_conditions.specs.Scopes.{scope_of};
 
-use crate::adjective::adjective_named;
+use crate::adjective::quality_named;
 use crate::description::description_said;
 use crate::found::Found;
 use crate::object::object_said;
 use crate::relation::relation_at;
 use crate::scope::Scope;
 use crate::word::without_article;
-use play_meaning::tree::{Adjective, Basic, Description, Referent};
+use play_meaning::tree::{Adjective, Basic, Description, Quality, Referent};
 use std::alloc::{AllocError, Global};
 use world_meaning::{Rel, TextBytes};
 
@@ -123,7 +123,17 @@ fn from_one(
     }
 }
 
-/// What words say of an object: an adjective, or else a description, an object or what holds it.
+/// An adjective without a `not` in front.
+fn plainly(quality: Quality) -> Adjective
+    ensures { adjective_meant result ≡ quality_meant quality }
+{
+    Adjective {
+        quality,
+        denied: false,
+    }
+}
+
+/// What words say of an object: an adjective without a `not`, or else a description, an object or what holds it.
 #[tactic(auto, unfolding(crate::specs::Predicates::predicate_said))]
 pub fn predicate_said(
     alloc: Global,
@@ -133,8 +143,8 @@ pub fn predicate_said(
     requires few { length (scope_of scope.now).repeats ≤ 255 }
     ensures { IfOk result (λ found. found_predicate found ≡ predicate_said (scope_of scope.now) words.now) }
 {
-    match adjective_named(alloc, scope, words)? {
-        Some(adjective) => Ok(Found::Read(Predicate::So(adjective))),
+    match quality_named(alloc, scope, words)? {
+        Some(quality) => Ok(Found::Read(Predicate::So(plainly(quality)))),
         None => from_one(alloc, scope, words),
     }
 }

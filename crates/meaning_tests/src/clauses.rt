@@ -39,7 +39,11 @@ fn objects_are_so_or_held(rt: HostRuntime) -> Result<(), Fail> {
         ),
         (
             "the red ball is not closed",
-            "IsSo(The(ObjNo(7)), Adjective { quality: Is(0, Second), denied: true })",
+            "not IsSo(The(ObjNo(7)), Adjective { quality: Is(0, Second), denied: false })",
+        ),
+        (
+            "nothing is not open",
+            "not IsSo(Nothing, Adjective { quality: Is(0, First), denied: false })",
         ),
         ("the noun is the key", "IsSame(Noun, The(ObjNo(5)))"),
         ("the noun is not the key", "not IsSame(Noun, The(ObjNo(5)))"),
