@@ -1,5 +1,5 @@
 -- What phrases that change the world are found to do is what they do.
-use Rattle.std.proofs.Common.{◌≡◌, ℕ, Bool, true, false, ◌||◌, List, refl, sym, ap, ◌∙◌, subst, inl, inr}
+use Rattle.std.proofs.Common.{◌≡◌, ℕ, Bool, true, false, ◌||◌, List, refl, ap, ◌∙◌, inl, inr}
 use Rattle.std.specs.Prelude.{Option, Some, None}
 use Rattle.world_meaning.proofs.Bools.{either}
 use Rattle.world_meaning.specs.declared.place.Rel.{Rel}
@@ -13,7 +13,7 @@ use Rattle.i7_conditions.specs.Keys.{property_named, split_of, variable_named}
 use Rattle.i7_conditions.specs.Numbers.{CountsAs}
 use Rattle.i7_conditions.specs.Objects.{Means}
 use Rattle.i7_conditions.specs.Predicates.{is_deep, object_said}
-use Rattle.i7_conditions.specs.Readings.{FirstOf, IsFoundAs, one, two}
+use Rattle.i7_conditions.specs.Readings.{FirstOf, IsFoundAs, one}
 use Rattle.i7_conditions.specs.Relations.{relation_at}
 use Rattle.i7_conditions.specs.Scopes.{Scope}
 use Rattle.i7_conditions.specs.Terms.{is_over}
@@ -24,7 +24,7 @@ use Rattle.i7_conditions.proofs.Asked.{number_found}
 use Rattle.i7_conditions.proofs.Listing.{Made, MadeAt, MadeOfTwo, none_found, one_found, or_found, some_found, two_found}
 use Rattle.i7_conditions.proofs.Predicated.{object_found}
 use Rattle.i7_phrases.specs.CellForms.{cell_said, property_by, property_said, variable_said}
-use Rattle.i7_phrases.specs.Cells.{Cell, IsCell, IsProperty, IsVariable, PropertyOf, Variable, read, set}
+use Rattle.i7_phrases.specs.Cells.{Cell, IsCell, IsProperty, IsVariable, PropertyOf, Variable, set}
 use Rattle.i7_phrases.specs.ChangeForms.{added, adds_said, away_said, from_away, from_put, given_so, gives_said, held_so, made_so, moves_said, now_said, put_said, set_said, so_said}
 use Rattle.i7_phrases.specs.Changes.{Adds, Gives, MakesSo, Moves, Now, PutsIn, Sets, TakesAway, change_is_over, flag_of, is_nowhere}
 

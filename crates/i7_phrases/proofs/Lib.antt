@@ -1,1 +1,5 @@
+mod Ahead
 mod Changed
+mod Drafted
+mod Steps
+mod Substituted

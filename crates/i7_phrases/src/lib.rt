@@ -4,4 +4,9 @@
 mod adding;
 mod cell;
 mod change;
+mod draft;
 mod moving;
+mod substitution;
+mod text;
+
+pub use text::{one_text_is_meant, text_of};
