@@ -2,19 +2,19 @@ mod Alone
 pub mod Asked
 mod Chains
 mod Columns
-mod Conjoined
-mod Counting
+pub mod Conjoined
+pub mod Counting
 mod Cutting
-mod Described
+pub mod Described
 mod Digits
 mod Done
 mod Kept
 mod Leveled
 pub mod Listing
 mod Nested
-mod Once
+pub mod Once
 pub mod Predicated
 mod Questions
-mod Readings
+pub mod Readings
 mod Runs
 mod Stacks

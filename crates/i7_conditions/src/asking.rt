@@ -126,7 +126,7 @@ fn from_numbers(
     subject: &[TextBytes],
     predicate: &[TextBytes],
 ) -> Result<Found<Basic>, AllocError>
-    requires few { length (scope_of scope.now).repeats ≤ 8 }
+    requires few { length (scope_of scope.now).repeats ≤ 255 }
     ensures { IfOk result (λ found. found_basic found ≡ from_numbers (scope_of scope.now) subject.now predicate.now) }
 {
     let first = number_said(alloc, scope, subject)?;
@@ -145,7 +145,7 @@ fn plain_said(
     subject: &[TextBytes],
     predicate: &[TextBytes],
 ) -> Result<Found<Basic>, AllocError>
-    requires few { length (scope_of scope.now).repeats ≤ 8 }
+    requires few { length (scope_of scope.now).repeats ≤ 255 }
     ensures { IfOk result (λ found. found_basic found ≡ plain_said (scope_of scope.now) subject.now predicate.now) }
 {
     let object = object_said(alloc, scope, subject)?;
@@ -184,7 +184,7 @@ fn denied_by(
     subject: &[TextBytes],
     predicate: &[TextBytes],
 ) -> Result<Found<Clause>, AllocError>
-    requires few { length (scope_of scope.now).repeats ≤ 8 }
+    requires few { length (scope_of scope.now).repeats ≤ 255 }
     ensures { IfOk result (λ found. found_clause found ≡ denied_by (scope_of scope.now) subject.now (behind_not predicate.now)) }
 {
     match behind_not(predicate) {
@@ -203,7 +203,7 @@ fn compared_by(
     subject: &[TextBytes],
     predicate: &[TextBytes],
 ) -> Result<Found<Clause>, AllocError>
-    requires few { length (scope_of scope.now).repeats ≤ 8 }
+    requires few { length (scope_of scope.now).repeats ≤ 255 }
     ensures { IfOk result (λ found. found_clause found ≡ compared_by (scope_of scope.now) subject.now (comparison_at predicate.now)) }
 {
     match comparison_at(predicate) {
@@ -223,7 +223,7 @@ fn from_denied(
     subject: &[TextBytes],
     predicate: &[TextBytes],
 ) -> Result<Found<Clause>, AllocError>
-    requires few { length (scope_of scope.now).repeats ≤ 8 }
+    requires few { length (scope_of scope.now).repeats ≤ 255 }
     ensures { IfOk result (λ found. found_clause found ≡ from_denied (scope_of scope.now) subject.now predicate.now) }
 {
     match denied_by(alloc, scope, subject, predicate)? {
@@ -240,7 +240,7 @@ pub fn asked_by(
     subject: &[TextBytes],
     predicate: &[TextBytes],
 ) -> Result<Found<Clause>, AllocError>
-    requires few { length (scope_of scope.now).repeats ≤ 8 }
+    requires few { length (scope_of scope.now).repeats ≤ 255 }
     ensures { IfOk result (λ found. found_clause found ≡ asked_by (scope_of scope.now) subject.now predicate.now) }
 {
     match clause(plain_said(alloc, scope, subject, predicate)?, false) {

@@ -79,7 +79,7 @@ fn asked_in(
     scope: &Scope<'_>,
     words: &[TextBytes],
 ) -> Result<Found<Clause>, AllocError>
-    requires few { length (scope_of scope.now).repeats ≤ 8 }
+    requires few { length (scope_of scope.now).repeats ≤ 255 }
     ensures { IfOk result (λ found. found_clause found ≡ asked_in (scope_of scope.now) words.now (split_is words.now)) }
 {
     match split_is(words) {
@@ -98,7 +98,7 @@ pub fn clause_said(
     scope: &Scope<'_>,
     words: &[TextBytes],
 ) -> Result<Found<Clause>, AllocError>
-    requires few { length (scope_of scope.now).repeats ≤ 8 }
+    requires few { length (scope_of scope.now).repeats ≤ 255 }
     ensures { IfOk result (λ found. found_clause found ≡ clause_said (scope_of scope.now) words.now) }
 {
     if is_darkness(words) {
@@ -119,7 +119,7 @@ pub fn clause_of(
     scope: &Scope<'_>,
     words: &[TextBytes],
 ) -> Result<Found<Clause>, AllocError>
-    requires few { length (scope_of scope.now).repeats ≤ 8 }
+    requires few { length (scope_of scope.now).repeats ≤ 255 }
     ensures { IfOk result (λ found. IsFoundAs (Asks (scope_of scope.now) words.now) asks_over (found_clause found)) }
 {
     Ok(clause_said(alloc, scope, words)?)

@@ -62,7 +62,7 @@ fn conjunction_said(
     scope: &Scope<'_>,
     words: &[TextBytes],
 ) -> Result<Found<Conjunction>, AllocError>
-    requires few { length (scope_of scope.now).repeats ≤ 8 }
+    requires few { length (scope_of scope.now).repeats ≤ 255 }
     ensures { IfOk result (λ found. found_conjunction found ≡ conjunction_said (scope_of scope.now) words.now) }
 {
     let (first, mut behind) = cut(Joint::And, words);
@@ -115,12 +115,12 @@ fn with_conjunction(
 
 /// What words ask, their parts being joined by `or`.
 #[tactic(auto, unfolding(crate::specs::Conjoining::condition_said))]
-fn condition_said(
+pub fn condition_said(
     alloc: Global,
     scope: &Scope<'_>,
     words: &[TextBytes],
 ) -> Result<Found<Condition>, AllocError>
-    requires few { length (scope_of scope.now).repeats ≤ 8 }
+    requires few { length (scope_of scope.now).repeats ≤ 255 }
     ensures { IfOk result (λ found. found_condition found ≡ condition_said (scope_of scope.now) words.now) }
 {
     let (first, mut behind) = cut(Joint::Or, words);
@@ -141,7 +141,7 @@ pub fn condition_of(
     scope: &Scope<'_>,
     words: &[TextBytes],
 ) -> Result<Found<Condition>, AllocError>
-    requires few { length (scope_of scope.now).repeats ≤ 8 }
+    requires few { length (scope_of scope.now).repeats ≤ 255 }
     ensures { IfOk result (λ found. IsFoundAs (IsCondition (scope_of scope.now) words.now) asks_over (found_condition found)) }
 {
     condition_said(alloc, scope, words)

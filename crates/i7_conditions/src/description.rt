@@ -52,7 +52,7 @@ fn with_front(
     front: Front,
     behind: &[TextBytes],
 ) -> Result<Found<Description>, AllocError>
-    requires few { length (scope_of scope.now).repeats ≤ 8 }
+    requires few { length (scope_of scope.now).repeats ≤ 255 }
     ensures { IfOk result (λ found. found_described found ≡ with_front (scope_of scope.now) front behind.now) }
 {
     match relation_at(behind) {
@@ -71,7 +71,7 @@ pub fn description_said(
     scope: &Scope<'_>,
     words: &[TextBytes],
 ) -> Result<Found<Description>, AllocError>
-    requires few { length (scope_of scope.now).repeats ≤ 8 }
+    requires few { length (scope_of scope.now).repeats ≤ 255 }
     ensures { IfOk result (λ found. found_described found ≡ description_said (scope_of scope.now) words.now) }
 {
     let (front, behind) = words.split_at(before_relation(words));
@@ -88,7 +88,7 @@ pub fn description_of(
     scope: &Scope<'_>,
     words: &[TextBytes],
 ) -> Result<Found<Description>, AllocError>
-    requires few { length (scope_of scope.now).repeats ≤ 8 }
+    requires few { length (scope_of scope.now).repeats ≤ 255 }
     ensures { IfOk result (λ found. IsDescriptionFound (scope_of scope.now) words.now (found_described found)) }
 {
     description_said(alloc, scope, words)

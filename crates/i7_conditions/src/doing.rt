@@ -20,7 +20,7 @@ use world_meaning::{TextBytes, is_spelled};
 
 /// Whether words mean an object, perhaps with too many `from`s.
 fn is_object(alloc: Global, scope: &Scope<'_>, words: &[TextBytes]) -> Result<bool, AllocError>
-    requires few { length (scope_of scope.now).repeats ≤ 8 }
+    requires few { length (scope_of scope.now).repeats ≤ 255 }
     ensures { IfOk result (λ is. is ≡ is_read (object_said (scope_of scope.now) words.now)) }
 {
     match object_said(alloc, scope, words)? {
@@ -39,7 +39,7 @@ fn fits(
     word: &TextBytes,
     rest: &[TextBytes],
 ) -> Result<bool, AllocError>
-    requires few { length (scope_of scope.now).repeats ≤ 8 }
+    requires few { length (scope_of scope.now).repeats ≤ 255 }
     requires within { count ≤ length words.now }
     ensures { IfOk result (λ is. is ≡ fits (scope_of scope.now) verb words.now count word.now rest.now) }
 {
@@ -60,7 +60,7 @@ fn place_of(
     verb: Verb,
     words: &[TextBytes],
 ) -> Result<Option<usize>, AllocError>
-    requires few { length (scope_of scope.now).repeats ≤ 8 }
+    requires few { length (scope_of scope.now).repeats ≤ 255 }
     ensures { IfOk result (λ place. place ≡ place_from (scope_of scope.now) verb words.now 0 words.now) }
 {
     let mut count = 0;
@@ -101,7 +101,7 @@ fn around_verb(
     front: &[TextBytes],
     behind: &[TextBytes],
 ) -> Result<Found<Basic>, AllocError>
-    requires few { length (scope_of scope.now).repeats ≤ 8 }
+    requires few { length (scope_of scope.now).repeats ≤ 255 }
     ensures { IfOk result (λ found. found_basic found ≡ around_verb (scope_of scope.now) verb front.now behind.now) }
 {
     match behind {
@@ -121,7 +121,7 @@ fn verb_said(
     verb: Verb,
     words: &[TextBytes],
 ) -> Result<Found<Basic>, AllocError>
-    requires few { length (scope_of scope.now).repeats ≤ 8 }
+    requires few { length (scope_of scope.now).repeats ≤ 255 }
     ensures { IfOk result (λ found. found_basic found ≡ verb_said (scope_of scope.now) verb words.now) }
 {
     match place_of(alloc, scope, verb, words)? {
@@ -164,7 +164,7 @@ fn text_said(
     scope: &Scope<'_>,
     words: &[TextBytes],
 ) -> Result<Found<Basic>, AllocError>
-    requires few { length (scope_of scope.now).repeats ≤ 8 }
+    requires few { length (scope_of scope.now).repeats ≤ 255 }
     ensures { IfOk result (λ found. found_basic found ≡ text_said (scope_of scope.now) words.now) }
 {
     let (front, behind) = words.split_at(words.len().saturating_sub(3));
@@ -181,7 +181,7 @@ fn from_has(
     scope: &Scope<'_>,
     words: &[TextBytes],
 ) -> Result<Found<Basic>, AllocError>
-    requires few { length (scope_of scope.now).repeats ≤ 8 }
+    requires few { length (scope_of scope.now).repeats ≤ 255 }
     ensures { IfOk result (λ found. found_basic found ≡ from_has (scope_of scope.now) words.now) }
 {
     match verb_said(alloc, scope, Verb::Has, words)? {
@@ -196,7 +196,7 @@ fn from_wears(
     scope: &Scope<'_>,
     words: &[TextBytes],
 ) -> Result<Found<Basic>, AllocError>
-    requires few { length (scope_of scope.now).repeats ≤ 8 }
+    requires few { length (scope_of scope.now).repeats ≤ 255 }
     ensures { IfOk result (λ found. found_basic found ≡ from_wears (scope_of scope.now) words.now) }
 {
     match verb_said(alloc, scope, Verb::Wears, words)? {
@@ -211,7 +211,7 @@ fn from_carries(
     scope: &Scope<'_>,
     words: &[TextBytes],
 ) -> Result<Found<Basic>, AllocError>
-    requires few { length (scope_of scope.now).repeats ≤ 8 }
+    requires few { length (scope_of scope.now).repeats ≤ 255 }
     ensures { IfOk result (λ found. found_basic found ≡ from_carries (scope_of scope.now) words.now) }
 {
     match verb_said(alloc, scope, Verb::Carries, words)? {
@@ -227,7 +227,7 @@ pub fn by_verb(
     scope: &Scope<'_>,
     words: &[TextBytes],
 ) -> Result<Found<Basic>, AllocError>
-    requires few { length (scope_of scope.now).repeats ≤ 8 }
+    requires few { length (scope_of scope.now).repeats ≤ 255 }
     ensures { IfOk result (λ found. found_basic found ≡ by_verb (scope_of scope.now) words.now) }
 {
     match text_said(alloc, scope, words)? {

@@ -34,7 +34,7 @@ fn is_read(found: Found<Term>) -> bool
 
 /// Whether words are a number that isn't joined of others.
 fn is_term(alloc: Global, scope: &Scope<'_>, words: &[TextBytes]) -> Result<bool, AllocError>
-    requires few { length (scope_of scope.now).repeats ≤ 8 }
+    requires few { length (scope_of scope.now).repeats ≤ 255 }
     ensures { IfOk result (λ is. is ≡ is_term (scope_of scope.now) words.now) }
 {
     let found = term_said(alloc, scope, words)?;
@@ -50,7 +50,7 @@ fn is_end(
     count: usize,
     rest: &[TextBytes],
 ) -> Result<bool, AllocError>
-    requires few { length (scope_of scope.now).repeats ≤ 8 }
+    requires few { length (scope_of scope.now).repeats ≤ 255 }
     requires within { count ≤ length words.now }
     ensures { IfOk result (λ is. is ≡ is_end (scope_of scope.now) column.now words.now count rest.now) }
 {
@@ -68,7 +68,7 @@ fn part_from(
     column: &[Option<usize>],
     words: &[TextBytes],
 ) -> Result<Option<usize>, AllocError>
-    requires few { length (scope_of scope.now).repeats ≤ 8 }
+    requires few { length (scope_of scope.now).repeats ≤ 255 }
     ensures { IfOk result (λ count. count ≡ part_from (scope_of scope.now) column.now words.now 0 words.now) }
 {
     let mut count = 0;
@@ -95,7 +95,7 @@ fn first_part(
     column: &[Option<usize>],
     words: &[TextBytes],
 ) -> Result<Option<usize>, AllocError>
-    requires few { length (scope_of scope.now).repeats ≤ 8 }
+    requires few { length (scope_of scope.now).repeats ≤ 255 }
     ensures { IfOk result (λ count. count ≡ first_part (scope_of scope.now) column.now words.now) }
 {
     if is_term(alloc, scope, words)? {
@@ -112,7 +112,7 @@ fn entry(
     column: &[Option<usize>],
     rest: &[TextBytes],
 ) -> Result<Option<usize>, AllocError>
-    requires few { length (scope_of scope.now).repeats ≤ 8 }
+    requires few { length (scope_of scope.now).repeats ≤ 255 }
     ensures { IfOk result (λ count. count ≡ entry (scope_of scope.now) column.now rest.now) }
 {
     match rest {
@@ -133,7 +133,7 @@ fn column_of(
     scope: &Scope<'_>,
     words: &[TextBytes],
 ) -> Result<Vec<Option<usize>>, AllocError>
-    requires few { length (scope_of scope.now).repeats ≤ 8 }
+    requires few { length (scope_of scope.now).repeats ≤ 255 }
     ensures { IfOk result (λ column. column.items ≡ column_of (scope_of scope.now) words.now) }
 {
     let mut column = Vec::new(alloc);
@@ -188,7 +188,7 @@ fn add_part(
     words: &[TextBytes],
     parts: &mut Vec<Joined>,
 ) -> Result<Found<usize>, AllocError>
-    requires few { length (scope_of scope.now).repeats ≤ 8 }
+    requires few { length (scope_of scope.now).repeats ≤ 255 }
     ensures { IfOk result (λ added. (next : ℕ → Found (List Joint)) →
         onto (joints_of parts.old.items) (and_part (scope_of scope.now) part words.now next) ≡ added_to added (joints_of parts.new.items) next) }
 {
@@ -210,7 +210,7 @@ fn follow(
     first: usize,
     words: &[TextBytes],
 ) -> Result<Found<Vec<Joined>>, AllocError>
-    requires few { length (scope_of scope.now).repeats ≤ 8 }
+    requires few { length (scope_of scope.now).repeats ≤ 255 }
     ensures { IfOk result (λ found. found_joints found ≡ follow (scope_of scope.now) column.now first words.now) }
 {
     let mut parts = Vec::new(alloc);
@@ -255,7 +255,7 @@ fn number_from(
     count: Option<usize>,
     words: &[TextBytes],
 ) -> Result<Found<Number>, AllocError>
-    requires few { length (scope_of scope.now).repeats ≤ 8 }
+    requires few { length (scope_of scope.now).repeats ≤ 255 }
     ensures { IfOk result (λ found. found_number found ≡ number_from (scope_of scope.now) column.now count words.now) }
 {
     match count {
@@ -276,7 +276,7 @@ pub fn number_said(
     scope: &Scope<'_>,
     words: &[TextBytes],
 ) -> Result<Found<Number>, AllocError>
-    requires few { length (scope_of scope.now).repeats ≤ 8 }
+    requires few { length (scope_of scope.now).repeats ≤ 255 }
     ensures { IfOk result (λ found. found_number found ≡ number_said (scope_of scope.now) words.now) }
 {
     let column = column_of(alloc, scope, words)?;

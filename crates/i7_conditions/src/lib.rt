@@ -35,7 +35,7 @@ mod word;
 
 pub use adjective::adjective_named;
 pub use clause::clause_of;
-pub use condition::{condition_of, one_condition_is_meant};
+pub use condition::{condition_of, condition_said, one_condition_is_meant};
 pub use description::{description_of, description_said, one_description_is_meant};
 pub use found::Found;
 pub use joining::number_said;

@@ -21,7 +21,7 @@ pub fn number_of(
     scope: &Scope<'_>,
     words: &[TextBytes],
 ) -> Result<Found<Number>, AllocError>
-    requires few { length (scope_of scope.now).repeats ≤ 8 }
+    requires few { length (scope_of scope.now).repeats ≤ 255 }
     ensures { IfOk result (λ found. IsNumberFound (scope_of scope.now) words.now (found_number found)) }
 {
     number_said(alloc, scope, words)

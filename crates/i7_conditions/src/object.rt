@@ -21,7 +21,7 @@ pub fn object_said(
     scope: &Scope<'_>,
     words: &[TextBytes],
 ) -> Result<Found<Referent>, AllocError>
-    requires few { length (scope_of scope.now).repeats ≤ 8 }
+    requires few { length (scope_of scope.now).repeats ≤ 255 }
     ensures { IfOk result (λ found. found_meant found ≡ put_together (marks_of (scope_of scope.now) words.now)) }
 {
     put_together(alloc, marks_of(alloc, scope, words)?)
@@ -34,7 +34,7 @@ pub fn object_of(
     scope: &Scope<'_>,
     words: &[TextBytes],
 ) -> Result<Found<Referent>, AllocError>
-    requires few { length (scope_of scope.now).repeats ≤ 8 }
+    requires few { length (scope_of scope.now).repeats ≤ 255 }
     ensures { IfOk result (λ found. IsObjectFound (scope_of scope.now) words.now (found_meant found)) }
 {
     object_said(alloc, scope, words)

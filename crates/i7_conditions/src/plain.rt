@@ -55,7 +55,7 @@ fn fixed(key: &[u8]) -> Option<Mark>
 
 /// The object of the innermost repeat that gives it this name.
 fn turning(repeats: &[TextBytes], key: &[u8]) -> Option<Mark>
-    requires few { length repeats.now ≤ 8 }
+    requires few { length repeats.now ≤ 255 }
     ensures { result ≡ turning 0 repeats.now key.now }
 {
     let mut found = None;
@@ -73,7 +73,7 @@ fn turning(repeats: &[TextBytes], key: &[u8]) -> Option<Mark>
 
 /// The object that a name in small letters stands for: a tale's object, else a fixed word, else the object of a repeat.
 fn known_as(scope: &Scope<'_>, key: &[u8]) -> Option<Mark>
-    requires few { length (scope_of scope.now).repeats ≤ 8 }
+    requires few { length (scope_of scope.now).repeats ≤ 255 }
     ensures { result ≡ known_as (scope_of scope.now) key.now }
 {
     if let Some(named) = object_of_name(scope, key) {
@@ -92,7 +92,7 @@ pub fn plainly_named(
     scope: &Scope<'_>,
     words: &[TextBytes],
 ) -> Result<Option<Mark>, AllocError>
-    requires few { length (scope_of scope.now).repeats ≤ 8 }
+    requires few { length (scope_of scope.now).repeats ≤ 255 }
     ensures { IfOk result (λ named. named ≡ plainly_named (scope_of scope.now) words.now) }
 {
     let words = without_article(words);

@@ -63,7 +63,7 @@ fn held_by(
     relation: Rel,
     holder: &[TextBytes],
 ) -> Result<Found<Predicate>, AllocError>
-    requires few { length (scope_of scope.now).repeats ≤ 8 }
+    requires few { length (scope_of scope.now).repeats ≤ 255 }
     ensures { IfOk result (λ found. found_predicate found ≡ from_held (scope_of scope.now) (Some (relation, holder.now))) }
 {
     match object_said(alloc, scope, holder)? {
@@ -82,7 +82,7 @@ fn from_held(
     scope: &Scope<'_>,
     words: &[TextBytes],
 ) -> Result<Found<Predicate>, AllocError>
-    requires few { length (scope_of scope.now).repeats ≤ 8 }
+    requires few { length (scope_of scope.now).repeats ≤ 255 }
     ensures { IfOk result (λ found. found_predicate found ≡ from_held (scope_of scope.now) (relation_at words.now)) }
 {
     match relation_at(words) {
@@ -97,7 +97,7 @@ fn from_same(
     scope: &Scope<'_>,
     words: &[TextBytes],
 ) -> Result<Found<Predicate>, AllocError>
-    requires few { length (scope_of scope.now).repeats ≤ 8 }
+    requires few { length (scope_of scope.now).repeats ≤ 255 }
     ensures { IfOk result (λ found. found_predicate found ≡ from_same (scope_of scope.now) words.now) }
 {
     match object_said(alloc, scope, words)? {
@@ -113,7 +113,7 @@ fn from_one(
     scope: &Scope<'_>,
     words: &[TextBytes],
 ) -> Result<Found<Predicate>, AllocError>
-    requires few { length (scope_of scope.now).repeats ≤ 8 }
+    requires few { length (scope_of scope.now).repeats ≤ 255 }
     ensures { IfOk result (λ found. found_predicate found ≡ from_one (scope_of scope.now) words.now) }
 {
     match description_said(alloc, scope, without_article(words))? {
@@ -130,7 +130,7 @@ pub fn predicate_said(
     scope: &Scope<'_>,
     words: &[TextBytes],
 ) -> Result<Found<Predicate>, AllocError>
-    requires few { length (scope_of scope.now).repeats ≤ 8 }
+    requires few { length (scope_of scope.now).repeats ≤ 255 }
     ensures { IfOk result (λ found. found_predicate found ≡ predicate_said (scope_of scope.now) words.now) }
 {
     match adjective_named(alloc, scope, words)? {

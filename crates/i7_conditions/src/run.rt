@@ -45,7 +45,7 @@ fn add_run(
     run: &[TextBytes],
     marks: &mut Vec<Mark>,
 ) -> Result<(), AllocError>
-    requires few { length (scope_of scope.now).repeats ≤ 8 }
+    requires few { length (scope_of scope.now).repeats ≤ 255 }
     ensures { OnOk result (marks.new.items ≡ marks.old.items ++ run_marks (scope_of scope.now) run.now) }
 {
     let mut rest = run;
@@ -74,7 +74,7 @@ fn add_runs(
     words: &[TextBytes],
     marks: &mut Vec<Mark>,
 ) -> Result<(), AllocError>
-    requires few { length (scope_of scope.now).repeats ≤ 8 }
+    requires few { length (scope_of scope.now).repeats ≤ 255 }
     ensures { OnOk result (marks.new.items ≡ marks.old.items ++ marks_in (scope_of scope.now) words.now) }
 {
     let (first, mut behind) = cut(Joint::From, words);
@@ -124,7 +124,7 @@ fn add_beyond(
     words: &[TextBytes],
     marks: &mut Vec<Mark>,
 ) -> Result<(), AllocError>
-    requires few { length (scope_of scope.now).repeats ≤ 8 }
+    requires few { length (scope_of scope.now).repeats ≤ 255 }
     ensures { OnOk result (marks.new.items ≡ marks.old.items ++ marks_beyond (scope_of scope.now) words.now) }
 {
     match split_opening(words) {
@@ -145,7 +145,7 @@ pub fn marks_of(
     scope: &Scope<'_>,
     words: &[TextBytes],
 ) -> Result<Vec<Mark>, AllocError>
-    requires few { length (scope_of scope.now).repeats ≤ 8 }
+    requires few { length (scope_of scope.now).repeats ≤ 255 }
     ensures { IfOk result (λ marks. marks.items ≡ marks_of (scope_of scope.now) words.now) }
 {
     let mut marks = Vec::new(alloc);

@@ -60,7 +60,7 @@ fn a_count(
     name: &[TextBytes],
     those: &[TextBytes],
 ) -> Result<Found<Term>, AllocError>
-    requires few { length (scope_of scope.now).repeats ≤ 8 }
+    requires few { length (scope_of scope.now).repeats ≤ 255 }
     ensures { IfOk result (λ found. found_term found ≡ a_count (scope_of scope.now) (Some (name.now, those.now))) }
 {
     if !is_named(alloc, b"number", name)? {
@@ -88,7 +88,7 @@ fn a_property(
     name: &[TextBytes],
     object: &[TextBytes],
 ) -> Result<Found<Term>, AllocError>
-    requires few { length (scope_of scope.now).repeats ≤ 8 }
+    requires few { length (scope_of scope.now).repeats ≤ 255 }
     ensures { IfOk result (λ found. found_term found ≡ a_property (scope_of scope.now) (Some (name.now, object.now))) }
 {
     match property_named(alloc, scope, name)? {
@@ -107,7 +107,7 @@ fn around_of(
     name: &[TextBytes],
     behind: &[TextBytes],
 ) -> Result<Found<Term>, AllocError>
-    requires few { length (scope_of scope.now).repeats ≤ 8 }
+    requires few { length (scope_of scope.now).repeats ≤ 255 }
     ensures { IfOk result (λ found. found_term found ≡ around_of (scope_of scope.now) (Some (name.now, behind.now))) }
 {
     match a_property(alloc, scope, name, behind)? {
@@ -122,7 +122,7 @@ fn from_property(
     scope: &Scope<'_>,
     words: &[TextBytes],
 ) -> Result<Found<Term>, AllocError>
-    requires few { length (scope_of scope.now).repeats ≤ 8 }
+    requires few { length (scope_of scope.now).repeats ≤ 255 }
     ensures { IfOk result (λ found. found_term found ≡ from_property (scope_of scope.now) words.now) }
 {
     if let Some((name, behind)) = split_of(words) {
@@ -140,7 +140,7 @@ fn from_variable(
     scope: &Scope<'_>,
     words: &[TextBytes],
 ) -> Result<Found<Term>, AllocError>
-    requires few { length (scope_of scope.now).repeats ≤ 8 }
+    requires few { length (scope_of scope.now).repeats ≤ 255 }
     ensures { IfOk result (λ found. found_term found ≡ from_variable (scope_of scope.now) words.now) }
 {
     match variable_named(alloc, scope, words)? {
@@ -156,7 +156,7 @@ fn from_literal(
     scope: &Scope<'_>,
     words: &[TextBytes],
 ) -> Result<Found<Term>, AllocError>
-    requires few { length (scope_of scope.now).repeats ≤ 8 }
+    requires few { length (scope_of scope.now).repeats ≤ 255 }
     ensures { IfOk result (λ found. found_term found ≡ from_literal (scope_of scope.now) words.now) }
 {
     match literal_said(words) {
@@ -186,7 +186,7 @@ pub fn term_said(
     scope: &Scope<'_>,
     words: &[TextBytes],
 ) -> Result<Found<Term>, AllocError>
-    requires few { length (scope_of scope.now).repeats ≤ 8 }
+    requires few { length (scope_of scope.now).repeats ≤ 255 }
     ensures { IfOk result (λ found. found_term found ≡ term_said (scope_of scope.now) words.now) }
 {
     if can_stand(scope, words) {

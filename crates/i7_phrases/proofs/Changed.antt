@@ -1,12 +1,18 @@
 -- What phrases that change the world are found to do is what they do.
-use Rattle.std.proofs.Common.{◌≡◌, ℕ, Bool, true, false, ◌||◌, List, refl, ap, ◌∙◌, inl, inr}
-use Rattle.std.specs.Prelude.{Option, Some, None}
+use Rattle.std.proofs.Common.{◌≡◌, ℕ, Bool, true, false, ◌||◌, List, refl, sym, ap, ◌∙◌, subst, inl, inr}
+use Rattle.std.specs.Prelude.{MatchOption, Option, Some, None, option_map}
 use Rattle.world_meaning.proofs.Bools.{either}
 use Rattle.world_meaning.specs.declared.place.Rel.{Rel}
+use Rattle.world_meaning.specs.declared.place.Rel.TheVariants.{Carried, Worn}
+use Rattle.i7_sentences.specs.declared.phrase_form.NowVerb.{NowVerb}
+use Rattle.i7_sentences.specs.declared.phrase_form.NowVerb.TheVariants as now
+use Rattle.i7_sentences.specs.declared.spoken.Spoken.{Spoken}
+use Rattle.i7_sentences.specs.declared.spoken.Spoken.TheVariants as spoken
 use Rattle.play_meaning.specs.Meant.{by_operator}
 use Rattle.play_meaning.specs.Trees as tree
 use Rattle.play_meaning.specs.declared.tree.number.Operator.{Operator}
 use Rattle.play_meaning.specs.declared.tree.number.Operator.TheVariants.{Minus, Plus, Times}
+use Rattle.play_meaning.specs.declared.tree.phrase.Simple.{Simple}
 use Rattle.i7_conditions.specs.Adjectives.{adjective_named}
 use Rattle.i7_conditions.specs.Joining.{number_said}
 use Rattle.i7_conditions.specs.Keys.{property_named, split_of, variable_named}
@@ -25,8 +31,10 @@ use Rattle.i7_conditions.proofs.Listing.{Made, MadeAt, MadeOfTwo, none_found, on
 use Rattle.i7_conditions.proofs.Predicated.{object_found}
 use Rattle.i7_phrases.specs.CellForms.{cell_said, property_by, property_said, variable_said}
 use Rattle.i7_phrases.specs.Cells.{Cell, IsCell, IsProperty, IsVariable, PropertyOf, Variable, set}
-use Rattle.i7_phrases.specs.ChangeForms.{added, adds_said, away_said, from_away, from_put, given_so, gives_said, held_so, made_so, moves_said, now_said, put_said, set_said, so_said}
+use Rattle.i7_phrases.specs.ChangeForms.{added, adds_said, away_said, found_simple, from_away, from_put, given_so, gives_said, held_so, made_so, moves_said, now_said, put_said, set_said, so_said}
 use Rattle.i7_phrases.specs.Changes.{Adds, Gives, MakesSo, Moves, Now, PutsIn, Sets, TakesAway, change_is_over, flag_of, is_nowhere}
+use Rattle.i7_phrases.specs.PhraseForms.{by_verb, change_said}
+use Rattle.i7_phrases.specs.Phrases.{ByVerb, Changes, is_change}
 
 -- ---- what holds a number
 
@@ -142,3 +150,38 @@ pub adds_found : (operator : Operator) (s : Scope) (value amount : List Word) �
 unfolding adds_said
 adds_found operator s value amount =
     two_found (added operator) (IsCell s value) (CountsAs s amount) cell_is_over is_over change_is_over (over_added operator) (cell_said s value) (number_said s amount) (cell_found s value) (number_found s amount)
+
+-- ---- all of them
+
+verb_found : (verb : NowVerb) (s : Scope) (subject behind : List Word) → IsFoundAs (ByVerb verb s subject behind) change_is_over (by_verb verb s subject behind)
+verb_found now.Is s subject behind = now_found s subject behind
+verb_found now.Carries s subject behind = gives_found Carried s subject behind
+verb_found now.Wears s subject behind = gives_found Worn s subject behind
+
+abbrev IsChangeFound : Scope → Spoken → Option (Found tree.Phrase) → Type 0
+IsChangeFound s said None = is_change said ≡ false
+IsChangeFound s said (Some found) = IsFoundAs (Changes s said) change_is_over found
+
+change_found : (s : Scope) (said : Spoken) → IsChangeFound s said (change_said s said)
+change_found s (spoken.Now subject verb behind) = verb_found verb s subject behind
+change_found s (spoken.Move thing holder) = moves_found s thing holder
+change_found s (spoken.Increase value amount) = adds_found Plus s value amount
+change_found s (spoken.Decrease value amount) = adds_found Minus s value amount
+change_found s (spoken.Say text) = refl
+change_found s (spoken.Try silently action) = refl
+change_found s (spoken.Follow book) = refl
+change_found s spoken.RuleSucceeds = refl
+change_found s spoken.RuleFails = refl
+change_found s spoken.MakeNoDecision = refl
+change_found s spoken.ContinueAction = refl
+change_found s spoken.StopAction = refl
+change_found s (spoken.EndStory text) = refl
+change_found s (spoken.If condition) = refl
+change_found s (spoken.OtherwiseIf condition) = refl
+change_found s spoken.Otherwise = refl
+change_found s (spoken.Repeat name through) = refl
+
+pub changes_found : (s : Scope) (said : Spoken) (change : Option (Found Simple)) → option_map found_simple change ≡ change_said s said
+    → MatchOption change (is_change said ≡ false) (λ found. IsFoundAs (Changes s said) change_is_over (found_simple found))
+changes_found s said None e = subst (IsChangeFound s said) (sym e) (change_found s said)
+changes_found s said (Some found) e = subst (IsChangeFound s said) (sym e) (change_found s said)

@@ -65,7 +65,7 @@ pub fn adds_said(
     value: &[TextBytes],
     amount: &[TextBytes],
 ) -> Result<Found<Simple>, AllocError>
-    requires few { length (scope_of scope.now).repeats ≤ 8 }
+    requires few { length (scope_of scope.now).repeats ≤ 255 }
     ensures { IfOk result (λ found. found_simple found ≡ adds_said operator (scope_of scope.now) value.now amount.now) }
 {
     let first = cell_said(alloc, scope, value)?;

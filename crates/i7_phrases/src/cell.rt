@@ -59,7 +59,7 @@ fn property_by(
     name: &[TextBytes],
     object: &[TextBytes],
 ) -> Result<Found<Cell>, AllocError>
-    requires few { length (scope_of scope.now).repeats ≤ 8 }
+    requires few { length (scope_of scope.now).repeats ≤ 255 }
     ensures { IfOk result (λ found. found_cell found ≡ property_around (scope_of scope.now) (name.now, object.now)) }
 {
     match property_named(alloc, scope, name)? {
@@ -74,7 +74,7 @@ fn property_said(
     scope: &Scope<'_>,
     words: &[TextBytes],
 ) -> Result<Found<Cell>, AllocError>
-    requires few { length (scope_of scope.now).repeats ≤ 8 }
+    requires few { length (scope_of scope.now).repeats ≤ 255 }
     ensures { IfOk result (λ found. found_cell found ≡ property_said (scope_of scope.now) (split_of words.now)) }
 {
     match split_of(words) {
@@ -100,7 +100,7 @@ pub fn cell_said(
     scope: &Scope<'_>,
     words: &[TextBytes],
 ) -> Result<Found<Cell>, AllocError>
-    requires few { length (scope_of scope.now).repeats ≤ 8 }
+    requires few { length (scope_of scope.now).repeats ≤ 255 }
     ensures { IfOk result (λ found. found_cell found ≡ cell_said (scope_of scope.now) words.now) }
 {
     match property_said(alloc, scope, words)? {

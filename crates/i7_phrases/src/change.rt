@@ -60,7 +60,7 @@ fn so_said(
     subject: &[TextBytes],
     behind: &[TextBytes],
 ) -> Result<Found<Simple>, AllocError>
-    requires few { length (scope_of scope.now).repeats ≤ 8 }
+    requires few { length (scope_of scope.now).repeats ≤ 255 }
     ensures { IfOk result (λ found. found_simple found ≡ so_said (scope_of scope.now) subject.now (flag_of (adjective_named (scope_of scope.now) behind.now))) }
 {
     match flag_of(adjective_named(alloc, scope, behind)?) {
@@ -97,7 +97,7 @@ fn put_said(
     subject: &[TextBytes],
     behind: &[TextBytes],
 ) -> Result<Found<Simple>, AllocError>
-    requires few { length (scope_of scope.now).repeats ≤ 8 }
+    requires few { length (scope_of scope.now).repeats ≤ 255 }
     ensures { IfOk result (λ found. found_simple found ≡ put_said (scope_of scope.now) subject.now (relation_at behind.now)) }
 {
     match relation_at(behind) {
@@ -138,7 +138,7 @@ fn away_said(
     subject: &[TextBytes],
     behind: &[TextBytes],
 ) -> Result<Found<Simple>, AllocError>
-    requires few { length (scope_of scope.now).repeats ≤ 8 }
+    requires few { length (scope_of scope.now).repeats ≤ 255 }
     ensures { IfOk result (λ found. found_simple found ≡ away_said (scope_of scope.now) subject.now behind.now) }
 {
     if is_nowhere(behind) {
@@ -174,7 +174,7 @@ fn set_said(
     subject: &[TextBytes],
     behind: &[TextBytes],
 ) -> Result<Found<Simple>, AllocError>
-    requires few { length (scope_of scope.now).repeats ≤ 8 }
+    requires few { length (scope_of scope.now).repeats ≤ 255 }
     ensures { IfOk result (λ found. found_simple found ≡ set_said (scope_of scope.now) subject.now behind.now) }
 {
     let cell = cell_said(alloc, scope, subject)?;
@@ -189,7 +189,7 @@ fn from_away(
     subject: &[TextBytes],
     behind: &[TextBytes],
 ) -> Result<Found<Simple>, AllocError>
-    requires few { length (scope_of scope.now).repeats ≤ 8 }
+    requires few { length (scope_of scope.now).repeats ≤ 255 }
     ensures { IfOk result (λ found. found_simple found ≡ from_away (scope_of scope.now) subject.now behind.now) }
 {
     match away_said(alloc, scope, subject, behind)? {
@@ -205,7 +205,7 @@ fn from_put(
     subject: &[TextBytes],
     behind: &[TextBytes],
 ) -> Result<Found<Simple>, AllocError>
-    requires few { length (scope_of scope.now).repeats ≤ 8 }
+    requires few { length (scope_of scope.now).repeats ≤ 255 }
     ensures { IfOk result (λ found. found_simple found ≡ from_put (scope_of scope.now) subject.now behind.now) }
 {
     match put_said(alloc, scope, subject, behind)? {
@@ -222,7 +222,7 @@ pub fn now_said(
     subject: &[TextBytes],
     behind: &[TextBytes],
 ) -> Result<Found<Simple>, AllocError>
-    requires few { length (scope_of scope.now).repeats ≤ 8 }
+    requires few { length (scope_of scope.now).repeats ≤ 255 }
     ensures { IfOk result (λ found. found_simple found ≡ now_said (scope_of scope.now) subject.now behind.now) }
 {
     match so_said(alloc, scope, subject, behind)? {

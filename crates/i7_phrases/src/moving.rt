@@ -56,7 +56,7 @@ pub fn gives_said(
     holder: &[TextBytes],
     object: &[TextBytes],
 ) -> Result<Found<Simple>, AllocError>
-    requires few { length (scope_of scope.now).repeats ≤ 8 }
+    requires few { length (scope_of scope.now).repeats ≤ 255 }
     ensures { IfOk result (λ found. found_simple found ≡ gives_said relation (scope_of scope.now) holder.now object.now) }
 {
     let holder = object_said(alloc, scope, holder)?;
@@ -72,7 +72,7 @@ pub fn moves_said(
     object: &[TextBytes],
     holder: &[TextBytes],
 ) -> Result<Found<Simple>, AllocError>
-    requires few { length (scope_of scope.now).repeats ≤ 8 }
+    requires few { length (scope_of scope.now).repeats ≤ 255 }
     ensures { IfOk result (λ found. found_simple found ≡ moves_said (scope_of scope.now) object.now holder.now) }
 {
     let object = object_said(alloc, scope, object)?;

@@ -4,6 +4,8 @@
 #[cfg(test)]
 mod clauses;
 #[cfg(test)]
+mod conditions;
+#[cfg(test)]
 mod descriptions;
 #[cfg(test)]
 mod nesting;
@@ -11,5 +13,7 @@ mod nesting;
 mod numbers;
 #[cfg(test)]
 mod objects;
+#[cfg(test)]
+mod phrases;
 #[cfg(test)]
 mod scene;

@@ -9,10 +9,10 @@ use Rattle.play_meaning.specs.declared.instruction.Instruction.TheVariants.{IfZe
 use Rattle.play_meaning.specs.declared.tree.phrase.Branch.{Branch}
 use Rattle.play_meaning.specs.declared.tree.phrase.Phrase.{Phrase}
 use Rattle.story_code.specs.Choosing.{Choosing, asked, branch_emitted, branches_emitted, choosing, done, landed, leap_of, leapt}
-use Rattle.story_code.specs.Emitting.{Emitting, aimed, aimed_code, aims, can_say_all, count_in, emitted, followed, followed_if, kept_if, place_in, set_if}
+use Rattle.story_code.specs.Emitting.{Emitting, aimed, aimed_code, aims, can_say_all, count_in, emitted, followed_if, kept_if, place_in, set_if}
 use Rattle.story_code.specs.declared.emitting.phrase.Leap.{Leap}
 use Rattle.story_code.proofs.Aimed.{choice_aimed}
-use Rattle.story_code.proofs.Followed.{aims_size, emitted_seq}
+use Rattle.story_code.proofs.Followed.{aims_size}
 
 -- ---- aimed jumps leave all places as they are
 

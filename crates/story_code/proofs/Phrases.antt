@@ -1,5 +1,5 @@
 -- Phrases one behind the other.
-use Rattle.std.proofs.Common.{◌≡◌, Global, Vec, ℕ, zero, suc, ◌+◌, ◌<◌, ◌≤◌, List, [], ◌∷◌, ◌++◌, length, drop, get_or, Option, None, Some, false, is_some, refl, sym, ap, ◌∙◌, arith}
+use Rattle.std.proofs.Common.{◌≡◌, ℕ, zero, suc, ◌+◌, ◌<◌, ◌≤◌, List, [], ◌∷◌, ◌++◌, length, drop, get_or, Option, None, Some, false, is_some, refl, sym, ap, ◌∙◌, arith}
 use Rattle.std.proofs.Math.ListN.{drop_of_length-le}
 use Rattle.play_meaning.specs.Meant.{body_meant, phrase_meant}
 use Rattle.play_meaning.specs.Instructions.{sizes}

@@ -2,10 +2,13 @@ pub mod Asking
 pub mod Choosing
 pub mod Emits
 pub mod Emitting
+pub mod Fitting
+pub mod FittingRows
 pub mod Fronts
 pub mod Laws
 pub mod Passes
 pub mod Runs
+pub mod SoundlyEmitted
 pub mod Soundness
 pub mod Spelling
 pub mod Steps

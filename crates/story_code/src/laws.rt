@@ -1,5 +1,6 @@
 //! What is known of codes and their bytes.
-ghost use Rattle.story_code.specs.Laws.{BodiesBeginStanding, OneCode, RunsBeginStanding, RunsStandBehindAnyWork};
+ghost use Rattle.story_code.specs.FittingRows.{FittingRows};
+ghost use Rattle.story_code.specs.Laws.{BodiesAreSound, BodiesBeginStanding, ConditionsAreSound, DescriptionsAreSound, EmittedBytesAreSound, OneCode, RunsBeginStanding, RunsStandBehindAnyWork, SoundCodesStandRightly};
 ghost use Rattle.story_code.specs.Soundness.{IsSoundCode};
 
 use crate::verified::Verified;
@@ -22,4 +23,25 @@ pub fn runs_begin_standing()
     ensures reads { RunsBeginStanding }
     ensures does { BodiesBeginStanding }
     ensures work { RunsStandBehindAnyWork }
+{}
+
+/// What is emitted of a body, a condition or a description that fits a story is sound, and so is each test that it names,
+/// for the use that it is named for: whatever number the first of them has, if it comes behind the code's own and all are
+/// numbers of codes.
+pub fn emitted_codes_are_sound()
+    ensures bodies { BodiesAreSound }
+    ensures conditions { ConditionsAreSound }
+    ensures descriptions { DescriptionsAreSound }
+{}
+
+/// Where what is emitted is sound and bytes say it, these are sound codes; and in a story that holds them, each by its
+/// number and for its use, they stand rightly among its codes.
+pub fn emitted_bytes_are_sound()
+    ensures bytes { EmittedBytesAreSound }
+    ensures together { SoundCodesStandRightly }
+{}
+
+/// What fits a small story and what doesn't.
+pub fn rows_of_fitting()
+    ensures { FittingRows }
 {}
