@@ -1,5 +1,5 @@
 -- A phrase changes the world in one way at most, and says one thing of what belongs to it.
-use Rattle.std.proofs.Common.{◌≡◌, ℕ, Bool, true, List, sym, ◌∙◌}
+use Rattle.std.proofs.Common.{◌≡◌, ℕ, Bool, List, sym, ◌∙◌}
 use Rattle.world_meaning.specs.declared.place.Rel.{Rel}
 use Rattle.world_meaning.specs.declared.place.Rel.TheVariants.{Carried, Worn}
 use Rattle.i7_sentences.specs.declared.phrase_form.NowVerb.{NowVerb}
@@ -27,7 +27,7 @@ use Rattle.i7_conditions.proofs.Readings.{meant_once}
 use Rattle.i7_phrases.specs.Blocks.{If, Opens, OtherwiseIf, Repeat}
 use Rattle.i7_phrases.specs.Cells.{Cell, IsCell, IsProperty, IsVariable, PropertyOf, Variable, set}
 use Rattle.i7_phrases.specs.ChangeForms.{added, given_so, held_so, made_so}
-use Rattle.i7_phrases.specs.Changes.{Adds, Gives, MakesSo, Moves, Now, PutsIn, Sets, TakesAway, flag_of}
+use Rattle.i7_phrases.specs.Changes.{Adds, Gives, MakesSo, Now, PutsIn, Sets, TakesAway, flag_of}
 use Rattle.i7_phrases.specs.Phrases.{ByVerb, Changes}
 
 abbrev Around : Type 0

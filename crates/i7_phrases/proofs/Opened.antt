@@ -1,5 +1,5 @@
 -- What phrases are found to say that others belong to is what they say.
-use Rattle.std.proofs.Common.{◌≡◌, Bool, true, false, List, refl, sym, subst}
+use Rattle.std.proofs.Common.{◌≡◌, false, refl, sym, subst}
 use Rattle.std.specs.Prelude.{MatchOption, Option, Some, None, option_map}
 use Rattle.i7_sentences.specs.declared.spoken.Spoken.{Spoken}
 use Rattle.i7_sentences.specs.declared.spoken.Spoken.TheVariants as spoken
@@ -17,7 +17,7 @@ use Rattle.i7_conditions.proofs.Conjoined.{conditions_found}
 use Rattle.i7_conditions.proofs.Listing.{one_found}
 use Rattle.i7_conditions.proofs.Predicated.{description_found}
 use Rattle.i7_phrases.specs.BlockForms.{block_said, found_block}
-use Rattle.i7_phrases.specs.Blocks.{Block, If, Opens, Otherwise, OtherwiseIf, Repeat, block_is_over, is_block}
+use Rattle.i7_phrases.specs.Blocks.{Block, If, Opens, OtherwiseIf, Repeat, block_is_over, is_block}
 
 abbrev IsBlockFound : Scope → Spoken → Option (Found Block) → Type 0
 IsBlockFound s said None = is_block said ≡ false
