@@ -4,5 +4,9 @@ pub mod CellForms
 pub mod Cells
 pub mod ChangeForms
 pub mod Changes
+pub mod Drafts
 pub mod PhraseForms
 pub mod Phrases
+pub mod SubstitutionForms
+pub mod Substitutions
+pub mod Texts

@@ -5,8 +5,12 @@ mod adding;
 mod block;
 mod cell;
 mod change;
+mod draft;
 mod moving;
 mod phrase;
+mod substitution;
+mod text;
 
 pub use block::{block_of, one_block_is_opened};
 pub use phrase::{change_of, ending_of, one_change_is_made};
+pub use text::{one_text_is_meant, text_of};

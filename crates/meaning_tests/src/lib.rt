@@ -17,3 +17,5 @@ mod objects;
 mod phrases;
 #[cfg(test)]
 mod scene;
+#[cfg(test)]
+mod texts;
