@@ -176,7 +176,7 @@ fn name_said(
     scope: &Scope<'_>,
     words: &[TextBytes],
 ) -> Result<Found<Piece>, AllocError>
-    requires few { length (scope_of scope.now).repeats ≤ 8 }
+    requires few { length (scope_of scope.now).repeats ≤ 255 }
     ensures { IfOk result (λ found. found_piece found ≡ name_said (scope_of scope.now) (telling_in words.now)) }
 {
     match telling_in(words) {
@@ -194,7 +194,7 @@ fn listing_said(
     scope: &Scope<'_>,
     words: &[TextBytes],
 ) -> Result<Found<Piece>, AllocError>
-    requires few { length (scope_of scope.now).repeats ≤ 8 }
+    requires few { length (scope_of scope.now).repeats ≤ 255 }
     ensures { IfOk result (λ found. found_piece found ≡ listing_said (scope_of scope.now) (listing_in words.now)) }
 {
     match listing_in(words) {
@@ -212,7 +212,7 @@ fn description_by(
     scope: &Scope<'_>,
     words: &[TextBytes],
 ) -> Result<Found<Piece>, AllocError>
-    requires few { length (scope_of scope.now).repeats ≤ 8 }
+    requires few { length (scope_of scope.now).repeats ≤ 255 }
     ensures { IfOk result (λ found. found_piece found ≡ description_by (scope_of scope.now) (behind_of (codes "description") words.now)) }
 {
     match behind_of(b"description", words) {
@@ -230,7 +230,7 @@ fn from_listing(
     scope: &Scope<'_>,
     words: &[TextBytes],
 ) -> Result<Found<Piece>, AllocError>
-    requires few { length (scope_of scope.now).repeats ≤ 8 }
+    requires few { length (scope_of scope.now).repeats ≤ 255 }
     ensures { IfOk result (λ found. found_piece found ≡ from_listing (scope_of scope.now) words.now) }
 {
     match listing_said(alloc, scope, words)? {
@@ -245,7 +245,7 @@ fn from_name(
     scope: &Scope<'_>,
     words: &[TextBytes],
 ) -> Result<Found<Piece>, AllocError>
-    requires few { length (scope_of scope.now).repeats ≤ 8 }
+    requires few { length (scope_of scope.now).repeats ≤ 255 }
     ensures { IfOk result (λ found. found_piece found ≡ from_name (scope_of scope.now) words.now) }
 {
     match name_said(alloc, scope, words)? {
@@ -261,7 +261,7 @@ fn substitution_said(
     scope: &Scope<'_>,
     words: &[TextBytes],
 ) -> Result<Found<Piece>, AllocError>
-    requires few { length (scope_of scope.now).repeats ≤ 8 }
+    requires few { length (scope_of scope.now).repeats ≤ 255 }
     ensures { IfOk result (λ found. found_piece found ≡ substitution_said (scope_of scope.now) words.now) }
 {
     let number = number_said(alloc, scope, words)?;
@@ -278,7 +278,7 @@ pub fn substitution_of(
     scope: &Scope<'_>,
     words: &[TextBytes],
 ) -> Result<Found<Piece>, AllocError>
-    requires few { length (scope_of scope.now).repeats ≤ 8 }
+    requires few { length (scope_of scope.now).repeats ≤ 255 }
     ensures { IfOk result (λ found. IsFoundAs (Substitutes (scope_of scope.now) words.now) piece_is_over (found_piece found)) }
 {
     substitution_said(alloc, scope, words)

@@ -20,7 +20,7 @@ use world_meaning::TextBytes;
 
 /// What a piece says or opens.
 fn sense_of(alloc: Global, scope: &Scope<'_>, piece: &TextPiece) -> Result<Sense, AllocError>
-    requires few { length (scope_of scope.now).repeats ≤ 8 }
+    requires few { length (scope_of scope.now).repeats ≤ 255 }
     ensures { IfOk result (λ sense. IsSense (scope_of scope.now) piece.now (sense_of sense)) }
 {
     match piece {
@@ -48,7 +48,7 @@ fn read_on(
     draft: Draft,
     piece: &TextPiece,
 ) -> Result<Option<Draft>, AllocError>
-    requires few { length (scope_of scope.now).repeats ≤ 8 }
+    requires few { length (scope_of scope.now).repeats ≤ 255 }
     ensures { IfOk result (λ next. IsReadOn (scope_of scope.now) piece.now (draft_of draft) (next_of next)) }
 {
     let sense = sense_of(alloc, scope, piece)?;
@@ -61,7 +61,7 @@ pub fn text_of(
     scope: &Scope<'_>,
     pieces: &[TextPiece],
 ) -> Result<Found<Text>, AllocError>
-    requires few { length (scope_of scope.now).repeats ≤ 8 }
+    requires few { length (scope_of scope.now).repeats ≤ 255 }
     ensures { IfOk result (λ found. IsFoundAs (IsText (scope_of scope.now) pieces.now) text_is_over (found_text found)) }
 {
     let mut draft = start(alloc);
