@@ -39,10 +39,11 @@ pub data IsText (s : Scope) : List TextPiece → tree.Text → Type 0 where
   none : IsText s [] tree.Silence
   and_more : {first : TextPiece} {pieces : List TextPiece} {t : tree.Text} → (piece : Piece) → Says s first piece → IsText s pieces t → IsText s (first ∷ pieces) (said_then piece t)
   -- `[if C]`, what is said if it holds, `[end if]`, and what is said behind
-  only_if : {words : List (List ℕ)} {pieces run rest : List TextPiece} {c : tree.Condition} {a t : tree.Text} → IsCondition s words c → pieces ≡ run ++ EndIf ∷ rest → IsRun s run a → IsText s rest t
-      → IsText s (If words ∷ pieces) (tree.IfSaid c a tree.Silence t)
+  only_if : {words : List (List ℕ)} {pieces run rest : List TextPiece} {c : tree.Condition} {a t : tree.Text} → IsCondition s words c → pieces ≡ run ++ EndIf ∷ rest
+      → IsRun s run a → IsText s rest t → IsText s (If words ∷ pieces) (tree.IfSaid c a tree.Silence t)
   -- `[if C]`, what is said if it holds, `[otherwise]`, what is said else, `[end if]`, and what is said behind
-  if_else : {words : List (List ℕ)} {pieces run others rest : List TextPiece} {c : tree.Condition} {a b t : tree.Text} → IsCondition s words c → pieces ≡ run ++ (Otherwise ∷ others ++ EndIf ∷ rest)
+  if_else : {words : List (List ℕ)} {pieces run others rest : List TextPiece} {c : tree.Condition} {a b t : tree.Text} → IsCondition s words c
+      → pieces ≡ run ++ (Otherwise ∷ others ++ EndIf ∷ rest)
       → IsRun s run a → IsRun s others b → IsText s rest t → IsText s (If words ∷ pieces) (tree.IfSaid c a b t)
 
 -- more than 9 adjectives, or more than 8 `from`s within one another
