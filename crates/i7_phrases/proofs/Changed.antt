@@ -35,6 +35,7 @@ use Rattle.i7_phrases.specs.ChangeForms.{added, adds_said, away_said, found_simp
 use Rattle.i7_phrases.specs.Changes.{Adds, Gives, MakesSo, Moves, Now, PutsIn, Sets, TakesAway, change_is_over, flag_of, is_nowhere}
 use Rattle.i7_phrases.specs.PhraseForms.{by_verb, change_said}
 use Rattle.i7_phrases.specs.Phrases.{ByVerb, Changes, is_change}
+use Rattle.i7_phrases.specs.Told.{IsToldOf}
 
 -- ---- what holds a number
 
@@ -158,15 +159,11 @@ verb_found now.Is s subject behind = now_found s subject behind
 verb_found now.Carries s subject behind = gives_found Carried s subject behind
 verb_found now.Wears s subject behind = gives_found Worn s subject behind
 
-abbrev IsChangeFound : Scope → Spoken → Option (Found tree.Phrase) → Type 0
-IsChangeFound s said None = is_change said ≡ false
-IsChangeFound s said (Some found) = IsFoundAs (Changes s said) change_is_over found
-
-change_found : (s : Scope) (said : Spoken) → IsChangeFound s said (change_said s said)
-change_found s (spoken.Now subject verb behind) = verb_found verb s subject behind
-change_found s (spoken.Move thing holder) = moves_found s thing holder
-change_found s (spoken.Increase value amount) = adds_found Plus s value amount
-change_found s (spoken.Decrease value amount) = adds_found Minus s value amount
+change_found : (s : Scope) (said : Spoken) → IsToldOf (is_change said) (Changes s said) change_is_over (change_said s said)
+change_found s (spoken.Now subject verb behind) = (refl, verb_found verb s subject behind)
+change_found s (spoken.Move thing holder) = (refl, moves_found s thing holder)
+change_found s (spoken.Increase value amount) = (refl, adds_found Plus s value amount)
+change_found s (spoken.Decrease value amount) = (refl, adds_found Minus s value amount)
 change_found s (spoken.Say text) = refl
 change_found s (spoken.Try silently action) = refl
 change_found s (spoken.Follow book) = refl
@@ -181,7 +178,5 @@ change_found s (spoken.OtherwiseIf condition) = refl
 change_found s spoken.Otherwise = refl
 change_found s (spoken.Repeat name through) = refl
 
-pub changes_found : (s : Scope) (said : Spoken) (change : Option (Found Simple)) → option_map found_simple change ≡ change_said s said
-    → MatchOption change (is_change said ≡ false) (λ found. IsFoundAs (Changes s said) change_is_over (found_simple found))
-changes_found s said None e = subst (IsChangeFound s said) (sym e) (change_found s said)
-changes_found s said (Some found) e = subst (IsChangeFound s said) (sym e) (change_found s said)
+pub changes_found : (s : Scope) (said : Spoken) (change : Option (Found tree.Phrase)) → change ≡ change_said s said → IsToldOf (is_change said) (Changes s said) change_is_over change
+changes_found s said change e = subst (IsToldOf (is_change said) (Changes s said) change_is_over) (sym e) (change_found s said)

@@ -1,6 +1,6 @@
 -- What phrases are found to say that others belong to is what they say.
-use Rattle.std.proofs.Common.{◌≡◌, false, refl, sym, subst}
-use Rattle.std.specs.Prelude.{MatchOption, Option, Some, None, option_map}
+use Rattle.std.proofs.Common.{◌≡◌, refl, sym, subst}
+use Rattle.std.specs.Prelude.{Option}
 use Rattle.i7_sentences.specs.declared.spoken.Spoken.{Spoken}
 use Rattle.i7_sentences.specs.declared.spoken.Spoken.TheVariants as spoken
 use Rattle.i7_conditions.specs.Clauses.{asks_over}
@@ -9,26 +9,21 @@ use Rattle.i7_conditions.specs.Conjoining.{condition_said}
 use Rattle.i7_conditions.specs.Describing.{Describes}
 use Rattle.i7_conditions.specs.Descriptions.{description_said}
 use Rattle.i7_conditions.specs.Predicates.{is_long}
-use Rattle.i7_conditions.specs.Readings.{IsFoundAs}
 use Rattle.i7_conditions.specs.Scopes.{Scope}
 use Rattle.i7_conditions.specs.declared.found.Found.{Found}
-use Rattle.i7_conditions.specs.declared.line.Step.{Step}
 use Rattle.i7_conditions.proofs.Conjoined.{conditions_found}
 use Rattle.i7_conditions.proofs.Listing.{one_found}
 use Rattle.i7_conditions.proofs.Predicated.{description_found}
-use Rattle.i7_phrases.specs.BlockForms.{block_said, found_block}
+use Rattle.i7_phrases.specs.BlockForms.{block_said}
 use Rattle.i7_phrases.specs.Blocks.{Block, If, Opens, OtherwiseIf, Repeat, block_is_over, is_block}
+use Rattle.i7_phrases.specs.Told.{IsToldOf}
 
-abbrev IsBlockFound : Scope → Spoken → Option (Found Block) → Type 0
-IsBlockFound s said None = is_block said ≡ false
-IsBlockFound s said (Some found) = IsFoundAs (Opens s said) block_is_over found
-
-block_found : (s : Scope) (said : Spoken) → IsBlockFound s said (block_said s said)
-block_found s (spoken.If words) = one_found If (IsCondition s words) asks_over block_is_over (λ c. refl) (condition_said s words) (conditions_found s words (condition_said s words) refl)
+block_found : (s : Scope) (said : Spoken) → IsToldOf (is_block said) (Opens s said) block_is_over (block_said s said)
+block_found s (spoken.If words) = (refl, one_found If (IsCondition s words) asks_over block_is_over (λ c. refl) (condition_said s words) (conditions_found s words (condition_said s words) refl))
 block_found s (spoken.OtherwiseIf words) =
-    one_found OtherwiseIf (IsCondition s words) asks_over block_is_over (λ c. refl) (condition_said s words) (conditions_found s words (condition_said s words) refl)
-block_found s spoken.Otherwise = (refl, refl)
-block_found s (spoken.Repeat name through) = one_found Repeat (Describes s through) is_long block_is_over (λ d. refl) (description_said s through) (description_found s through)
+    (refl, one_found OtherwiseIf (IsCondition s words) asks_over block_is_over (λ c. refl) (condition_said s words) (conditions_found s words (condition_said s words) refl))
+block_found s spoken.Otherwise = (refl, (refl, refl))
+block_found s (spoken.Repeat name through) = (refl, one_found Repeat (Describes s through) is_long block_is_over (λ d. refl) (description_said s through) (description_found s through))
 block_found s (spoken.Say text) = refl
 block_found s (spoken.Now subject verb behind) = refl
 block_found s (spoken.Move thing holder) = refl
@@ -43,7 +38,5 @@ block_found s spoken.ContinueAction = refl
 block_found s spoken.StopAction = refl
 block_found s (spoken.EndStory text) = refl
 
-pub blocks_found : (s : Scope) (said : Spoken) (step : Option (Found Step)) → option_map found_block step ≡ block_said s said
-    → MatchOption step (is_block said ≡ false) (λ found. IsFoundAs (Opens s said) block_is_over (found_block found))
-blocks_found s said None e = subst (IsBlockFound s said) (sym e) (block_found s said)
-blocks_found s said (Some found) e = subst (IsBlockFound s said) (sym e) (block_found s said)
+pub blocks_found : (s : Scope) (said : Spoken) (block : Option (Found Block)) → block ≡ block_said s said → IsToldOf (is_block said) (Opens s said) block_is_over block
+blocks_found s said block e = subst (IsToldOf (is_block said) (Opens s said) block_is_over) (sym e) (block_found s said)

@@ -14,6 +14,8 @@ pub data Block : Type 0 where
   OtherwiseIf : Condition → Block
   Otherwise : Block
   Repeat : Description → Block
+  -- a line that does something: no phrase says it here
+  NoBlock : Block
 
 abbrev pub is_block : Spoken → Bool
 is_block (spoken.If words) = true
@@ -35,3 +37,4 @@ block_is_over (If c) = asks_over c
 block_is_over (OtherwiseIf c) = asks_over c
 block_is_over Otherwise = false
 block_is_over (Repeat d) = is_long d
+block_is_over NoBlock = false

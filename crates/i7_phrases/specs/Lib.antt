@@ -1,3 +1,4 @@
+pub mod Around
 pub mod BlockForms
 pub mod Blocks
 pub mod CellForms
@@ -10,3 +11,4 @@ pub mod Phrases
 pub mod SubstitutionForms
 pub mod Substitutions
 pub mod Texts
+pub mod Told

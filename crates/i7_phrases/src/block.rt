@@ -1,13 +1,14 @@
 //! Phrases that others belong to (*Writing with Inform*, 11.6 to 11.9): `if the box is open:`, `otherwise:`, `repeat with gem
 //! running through lit things:`.
-ghost use Rattle.std.specs.Prelude.{◌≡◌, ◌≤◌, false, length, option_map, IfOk, MatchOption};
+ghost use Rattle.std.specs.Prelude.{◌≡◌, ◌≤◌, length, option_map, IfOk};
 ghost use Rattle.i7_conditions.specs.Conjoining.{found_condition};
 ghost use Rattle.i7_conditions.specs.Descriptions.{found_described};
-ghost use Rattle.i7_conditions.specs.Readings.{IsFoundAs, one};
+ghost use Rattle.i7_conditions.specs.Readings.{one};
 ghost use Rattle.i7_conditions.specs.Scopes.{Scope as Names, scope_of};
 ghost use Rattle.i7_phrases.specs.BlockForms.{block_said, found_block};
 ghost use Rattle.i7_phrases.specs.Blocks as block;
 ghost use Rattle.i7_phrases.specs.Blocks.{Opens, block_is_over, is_block};
+ghost use Rattle.i7_phrases.specs.Told.{IsToldOf};
 ghost use Rattle.i7_sentences.specs.declared.spoken.Spoken.{Spoken as Phrase};
 
 use i7_conditions::{Found, Scope, Step, condition_said, description_said};
@@ -79,7 +80,7 @@ pub fn block_of(
     said: &Spoken,
 ) -> Result<Option<Found<Step>>, AllocError>
     requires few { length (scope_of scope.now).repeats ≤ 255 }
-    ensures { IfOk result (λ step. MatchOption step (is_block said.now ≡ false) (λ found. IsFoundAs (Opens (scope_of scope.now) said.now) block_is_over (found_block found))) }
+    ensures { IfOk result (λ step. IsToldOf (is_block said.now) (Opens (scope_of scope.now) said.now) block_is_over (option_map found_block step)) }
 {
     block_said(alloc, scope, said)
 }

@@ -2,6 +2,7 @@
 #![tactic(auto)]
 
 mod adding;
+mod around;
 mod block;
 mod cell;
 mod change;
@@ -11,6 +12,7 @@ mod phrase;
 mod substitution;
 mod text;
 
+pub use around::{Around, open_repeats_stand_around};
 pub use block::{block_of, one_block_is_opened};
 pub use phrase::{change_of, ending_of, one_change_is_made};
 pub use text::{one_text_is_meant, text_of};

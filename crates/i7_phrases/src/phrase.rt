@@ -1,11 +1,11 @@
 //! What phrases do that name no action, no rulebook and no text.
-ghost use Rattle.std.specs.Prelude.{◌≡◌, ◌≤◌, false, length, option_map, IfOk, MatchOption};
-ghost use Rattle.i7_conditions.specs.Readings.{IsFoundAs};
+ghost use Rattle.std.specs.Prelude.{◌≡◌, ◌≤◌, length, option_map, IfOk};
 ghost use Rattle.i7_conditions.specs.Scopes.{Scope as Names, scope_of};
 ghost use Rattle.i7_phrases.specs.ChangeForms.{found_simple};
 ghost use Rattle.i7_phrases.specs.Changes.{change_is_over};
 ghost use Rattle.i7_phrases.specs.PhraseForms.{by_verb, change_said};
 ghost use Rattle.i7_phrases.specs.Phrases.{Changes, closing, ending_of, is_change};
+ghost use Rattle.i7_phrases.specs.Told.{IsToldOf};
 ghost use Rattle.i7_sentences.specs.declared.spoken.Spoken.{Spoken as Phrase};
 ghost use Rattle.i7_sentences.specs.declared.spoken.Spoken.TheVariants as spoken;
 ghost use Rattle.play_meaning.specs.Meant.{simple_meant};
@@ -84,7 +84,7 @@ pub fn change_of(
     said: &Spoken,
 ) -> Result<Option<Found<Simple>>, AllocError>
     requires few { length (scope_of scope.now).repeats ≤ 255 }
-    ensures { IfOk result (λ change. MatchOption change (is_change said.now ≡ false) (λ found. IsFoundAs (Changes (scope_of scope.now) said.now) change_is_over (found_simple found))) }
+    ensures { IfOk result (λ change. IsToldOf (is_change said.now) (Changes (scope_of scope.now) said.now) change_is_over (option_map found_simple change)) }
 {
     change_said(alloc, scope, said)
 }
