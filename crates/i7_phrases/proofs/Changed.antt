@@ -1,6 +1,6 @@
 -- What phrases that change the world are found to do is what they do.
 use Rattle.std.proofs.Common.{◌≡◌, ℕ, Bool, true, false, ◌||◌, List, refl, sym, ap, ◌∙◌, subst, inl, inr}
-use Rattle.std.specs.Prelude.{MatchOption, Option, Some, None, option_map}
+use Rattle.std.specs.Prelude.{Option, Some, None}
 use Rattle.world_meaning.proofs.Bools.{either}
 use Rattle.world_meaning.specs.declared.place.Rel.{Rel}
 use Rattle.world_meaning.specs.declared.place.Rel.TheVariants.{Carried, Worn}
@@ -12,7 +12,6 @@ use Rattle.play_meaning.specs.Meant.{by_operator}
 use Rattle.play_meaning.specs.Trees as tree
 use Rattle.play_meaning.specs.declared.tree.number.Operator.{Operator}
 use Rattle.play_meaning.specs.declared.tree.number.Operator.TheVariants.{Minus, Plus, Times}
-use Rattle.play_meaning.specs.declared.tree.phrase.Simple.{Simple}
 use Rattle.i7_conditions.specs.Adjectives.{adjective_named}
 use Rattle.i7_conditions.specs.Joining.{number_said}
 use Rattle.i7_conditions.specs.Keys.{property_named, split_of, variable_named}
@@ -31,7 +30,7 @@ use Rattle.i7_conditions.proofs.Listing.{Made, MadeAt, MadeOfTwo, none_found, on
 use Rattle.i7_conditions.proofs.Predicated.{object_found}
 use Rattle.i7_phrases.specs.CellForms.{cell_said, property_by, property_said, variable_said}
 use Rattle.i7_phrases.specs.Cells.{Cell, IsCell, IsProperty, IsVariable, PropertyOf, Variable, set}
-use Rattle.i7_phrases.specs.ChangeForms.{added, adds_said, away_said, found_simple, from_away, from_put, given_so, gives_said, held_so, made_so, moves_said, now_said, put_said, set_said, so_said}
+use Rattle.i7_phrases.specs.ChangeForms.{added, adds_said, away_said, from_away, from_put, given_so, gives_said, held_so, made_so, moves_said, now_said, put_said, set_said, so_said}
 use Rattle.i7_phrases.specs.Changes.{Adds, Gives, MakesSo, Moves, Now, PutsIn, Sets, TakesAway, change_is_over, flag_of, is_nowhere}
 use Rattle.i7_phrases.specs.PhraseForms.{by_verb, change_said}
 use Rattle.i7_phrases.specs.Phrases.{ByVerb, Changes, is_change}
