@@ -21,14 +21,14 @@ one_first : (here : Bool) (standing : Standing) (later : Option Standing) → fi
 one_first true standing later = refl
 one_first false standing later = refl
 
-fold_naming : (ns : List Naming) (known : Standings) (name : List ℕ) → fold with_naming known ns name ≡ first_of (known name) (standing_in ns name)
+pub fold_naming : (ns : List Naming) (known : Standings) (name : List ℕ) → fold with_naming known ns name ≡ first_of (known name) (standing_in ns name)
 fold_naming [] known name = sym (first_none (known name))
 fold_naming (n ∷ ns) known name =
     fold_naming ns (with_naming known n) name
     ∙ first_assoc (known name) (given bytes_eq n.name n.standing name) (standing_in ns name)
     ∙ ap (first_of (known name)) (one_first (bytes_eq n.name name) n.standing (standing_in ns name))
 
-fold_append : {S X : Type 0} (f : S → X → S) (s : S) (xs ys : List X) → fold f s (xs ++ ys) ≡ fold f (fold f s xs) ys
+pub fold_append : {S X : Type 0} (f : S → X → S) (s : S) (xs ys : List X) → fold f s (xs ++ ys) ≡ fold f (fold f s xs) ys
 fold_append f s [] ys = refl
 fold_append f s (x ∷ xs) ys = fold_append f (f s x) xs ys
 
@@ -36,11 +36,11 @@ fold_fact : (f : Fact) (known : Standings) → fold with_naming known (namings_i
 fold_fact (Stands n) known = refl
 fold_fact _ known = refl
 
-fold_claims : (claims : List Claim) (known : Standings) → fold with_claim known claims ≡ fold with_naming known (namings_of claims)
+pub fold_claims : (claims : List Claim) (known : Standings) → fold with_claim known claims ≡ fold with_naming known (namings_of claims)
 fold_claims [] known = refl
 fold_claims (c ∷ cs) known = fold_claims cs (with_claim known c) ∙ sym (fold_append with_naming known (namings_in c.fact) (namings_of cs) ∙ ap (λ (k : Standings). fold with_naming k (namings_of cs)) (fold_fact c.fact known))
 
-known_before : (before : List Claim) (name : List ℕ) → fold with_claim built_in_standings before name ≡ standing_in (built_in_namings ++ namings_of before) name
+pub known_before : (before : List Claim) (name : List ℕ) → fold with_claim built_in_standings before name ≡ standing_in (built_in_namings ++ namings_of before) name
 unfolding built_in_standings
 known_before before name =
     ap (λ (known : Standings). known name) (fold_claims before built_in_standings ∙ sym (fold_append with_naming no_standings built_in_namings (namings_of before)))

@@ -1,6 +1,7 @@
 pub mod Beings
 pub mod Claims
 pub mod Firsts
+pub mod KindNames
 pub mod NameScans
 pub mod Numbers
 pub mod Phrases

@@ -7,6 +7,7 @@ mod claim;
 mod claim_laws;
 mod claiming;
 mod demanding;
+mod kinds;
 mod leading;
 mod names;
 mod numbering;
@@ -21,12 +22,15 @@ mod statements;
 mod usuals;
 mod wording;
 
+pub use built_in::built_in_namings;
 pub use claim::{
     Claim, Demand, Fact, Grant, Having, Lying, Naming, Placing, Standing, Start, Usual, Value,
 };
 pub use claim_laws::{books_twice_are_found, names_too_many_are_found, names_twice_are_found};
 pub use claiming::claims_of;
+pub use kinds::kind_names;
 pub use names::{FIRST_OF_AUTHOR, Mention, Names, names_of, number_in};
+pub use plurals::plural_of;
 pub use scans::{earlier, lower};
 pub use sorts::{Sort, built_in_kinds, names_as, property_names, too_many_as};
 pub use standings::{book_twice, name_twice};

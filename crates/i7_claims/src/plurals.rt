@@ -83,7 +83,7 @@ fn joined(alloc: Global, front: &[u8], end: &[u8]) -> Result<Vec<u8>, AllocError
 }
 
 /// A name's regular plural.
-fn plural_of(alloc: Global, name: &[u8]) -> Result<Vec<u8>, AllocError>
+pub fn plural_of(alloc: Global, name: &[u8]) -> Result<Vec<u8>, AllocError>
     ensures { IfOk result (λ plural. plural.items ≡ plural_of name.now) }
 {
     if takes_es(name) {

@@ -18,7 +18,7 @@ use Rattle.i7_kinds.specs.declared.knowns.Demanded.{Demanded}
 use Rattle.i7_kinds.specs.declared.knowns.Demanded.TheVariants.{Nothing, Deepest, Parted}
 use Rattle.i7_kinds.specs.declared.knowns.Known.{Known}
 use Rattle.i7_kinds.proofs.UnderKinds.{trans}
-use Rattle.i7_kinds.proofs.KindScans.{none_shown}
+use Rattle.i7_claims.proofs.Lowest.{none_shown}
 
 -- the kind that an object has from the beginning
 abbrev pub base_in : List (Option ℕ) → ℕ → Option ℕ

@@ -1,6 +1,6 @@
 -- The scans for kinds find the lowest lines, and kinds that are few have small numbers.
 use Rattle.std.proofs.Common.{◌≡◌, ℕ, ◌+◌, ◌≤◌, Bool, false, not, List, [], ◌∷◌, ◌++◌, length, Option, refl, sym, ap, ◌∙◌, subst, arith, inl, inr}
-use Rattle.std.specs.Prelude.{Some, None, Decides, fold, nat_le, min}
+use Rattle.std.specs.Prelude.{Some, None, Decides, fold, nat_le}
 use Rattle.std.proofs.lemmas.Bool.{le-leb, leb-true, leb-false}
 use Rattle.std.proofs.lemmas.List.{length-append}
 use Rattle.world_meaning.proofs.Bools.{either}
@@ -18,7 +18,7 @@ use Rattle.i7_claims.specs.declared.claim.Claim.{Claim}
 use Rattle.i7_claims.specs.declared.claim.Fact.{Fact}
 use Rattle.i7_claims.specs.declared.claim.Fact.TheVariants.{Lies, CanBe, HasNumber, Demands, Usually, Unread}
 use Rattle.i7_kinds.proofs.Bounds.{number-within}
-use Rattle.i7_claims.proofs.Lowest.{lowest_is}
+use Rattle.i7_claims.proofs.Lowest.{lowest_is, none_shown}
 use Rattle.i7_claims.proofs.NameScans.{never}
 use Rattle.i7_claims.proofs.SortScans.{not_true, not_false}
 
@@ -56,23 +56,6 @@ pub kind_count_lowest : (claims : List Claim) → IsLowest (ShownBy (λ before c
 kind_count_lowest claims = lowest_is (λ before c. IsKindTooMany before c.fact) shows_kind_too_many with_count_of 10 claims (λ before c after split. count_decides before c.fact)
 
 -- ---- with no kind too many, numbers are small
-
--- a line that is found stays, or a lower one does
-pub found_stays : {S : Type 0} (shows : S → Claim → Bool) (next : S → Claim → S) (s : S) (claims : List Claim) (line : ℕ) → lowest shows next s claims (Some line) ≡ None → ⊥
-found_stays shows next s [] line h = absurd cc
-found_stays shows next s (c ∷ cs) line h =
-    elim (either (shows s c)) [
-      | inl is ↦ let later : lowest shows next (next s c) cs (Some (min line c.line)) ≡ None = rw is at h in found_stays shows next (next s c) cs (min line c.line) later
-      | inr isnt ↦ let later : lowest shows next (next s c) cs (Some line) ≡ None = rw isnt at h in found_stays shows next (next s c) cs line later
-    ]
-
--- where nothing is found, the first shows nothing, and nothing is found behind it
-pub none_shown : {S : Type 0} (shows : S → Claim → Bool) (next : S → Claim → S) (s : S) (c : Claim) (cs : List Claim) → lowest shows next s (c ∷ cs) None ≡ None → (shows s c ≡ false) × (lowest shows next (next s c) cs None ≡ None)
-none_shown shows next s c cs h =
-    elim (either (shows s c)) [
-      | inl is ↦ let later : lowest shows next (next s c) cs (Some c.line) ≡ None = rw is at h in absurd (found_stays shows next (next s c) cs c.line later)
-      | inr isnt ↦ let later : lowest shows next (next s c) cs None ≡ None = rw isnt at h in (isnt, later)
-    ]
 
 count_step : (f : Fact) (count : ℕ) → count ≤ 100 → is_kind_too_many count f ≡ false → with_count count f ≤ 100
 count_step (Lies l) count few h = omega (arith, leb-false 100 count h)

@@ -15,7 +15,8 @@ use Rattle.i7_claims.specs.Statements.{number_in}
 use Rattle.i7_claims.specs.declared.claim.Claim.{Claim}
 use Rattle.i7_claims.specs.declared.claim.Fact.{Fact}
 use Rattle.i7_claims.specs.declared.claim.Fact.TheVariants.{Lies}
-use Rattle.i7_kinds.proofs.KindScans.{kind_names_counted, none_shown, parents_are_kinds}
+use Rattle.i7_claims.proofs.Lowest.{none_shown}
+use Rattle.i7_kinds.proofs.KindScans.{kind_names_counted, parents_are_kinds}
 
 -- ---- what was there stays
 

@@ -4,28 +4,17 @@ use Rattle.std.specs.Prelude.{◌≡◌, ℕ, ◌+◌, ◌≤◌, Bool, true, fa
 use Rattle.world_meaning.specs.Kinds.{Under, built_in_parents, is_under}
 use Rattle.world_meaning.specs.declared.declared.Declared.{Declared}
 use Rattle.world_meaning.specs.declared.declared.Granted.{Granted}
-use Rattle.object_words.specs.Mentions.{mention}
 use Rattle.i7_kinds.specs.Grants.{built_in_bases, flags_from, givens_of}
 use Rattle.i7_kinds.specs.declared.grants.Given.{Given}
+pub use Rattle.i7_claims.specs.KindNames.{kind_names, with_kind, with_kind_of}
 use Rattle.i7_claims.specs.Scans.{lowest}
-use Rattle.i7_claims.specs.Sorts.{built_in_kinds, names_as, property_names}
+use Rattle.i7_claims.specs.Sorts.{names_as, property_names}
 use Rattle.i7_claims.specs.declared.sorts.Sort.TheVariants as sort
 use Rattle.i7_claims.specs.Standings.{has_name}
 use Rattle.i7_claims.specs.Statements.{number_in}
 use Rattle.i7_claims.specs.declared.claim.Claim.{Claim}
 use Rattle.i7_claims.specs.declared.claim.Fact.{Fact}
 use Rattle.i7_claims.specs.declared.claim.Fact.TheVariants.{Lies, CanBe, HasNumber, Demands, Usually, Starts, Unread}
-
-abbrev pub with_kind : List (List ℕ) → Fact → List (List ℕ)
-with_kind names (Lies l) = mention names l.kind
-with_kind names _ = names
-
-abbrev pub with_kind_of : List (List ℕ) → Claim → List (List ℕ)
-with_kind_of names c = with_kind names c.fact
-
--- the names of the kinds, in the order of their numbers
-abbrev pub kind_names : List Claim → List (List ℕ)
-kind_names claims = fold with_kind_of built_in_kinds claims
 
 abbrev pub with_parent : List (List ℕ) → List (Option ℕ) → Fact → List (Option ℕ)
 with_parent names parents (Lies l) = parents ++ Some (number_in names l.parent) ∷ []

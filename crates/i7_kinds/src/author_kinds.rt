@@ -1,37 +1,15 @@
 //! The kinds of a source, and which kinds there may not be.
 ghost use Rattle.std.specs.Prelude.{◌≡◌, ◌++◌, IfOk, OnOk, map};
 ghost use Rattle.world_meaning.specs.Kinds.{built_in_parents, is_under};
-ghost use Rattle.i7_kinds.specs.KindClaims.{AreSmallKinds, IsSmallKind, is_cycle, is_kind_too_many, is_unknown, kind_cycle, kind_names, kind_too_many, parents_of, unknown_kind, with_count, with_kind, with_parent};
+ghost use Rattle.i7_kinds.specs.KindClaims.{AreSmallKinds, IsSmallKind, is_cycle, is_kind_too_many, is_unknown, kind_cycle, kind_too_many, parents_of, unknown_kind, with_count, with_parent};
 
-use i7_claims::{Claim, Fact, built_in_kinds, lower, number_in};
+use i7_claims::{Claim, Fact, lower, number_in};
 use object_words::Strings;
 use std::alloc::{AllocError, Global};
 use world_meaning::{KINDS, KindNo, KindRow};
 
 /// The most kinds.
 const MOST_KINDS: usize = 100;
-
-fn add_kind(alloc: Global, names: &mut Strings, fact: &Fact) -> Result<(), AllocError>
-    ensures { OnOk result (names.new ≡ with_kind names.old fact.now) }
-{
-    match fact {
-        Fact::Lies(lying) => names.mention(alloc, lying.kind.as_slice()),
-        _ => Ok(()),
-    }
-}
-
-/// The names of the kinds, in the order of their numbers.
-pub fn kind_names(alloc: Global, claims: &[Claim]) -> Result<Strings, AllocError>
-    ensures { IfOk result (λ names. names ≡ kind_names claims.now) }
-{
-    let mut names = built_in_kinds(alloc)?;
-    let mut rest = claims;
-    while let [claim, after @ ..] = rest {
-        add_kind(alloc, &mut names, &claim.fact)?;
-        rest = after;
-    }
-    Ok(names)
-}
 
 /// Whether a fact names a kind that isn't there.
 fn is_unknown(names: &Strings, fact: &Fact) -> bool

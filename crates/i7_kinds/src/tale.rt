@@ -12,7 +12,7 @@ ghost use Rattle.i7_kinds.specs.Suits.{first_room, with_player};
 ghost use Rattle.i7_kinds.specs.Tales.{entries_of, frame_refusal, judged, limit_refusal, made_of, no_room, objects_of, refusal_at, refusal_of, said_by, said_in, scope_of, tale_said};
 ghost use Rattle.i7_claims.specs.Views.{mentions_of};
 
-use crate::author_kinds::{kind_names, kind_nos, parents_of};
+use crate::author_kinds::{kind_nos, parents_of};
 use crate::declaring::declared_by;
 use crate::descriptions::Descriptions;
 use crate::doors::doors_of;
@@ -28,8 +28,8 @@ use crate::suits::{first_room, put_player};
 use crate::values::{Bearer, values_by};
 use crate::ways::Ways;
 use i7_claims::{
-    Claim, Mention, NumberedSentence, Sort, claims_of, earlier, names_as, names_of, property_names,
-    statements_in,
+    Claim, Mention, NumberedSentence, Sort, claims_of, earlier, kind_names, names_as, names_of,
+    property_names, statements_in,
 };
 use i7_sentences::Sentence;
 use object_words::Strings;

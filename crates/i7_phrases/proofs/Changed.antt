@@ -31,7 +31,8 @@ use Rattle.i7_conditions.proofs.Predicated.{object_found}
 use Rattle.i7_phrases.specs.CellForms.{cell_said, property_by, property_said, variable_said}
 use Rattle.i7_phrases.specs.Cells.{Cell, IsCell, IsProperty, IsVariable, PropertyOf, Variable, set}
 use Rattle.i7_phrases.specs.ChangeForms.{added, adds_said, away_said, from_away, from_put, given_so, gives_said, held_so, made_so, moves_said, now_said, put_said, set_said, so_said}
-use Rattle.i7_phrases.specs.Changes.{Adds, Gives, MakesSo, Moves, Now, PutsIn, Sets, TakesAway, change_is_over, flag_of, is_nowhere}
+use Rattle.i7_phrases.specs.Changes.{Adds, Gives, MakesSo, Moves, Now, PutsIn, Sets, TakesAway, flag_of, is_nowhere}
+use Rattle.i7_phrases.specs.Limits.{phrase_is_over}
 use Rattle.i7_phrases.specs.PhraseForms.{by_verb, change_said}
 use Rattle.i7_phrases.specs.Phrases.{ByVerb, Changes, is_change}
 use Rattle.i7_phrases.specs.Told.{IsToldOf}
@@ -71,49 +72,49 @@ cell_found s words =
 
 -- ---- `now OBJECT is ..`
 
-so_found : (s : Scope) (subject behind : List Word) (flag : Option (ℕ × Bool)) → flag_of (adjective_named s behind) ≡ flag → IsFoundAs (MakesSo s subject behind) change_is_over (so_said s subject flag)
-so_found s subject behind None e = none_found (flag_of (adjective_named s behind)) (λ (flag : ℕ × Bool). Made (made_so flag) (Means s subject)) change_is_over e
+so_found : (s : Scope) (subject behind : List Word) (flag : Option (ℕ × Bool)) → flag_of (adjective_named s behind) ≡ flag → IsFoundAs (MakesSo s subject behind) phrase_is_over (so_said s subject flag)
+so_found s subject behind None e = none_found (flag_of (adjective_named s behind)) (λ (flag : ℕ × Bool). Made (made_so flag) (Means s subject)) phrase_is_over e
 so_found s subject behind (Some flag) e =
-    some_found (flag_of (adjective_named s behind)) (λ (flag : ℕ × Bool). Made (made_so flag) (Means s subject)) change_is_over flag e (one (made_so flag) (object_said s subject))
-    (one_found (made_so flag) (Means s subject) is_deep change_is_over (λ o. refl) (object_said s subject) (object_found s subject))
+    some_found (flag_of (adjective_named s behind)) (λ (flag : ℕ × Bool). Made (made_so flag) (Means s subject)) phrase_is_over flag e (one (made_so flag) (object_said s subject))
+    (one_found (made_so flag) (Means s subject) is_deep phrase_is_over (λ o. refl) (object_said s subject) (object_found s subject))
 
 abbrev Place : Type 0
 Place = Rel × List Word
 
-put_found : (s : Scope) (subject behind : List Word) (place : Option Place) → relation_at behind ≡ place → IsFoundAs (PutsIn s subject behind) change_is_over (put_said s subject place)
-put_found s subject behind None e = none_found (relation_at behind) (λ (place : Place). MadeOfTwo (held_so place.0) (Means s subject) (Means s place.1)) change_is_over e
+put_found : (s : Scope) (subject behind : List Word) (place : Option Place) → relation_at behind ≡ place → IsFoundAs (PutsIn s subject behind) phrase_is_over (put_said s subject place)
+put_found s subject behind None e = none_found (relation_at behind) (λ (place : Place). MadeOfTwo (held_so place.0) (Means s subject) (Means s place.1)) phrase_is_over e
 put_found s subject behind (Some place) e =
-    some_found (relation_at behind) (λ (place : Place). MadeOfTwo (held_so place.0) (Means s subject) (Means s place.1)) change_is_over place e (put_said s subject (Some place))
-    (two_found (held_so place.0) (Means s subject) (Means s place.1) is_deep is_deep change_is_over (λ o h. refl) (object_said s subject) (object_said s place.1) (object_found s subject) (object_found s place.1))
+    some_found (relation_at behind) (λ (place : Place). MadeOfTwo (held_so place.0) (Means s subject) (Means s place.1)) phrase_is_over place e (put_said s subject (Some place))
+    (two_found (held_so place.0) (Means s subject) (Means s place.1) is_deep is_deep phrase_is_over (λ o h. refl) (object_said s subject) (object_said s place.1) (object_found s subject) (object_found s place.1))
 
-away_if : (s : Scope) (subject behind : List Word) (found : Found tree.Phrase) → is_nowhere behind ≡ true → IsFoundAs (Made tree.NowNowhere (Means s subject)) change_is_over found → IsFoundAs (TakesAway s subject behind) change_is_over found
+away_if : (s : Scope) (subject behind : List Word) (found : Found tree.Phrase) → is_nowhere behind ≡ true → IsFoundAs (Made tree.NowNowhere (Means s subject)) phrase_is_over found → IsFoundAs (TakesAway s subject behind) phrase_is_over found
 away_if s subject behind (Read p) is h = ((is, h.0), h.1)
 away_if s subject behind TooMany is h = (h.0, (is, h.1), h.2)
 away_if s subject behind Unread is h = λ p takes. h p takes.1
 
-away_found : (s : Scope) (subject behind : List Word) → IsFoundAs (TakesAway s subject behind) change_is_over (away_said s subject behind)
+away_found : (s : Scope) (subject behind : List Word) → IsFoundAs (TakesAway s subject behind) phrase_is_over (away_said s subject behind)
 away_found s subject behind =
     elim (either (is_nowhere behind)) [
-      | inl is ↦ rw is (away_if s subject behind (one tree.NowNowhere (object_said s subject)) is (one_found tree.NowNowhere (Means s subject) is_deep change_is_over (λ o. refl) (object_said s subject) (object_found s subject)))
+      | inl is ↦ rw is (away_if s subject behind (one tree.NowNowhere (object_said s subject)) is (one_found tree.NowNowhere (Means s subject) is_deep phrase_is_over (λ o. refl) (object_said s subject) (object_found s subject)))
       | inr isnt ↦ rw isnt (λ p takes. let is = takes.0 in absurd cc)
     ]
 
-over_set : (cell : Cell) (n : tree.Number) → change_is_over (set cell n) ≡ (cell_is_over cell || is_over n)
+over_set : (cell : Cell) (n : tree.Number) → phrase_is_over (set cell n) ≡ (cell_is_over cell || is_over n)
 over_set (Variable v) n = refl
 over_set (PropertyOf p o) n = refl
 
-set_found : (s : Scope) (subject behind : List Word) → IsFoundAs (Sets s subject behind) change_is_over (set_said s subject behind)
+set_found : (s : Scope) (subject behind : List Word) → IsFoundAs (Sets s subject behind) phrase_is_over (set_said s subject behind)
 set_found s subject behind =
-    two_found set (IsCell s subject) (CountsAs s behind) cell_is_over is_over change_is_over over_set (cell_said s subject) (number_said s behind) (cell_found s subject) (number_found s behind)
+    two_found set (IsCell s subject) (CountsAs s behind) cell_is_over is_over phrase_is_over over_set (cell_said s subject) (number_said s behind) (cell_found s subject) (number_found s behind)
 
-pub now_found : (s : Scope) (subject behind : List Word) → IsFoundAs (Now s subject behind) change_is_over (now_said s subject behind)
+pub now_found : (s : Scope) (subject behind : List Word) → IsFoundAs (Now s subject behind) phrase_is_over (now_said s subject behind)
 unfolding now_said
 now_found s subject behind =
-    or_found (MakesSo s subject behind) (FirstOf (PutsIn s subject behind) (FirstOf (TakesAway s subject behind) (Sets s subject behind))) change_is_over (so_said s subject (flag_of (adjective_named s behind)))
+    or_found (MakesSo s subject behind) (FirstOf (PutsIn s subject behind) (FirstOf (TakesAway s subject behind) (Sets s subject behind))) phrase_is_over (so_said s subject (flag_of (adjective_named s behind)))
     (from_put s subject behind) (so_found s subject behind (flag_of (adjective_named s behind)) refl)
-    (or_found (PutsIn s subject behind) (FirstOf (TakesAway s subject behind) (Sets s subject behind)) change_is_over (put_said s subject (relation_at behind)) (from_away s subject behind)
+    (or_found (PutsIn s subject behind) (FirstOf (TakesAway s subject behind) (Sets s subject behind)) phrase_is_over (put_said s subject (relation_at behind)) (from_away s subject behind)
     (put_found s subject behind (relation_at behind) refl)
-    (or_found (TakesAway s subject behind) (Sets s subject behind) change_is_over (away_said s subject behind) (set_said s subject behind) (away_found s subject behind) (set_found s subject behind)))
+    (or_found (TakesAway s subject behind) (Sets s subject behind) phrase_is_over (away_said s subject behind) (set_said s subject behind) (away_found s subject behind) (set_found s subject behind)))
 
 -- ---- the others
 
@@ -123,15 +124,15 @@ or_swapped true false = refl
 or_swapped false true = refl
 or_swapped false false = refl
 
-pub gives_found : (relation : Rel) (s : Scope) (holder thing : List Word) → IsFoundAs (Gives relation s holder thing) change_is_over (gives_said relation s holder thing)
+pub gives_found : (relation : Rel) (s : Scope) (holder thing : List Word) → IsFoundAs (Gives relation s holder thing) phrase_is_over (gives_said relation s holder thing)
 unfolding gives_said
 gives_found relation s holder thing =
-    two_found (given_so relation) (Means s holder) (Means s thing) is_deep is_deep change_is_over (λ h o. or_swapped (is_deep h) (is_deep o)) (object_said s holder) (object_said s thing) (object_found s holder) (object_found s thing)
+    two_found (given_so relation) (Means s holder) (Means s thing) is_deep is_deep phrase_is_over (λ h o. or_swapped (is_deep h) (is_deep o)) (object_said s holder) (object_said s thing) (object_found s holder) (object_found s thing)
 
-pub moves_found : (s : Scope) (thing holder : List Word) → IsFoundAs (Moves s thing holder) change_is_over (moves_said s thing holder)
+pub moves_found : (s : Scope) (thing holder : List Word) → IsFoundAs (Moves s thing holder) phrase_is_over (moves_said s thing holder)
 unfolding moves_said
 moves_found s thing holder =
-    two_found tree.Move (Means s thing) (Means s holder) is_deep is_deep change_is_over (λ o h. refl) (object_said s thing) (object_said s holder) (object_found s thing) (object_found s holder)
+    two_found tree.Move (Means s thing) (Means s holder) is_deep is_deep phrase_is_over (λ o h. refl) (object_said s thing) (object_said s holder) (object_found s thing) (object_found s holder)
 
 or_twice : (a b : Bool) → (a || (a || b)) ≡ (a || b)
 or_twice true b = refl
@@ -142,23 +143,23 @@ over_joined Plus m n = refl
 over_joined Minus m n = refl
 over_joined Times m n = refl
 
-over_added : (operator : Operator) (cell : Cell) (n : tree.Number) → change_is_over (added operator cell n) ≡ (cell_is_over cell || is_over n)
+over_added : (operator : Operator) (cell : Cell) (n : tree.Number) → phrase_is_over (added operator cell n) ≡ (cell_is_over cell || is_over n)
 over_added operator (Variable v) n = over_joined operator (tree.Variable v) n
 over_added operator (PropertyOf p o) n = ap (λ (b : Bool). is_deep o || b) (over_joined operator (tree.PropertyOf p o) n) ∙ or_twice (is_deep o) (is_over n)
 
-pub adds_found : (operator : Operator) (s : Scope) (value amount : List Word) → IsFoundAs (Adds operator s value amount) change_is_over (adds_said operator s value amount)
+pub adds_found : (operator : Operator) (s : Scope) (value amount : List Word) → IsFoundAs (Adds operator s value amount) phrase_is_over (adds_said operator s value amount)
 unfolding adds_said
 adds_found operator s value amount =
-    two_found (added operator) (IsCell s value) (CountsAs s amount) cell_is_over is_over change_is_over (over_added operator) (cell_said s value) (number_said s amount) (cell_found s value) (number_found s amount)
+    two_found (added operator) (IsCell s value) (CountsAs s amount) cell_is_over is_over phrase_is_over (over_added operator) (cell_said s value) (number_said s amount) (cell_found s value) (number_found s amount)
 
 -- ---- all of them
 
-verb_found : (verb : NowVerb) (s : Scope) (subject behind : List Word) → IsFoundAs (ByVerb verb s subject behind) change_is_over (by_verb verb s subject behind)
+verb_found : (verb : NowVerb) (s : Scope) (subject behind : List Word) → IsFoundAs (ByVerb verb s subject behind) phrase_is_over (by_verb verb s subject behind)
 verb_found now.Is s subject behind = now_found s subject behind
 verb_found now.Carries s subject behind = gives_found Carried s subject behind
 verb_found now.Wears s subject behind = gives_found Worn s subject behind
 
-change_found : (s : Scope) (said : Spoken) → IsToldOf (is_change said) (Changes s said) change_is_over (change_said s said)
+change_found : (s : Scope) (said : Spoken) → IsToldOf (is_change said) (Changes s said) phrase_is_over (change_said s said)
 change_found s (spoken.Now subject verb behind) = (refl, verb_found verb s subject behind)
 change_found s (spoken.Move thing holder) = (refl, moves_found s thing holder)
 change_found s (spoken.Increase value amount) = (refl, adds_found Plus s value amount)
@@ -177,5 +178,5 @@ change_found s (spoken.OtherwiseIf condition) = refl
 change_found s spoken.Otherwise = refl
 change_found s (spoken.Repeat name through) = refl
 
-pub changes_found : (s : Scope) (said : Spoken) (change : Option (Found tree.Phrase)) → change ≡ change_said s said → IsToldOf (is_change said) (Changes s said) change_is_over change
-changes_found s said change e = subst (IsToldOf (is_change said) (Changes s said) change_is_over) (sym e) (change_found s said)
+pub changes_found : (s : Scope) (said : Spoken) (change : Option (Found tree.Phrase)) → change ≡ change_said s said → IsToldOf (is_change said) (Changes s said) phrase_is_over change
+changes_found s said change e = subst (IsToldOf (is_change said) (Changes s said) phrase_is_over) (sym e) (change_found s said)

@@ -2,7 +2,7 @@ mod Ahead
 mod Changed
 mod Drafted
 mod Once
-mod Open
+pub mod Open
 mod Opened
 mod Steps
 mod Substituted

@@ -53,6 +53,10 @@ left_deeper d e (innermost ∷ depths) names le = elim (either (nat_lt innermost
   | inr ge ↦ rw ge (left_deeper d e depths (names_left names) le)
 ]
 
+-- a phrase that has left repeats leaves no more
+pub left_again : (depth : ℕ) (o : Open) → left depth (left depth o) ≡ left depth o
+left_again depth o = left_deeper depth depth o.depths o.names (omega arith)
+
 left_behind : (d e : ℕ) (name : Option Word) (o : Open) (outer others : List Word) → (left e o).names ≡ outer → (left d o).names ≡ others
     → (left d (entered_if e name (left e o))).names ≡ (if nat_lt e d then with_name name outer else others)
 unfolding left_from

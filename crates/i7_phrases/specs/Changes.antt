@@ -1,5 +1,5 @@
 -- What phrases that change the world do (*Writing with Inform*, chapters 8 and 15): `now`, `move`, `increase`, `decrease`.
-use Rattle.std.specs.Prelude.{◌≡◌, ℕ, Bool, true, false, not, ◌||◌, List, [], ◌∷◌, Option, None, Some, codes}
+use Rattle.std.specs.Prelude.{◌≡◌, ℕ, Bool, true, false, not, List, [], ◌∷◌, Option, None, Some, codes}
 use Rattle.world_meaning.specs.Spelling.{is_spelled}
 use Rattle.world_meaning.specs.declared.place.Rel.{Rel}
 use Rattle.play_meaning.specs.Meant.{by_operator}
@@ -13,11 +13,9 @@ use Rattle.play_meaning.specs.declared.tree.object.Side.TheVariants.{First, Seco
 use Rattle.i7_conditions.specs.Adjectives.{adjective_named}
 use Rattle.i7_conditions.specs.Numbers.{CountsAs}
 use Rattle.i7_conditions.specs.Objects.{Means}
-use Rattle.i7_conditions.specs.Predicates.{is_deep}
 use Rattle.i7_conditions.specs.Readings.{FirstOf}
 use Rattle.i7_conditions.specs.Relations.{relation_at}
 use Rattle.i7_conditions.specs.Scopes.{Scope}
-use Rattle.i7_conditions.specs.Terms.{is_over}
 use Rattle.i7_conditions.specs.Words.{Word}
 use Rattle.i7_phrases.specs.Cells.{IsCell, read, set}
 
@@ -74,15 +72,3 @@ Moves s thing holder p = (o : tree.Object) × (h : tree.Object) × Means s thing
 -- `increase .. by ..`, `decrease .. by ..`
 abbrev pub Adds : Operator → Scope → List Word → List Word → tree.Phrase → Type 0
 Adds operator s value amount p = (cell : _) × (n : tree.Number) × IsCell s value cell × CountsAs s amount n × (p ≡ set cell (by_operator operator (read cell) n))
-
--- ---- beyond the limits
-
--- more than 9 adjectives, or more than 8 `from`s within one another
-abbrev pub change_is_over : tree.Phrase → Bool
-change_is_over (tree.NowIs o property value) = is_deep o
-change_is_over (tree.NowHeld o relation holder) = is_deep o || is_deep holder
-change_is_over (tree.NowNowhere o) = is_deep o
-change_is_over (tree.Move o holder) = is_deep o || is_deep holder
-change_is_over (tree.NowNumber property o n) = is_deep o || is_over n
-change_is_over (tree.NowVariable v n) = is_over n
-change_is_over _ = false

@@ -6,6 +6,7 @@ pub mod Cells
 pub mod ChangeForms
 pub mod Changes
 pub mod Drafts
+pub mod Limits
 pub mod PhraseForms
 pub mod Phrases
 pub mod SubstitutionForms

@@ -2,7 +2,7 @@
 ghost use Rattle.std.specs.Prelude.{◌≡◌, ◌≤◌, length, option_map, IfOk};
 ghost use Rattle.i7_conditions.specs.Scopes.{Scope as Names, scope_of};
 ghost use Rattle.i7_phrases.specs.ChangeForms.{found_simple};
-ghost use Rattle.i7_phrases.specs.Changes.{change_is_over};
+ghost use Rattle.i7_phrases.specs.Limits.{phrase_is_over};
 ghost use Rattle.i7_phrases.specs.PhraseForms.{by_verb, change_said};
 ghost use Rattle.i7_phrases.specs.Phrases.{Changes, closing, ending_of, is_change};
 ghost use Rattle.i7_phrases.specs.Told.{IsToldOf};
@@ -84,7 +84,7 @@ pub fn change_of(
     said: &Spoken,
 ) -> Result<Option<Found<Simple>>, AllocError>
     requires few { length (scope_of scope.now).repeats ≤ 255 }
-    ensures { IfOk result (λ change. IsToldOf (is_change said.now) (Changes (scope_of scope.now) said.now) change_is_over (option_map found_simple change)) }
+    ensures { IfOk result (λ change. IsToldOf (is_change said.now) (Changes (scope_of scope.now) said.now) phrase_is_over (option_map found_simple change)) }
 {
     change_said(alloc, scope, said)
 }

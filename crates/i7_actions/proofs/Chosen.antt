@@ -1,0 +1,236 @@
+-- The best of the actions that words try is found.
+use Rattle.std.proofs.Common.{◌≡◌, ◌⊎◌, ℕ, suc, ◌+◌, ◌<◌, ◌≤◌, Bool, true, false, ◌&&◌, ◌||◌, List, [], ◌∷◌, length, drop, get_or, refl, sym, ap, ◌∙◌, subst, arith, inl, inr}
+use Rattle.std.specs.Prelude.{Some, None, nat_lt, ◌==◌, if◌then◌else◌}
+use Rattle.std.specs.List.{slice_get}
+use Rattle.std.proofs.lemmas.List.{drop-drop, length-drop, get_or-drop}
+use Rattle.std.proofs.lemmas.Option.{slice_get_read, slice_get_within}
+use Rattle.std.proofs.lemmas.Bool.{ltb-true, ltb-false}
+use Rattle.std.proofs.lemmas.Bool.Decides.{nat_tests}
+use Rattle.world_meaning.proofs.Bools.{both, both_are, either}
+use Rattle.i7_conditions.specs.Scopes.{Scope}
+use Rattle.i7_conditions.specs.Words.{Word}
+use Rattle.i7_actions.specs.Parts.{first_part, second_part}
+use Rattle.i7_actions.specs.Trying.{GoesBefore, is_longer}
+use Rattle.i7_actions.specs.TryingForms.{Best, best_from, can_try, improves}
+use Rattle.i7_actions.specs.declared.action.Action.{Action}
+
+-- ---- the order
+
+abbrev longer : ℕ → ℕ → ℕ → ℕ → Bool
+longer f g s t = nat_lt g f || ((f == g) && nat_lt t s)
+
+abbrev Longer : ℕ → ℕ → ℕ → ℕ → Type 0
+Longer f g s t = (g < f) ⊎ ((f ≡ g) × (t < s))
+
+longer_is : (f g s t : ℕ) → longer f g s t ≡ true → Longer f g s t
+longer_is f g s t e =
+    elim (either (nat_lt g f)) [
+      | inl lt ↦ inl (ltb-true _ _ lt)
+      | inr ge ↦ let is = both_are (f == g) (nat_lt t s) (sym (ap (λ (b : Bool). b || ((f == g) && nat_lt t s)) ge) ∙ e) in inr (grind (arith, nat_tests, is.0), ltb-true _ _ is.1)
+    ]
+
+longer_so : (f g s t : ℕ) → Longer f g s t → longer f g s t ≡ true
+longer_so f g s t (inl lt) = let is : nat_lt g f ≡ true = grind (arith, nat_tests) in rw is refl
+longer_so f g s t (inr h) =
+    let isnt : nat_lt g f ≡ false = grind (arith, nat_tests, h.0) in
+    let same : (f == g) ≡ true = grind (arith, nat_tests, h.0) in
+    let is : nat_lt t s ≡ true = grind (arith, nat_tests, h.1) in
+    rw (isnt, same, is) refl
+
+longer_not : (f g s t : ℕ) → longer f g s t ≡ false → Longer f g s t → ⊥
+longer_not f g s t e h = let is = longer_so f g s t h in absurd cc
+
+over : (f g h s t u : ℕ) → (Longer f h s u → ⊥) → Longer f g s t → longer h g u t ≡ true
+over f g h s t u isnt does =
+    elim (either (nat_lt g h)) [
+      | inl above ↦ longer_so h g u t (inl (ltb-true _ _ above))
+      | inr below ↦ elim (either (nat_lt h f)) [
+        | inl lt ↦ absurd (isnt (inl (ltb-true _ _ lt)))
+        | inr le ↦ elim does [
+          | inl first ↦ absurd (omega (arith, first, ltb-false _ _ below, ltb-false _ _ le))
+          | inr second ↦ elim (either (nat_lt u s)) [
+            | inl lt ↦ let same : f ≡ h = omega (arith, second.0, ltb-false _ _ below, ltb-false _ _ le) in absurd (isnt (inr (same, ltb-true _ _ lt)))
+            | inr ge ↦ longer_so h g u t (inr (omega (arith, second.0, ltb-false _ _ below, ltb-false _ _ le), omega (arith, second.1, ltb-false _ _ ge)))
+          ]
+        ]
+      ]
+    ]
+
+never_self : (f s : ℕ) → Longer f f s s → ⊥
+never_self f s (inl lt) = absurd (omega (arith, lt))
+never_self f s (inr h) = absurd (omega (arith, h.1))
+
+-- of three, the last goes before the second where it isn't shorter than the first, which does
+longer_over : (a b c : Action) → is_longer a c ≡ false → is_longer a b ≡ true → is_longer c b ≡ true
+unfolding is_longer
+longer_over a b c isnt does =
+    over (length (first_part a.name)) (length (first_part b.name)) (length (first_part c.name)) (length (second_part a.name)) (length (second_part b.name)) (length (second_part c.name))
+    (longer_not (length (first_part a.name)) (length (first_part c.name)) (length (second_part a.name)) (length (second_part c.name)) isnt)
+    (longer_is (length (first_part a.name)) (length (first_part b.name)) (length (second_part a.name)) (length (second_part b.name)) does)
+
+not_longer_self : (a : Action) → is_longer a a ≡ true → ⊥
+unfolding is_longer
+not_longer_self a e =
+    never_self (length (first_part a.name)) (length (second_part a.name))
+    (longer_is (length (first_part a.name)) (length (first_part a.name)) (length (second_part a.name)) (length (second_part a.name)) e)
+
+on : (f g h s t u : ℕ) → Longer h f u s → Longer f g s t → longer h g u t ≡ true
+on f g h s t u (inl up) (inl does) = longer_so h g u t (inl (omega (arith, up, does)))
+on f g h s t u (inl up) (inr does) = longer_so h g u t (inl (omega (arith, up, does.0)))
+on f g h s t u (inr up) (inl does) = longer_so h g u t (inl (omega (arith, up.0, does)))
+on f g h s t u (inr up) (inr does) = longer_so h g u t (inr (omega (arith, up.0, does.0), omega (arith, up.1, does.1)))
+
+longer_on : (a b c : Action) → is_longer c a ≡ true → is_longer a b ≡ true → is_longer c b ≡ true
+unfolding is_longer
+longer_on a b c up does =
+    on (length (first_part a.name)) (length (first_part b.name)) (length (first_part c.name)) (length (second_part a.name)) (length (second_part b.name)) (length (second_part c.name))
+    (longer_is (length (first_part c.name)) (length (first_part a.name)) (length (second_part c.name)) (length (second_part a.name)) up)
+    (longer_is (length (first_part a.name)) (length (first_part b.name)) (length (second_part a.name)) (length (second_part b.name)) does)
+
+-- ---- places of a list
+
+pub at_place : {X : Type 0} (xs rest : List X) (n : ℕ) (x : X) → drop n xs ≡ x ∷ rest → slice_get xs n ≡ Some x
+at_place xs rest n x e =
+    let long : length (drop n xs) ≡ suc (length rest) = ap length e in
+    let here : get_or (drop n xs) 0 x ≡ x = ap (λ ys. get_or ys 0 x) e in
+    let there : get_or (drop n xs) 0 x ≡ get_or xs (n + 0) x = get_or-drop n xs 0 x in
+    let plus : n + 0 ≡ n = omega arith in
+    slice_get_read xs (length xs) n x refl (omega (arith, long, length-drop n xs)) (sym here ∙ there ∙ ap (λ m. get_or xs m x) plus)
+
+pub none_further : {X : Type 0} (xs : List X) (n m : ℕ) (x : X) → drop n xs ≡ [] → n ≤ m → slice_get xs m ≡ Some x → ⊥
+none_further xs n m x e le at =
+    let long : length (drop n xs) ≡ 0 = ap length e in
+    absurd (omega (arith, le, long, length-drop n xs, slice_get_within xs m x at))
+
+pub earlier : (m n : ℕ) → m < n + 1 → (m < n) ⊎ (m ≡ n)
+earlier m n lt =
+    elim (either (nat_lt m n)) [
+      | inl less ↦ inl (ltb-true _ _ less)
+      | inr more ↦ inr (omega (arith, lt, ltb-false _ _ more))
+    ]
+
+pub one_at : {X : Type 0} (xs : List X) (m n : ℕ) (x y : X) → m ≡ n → slice_get xs m ≡ Some x → slice_get xs n ≡ Some y → x ≡ y
+one_at xs m n x y e at there = let both : Some x ≡ Some y = sym at ∙ ap (slice_get xs) e ∙ there in cc
+
+pub next_place : {X : Type 0} (xs rest : List X) (n : ℕ) (x : X) → drop n xs ≡ x ∷ rest → drop (n + 1) xs ≡ rest
+next_place xs rest n x e = sym (drop-drop 1 n xs) ∙ ap (drop 1) e
+
+-- ---- the best of the actions in front of a number
+
+pub record IsLeading (s : Scope) (words : List Word) (actions : List Action) (number n : ℕ) (a : Action) : Type 0 where
+  pub at : slice_get actions n ≡ Some a
+  pub tries : can_try s words a ≡ true
+  pub first : (m : ℕ) (other : Action) → m < number → slice_get actions m ≡ Some other → GoesBefore m other n a → can_try s words other ≡ true → ⊥
+
+abbrev IsBest : Scope → List Word → List Action → ℕ → Best → Type 0
+IsBest s words actions number None = (m : ℕ) (other : Action) → m < number → slice_get actions m ≡ Some other → can_try s words other ≡ true → ⊥
+IsBest s words actions number (Some best) = (best.0 < number) × IsLeading s words actions number best.0 best.1
+
+still_none : (s : Scope) (words : List Word) (actions rest : List Action) (number : ℕ) (a : Action) → drop number actions ≡ a ∷ rest → can_try s words a ≡ false → IsBest s words actions number None
+    → IsBest s words actions (number + 1) None
+still_none s words actions rest number a e cannot h = λ m other lt at can.
+    elim (earlier m number lt) [
+      | inl less ↦ h m other less at can
+      | inr here ↦ let same : other ≡ a = one_at actions m number other a here at (at_place actions rest number a e) in let is : can_try s words a ≡ true = ap (can_try s words) (sym same) ∙ can in absurd cc
+    ]
+
+not_before : (n : ℕ) (a : Action) → GoesBefore n a n a → ⊥
+not_before n a (inl above) = not_longer_self a above
+not_before n a (inr h) = absurd (omega (arith, h.1))
+
+now_first : (s : Scope) (words : List Word) (actions rest : List Action) (number : ℕ) (a : Action) → drop number actions ≡ a ∷ rest → can_try s words a ≡ true
+    → ((m : ℕ) (other : Action) → m < number → slice_get actions m ≡ Some other → GoesBefore m other number a → can_try s words other ≡ true → ⊥)
+    → IsBest s words actions (number + 1) (Some (number, a))
+now_first s words actions rest number a e can none = (
+  omega arith,
+  record {
+    at = at_place actions rest number a e;
+    tries = can;
+    first = λ m other lt at before is.
+        elim (earlier m number lt) [
+          | inl less ↦ none m other less at before is
+          | inr here ↦
+              let same : other ≡ a = one_at actions m number other a here at (at_place actions rest number a e) in
+              let moved : GoesBefore number a number a = subst (λ (k : ℕ). GoesBefore k a number a) here (subst (λ (b : Action). GoesBefore m b number a) same before) in
+              not_before number a moved
+        ];
+  },
+)
+
+led_over : (s : Scope) (words : List Word) (actions : List Action) (number n : ℕ) (a b : Action) → IsLeading s words actions number n b → is_longer a b ≡ true
+    → (m : ℕ) (other : Action) → m < number → slice_get actions m ≡ Some other → GoesBefore m other number a → can_try s words other ≡ true → ⊥
+led_over s words actions number n a b h does m other lt at (inl above) can = h.first m other lt at (inl (longer_on a b other above does)) can
+led_over s words actions number n a b h does m other lt at (inr equal) can = h.first m other lt at (inl (longer_over a b other equal.0 does)) can
+
+kept : (s : Scope) (words : List Word) (actions rest : List Action) (number n : ℕ) (a b : Action) → drop number actions ≡ a ∷ rest → n < number → IsLeading s words actions number n b
+    → (is_longer a b && can_try s words a) ≡ false → IsBest s words actions (number + 1) (Some (n, b))
+kept s words actions rest number n a b e less h isnt = (
+  omega (arith, less),
+  record {
+    at = h.at;
+    tries = h.tries;
+    first = λ m other lt at before can.
+        elim (earlier m number lt) [
+          | inl front ↦ h.first m other front at before can
+          | inr here ↦
+              let same : other ≡ a = one_at actions m number other a here at (at_place actions rest number a e) in
+              let is : can_try s words a ≡ true = ap (can_try s words) (sym same) ∙ can in
+              let moved : GoesBefore number a n b = subst (λ (k : ℕ). GoesBefore k a n b) here (subst (λ (c : Action). GoesBefore m c n b) same before) in
+              elim moved [
+                | inl above ↦ let does = both (is_longer a b) (can_try s words a) above is in absurd cc
+                | inr equal ↦ absurd (omega (arith, less, equal.1))
+              ]
+        ];
+  },
+)
+
+best_on : (s : Scope) (words : List Word) (actions rest : List Action) (number : ℕ) (a : Action) (best : Best) → drop number actions ≡ a ∷ rest → IsBest s words actions number best
+    → IsBest s words actions (number + 1) (if improves s words a best then Some (number, a) else best)
+best_on s words actions rest number a None e h =
+    elim (either (can_try s words a)) [
+      | inl can ↦ rw can (now_first s words actions rest number a e can (λ m other lt at before is. h m other lt at is))
+      | inr cannot ↦ rw cannot (still_none s words actions rest number a e cannot h)
+    ]
+best_on s words actions rest number a (Some best) e h =
+    elim (either (is_longer a best.1 && can_try s words a)) [
+      | inl does ↦ let are = both_are (is_longer a best.1) (can_try s words a) does in rw does (now_first s words actions rest number a e are.1 (led_over s words actions number best.0 a best.1 h.1 are.0))
+      | inr kept_so ↦ rw kept_so (kept s words actions rest number best.0 a best.1 e h.0 h.1 kept_so)
+    ]
+
+-- ---- the best of all
+
+abbrev pub IsBestOfAll : Scope → List Word → List Action → Best → Type 0
+IsBestOfAll s words actions None = (m : ℕ) (other : Action) → slice_get actions m ≡ Some other → can_try s words other ≡ true → ⊥
+IsBestOfAll s words actions (Some best) = IsLeading s words actions (length actions) best.0 best.1
+
+of_all : (s : Scope) (words : List Word) (actions : List Action) (number : ℕ) (best : Best) → length actions ≤ number → IsBest s words actions number best → IsBestOfAll s words actions best
+of_all s words actions number None le h = λ m other at can. h m other (omega (arith, le, slice_get_within actions m other at)) at can
+of_all s words actions number (Some best) le h =
+    record { at = h.1.at; tries = h.1.tries; first = λ m other lt at before can. h.1.first m other (omega (arith, le, lt)) at before can }
+
+from_here : (s : Scope) (words : List Word) (actions : List Action) (number : ℕ) (best : Best) (rest : List Action) → drop number actions ≡ rest → IsBest s words actions number best
+    → IsBestOfAll s words actions (best_from s words number best rest)
+from_here s words actions number best [] e h = let long : length (drop number actions) ≡ 0 = ap length e in of_all s words actions number best (omega (arith, long, length-drop number actions)) h
+from_here s words actions number best (a ∷ rest) e h =
+    from_here s words actions (number + 1) (if improves s words a best then Some (number, a) else best) rest (next_place actions rest number a e) (best_on s words actions rest number a best e h)
+
+pub best_of_all : (s : Scope) (words : List Word) (actions : List Action) → IsBestOfAll s words actions (best_from s words 0 None actions)
+best_of_all s words actions = from_here s words actions 0 None actions refl (λ m other lt at can. absurd (omega (arith, lt)))
+
+-- ---- one that goes before all
+
+pub one_first : (m n : ℕ) (a b : Action) → (GoesBefore m a n b → ⊥) → (GoesBefore n b m a → ⊥) → m ≡ n
+one_first m n a b isnt nor =
+    elim (either (is_longer a b)) [
+      | inl above ↦ absurd (isnt (inl above))
+      | inr shorter ↦ elim (either (is_longer b a)) [
+        | inl above ↦ absurd (nor (inl above))
+        | inr equal ↦ elim (either (nat_lt m n)) [
+          | inl lt ↦ absurd (isnt (inr (equal, ltb-true _ _ lt)))
+          | inr ge ↦ elim (either (nat_lt n m)) [
+            | inl lt ↦ absurd (nor (inr (shorter, ltb-true _ _ lt)))
+            | inr le ↦ omega (arith, ltb-false _ _ ge, ltb-false _ _ le)
+          ]
+        ]
+      ]
+    ]

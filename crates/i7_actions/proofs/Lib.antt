@@ -1,0 +1,6 @@
+mod Chosen
+mod Followed
+mod Found
+mod Once
+mod Refused
+mod Trying

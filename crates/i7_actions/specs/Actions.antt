@@ -1,0 +1,22 @@
+-- The actions that every story has, as their table tells them.
+use Rattle.std.specs.Prelude.{List, map}
+use Rattle.play_meaning.specs.declared.action.Needs.{Needs}
+use Rattle.play_meaning.specs.declared.action.Slot.{Slot}
+use Rattle.play_meaning.specs.declared.action.Slot.TheVariants.{Absent}
+use Rattle.i7_actions.specs.declared.action.Action.{Action}
+use Rattle.i7_actions.specs.declared.action.NounCount.{NounCount}
+use Rattle.i7_actions.specs.declared.action.NounCount.TheVariants.{Zero, One, Two}
+use Rattle.i7_actions.specs.declared.action.TheConstants.{STANDARD_ACTIONS}
+
+-- by number
+unfoldable pub standard_actions : List Action
+standard_actions = map (λ row. record { name = map (λ word. word.now) row.0.now; nouns = row.1 }) STANDARD_ACTIONS
+
+-- how many nouns an action has that asks for these
+abbrev pub counted : Slot → Slot → NounCount
+counted Absent second = Zero
+counted noun Absent = One
+counted noun second = Two
+
+abbrev pub count_needed : Needs → NounCount
+count_needed needs = counted needs.noun needs.second

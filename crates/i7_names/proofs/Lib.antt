@@ -1,0 +1,3 @@
+pub mod Claimed
+pub mod SmallNames
+pub mod Standings

@@ -1,0 +1,13 @@
+//! What the names of a source stand for: objects, kinds, properties, variables and scenes, each by its number.
+#![tactic(auto)]
+
+mod laws;
+mod meant;
+mod naming;
+mod number;
+mod numbering;
+mod plural_names;
+mod source_names;
+
+pub use laws::names_stand_for_what_is_claimed;
+pub use source_names::{SourceNames, names_in};

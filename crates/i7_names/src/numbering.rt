@@ -1,0 +1,99 @@
+//! The names of a source by their numbers: each is numbered among those of its sort.
+ghost use Rattle.std.specs.Prelude.{◌≡◌, IfOk};
+ghost use Rattle.i7_names.specs.Numbering.{numbering_by};
+
+use crate::number::{object_number, small_number};
+use i7_claims::{Claim, Sort, kind_names, names_as};
+use object_words::Strings;
+use std::alloc::{AllocError, Global};
+use std::marker::Model;
+
+/// The names of objects, of kinds, of either-or properties the first, and of number properties, variables and scenes.
+#[derive(Drop)]
+pub struct Numbering<'a> {
+    objects: &'a Strings,
+    kinds: Strings,
+    qualities: Strings,
+    numbers: Strings,
+    variables: Strings,
+    scenes: Strings,
+}
+
+impl<'a> Model for Numbering<'a> {
+    ghost use Rattle.i7_names.specs.Numbering.{Numbering as Names, numbering_with};
+
+    ghost Value = { Names };
+
+    ghost view = { λ n. numbering_with n.objects.now n.kinds n.qualities n.numbers n.variables n.scenes };
+}
+
+/// The numbers of what the claims declare, where the objects have these names.
+pub fn numbering_of<'a>(
+    alloc: Global,
+    objects: &'a Strings,
+    claims: &[Claim],
+) -> Result<Numbering<'a>, AllocError>
+    ensures { IfOk result (λ numbering. numbering ≡ numbering_by objects.now claims.now) }
+{
+    Ok(Numbering {
+        objects,
+        kinds: kind_names(alloc, claims)?,
+        qualities: names_as(alloc, Sort::EitherOr, claims)?,
+        numbers: names_as(alloc, Sort::Number, claims)?,
+        variables: names_as(alloc, Sort::Variable, claims)?,
+        scenes: names_as(alloc, Sort::Scene, claims)?,
+    })
+}
+
+impl<'a> Numbering<'a> {
+    ghost use Rattle.i7_names.specs.Numbers.{object_number, small_number};
+
+    /// The number of the object of this name.
+    pub fn object(&self, name: &[u8]) -> Option<u16>
+        ensures { result ≡ object_number self.now.objects name.now }
+    {
+        object_number(self.objects, name)
+    }
+
+    /// The number of the kind of this name.
+    pub fn kind(&self, name: &[u8]) -> Option<u8>
+        ensures { result ≡ small_number self.now.kinds name.now }
+    {
+        small_number(&self.kinds, name)
+    }
+
+    /// The number of the either-or property of this first name.
+    pub fn quality(&self, name: &[u8]) -> Option<u8>
+        ensures { result ≡ small_number self.now.qualities name.now }
+    {
+        small_number(&self.qualities, name)
+    }
+
+    /// The number of the number property of this name.
+    pub fn number(&self, name: &[u8]) -> Option<u8>
+        ensures { result ≡ small_number self.now.numbers name.now }
+    {
+        small_number(&self.numbers, name)
+    }
+
+    /// The number of the variable of this name.
+    pub fn variable(&self, name: &[u8]) -> Option<u8>
+        ensures { result ≡ small_number self.now.variables name.now }
+    {
+        small_number(&self.variables, name)
+    }
+
+    /// The number of the scene of this name.
+    pub fn scene(&self, name: &[u8]) -> Option<u8>
+        ensures { result ≡ small_number self.now.scenes name.now }
+    {
+        small_number(&self.scenes, name)
+    }
+
+    /// The names of the kinds.
+    pub fn kinds(&self) -> &Strings
+        ensures { result.now ≡ self.now.kinds }
+    {
+        &self.kinds
+    }
+}

@@ -1,0 +1,4 @@
+mod Headed
+mod ReadOn
+mod Stated
+mod Told

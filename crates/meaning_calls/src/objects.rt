@@ -1,0 +1,23 @@
+//! Names as they are kept, and objects by their words.
+ghost use Rattle.std.specs.Prelude.{◌≤◌, length};
+ghost use Rattle.i7_conditions.specs.Scopes.{scope_of};
+
+use crate::scene::words;
+use i7_conditions::{Scope, object_of};
+use std::alloc::{AllocError, Global};
+
+/// What a name stands for, and the kind that a plural is of.
+pub fn known(alloc: Global, scope: &Scope<'_>, name: &str) -> Result<String, AllocError> {
+    let meaning = scope.names.meaning(name.as_bytes());
+    let kind = scope.names.plural(name.as_bytes());
+    format!(in alloc; "{meaning:?} {kind:?}")
+}
+
+/// The object that words name.
+pub fn object(alloc: Global, scope: &Scope<'_>, text: &str) -> Result<String, AllocError>
+    requires few { length (scope_of scope.now).repeats ≤ 255 }
+{
+    let words = words(alloc, text)?;
+    let found = object_of(alloc, scope, words.as_slice())?;
+    format!(in alloc; "{found:?}")
+}
