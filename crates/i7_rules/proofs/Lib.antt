@@ -1,3 +1,4 @@
+mod Breaks
 mod Headed
 mod ReadOn
 mod Stated

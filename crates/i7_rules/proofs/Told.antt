@@ -1,6 +1,6 @@
 -- What phrases are found to do that others don't belong to is what they do.
-use Rattle.std.proofs.Common.{◌≡◌, ℕ, Bool, true, false, List, refl, sym, ◌∙◌, subst, inl, inr}
-use Rattle.std.specs.Prelude.{Option, None, Some, option_map}
+use Rattle.std.proofs.Common.{◌≡◌, ℕ, Bool, true, false, List, refl, sym, ◌∙◌, ap, subst, inl, inr}
+use Rattle.std.specs.Prelude.{◌||◌, Option, None, Some, option_map}
 use Rattle.i7_sentences.specs.declared.spoken.Spoken.{Spoken}
 use Rattle.i7_sentences.specs.declared.spoken.Spoken.TheVariants as spoken
 use Rattle.i7_sentences.specs.declared.text_piece.TextPiece.{TextPiece}
@@ -10,8 +10,11 @@ use Rattle.play_meaning.specs.declared.tree.phrase.Simple.{Simple as Kept}
 use Rattle.play_meaning.specs.declared.outcome.Outcome.TheVariants.{Failure, Success}
 use Rattle.i7_actions.specs.Books.{IsBookFound}
 use Rattle.i7_actions.specs.Trying.{Tries, Try, try_is_over}
+use Rattle.i7_conditions.specs.Clauses.{asks_over}
+use Rattle.i7_conditions.specs.Predicates.{is_deep, is_long}
 use Rattle.i7_conditions.specs.Readings.{IsFoundAs, one}
 use Rattle.i7_conditions.specs.Scopes.{Scope}
+use Rattle.i7_conditions.specs.Terms.{is_over}
 use Rattle.i7_conditions.specs.Words.{Word}
 use Rattle.i7_conditions.specs.declared.found.Found.{Found}
 use Rattle.i7_conditions.specs.declared.found.Found.TheVariants.{Read, TooMany, Unread}
@@ -23,13 +26,28 @@ use Rattle.i7_phrases.specs.Texts.{IsText, text_is_over}
 use Rattle.i7_phrases.specs.Told.{IsToldOf}
 use Rattle.i7_rules.specs.Doings.{ChangesOrEnds, Does, Follows, TriesSo, following, found_if, trying}
 use Rattle.i7_rules.specs.Knowns.{Known}
+use Rattle.i7_rules.specs.Saying.{ends_sentence, saying, with_break}
 
 -- ---- `say`
 
-pub text_told : (k : Known) (s : Scope) (pieces : List TextPiece) (text : Found tree.Text) (found : Found tree.Phrase) → found ≡ one tree.Say text → IsFoundAs (IsText s pieces) text_is_over text
-    → IsFoundAs (Does k s (spoken.Say pieces)) phrase_is_over found
+pub breaks_are_within : (text : tree.Text) → text_is_over (with_break text) ≡ text_is_over text
+breaks_are_within tree.Silence = refl
+breaks_are_within (tree.Bytes bytes more) = breaks_are_within more
+breaks_are_within (tree.Figure number more) = ap (λ over. is_over number || over) (breaks_are_within more)
+breaks_are_within (tree.Name naming o more) = ap (λ over. is_deep o || over) (breaks_are_within more)
+breaks_are_within (tree.Listing naming description more) = ap (λ over. is_long description || over) (breaks_are_within more)
+breaks_are_within (tree.DescriptionOf o more) = ap (λ over. is_deep o || over) (breaks_are_within more)
+breaks_are_within (tree.IfSaid c a b more) = ap (λ over. asks_over c || (text_is_over a || (text_is_over b || over))) (breaks_are_within more)
+
+closed_is_within : (is_sentence : Bool) (text : tree.Text) → phrase_is_over (saying is_sentence text) ≡ text_is_over text
+closed_is_within false text = refl
+closed_is_within true text = breaks_are_within text
+
+pub text_told : (k : Known) (s : Scope) (pieces : List TextPiece) (text : Found tree.Text) (found : Found tree.Phrase) → found ≡ one (saying (ends_sentence pieces)) text
+    → IsFoundAs (IsText s pieces) text_is_over text → IsFoundAs (Does k s (spoken.Say pieces)) phrase_is_over found
 text_told k s pieces text found e h =
-    subst (IsFoundAs (Does k s (spoken.Say pieces)) phrase_is_over) (sym e) (one_found tree.Say (IsText s pieces) text_is_over phrase_is_over (λ t. refl) text h)
+    subst (IsFoundAs (Does k s (spoken.Say pieces)) phrase_is_over) (sym e)
+    (one_found (saying (ends_sentence pieces)) (IsText s pieces) text_is_over phrase_is_over (closed_is_within (ends_sentence pieces)) text h)
 
 -- ---- `try` and `follow`
 

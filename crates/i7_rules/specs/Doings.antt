@@ -12,6 +12,7 @@ use Rattle.i7_conditions.specs.declared.found.Found.TheVariants.{Read, Unread}
 use Rattle.i7_phrases.specs.Phrases.{Changes, ending_of}
 use Rattle.i7_phrases.specs.Texts.{IsText}
 use Rattle.i7_rules.specs.Knowns.{Known}
+use Rattle.i7_rules.specs.Saying.{ends_sentence, saying}
 
 abbrev pub trying : Bool → Try → tree.Phrase
 trying silently t = tree.Try silently t.action t.nouns.0 t.nouns.1
@@ -26,7 +27,7 @@ abbrev pub ChangesOrEnds : Scope → Spoken → tree.Phrase → Type 0
 ChangesOrEnds s said p = Changes s said p ⊎ (ending_of said ≡ Some p)
 
 abbrev pub Does : Known → Scope → Spoken → tree.Phrase → Type 0
-Does k s (spoken.Say pieces) p = (text : tree.Text) × IsText s pieces text × (p ≡ tree.Say text)
+Does k s (spoken.Say pieces) p = (text : tree.Text) × IsText s pieces text × (p ≡ saying (ends_sentence pieces) text)
 Does k s (spoken.Try silently words) p = TriesSo k s silently words p
 Does k s (spoken.Follow words) p = Follows k words p
 Does k s said p = ChangesOrEnds s said p

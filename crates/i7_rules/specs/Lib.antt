@@ -4,3 +4,4 @@ pub mod Knowns
 pub mod Lines
 pub mod ReadSoFar
 pub mod Rules
+pub mod Saying

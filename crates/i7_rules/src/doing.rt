@@ -6,45 +6,18 @@ ghost use Rattle.i7_conditions.specs.Scopes.{scope_of};
 ghost use Rattle.i7_phrases.specs.ChangeForms.{found_simple};
 ghost use Rattle.i7_phrases.specs.Limits.{phrase_is_over};
 ghost use Rattle.i7_phrases.specs.Phrases.{ending_of};
-ghost use Rattle.i7_phrases.specs.Texts.{found_text};
 ghost use Rattle.i7_rules.specs.Doings.{ChangesOrEnds, Does, Follows, TriesSo, following, found_if, trying};
 ghost use Rattle.i7_rules.specs.Knowns.{known_of};
-ghost use Rattle.i7_sentences.specs.declared.spoken.Spoken.TheVariants as spoken;
-ghost use Rattle.play_meaning.specs.Trees as tree;
 
 use crate::known::Known;
+use crate::saying::said_of;
 use i7_actions::{Tried, book_of, tried_of};
 use i7_conditions::{Found, Scope};
-use i7_phrases::{change_of, ending_of, text_of};
-use i7_sentences::{Spoken, TextPiece};
-use play_meaning::tree::{Simple, Text};
+use i7_phrases::{change_of, ending_of};
+use i7_sentences::Spoken;
+use play_meaning::tree::Simple;
 use std::alloc::{AllocError, Global};
 use world_meaning::TextBytes;
-
-/// `say` with this text.
-fn said_so(text: Found<Text>) -> Found<Simple>
-    ensures { found_simple result ≡ one tree.Say (found_text text) }
-{
-    match text {
-        Found::Read(text) => Found::Read(Simple::Say(text)),
-        Found::TooMany => Found::TooMany,
-        Found::Unread => Found::Unread,
-    }
-}
-
-/// `say` with a text of these pieces.
-fn said_of(
-    alloc: Global,
-    known: &Known<'_>,
-    scope: &Scope<'_>,
-    pieces: &[TextPiece],
-) -> Result<Found<Simple>, AllocError>
-    requires few { length (scope_of scope.now).repeats ≤ 255 }
-    ensures { IfOk result (λ found. IsFoundAs (Does (known_of known.now) (scope_of scope.now) (spoken.Say pieces.now)) phrase_is_over (found_simple found)) }
-{
-    let text = text_of(alloc, scope, pieces)?;
-    Ok(said_so(text))
-}
 
 /// `try`, silently or not, with what is tried.
 fn tried_so(is_silent: bool, tried: Found<Tried>) -> Found<Simple>

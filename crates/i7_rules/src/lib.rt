@@ -6,6 +6,7 @@ mod body;
 mod doing;
 mod known;
 mod rule;
+mod saying;
 mod step;
 
 pub use body::{BodyRead, body_of};
