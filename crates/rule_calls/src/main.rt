@@ -1,0 +1,146 @@
+//! Does the bodies of rules, and prints what they come to: the program that is compared with what is told of them. Its words are
+//! a form and a file. `bodies` does the body of each case, a source with a rule, or says why the source is refused; `codes`
+//! prints the codes of each case; `runs` does bodies that are told by their codes; `spelling` prints the instructions that stand
+//! in front of bytes, a line each.
+#![tactic(auto)]
+
+mod case;
+mod codes;
+mod emitted;
+mod facts;
+mod faults;
+mod literals;
+mod meant;
+mod playing;
+mod reading;
+mod runner;
+mod runs;
+mod spelling;
+mod stage;
+mod strings;
+mod told_code;
+mod unplayed;
+
+use case::Case;
+use playing::{told, told_codes};
+use runs::Bench;
+use spelling::spelling_told;
+use std::alloc::{AllocError, Global};
+use std::io::{Stdout, Write};
+use std::process::ExitCode;
+use std::{env, fs};
+
+/// What is printed of a file.
+#[derive(Clone, Copy)]
+enum Form {
+    Bodies,
+    Codes,
+    Runs,
+    Spelling,
+}
+
+/// The form of this name.
+fn form_of(name: &str) -> Option<Form> {
+    match name {
+        "bodies" => Some(Form::Bodies),
+        "codes" => Some(Form::Codes),
+        "runs" => Some(Form::Runs),
+        "spelling" => Some(Form::Spelling),
+        _ => None,
+    }
+}
+
+/// Prints a line, if there is one and room for it.
+fn tell(out: &mut Stdout, told: Result<String, AllocError>) -> bool {
+    match told {
+        Ok(told) => writeln!(out, "{told}").is_ok(),
+        Err(_) => false,
+    }
+}
+
+/// What is printed of a case.
+fn case_told(alloc: Global, form: Form, record: &str) -> Result<String, AllocError> {
+    let case = Case::of(record);
+    match form {
+        Form::Codes => told_codes(alloc, &case),
+        _ => told(alloc, &case),
+    }
+}
+
+/// Prints what each case comes to.
+fn tell_cases(alloc: Global, out: &mut Stdout, form: Form, cases: &str) -> bool {
+    for record in cases.split_terminator('\u{1e}') {
+        if !tell(out, case_told(alloc, form, record)) {
+            return false;
+        }
+    }
+    true
+}
+
+/// Prints what runs on a bench come to.
+fn tell_lines(alloc: Global, out: &mut Stdout, bench: &Bench, lines: &str) -> bool {
+    for line in lines.lines() {
+        if !tell(out, bench.told(alloc, line)) {
+            return false;
+        }
+    }
+    true
+}
+
+/// Prints what runs come to.
+fn tell_runs(alloc: Global, out: &mut Stdout, told: &str) -> bool {
+    let Some((source, behind)) = told.split_once('\u{1f}') else {
+        return false;
+    };
+    let Some((strings, lines)) = behind.split_once('\u{1f}') else {
+        return false;
+    };
+    match Bench::of(alloc, source, strings) {
+        Ok(bench) => tell_lines(alloc, out, &bench, lines),
+        Err(unplayed) => writeln!(out, "{unplayed}").is_ok(),
+    }
+}
+
+/// Prints the instructions in front of the bytes of each line.
+fn tell_spelling(alloc: Global, out: &mut Stdout, lines: &str) -> bool {
+    for line in lines.lines() {
+        if !tell(out, spelling_told(alloc, line)) {
+            return false;
+        }
+    }
+    true
+}
+
+/// Prints what is asked of a file.
+fn tell_all(rt: &HostRuntime, form: Form, told: &str) -> bool {
+    let mut out = rt.stdout();
+    match form {
+        Form::Runs => tell_runs(rt.alloc(), &mut out, told),
+        Form::Spelling => tell_spelling(rt.alloc(), &mut out, told),
+        _ => tell_cases(rt.alloc(), &mut out, form, told),
+    }
+}
+
+/// Tells what the words ask of the file that they name, if there is one, and memory and room for it.
+fn told_by(rt: &HostRuntime, words: &[String]) -> Option<bool> {
+    let [_, form, path] = words else { return None };
+    let form = form_of(form.as_str())?;
+    let bytes = fs::read(rt, path.as_str()).ok()?;
+    let told = str::from_utf8(bytes.as_slice()).ok()?;
+    Some(tell_all(rt, form, told))
+}
+
+/// Does what the words ask, and answers the status: 0, or 4 where there is no such form or file, no memory or no room.
+fn status(rt: &HostRuntime) -> u8 {
+    let Ok(args) = env::args(rt) else { return 4 };
+    let words: Result<Vec<String>, _> = args.collect(rt.alloc());
+    let Ok(words) = words else { return 4 };
+    match told_by(rt, words.as_slice()) {
+        Some(true) => 0,
+        _ => 4,
+    }
+}
+
+fn main(rt: HostRuntime) -> ExitCode {
+    ExitCode::from(status(&rt))
+}

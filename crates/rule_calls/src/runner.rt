@@ -1,0 +1,90 @@
+//! A body, done once from its beginning.
+ghost use Rattle.std.specs.Prelude.{◌≡◌, IfNone, true};
+ghost use Rattle.story_code.specs.Steps.{leads_on};
+
+use crate::unplayed::Unplayed;
+use play_meaning::{ActNo, ActionNow, GroundMut};
+use std::alloc::Global;
+use story_code::{
+    RunState, Step, Verified, are_described_by, are_sound_together, is_body, runs_begin_standing,
+    step_plain,
+};
+use world_meaning::Abandon;
+
+/// What a body came to.
+#[derive(Clone, Copy, Debug, PartialEq, Eq)]
+pub enum Ended {
+    /// It left off so, or asked for this.
+    Left(Step),
+    /// It broke play off.
+    Broken(Abandon),
+}
+
+/// What becomes of a body that tries an action or follows a rulebook.
+#[derive(Clone, Copy, PartialEq, Eq)]
+pub enum Asked {
+    /// It leaves off there.
+    Told,
+    /// It isn't played.
+    Unplayed,
+    /// What it asks is passed over.
+    PassedOver,
+}
+
+/// No action, and no nouns.
+const NOTHING: ActionNow = ActionNow {
+    action: ActNo::NONE,
+    noun: None,
+    second: None,
+    silent: false,
+};
+
+/// More steps than a body takes that turns its loops ten thousand times.
+const MANY: u32 = 10_000_000;
+
+/// What a step comes to behind which the body is over, if it is.
+fn over(step: Step, asked: Asked) -> Option<Result<Ended, Unplayed>>
+    ensures { IfNone result (leads_on step ≡ true) }
+{
+    match step {
+        Step::GoesOn => None,
+        Step::Try(_) | Step::Follow(_) => match asked {
+            Asked::Told => Some(Ok(Ended::Left(step))),
+            Asked::Unplayed => Some(Err(Unplayed::AsksMore)),
+            Asked::PassedOver => None,
+        },
+        _ => Some(Ok(Ended::Left(step))),
+    }
+}
+
+/// Does the body of a number, with no action and no work done so far.
+pub fn run<G: GroundMut>(
+    alloc: Global,
+    ground: &mut G,
+    codes: &[Verified],
+    number: u16,
+    text: &mut Vec<u8>,
+    asked: Asked,
+) -> Result<Ended, Unplayed> {
+    if !are_sound_together(codes) {
+        return Err(Unplayed::NotTogether);
+    }
+    if !is_body(codes, number) {
+        return Err(Unplayed::NoBody);
+    }
+    if !are_described_by(ground, codes) {
+        return Err(Unplayed::Undescribed);
+    }
+    runs_begin_standing();
+    let mut state = RunState::new(number, 0);
+    for _ in 0..MANY {
+        match step_plain(alloc, ground, codes, &NOTHING, &mut state, text) {
+            Ok(step) => match over(step, asked) {
+                Some(ended) => return ended,
+                None => {}
+            },
+            Err(reason) => return Ok(Ended::Broken(reason)),
+        }
+    }
+    Err(Unplayed::Endless)
+}

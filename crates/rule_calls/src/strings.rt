@@ -1,0 +1,68 @@
+//! The strings that the codes of a case name: those of its bodies and of its descriptions.
+use crate::reading::{Said, SaidAt};
+use i7_phrases::ending_of;
+use i7_sentences::{Rule, Spoken, TextPiece};
+use object_words::Strings;
+use play_meaning::tree::Simple;
+use std::alloc::{AllocError, Global};
+use story_format::Story;
+use world_meaning::ObjNo;
+
+/// The strings of a text.
+fn add_pieces(alloc: Global, all: &mut Strings, pieces: &[TextPiece]) -> Result<(), AllocError> {
+    for piece in pieces {
+        if let TextPiece::Printed(bytes) = piece {
+            all.mention(alloc, bytes.as_slice())?;
+        }
+    }
+    Ok(())
+}
+
+/// The string with which a phrase ends the story, if it does.
+fn add_ending(alloc: Global, all: &mut Strings, said: &Spoken) -> Result<(), AllocError> {
+    match ending_of(alloc, said)? {
+        Some(Simple::EndStory(text)) => all.mention(alloc, text.as_slice()),
+        _ => Ok(()),
+    }
+}
+
+/// The strings of a rule's body.
+fn add_body(alloc: Global, all: &mut Strings, rule: &Rule) -> Result<(), AllocError> {
+    for phrase in rule.body.as_slice() {
+        match &phrase.said {
+            Spoken::Say(pieces) => add_pieces(alloc, all, pieces.as_slice())?,
+            said => add_ending(alloc, all, said)?,
+        }
+    }
+    Ok(())
+}
+
+/// The strings of the parts of a case.
+fn add_parts(alloc: Global, all: &mut Strings, parts: &[SaidAt]) -> Result<(), AllocError> {
+    for part in parts {
+        match &part.said {
+            Said::Rule(rule) => add_body(alloc, all, rule)?,
+            Said::Text(pieces) => add_pieces(alloc, all, pieces.as_slice())?,
+        }
+    }
+    Ok(())
+}
+
+/// The plain descriptions of a story.
+fn add_descriptions(alloc: Global, all: &mut Strings, story: &Story) -> Result<(), AllocError> {
+    for number in 0..story.object_count() as u16 {
+        if let Some(text) = story.description(ObjNo::new(number)) {
+            all.mention(alloc, text)?;
+        }
+    }
+    Ok(())
+}
+
+/// The strings of the parts of a case and of its story's descriptions, and behind them the line break that may follow what is said.
+pub fn strings_of(alloc: Global, parts: &[SaidAt], story: &Story) -> Result<Strings, AllocError> {
+    let mut all = Strings::new(alloc);
+    add_parts(alloc, &mut all, parts)?;
+    add_descriptions(alloc, &mut all, story)?;
+    all.mention(alloc, b"\n")?;
+    Ok(all)
+}
