@@ -1,24 +1,17 @@
--- The lowest line of the parts that are so, as a test finds it.
-use Rattle.std.proofs.Common.{◌≡◌, ℕ, ◌≤◌, ◌⊎◌, inl, inr, Bool, true, false, List, [], ◌∷◌, ◌++◌, refl, ap, sym, ◌∙◌, subst, arith}
-use Rattle.std.specs.Prelude.{nat_lt, Option, Some, None}
+-- The lowest line at which one of several is bad, as a function finds it.
+use Rattle.std.proofs.Common.{◌≡◌, ℕ, ◌≤◌, Bool, true, false, List, [], ◌∷◌, refl, ap, sym, ◌∙◌, subst, arith}
+use Rattle.std.specs.Prelude.{nat_lt, Option, Some, None, if◌then◌else◌}
 use Rattle.std.specs.List.{All}
-use Rattle.std.specs.Bool.{Decides}
 use Rattle.std.proofs.lemmas.Grind.{common_steps}
-use Rattle.std.proofs.lemmas.List.Elements.{All-nil, All-cons}
-use Rattle.i7_sentences.specs.Cuts.{Piece}
-use Rattle.i7_sentences.specs.Read.{line_of, lower, lower_if, lowest, lowest_from}
-use Rattle.i7_sentences.specs.Sources.{IsLowest, IsNowhere}
-use Rattle.i7_sentences.proofs.Lists.{false-true}
+use Rattle.std.proofs.lemmas.List.Elements.{All-nil, All-cons, All-head, All-tail}
+use Rattle.i7_sentences.specs.Lowest.{IsLowest, IsNowhere, lower_of, lowest}
 use Rattle.i7_sentences.proofs.Sameness.{all_there}
-use Rattle.i7_sentences.proofs.Understanding.{none-some, same_some}
 
--- the lower of two lines
-pub record Lowered (low : Option ℕ) (line : ℕ) : Type 0 where
-  pub least : ℕ
-  pub is : lower low line ≡ Some least
-  pub no_higher : least ≤ line
-  pub under : (other : ℕ) → low ≡ Some other → least ≤ other
-  pub source : (low ≡ Some least) ⊎ (least ≡ line)
+pub none-some : {A : Type 0} (x : A) → None ≡ Some x → ⊥
+none-some x e = cc
+
+pub same_some : {A : Type 0} (x y : A) → Some x ≡ Some y → x ≡ y
+same_some x y e = cc
 
 less : (a b : ℕ) → nat_lt a b ≡ true → a ≤ b
 less a b is = grind (arith, common_steps, is)
@@ -26,134 +19,154 @@ less a b is = grind (arith, common_steps, is)
 no_less : (a b : ℕ) → nat_lt a b ≡ false → b ≤ a
 no_less a b is = grind (arith, common_steps, is)
 
-lowered : (low : Option ℕ) (line : ℕ) → Lowered low line
-lowered None line = record { least = line; is = refl; no_higher = omega arith; under = λ other is. absurd (none-some other is); source = inr refl }
-lowered (Some low) line =
-    let Goal : Bool → Type 0 = λ here. nat_lt line low ≡ here → Lowered (Some low) line
-    in elim (nat_lt line low) as Goal [
-      | true ↦ λ here. record {
-        least = line;
-        is = rw here refl;
-        no_higher = omega arith;
-        under = λ other is. subst (λ n. line ≤ n) (same_some low other is) (less line low here);
-        source = inr refl;
-      }
-      | false ↦ λ here. record {
-        least = low;
-        is = rw here refl;
-        no_higher = no_less line low here;
-        under = λ other is. subst (λ n. low ≤ n) (same_some low other is) (let e : low ≤ low = omega arith in e);
-        source = inl refl;
-      }
-    ] refl
+less_less : (a b c : ℕ) → nat_lt b a ≡ true → nat_lt c b ≡ true → nat_lt c a ≡ true
+less_less a b c one two = grind (arith, common_steps, one, two)
 
--- a part that is so begins on that line
-pub record Begins (Bad : Piece → Type 0) (parts : List Piece) (line : ℕ) : Type 0 where
-  pub before : List Piece
-  pub part : Piece
-  pub behind : List Piece
-  pub place : parts ≡ before ++ part ∷ behind
-  pub bad : Bad part
-  pub line_is : line ≡ line_of part
-
-begins_later : (Bad : Piece → Type 0) (first : Piece) (parts : List Piece) (line : ℕ) → Begins Bad parts line → Begins Bad (first ∷ parts) line
-begins_later Bad first parts line begins = record { before = first ∷ begins.before; part = begins.part; behind = begins.behind; place = ap (λ ps. first ∷ ps) begins.place; bad = begins.bad; line_is = begins.line_is }
-
-begins_here : (Bad : Piece → Type 0) (first : Piece) (parts : List Piece) (line : ℕ) → Bad first → line ≡ line_of first → Begins Bad (first ∷ parts) line
-begins_here Bad first parts line bad is = record { before = []; part = first; behind = parts; place = refl; bad = bad; line_is = is }
-
--- what is found of parts, and of the line so far
-pub record Low (Bad : Piece → Type 0) (low : Option ℕ) (parts : List Piece) (line : ℕ) : Type 0 where
-  pub source : (low ≡ Some line) ⊎ Begins Bad parts line
-  pub lowest : All (λ other. Bad other → line ≤ line_of other) parts
-  pub under : (other : ℕ) → low ≡ Some other → line ≤ other
-
-abbrev LowOf : (Piece → Type 0) → Option ℕ → List Piece → Option ℕ → Type 0
-LowOf Bad low parts None = (low ≡ None) × IsNowhere Bad parts
-LowOf Bad low parts (Some line) = Low Bad low parts line
-
-low_none : (Bad : Piece → Type 0) (low : Option ℕ) → LowOf Bad low [] low
-low_none Bad None = (refl, All-nil (λ p. Bad p → ⊥))
-low_none Bad (Some line) = record { source = inl refl; lowest = All-nil (λ other. Bad other → line ≤ line_of other); under = λ other is. subst (λ n. line ≤ n) (same_some line other is) (let e : line ≤ line = omega arith in e) }
-
-low_good : (Bad : Piece → Type 0) (part : Piece) (parts : List Piece) (low found : Option ℕ) → (Bad part → ⊥) → LowOf Bad low parts found → LowOf Bad low (part ∷ parts) found
-low_good Bad part parts low None good is = (is.0, All-cons (λ p. Bad p → ⊥) part parts good is.1)
-low_good Bad part parts low (Some line) good is = record {
-  source = (elim is.source as (λ s. (low ≡ Some line) ⊎ Begins Bad (part ∷ parts) line) [
-    | inl same ↦ inl same
-    | inr begins ↦ inr (begins_later Bad part parts line begins)
-  ]);
-  lowest = All-cons (λ other. Bad other → line ≤ line_of other) part parts (λ bad. absurd (good bad)) is.lowest;
-  under = is.under;
-}
-
-low_source : (Bad : Piece → Type 0) (part : Piece) (parts : List Piece) (low : Option ℕ) (line : ℕ) (less' : Lowered low (line_of part)) → Bad part → less'.least ≡ line → (low ≡ Some line) ⊎ Begins Bad (part ∷ parts) line
-low_source Bad part parts low line less' bad same = (elim less'.source as (λ s. (low ≡ Some line) ⊎ Begins Bad (part ∷ parts) line) [
-  | inl is ↦ inl (is ∙ ap (λ n. Some n) same)
-  | inr is ↦ inr (begins_here Bad part parts line bad (sym same ∙ is))
-])
+no_less_less : (a b c : ℕ) → nat_lt b a ≡ false → nat_lt c b ≡ false → nat_lt c a ≡ false
+no_less_less a b c one two = grind (arith, common_steps, one, two)
 
 at_most : (a b c : ℕ) → a ≤ b → b ≤ c → a ≤ c
 at_most a b c low high = omega (arith, low, high)
 
-low_bad : (Bad : Piece → Type 0) (part : Piece) (parts : List Piece) (low found : Option ℕ) → Bad part → LowOf Bad (lower low (line_of part)) parts found → LowOf Bad low (part ∷ parts) found
-low_bad Bad part parts low None bad is = let less' = lowered low (line_of part) in absurd (none-some less'.least (sym is.0 ∙ less'.is))
-low_bad Bad part parts low (Some line) bad is =
-    let less' = lowered low (line_of part) in
-    let low_is : line ≤ less'.least = is.under less'.least less'.is in
-    record {
-      source = (elim is.source as (λ s. (low ≡ Some line) ⊎ Begins Bad (part ∷ parts) line) [
-        | inl same ↦ low_source Bad part parts low line less' bad (same_some less'.least line (sym less'.is ∙ same))
-        | inr begins ↦ inr (begins_later Bad part parts line begins)
-      ]);
-      lowest = All-cons (λ other. Bad other → line ≤ line_of other) part parts (λ b. at_most line less'.least (line_of part) low_is less'.no_higher) is.lowest;
-      under = λ other same. at_most line less'.least other low_is (less'.under other same);
-    }
+-- the lower of two lines, by whether the second is lower
+abbrev picked : ℕ → ℕ → Bool → Option ℕ
+picked a b is_less = if is_less then Some b else Some a
 
-low_is : (Bad : Piece → Type 0) (test : Piece → Bool) → ((part : Piece) → Decides (test part) (Bad part)) → (parts : List Piece) (low : Option ℕ) → LowOf Bad low parts (lowest_from test low parts)
-low_is Bad test decides [] low = low_none Bad low
-low_is Bad test decides (part ∷ parts) low =
-    let Goal : Bool → Type 0 = λ here. test part ≡ here → LowOf Bad low (part ∷ parts) (lowest_from test (lower_if here low (line_of part)) parts)
-    in elim (test part) as Goal [
-      | true ↦ λ here. low_bad Bad part parts low (lowest_from test (lower low (line_of part)) parts) ((decides part).0 here) (low_is Bad test decides parts (lower low (line_of part)))
-      | false ↦ λ here. low_good Bad part parts low (lowest_from test low parts) (λ bad. false-true (sym here ∙ (decides part).1 bad)) (low_is Bad test decides parts low)
-    ] refl
+three_lower : (a b c : ℕ) → lower_of (lower_of (Some a) (Some b)) (Some c) ≡ lower_of (Some a) (lower_of (Some b) (Some c))
+three_lower a b c =
+    let Goal : Bool → Type 0 = λ here. nat_lt b a ≡ here → lower_of (if here then Some b else Some a) (Some c) ≡ lower_of (Some a) (lower_of (Some b) (Some c))
+    in (elim (nat_lt b a) as Goal [
+      | true ↦ λ here.
+          let Next : Bool → Type 0 = λ there. nat_lt c b ≡ there → (if there then Some c else Some b) ≡ lower_of (Some a) (if there then Some c else Some b)
+          in (elim (nat_lt c b) as Next [
+            | true ↦ λ there. rw (less_less a b c here there) refl
+            | false ↦ λ there. rw here refl
+          ]) refl
+      | false ↦ λ here.
+          let Next : Bool → Type 0 = λ there. nat_lt c b ≡ there → lower_of (Some a) (Some c) ≡ lower_of (Some a) (if there then Some c else Some b)
+          in (elim (nat_lt c b) as Next [
+            | true ↦ λ there. refl
+            | false ↦ λ there. rw (no_less_less a b c here there) (rw here refl)
+          ]) refl
+    ]) refl
 
-low_begins : (Bad : Piece → Type 0) (parts : List Piece) (line : ℕ) → Low Bad None parts line → IsLowest Bad parts line
-low_begins Bad parts line is = (elim is.source as (λ s. IsLowest Bad parts line) [
-  | inl same ↦ absurd (none-some line same)
-  | inr begins ↦ record { before = begins.before; part = begins.part; behind = begins.behind; place = begins.place; bad = begins.bad; line_is = begins.line_is; lowest = is.lowest }
-])
+pub lower_lower : (a b c : Option ℕ) → lower_of (lower_of a b) c ≡ lower_of a (lower_of b c)
+lower_lower None b c = refl
+lower_lower (Some a) None c = refl
+lower_lower (Some a) (Some b) None = no_more (nat_lt b a)
+  where
+    no_more : (is_less : Bool) → lower_of (picked a b is_less) None ≡ picked a b is_less
+    no_more true = refl
+    no_more false = refl
+lower_lower (Some a) (Some b) (Some c) = three_lower a b c
 
-pub none_found : (Bad : Piece → Type 0) (test : Piece → Bool) → ((part : Piece) → Decides (test part) (Bad part)) → (parts : List Piece) → lowest test parts ≡ None → IsNowhere Bad parts
-none_found Bad test decides parts is = (subst (LowOf Bad None parts) is (low_is Bad test decides parts None)).1
+pub lower_none : (a : Option ℕ) → lower_of a None ≡ a
+lower_none None = refl
+lower_none (Some a) = refl
 
-pub lowest_found : (Bad : Piece → Type 0) (test : Piece → Bool) → ((part : Piece) → Decides (test part) (Bad part)) → (parts : List Piece) (line : ℕ) → lowest test parts ≡ Some line → IsLowest Bad parts line
-lowest_found Bad test decides parts line is = low_begins Bad parts line (subst (LowOf Bad None parts) is (low_is Bad test decides parts None))
+pub ruleset lower_steps = (lower_lower, lower_none)
 
-nowhere_there : (Bad : Piece → Type 0) (parts : List Piece) (line : ℕ) → IsNowhere Bad parts → IsLowest Bad parts line → ⊥
-nowhere_there Bad parts line nowhere is = all_there (λ p. Bad p → ⊥) is.before is.part is.behind (subst (All (λ p. Bad p → ⊥)) is.place nowhere) is.bad
+-- a function tells of each the line at which it is bad, if it is
+pub record Tells {X : Type 0} (line_at : X → Option ℕ) (Bad : X → ℕ → Type 0) (x : X) : Type 0 where
+  pub bad : (line : ℕ) → line_at x ≡ Some line → Bad x line
+  pub told : (line : ℕ) → Bad x line → line_at x ≡ Some line
 
-below : (Bad : Piece → Type 0) (parts : List Piece) (a b : ℕ) → IsLowest Bad parts a → IsLowest Bad parts b → a ≤ b
-below Bad parts a b one two =
-    let all = subst (All (λ other. Bad other → a ≤ line_of other)) two.place one.lowest in
-    subst (λ n. a ≤ n) (sym two.line_is) (all_there (λ other. Bad other → a ≤ line_of other) two.before two.part two.behind all two.bad)
+abbrev LowOf : {X : Type 0} → (X → ℕ → Type 0) → List X → Option ℕ → Type 0
+LowOf Bad xs None = IsNowhere Bad xs
+LowOf Bad xs (Some line) = IsLowest Bad xs line
+
+abbrev NoLower : {X : Type 0} → (X → ℕ → Type 0) → ℕ → X → Type 0
+NoLower Bad line x = (at : ℕ) → Bad x at → line ≤ at
+
+abbrev Good : {X : Type 0} → (X → ℕ → Type 0) → X → Type 0
+Good Bad x = (line : ℕ) → Bad x line → ⊥
+
+good_no_lower : {X : Type 0} (Bad : X → ℕ → Type 0) (line : ℕ) (xs : List X) → All (Good Bad) xs → All (NoLower Bad line) xs
+good_no_lower Bad line [] good = All-nil (NoLower Bad line)
+good_no_lower Bad line (x ∷ xs) good = All-cons (NoLower Bad line) x xs (λ at bad. absurd (All-head (Good Bad) x xs good at bad)) (good_no_lower Bad line xs (All-tail (Good Bad) x xs good))
+
+lower_yet : {X : Type 0} (Bad : X → ℕ → Type 0) (low line : ℕ) (xs : List X) → low ≤ line → All (NoLower Bad line) xs → All (NoLower Bad low) xs
+lower_yet Bad low line [] less' all = All-nil (NoLower Bad low)
+lower_yet Bad low line (x ∷ xs) less' all = All-cons (NoLower Bad low) x xs (λ at bad. at_most low line at less' (All-head (NoLower Bad line) x xs all at bad)) (lower_yet Bad low line xs less' (All-tail (NoLower Bad line) x xs all))
+
+good_first : {X : Type 0} (line_at : X → Option ℕ) (Bad : X → ℕ → Type 0) (x : X) → Tells line_at Bad x → line_at x ≡ None → Good Bad x
+good_first line_at Bad x tells none line bad = none-some line (sym none ∙ tells.told line bad)
+
+line_first : {X : Type 0} (line_at : X → Option ℕ) (Bad : X → ℕ → Type 0) (x : X) (line : ℕ) → Tells line_at Bad x → line_at x ≡ Some line → (at : ℕ) → Bad x at → line ≡ at
+line_first line_at Bad x line tells is at bad = same_some line at (sym is ∙ tells.told at bad)
+
+lowest_here : {X : Type 0} (line_at : X → Option ℕ) (Bad : X → ℕ → Type 0) (x : X) (xs : List X) (line : ℕ) → Tells line_at Bad x → line_at x ≡ Some line → All (NoLower Bad line) xs → IsLowest Bad (x ∷ xs) line
+lowest_here line_at Bad x xs line tells is others = record {
+  before = [];
+  bad = x;
+  behind = xs;
+  place = refl;
+  is_bad = tells.bad line is;
+  lowest = All-cons (NoLower Bad line) x xs (λ at bad. subst (λ n. line ≤ n) (line_first line_at Bad x line tells is at bad) (let e : line ≤ line = omega arith in e)) others;
+}
+
+lowest_later : {X : Type 0} (Bad : X → ℕ → Type 0) (x : X) (xs : List X) (line : ℕ) → NoLower Bad line x → IsLowest Bad xs line → IsLowest Bad (x ∷ xs) line
+lowest_later Bad x xs line first is = record {
+  before = x ∷ is.before;
+  bad = is.bad;
+  behind = is.behind;
+  place = ap (λ ys. x ∷ ys) is.place;
+  is_bad = is.is_bad;
+  lowest = All-cons (NoLower Bad line) x xs first is.lowest;
+}
+
+low_both : {X : Type 0} (line_at : X → Option ℕ) (Bad : X → ℕ → Type 0) (x : X) (xs : List X) (first later : ℕ) → Tells line_at Bad x → line_at x ≡ Some first → IsLowest Bad xs later → LowOf Bad (x ∷ xs) (lower_of (Some first) (Some later))
+low_both line_at Bad x xs first later tells is low =
+    let Goal : Bool → Type 0 = λ here. nat_lt later first ≡ here → LowOf Bad (x ∷ xs) (if here then Some later else Some first)
+    in (elim (nat_lt later first) as Goal [
+      | true ↦ λ here. lowest_later Bad x xs later (λ at bad. subst (λ n. later ≤ n) (line_first line_at Bad x first tells is at bad) (less later first here)) low
+      | false ↦ λ here. lowest_here line_at Bad x xs first tells is (lower_yet Bad first later xs (no_less later first here) low.lowest)
+    ]) refl
+
+low_first : {X : Type 0} (line_at : X → Option ℕ) (Bad : X → ℕ → Type 0) (x : X) (xs : List X) (first later : Option ℕ) → Tells line_at Bad x → line_at x ≡ first → LowOf Bad xs later → LowOf Bad (x ∷ xs) (lower_of first later)
+low_first line_at Bad x xs None None tells is low = All-cons (Good Bad) x xs (good_first line_at Bad x tells is) low
+low_first line_at Bad x xs None (Some later) tells is low = lowest_later Bad x xs later (λ at bad. absurd (good_first line_at Bad x tells is at bad)) low
+low_first line_at Bad x xs (Some first) None tells is low = lowest_here line_at Bad x xs first tells is (good_no_lower Bad first xs low)
+low_first line_at Bad x xs (Some first) (Some later) tells is low = low_both line_at Bad x xs first later tells is low
+
+low_is : {X : Type 0} (line_at : X → Option ℕ) (Bad : X → ℕ → Type 0) → ((x : X) → Tells line_at Bad x) → (xs : List X) → LowOf Bad xs (lowest line_at xs)
+low_is line_at Bad tells [] = All-nil (Good Bad)
+low_is line_at Bad tells (x ∷ xs) = low_first line_at Bad x xs (line_at x) (lowest line_at xs) (tells x) refl (low_is line_at Bad tells xs)
+
+pub none_found : {X : Type 0} (line_at : X → Option ℕ) (Bad : X → ℕ → Type 0) → ((x : X) → Tells line_at Bad x) → (xs : List X) → lowest line_at xs ≡ None → IsNowhere Bad xs
+none_found line_at Bad tells xs is = subst (LowOf Bad xs) is (low_is line_at Bad tells xs)
+
+pub lowest_found : {X : Type 0} (line_at : X → Option ℕ) (Bad : X → ℕ → Type 0) → ((x : X) → Tells line_at Bad x) → (xs : List X) (line : ℕ) → lowest line_at xs ≡ Some line → IsLowest Bad xs line
+lowest_found line_at Bad tells xs line is = subst (LowOf Bad xs) is (low_is line_at Bad tells xs)
+
+nowhere_there : {X : Type 0} (Bad : X → ℕ → Type 0) (xs : List X) (line : ℕ) → IsNowhere Bad xs → IsLowest Bad xs line → ⊥
+nowhere_there Bad xs line nowhere is = all_there (Good Bad) is.before is.bad is.behind (subst (All (Good Bad)) is.place nowhere) line is.is_bad
+
+below : {X : Type 0} (Bad : X → ℕ → Type 0) (xs : List X) (a b : ℕ) → IsLowest Bad xs a → IsLowest Bad xs b → a ≤ b
+below Bad xs a b one two = all_there (NoLower Bad a) two.before two.bad two.behind (subst (All (NoLower Bad a)) two.place one.lowest) b two.is_bad
 
 both_ways : (a b : ℕ) → a ≤ b → b ≤ a → a ≡ b
 both_ways a b low high = omega (arith, low, high)
 
-pub nowhere_none : (Bad : Piece → Type 0) (test : Piece → Bool) → ((part : Piece) → Decides (test part) (Bad part)) → (parts : List Piece) → IsNowhere Bad parts → lowest test parts ≡ None
-nowhere_none Bad test decides parts nowhere =
-    let Goal : Option ℕ → Type 0 = λ found. LowOf Bad None parts found → found ≡ None
-    in (elim (lowest test parts) as Goal [
+pub nowhere_none : {X : Type 0} (line_at : X → Option ℕ) (Bad : X → ℕ → Type 0) → ((x : X) → Tells line_at Bad x) → (xs : List X) → IsNowhere Bad xs → lowest line_at xs ≡ None
+nowhere_none line_at Bad tells xs nowhere =
+    let Goal : Option ℕ → Type 0 = λ found. LowOf Bad xs found → found ≡ None
+    in (elim (lowest line_at xs) as Goal [
       | None ↦ λ is. refl
-      | Some line ↦ λ is. absurd (nowhere_there Bad parts line nowhere (low_begins Bad parts line is))
-    ]) (low_is Bad test decides parts None)
+      | Some line ↦ λ is. absurd (nowhere_there Bad xs line nowhere is)
+    ]) (low_is line_at Bad tells xs)
 
-pub lowest_line : (Bad : Piece → Type 0) (test : Piece → Bool) → ((part : Piece) → Decides (test part) (Bad part)) → (parts : List Piece) (line : ℕ) → IsLowest Bad parts line → lowest test parts ≡ Some line
-lowest_line Bad test decides parts line is =
-    let Goal : Option ℕ → Type 0 = λ found. LowOf Bad None parts found → found ≡ Some line
-    in (elim (lowest test parts) as Goal [
-      | None ↦ λ none. absurd (nowhere_there Bad parts line none.1 is)
-      | Some other ↦ λ low. let found = low_begins Bad parts other low in ap (λ n. Some n) (both_ways other line (below Bad parts other line found is) (below Bad parts line other is found))
-    ]) (low_is Bad test decides parts None)
+pub lowest_line : {X : Type 0} (line_at : X → Option ℕ) (Bad : X → ℕ → Type 0) → ((x : X) → Tells line_at Bad x) → (xs : List X) (line : ℕ) → IsLowest Bad xs line → lowest line_at xs ≡ Some line
+lowest_line line_at Bad tells xs line is =
+    let Goal : Option ℕ → Type 0 = λ found. LowOf Bad xs found → found ≡ Some line
+    in (elim (lowest line_at xs) as Goal [
+      | None ↦ λ none. absurd (nowhere_there Bad xs line none is)
+      | Some other ↦ λ found. ap (λ n. Some n) (both_ways other line (below Bad xs other line found is) (below Bad xs line other is found))
+    ]) (low_is line_at Bad tells xs)
+
+-- what a function finds to be the lowest is so, of one list among others
+pub lowest_tells : {X : Type 0} {Y : Type 0} (line_at : X → Option ℕ) (Bad : X → ℕ → Type 0) → ((x : X) → Tells line_at Bad x) → (list_of : Y → List X) (y : Y) → Tells (λ it. lowest line_at (list_of it)) (λ it. IsLowest Bad (list_of it)) y
+lowest_tells line_at Bad tells list_of y = record {
+  bad = λ line is. lowest_found line_at Bad tells (list_of y) line is;
+  told = λ line is. lowest_line line_at Bad tells (list_of y) line is;
+}

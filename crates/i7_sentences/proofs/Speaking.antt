@@ -1,5 +1,5 @@
 -- A form that is read says something wherever it fits.
-use Rattle.std.proofs.Common.{◌≡◌, ℕ, Bool, true, false, not, ◌&&◌, ◌||◌, List, [], ◌∷◌, ◌++◌, refl, ap, sym, ◌∙◌, subst}
+use Rattle.std.proofs.Common.{◌≡◌, inl, inr, ℕ, Bool, true, false, not, ◌&&◌, ◌||◌, List, [], ◌∷◌, ◌++◌, refl, ap, sym, ◌∙◌, subst}
 use Rattle.std.specs.Prelude.{Option, Some, None, is_some, if◌then◌else◌}
 use Rattle.std.specs.List.{list_all}
 use Rattle.std.proofs.lemmas.List.Folds.{list_all-append}
@@ -9,14 +9,15 @@ use Rattle.world_meaning.specs.declared.place.Rel.TheVariants as Rel
 use Rattle.i7_lexer.specs.declared.token.Token.{Token}
 use Rattle.i7_lexer.specs.declared.token.TokenKind.{TokenKind}
 use Rattle.i7_lexer.specs.declared.token.TokenKind.TheVariants.{Text, Word as AWord, Mark}
-use Rattle.i7_sentences.specs.Assertions.{assertion_of, described, described_object, door_between, is_asserting, is_unbracketed, is_unbracketed_kind, plain_text, plain_text_in, side_direction, side_of, way_assertion}
+use Rattle.i7_sentences.specs.Assertions.{assertion_of, described, described_object, door_between, is_asserting, is_describing, is_describing_kind, describing_text, describing_text_in, side_direction, side_of, way_assertion}
 use Rattle.i7_sentences.specs.Classes.{IsOf, is_direction, is_behind, is_vertical}
-use Rattle.i7_sentences.specs.Cuts.{Piece as Part}
+use Rattle.i7_sentences.specs.Cuts.{Piece as Part, line_in}
 use Rattle.i7_sentences.specs.Forms.{Fits, IsReading, Variant, all_forms}
 use Rattle.i7_sentences.specs.Keywords.{is_sign}
-use Rattle.i7_sentences.specs.Read.{aside}
+use Rattle.i7_sentences.specs.Read.{heard_by, named_heard, plain_heard}
 use Rattle.i7_sentences.specs.Reserved.{has_reserved_among}
-use Rattle.i7_sentences.specs.Sources.{Says, SaysNothing}
+use Rattle.i7_sentences.specs.RuleHeads.{is_rule_form}
+use Rattle.i7_sentences.specs.Sources.{IsSpeaking, Says, SaysInWords}
 use Rattle.i7_sentences.specs.Words.{direction_named, is_text_kind, word_of}
 use Rattle.i7_sentences.specs.declared.class.Class.{Class}
 use Rattle.i7_sentences.specs.declared.class.Class.TheVariants as class
@@ -25,9 +26,12 @@ use Rattle.i7_sentences.specs.declared.form.Form.TheVariants as form
 use Rattle.i7_sentences.specs.declared.form.Piece.{Piece}
 use Rattle.i7_sentences.specs.declared.form.Piece.TheVariants.{Word, Letter}
 use Rattle.i7_sentences.specs.declared.keyword.Keyword.TheVariants as keyword
+use Rattle.i7_sentences.specs.declared.heard.Heard.TheVariants as heard
+use Rattle.i7_sentences.specs.declared.part.PartKind.{PartKind}
 use Rattle.i7_sentences.specs.declared.part.PartKind.TheVariants.{Title, Heading, Sentence as Said}
 use Rattle.i7_sentences.specs.declared.sentence.Assertion.{Assertion}
 use Rattle.i7_sentences.proofs.Lists.{false-true}
+use Rattle.i7_sentences.proofs.Sameness.{never_both, reading_same}
 
 abbrev Each : {X : Type 0} → (X → Type 0) → List X → Type 0
 Each P [] = Unit {0}
@@ -43,15 +47,15 @@ classes_of [] = []
 classes_of (Word keyword ∷ pieces) = classes_of pieces
 classes_of (Letter class ∷ pieces) = class ∷ classes_of pieces
 
-abbrev IsPlain : List Token → Type 0
-IsPlain tokens = list_all is_unbracketed tokens ≡ true
+abbrev AreDescribing : List Token → Type 0
+AreDescribing tokens = list_all is_describing tokens ≡ true
 
 record IsFirst (class : Class) (letter : List Token) (Others : Type 0) : Type 0 where
   of_class : IsOf class letter
-  plain : IsPlain letter
+  plain : AreDescribing letter
   others : Others
 
--- letters of these classes, in whose texts no bracket opens
+-- letters of these classes, whose texts may describe
 abbrev AreOf : List Class → List (List Token) → Type 0
 AreOf [] [] = Unit {0}
 AreOf [] (letter ∷ letters) = ⊥
@@ -63,15 +67,15 @@ both true true is = (refl, refl)
 both true false is = absurd (false-true is)
 both false b is = absurd (false-true is)
 
-plain_parts : (xs ys tokens : List Token) → tokens ≡ xs ++ ys → IsPlain tokens → IsPlain xs × IsPlain ys
-plain_parts xs ys tokens parts plain = both (list_all is_unbracketed xs) (list_all is_unbracketed ys) (sym (list_all-append is_unbracketed xs ys) ∙ ap (list_all is_unbracketed) (sym parts) ∙ plain)
+describing_parts : (xs ys tokens : List Token) → tokens ≡ xs ++ ys → AreDescribing tokens → AreDescribing xs × AreDescribing ys
+describing_parts xs ys tokens parts plain = both (list_all is_describing xs) (list_all is_describing ys) (sym (list_all-append is_describing xs ys) ∙ ap (list_all is_describing) (sym parts) ∙ plain)
 
-letters_are : (pieces : List Piece) (tokens : List Token) (letters : List (List Token)) → Fits pieces tokens letters → IsPlain tokens → AreOf (classes_of pieces) letters
+letters_are : (pieces : List Piece) (tokens : List Token) (letters : List (List Token)) → Fits pieces tokens letters → AreDescribing tokens → AreOf (classes_of pieces) letters
 letters_are [] tokens letters fits plain = subst (AreOf []) (sym fits.1) tt
 letters_are (Word keyword ∷ pieces) tokens letters fits plain =
-    letters_are pieces fits.rest letters fits.behind (plain_parts (fits.word ∷ []) fits.rest tokens fits.parts plain).1
+    letters_are pieces fits.rest letters fits.behind (describing_parts (fits.word ∷ []) fits.rest tokens fits.parts plain).1
 letters_are (Letter class ∷ pieces) tokens letters fits plain =
-    let plains = plain_parts fits.words fits.rest tokens fits.parts plain in
+    let plains = describing_parts fits.words fits.rest tokens fits.parts plain in
     subst (AreOf (class ∷ classes_of pieces)) (sym fits.keeps) (record { of_class = fits.is_of_class; plain = plains.0; others = letters_are pieces fits.rest fits.others fits.behind plains.1 })
 
 abbrev IsSaid : Form → List (List Token) → Type 0
@@ -86,18 +90,18 @@ Speaks variant = SpeaksOf variant.form (classes_of variant.pieces)
 never : {P : Type 0} → false ≡ true → P
 never e = absurd (false-true e)
 
-one : (first : Class) (form : Form) → ((a : List Token) → IsOf first a → IsPlain a → IsSaid form (a ∷ [])) → SpeaksOf form (first ∷ [])
+one : (first : Class) (form : Form) → ((a : List Token) → IsOf first a → AreDescribing a → IsSaid form (a ∷ [])) → SpeaksOf form (first ∷ [])
 one first form says [] are asserts = absurd are
 one first form says (a ∷ []) are asserts = says a are.of_class are.plain
 one first form says (a ∷ b ∷ more) are asserts = absurd are.others
 
-two : (first second : Class) (form : Form) → ((a b : List Token) → IsOf first a → IsOf second b → IsPlain b → IsSaid form (a ∷ b ∷ [])) → SpeaksOf form (first ∷ second ∷ [])
+two : (first second : Class) (form : Form) → ((a b : List Token) → IsOf first a → IsOf second b → AreDescribing b → IsSaid form (a ∷ b ∷ [])) → SpeaksOf form (first ∷ second ∷ [])
 two first second form says [] are asserts = absurd are
 two first second form says (a ∷ []) are asserts = absurd are.others
 two first second form says (a ∷ b ∷ []) are asserts = says a b are.of_class are.others.of_class are.others.plain
 two first second form says (a ∷ b ∷ c ∷ more) are asserts = absurd are.others.others
 
-three : (first second third : Class) (form : Form) → ((a b c : List Token) → IsOf first a → IsOf second b → IsOf third c → IsPlain c → IsSaid form (a ∷ b ∷ c ∷ [])) → SpeaksOf form (first ∷ second ∷ third ∷ [])
+three : (first second third : Class) (form : Form) → ((a b c : List Token) → IsOf first a → IsOf second b → IsOf third c → AreDescribing c → IsSaid form (a ∷ b ∷ c ∷ [])) → SpeaksOf form (first ∷ second ∷ third ∷ [])
 three first second third form says [] are asserts = absurd are
 three first second third form says (a ∷ []) are asserts = absurd are.others
 three first second third form says (a ∷ b ∷ []) are asserts = absurd are.others.others
@@ -113,16 +117,16 @@ five first second third fourth fifth form says (a ∷ b ∷ c ∷ d ∷ []) are 
 five first second third fourth fifth form says (a ∷ b ∷ c ∷ d ∷ e ∷ []) are asserts = says a b c d e are.others.of_class are.others.others.others.of_class
 five first second third fourth fifth form says (a ∷ b ∷ c ∷ d ∷ e ∷ f ∷ more) are asserts = absurd are.others.others.others.others.others
 
--- a text in which no bracket opens is one that describes
-plain_kind : (kind : TokenKind) → is_text_kind kind ≡ true → is_unbracketed_kind kind ≡ true → is_some (plain_text_in kind) ≡ true
-plain_kind (Text text) is plain = rw plain refl
-plain_kind (AWord word) is plain = absurd (false-true is)
-plain_kind (Mark mark) is plain = absurd (false-true is)
+-- a text that may describe is one that does
+kind_describes : (kind : TokenKind) → is_text_kind kind ≡ true → is_describing_kind kind ≡ true → is_some (describing_text_in kind) ≡ true
+kind_describes (Text text) is plain = rw plain refl
+kind_describes (AWord word) is plain = absurd (false-true is)
+kind_describes (Mark mark) is plain = absurd (false-true is)
 
-text_plain : (words : List Token) → IsOf class.Text words → IsPlain words → is_some (plain_text words) ≡ true
-text_plain words is plain =
-    ap (λ tokens. is_some (plain_text tokens)) is.alone
-    ∙ plain_kind is.token.kind is.passes (both (is_unbracketed is.token) true (ap (list_all is_unbracketed) (sym is.alone) ∙ plain)).0
+text_describes : (words : List Token) → IsOf class.Text words → AreDescribing words → is_some (describing_text words) ≡ true
+text_describes words is plain =
+    ap (λ tokens. is_some (describing_text tokens)) is.alone
+    ∙ kind_describes is.token.kind is.passes (both (is_describing is.token) true (ap (list_all is_describing) (sym is.alone) ∙ plain)).0
 
 described_said : (text : Option (List ℕ)) → is_some text ≡ true → is_some (described text) ≡ true
 described_said None is = is
@@ -164,7 +168,7 @@ side_there (token ∷ next ∷ third ∷ more) is = absurd (false-true is)
 all_speak : Each (Each Speaks) all_forms
 unfolding all_forms assertion_of
 all_speak = (
-  (one _ form.Description (λ a is plain. described_said (plain_text a) (text_plain a is plain)), tt),
+  (one _ form.Description (λ a is plain. described_said (describing_text a) (text_describes a is plain)), tt),
   (
     (λ letters are. never, tt),
     (
@@ -210,7 +214,7 @@ all_speak = (
                                             (
                                               (one _ form.Variable (λ a is plain. refl), tt),
                                               (
-                                                (two _ _ form.DescriptionOf (λ a b first second plain. object_said a (plain_text b) (text_plain b second plain)), (three _ _ _ form.DescriptionOf (λ a b c first second third plain. object_said b (plain_text c) (text_plain c third plain)), tt)),
+                                                (two _ _ form.DescriptionOf (λ a b first second plain. object_said a (describing_text b) (text_describes b second plain)), (three _ _ _ form.DescriptionOf (λ a b c first second third plain. object_said b (describing_text c) (text_describes c third plain)), tt)),
                                                 (
                                                   (three _ _ _ form.NumberOf (λ a b c first second third plain. refl), tt),
                                                   (
@@ -255,22 +259,41 @@ all_speak = (
   ),
 )
 
-speaks : (tokens : List Token) (variant : Variant) (letters : List (List Token)) → IsReading all_forms tokens variant letters → is_asserting variant.form ≡ true → IsPlain tokens → IsSaid variant.form letters
+speaks : (tokens : List Token) (variant : Variant) (letters : List (List Token)) → IsReading all_forms tokens variant letters → is_asserting variant.form ≡ true → AreDescribing tokens → IsSaid variant.form letters
 speaks tokens variant letters reading asserts plain =
     let form = each_there (Each Speaks) reading.lower reading.variants reading.higher (subst (Each (Each Speaks)) reading.place all_speak) in
     let own = each_there Speaks reading.fit.before variant reading.fit.after (subst (Each Speaks) reading.fit.place form) in
     own letters (letters_are variant.pieces tokens letters reading.fit.fits plain) asserts
 
-pub never_silent : (part : Part) (variant : Variant) (letters : List (List Token)) → IsReading all_forms part.tokens variant letters → is_asserting variant.form ≡ true → IsPlain part.tokens → SaysNothing part → ⊥
-never_silent part variant letters reading asserts plain =
-    (elim part.kind as (λ kind. ((heard : _) → Says kind part.tokens heard → ⊥) → ⊥) [
-      | Title ↦ λ none. none aside refl
-      | Heading ↦ λ none. none aside refl
-      | Said ↦ λ none.
-          let Goal : Option Assertion → Type 0 = λ said. assertion_of variant.form letters ≡ said → is_some said ≡ true → ⊥ in
-          (elim (assertion_of variant.form letters) as Goal [
-            | None ↦ λ is there. false-true there
-            | Some said ↦ λ is there. none (record { said = said; has_reserved_name = has_reserved_among variant.pieces letters })
-                (record { variant = variant; letters = letters; reading = reading; makes = is; reserves = refl })
-          ]) refl (speaks part.tokens variant letters reading asserts plain)
-    ])
+-- a form that asserts is no rule's
+no_rule : (form : Form) → is_asserting form ≡ true → is_rule_form form ≡ false
+no_rule form.EveryTurnRule asserts = absurd (false-true asserts)
+no_rule form.PlayBeginsRule asserts = absurd (false-true asserts)
+no_rule form.OwnRule asserts = absurd (false-true asserts)
+no_rule _ asserts = refl
+
+named_read : (line at : ℕ) (is_reserved : Bool) (said : Assertion) → named_heard line is_reserved said ≡ heard.Unread at → ⊥
+named_read line at true said is = cc
+named_read line at false said is = cc
+
+plain_read : (line at : ℕ) (is_reserved : Bool) (said : Option Assertion) → is_some said ≡ true → plain_heard line is_reserved said ≡ heard.Unread at → ⊥
+plain_read line at is_reserved None there is = false-true there
+plain_read line at is_reserved (Some said) there is = named_read line at is_reserved said is
+
+by_form : (tokens : List Token) (variant : Variant) (letters : List (List Token)) → is_asserting variant.form ≡ true → heard_by tokens variant letters ≡ plain_heard (line_in tokens) (has_reserved_among variant.pieces letters) (assertion_of variant.form letters)
+by_form tokens variant letters asserts = rw (no_rule variant.form asserts) refl
+
+words_read : (tokens : List Token) (variant : Variant) (letters : List (List Token)) (line : ℕ) → IsReading all_forms tokens variant letters → is_asserting variant.form ≡ true → AreDescribing tokens → SaysInWords tokens (heard.Unread line) → ⊥
+words_read tokens variant letters line reading asserts plain (inl reads) =
+    let same = reading_same all_forms tokens reads.variant variant reads.letters letters reads.reading reading in
+    plain_read (line_in tokens) line (has_reserved_among variant.pieces letters) (assertion_of variant.form letters) (speaks tokens variant letters reading asserts plain)
+    (sym (by_form tokens variant letters asserts) ∙ sym (λ i. heard_by tokens (same.0 i) (same.1 i)) ∙ sym reads.says)
+words_read tokens variant letters line reading asserts plain (inr unread) = never_both all_forms tokens variant letters reading unread.0
+
+kind_read : (kind : PartKind) (tokens : List Token) (variant : Variant) (letters : List (List Token)) (line : ℕ) → IsReading all_forms tokens variant letters → is_asserting variant.form ≡ true → AreDescribing tokens → Says kind tokens (heard.Unread line) → ⊥
+kind_read Title tokens variant letters line reading asserts plain says = cc
+kind_read Heading tokens variant letters line reading asserts plain says = cc
+kind_read Said tokens variant letters line reading asserts plain says = words_read tokens variant letters line reading asserts plain says
+
+pub never_silent : (part : Part) (variant : Variant) (letters : List (List Token)) → IsReading all_forms part.tokens variant letters → IsSpeaking variant part
+never_silent part variant letters reading asserts plain line says = kind_read part.kind part.tokens variant letters line reading asserts plain says

@@ -3,18 +3,18 @@ use Rattle.std.proofs.Common.{◌≡◌, ℕ, ◌<◌, ◌≤◌, Bool, true, fa
 use Rattle.std.specs.List.{after_first, before_first, flat_map, list_all, position_or_len, slice_split}
 use Rattle.std.proofs.lemmas.List.Splits.{slice_split_first}
 use Rattle.i7_sentences.specs.BracketedWords.{ended, is_byte, is_gap}
-use Rattle.i7_sentences.specs.TextPieces.{are_brackets_read, closed_parts, has_opening, is_bracket_read, last_of, open_part, part_pieces, print_of, run_word, text_pieces, words_of}
+use Rattle.i7_sentences.specs.TextPieces.{are_brackets_read, closed_parts, has_opening, is_bracket_read, last_of, open_part, part_pieces, print_of, run_word, text_pieces, runs_of}
 use Rattle.i7_sentences.proofs.Bracketing.{ended_more, one_part, split_some}
 
 pub words_first : (bytes : List ℕ) → position_or_len is_gap bytes < length bytes
-    → words_of bytes ≡ run_word (before_first is_gap bytes) ++ words_of (after_first is_gap bytes)
+    → runs_of bytes ≡ run_word (before_first is_gap bytes) ++ runs_of (after_first is_gap bytes)
 words_first bytes ends = ap (flat_map run_word) (slice_split_first is_gap bytes 0 ends)
 
 run_alone : (run : List ℕ) → run_word run ++ [] ≡ run_word run
 run_alone [] = refl
 run_alone (b ∷ bytes) = refl
 
-pub words_last : (bytes : List ℕ) → length bytes ≤ position_or_len is_gap bytes → words_of bytes ≡ run_word bytes
+pub words_last : (bytes : List ℕ) → length bytes ≤ position_or_len is_gap bytes → runs_of bytes ≡ run_word bytes
 words_last bytes ends = ap (flat_map run_word) (one_part is_gap bytes ends) ∙ run_alone bytes
 
 pub ruleset word_steps = (words_first, words_last)

@@ -1,35 +1,24 @@
 -- What is heard of a part is what it says.
-use Rattle.std.proofs.Common.{◌≡◌, Bool, true, List, refl, ap, sym, ◌∙◌, subst}
-use Rattle.std.specs.Prelude.{Option, Some, None, is_none}
-use Rattle.std.specs.Bool.{Decides}
+use Rattle.std.proofs.Common.{◌≡◌, inl, inr, Bool, true, false, ℕ, List, refl, ap, sym, ◌∙◌, subst}
+use Rattle.std.specs.Prelude.{Option, Some, None, if◌then◌else◌}
+use Rattle.std.specs.List.{list_any}
 use Rattle.i7_lexer.specs.declared.token.Token.{Token}
 use Rattle.i7_sentences.specs.Cuts.{Piece}
-use Rattle.i7_sentences.specs.Forms.{IsReading, Variant, all_forms}
+use Rattle.i7_sentences.specs.Forms.{IsReading, IsUnread, Variant, all_forms}
 use Rattle.i7_sentences.specs.Matching.{Found, lowest_fit}
-use Rattle.i7_sentences.specs.Read.{aside, has_bad_literal, has_reserved, heard_as, heard_by, heard_in, heard_of, is_reserving, is_unread}
-use Rattle.i7_sentences.specs.Assertions.{assertion_of}
-use Rattle.i7_sentences.specs.Reserved.{has_reserved_among}
-use Rattle.i7_sentences.specs.Sources.{HasBadLiteral, HasReservedName, Reads, Says, SaysNothing}
+use Rattle.i7_sentences.specs.Read.{heard_found, heard_in, heard_of, reserved_at, reserved_in, unread_at, unread_in}
+use Rattle.i7_sentences.specs.Sources.{HasBadLiteral, HasReservedName, HoldsBadLiteral, IsUnreadAt, Says, SaysInWords}
+use Rattle.i7_sentences.specs.Stretches.{Stretch, bad_literal_in, bad_literal_of, holds_bad_literal, stretches_of}
+use Rattle.i7_sentences.specs.declared.heard.Heard.{Heard}
+use Rattle.i7_sentences.specs.declared.heard.Heard.TheVariants as heard
 use Rattle.i7_sentences.specs.declared.part.PartKind.{PartKind}
 use Rattle.i7_sentences.specs.declared.part.PartKind.TheVariants.{Title, Heading, Sentence as Said}
-use Rattle.i7_sentences.specs.declared.reader.Heard.{Heard}
-use Rattle.i7_sentences.specs.declared.sentence.Assertion.{Assertion}
 use Rattle.i7_sentences.proofs.Choosing.{ReadAs, read_as}
-use Rattle.i7_sentences.proofs.Lists.{false-true}
+use Rattle.i7_sentences.proofs.Lowest.{Tells, lowest_tells, none-some, same_some}
 use Rattle.i7_sentences.proofs.Sameness.{never_both, reading_same}
 
-pub none-some : {A : Type 0} (x : A) → None ≡ Some x → ⊥
-none-some x e = cc
-
-pub same_some : {A : Type 0} (x y : A) → Some x ≡ Some y → x ≡ y
-same_some x y e = cc
-
--- what is found is the reading
-found_reading : (tokens : List Token) (found : Found) → lowest_fit all_forms tokens ≡ Some found → IsReading all_forms tokens found.variant found.letters
-found_reading tokens found is = subst (ReadAs all_forms tokens) is (read_as all_forms tokens)
-
 -- the reading is what is found
-reading_found : (tokens : List Token) (variant : Variant) (letters : List (List Token)) → IsReading all_forms tokens variant letters → lowest_fit all_forms tokens ≡ Some (record { variant = variant; letters = letters })
+pub reading_found : (tokens : List Token) (variant : Variant) (letters : List (List Token)) → IsReading all_forms tokens variant letters → lowest_fit all_forms tokens ≡ Some (record { variant = variant; letters = letters })
 reading_found tokens variant letters reading =
     let Goal : Option Found → Type 0 = λ found. ReadAs all_forms tokens found → found ≡ Some (record { variant = variant; letters = letters })
     in (elim (lowest_fit all_forms tokens) as Goal [
@@ -39,75 +28,78 @@ reading_found tokens variant letters reading =
           (λ i. Some (record { variant = same.0 i; letters = same.1 i }))
     ]) (read_as all_forms tokens)
 
-heard_made : (reserved : Bool) (said : Option Assertion) (heard : Heard) → heard_as reserved said ≡ Some heard → (said ≡ Some heard.said) × (reserved ≡ heard.has_reserved_name)
-heard_made reserved None heard is = absurd (none-some heard is)
-heard_made reserved (Some said) heard is =
-    let same = same_some (record { said = said; has_reserved_name = reserved }) heard is in
-    (ap (λ h. Some h.said) same, ap (λ h. h.has_reserved_name) same)
+-- where no form reads words, none is found
+unread_found : (tokens : List Token) → IsUnread all_forms tokens → lowest_fit all_forms tokens ≡ None
+unread_found tokens unread =
+    let Goal : Option Found → Type 0 = λ found. ReadAs all_forms tokens found → found ≡ None
+    in (elim (lowest_fit all_forms tokens) as Goal [
+      | None ↦ λ none. refl
+      | Some found ↦ λ read. absurd (never_both all_forms tokens found.variant found.letters read unread)
+    ]) (read_as all_forms tokens)
 
 -- what is heard of words is what they say
-words_read : (tokens : List Token) (heard : Heard) → heard_by (lowest_fit all_forms tokens) ≡ Some heard → Reads tokens heard
-words_read tokens heard is =
-    let Goal : Option Found → Type 0 = λ found. lowest_fit all_forms tokens ≡ found → heard_by found ≡ Some heard → Reads tokens heard
+words_say : (tokens : List Token) → SaysInWords tokens (heard_found tokens (lowest_fit all_forms tokens))
+words_say tokens =
+    let Goal : Option Found → Type 0 = λ found. ReadAs all_forms tokens found → SaysInWords tokens (heard_found tokens found)
     in (elim (lowest_fit all_forms tokens) as Goal [
-      | None ↦ λ none makes. absurd (none-some heard makes)
-      | Some found ↦ λ some makes.
-          let made = heard_made (has_reserved_among found.variant.pieces found.letters) (assertion_of found.variant.form found.letters) heard makes in
-          record { variant = found.variant; letters = found.letters; reading = found_reading tokens found some; makes = made.0; reserves = made.1 }
-    ]) refl is
+      | None ↦ λ unread. inr (unread, refl)
+      | Some found ↦ λ read. inl (record { variant = found.variant; letters = found.letters; reading = read; says = refl })
+    ]) (read_as all_forms tokens)
 
--- and what words say is heard
-words_heard : (tokens : List Token) (heard : Heard) → Reads tokens heard → heard_by (lowest_fit all_forms tokens) ≡ Some heard
-words_heard tokens heard reads =
-    ap heard_by (reading_found tokens reads.variant reads.letters reads.reading)
-    ∙ ap (heard_as (has_reserved_among reads.variant.pieces reads.letters)) reads.makes
-    ∙ ap (λ reserved. Some (record { said = heard.said; has_reserved_name = reserved })) reads.reserves
+words_heard : (tokens : List Token) (said : Heard) → SaysInWords tokens said → said ≡ heard_found tokens (lowest_fit all_forms tokens)
+words_heard tokens said (inl reads) = reads.says ∙ sym (ap (heard_found tokens) (reading_found tokens reads.variant reads.letters reads.reading))
+words_heard tokens said (inr unread) = unread.1 ∙ sym (ap (heard_found tokens) (unread_found tokens unread.0))
 
-said_of : (kind : PartKind) (tokens : List Token) (heard : Heard) → heard_of kind tokens ≡ Some heard → Says kind tokens heard
-said_of Title tokens heard is = sym (same_some aside heard is)
-said_of Heading tokens heard is = sym (same_some aside heard is)
-said_of Said tokens heard is = words_read tokens heard is
+kind_says : (kind : PartKind) (tokens : List Token) → Says kind tokens (heard_of kind tokens)
+kind_says Title tokens = refl
+kind_says Heading tokens = refl
+kind_says Said tokens = words_say tokens
 
-heard_said : (kind : PartKind) (tokens : List Token) (heard : Heard) → Says kind tokens heard → heard_of kind tokens ≡ Some heard
-heard_said Title tokens heard is = ap (λ h. Some h) (sym is)
-heard_said Heading tokens heard is = ap (λ h. Some h) (sym is)
-heard_said Said tokens heard is = words_heard tokens heard is
+kind_heard : (kind : PartKind) (tokens : List Token) (said : Heard) → Says kind tokens said → said ≡ heard_of kind tokens
+kind_heard Title tokens said says = says
+kind_heard Heading tokens said says = says
+kind_heard Said tokens said says = words_heard tokens said says
 
-pub is_said : (part : Piece) (heard : Heard) → heard_in part ≡ Some heard → Says part.kind part.tokens heard
+pub is_said : (part : Piece) (said : Heard) → heard_in part ≡ said → Says part.kind part.tokens said
 unfolding heard_in
-is_said part heard is = said_of part.kind part.tokens heard is
+is_said part said is = subst (Says part.kind part.tokens) is (kind_says part.kind part.tokens)
 
-pub is_heard : (part : Piece) (heard : Heard) → Says part.kind part.tokens heard → heard_in part ≡ Some heard
+pub is_heard : (part : Piece) (said : Heard) → Says part.kind part.tokens said → heard_in part ≡ said
 unfolding heard_in
-is_heard part heard says = heard_said part.kind part.tokens heard says
+is_heard part said says = sym (kind_heard part.kind part.tokens said says)
 
-pub bad_literal_decides : (part : Piece) → Decides (has_bad_literal part) (HasBadLiteral part)
-bad_literal_decides part = (λ h. h, λ h. h)
+unread_line : (said : Heard) (line : ℕ) → unread_at said ≡ Some line → said ≡ heard.Unread line
+unread_line (heard.Says said) line is = absurd (none-some line is)
+unread_line (heard.Unread at) line is = ap (λ l. heard.Unread l) (same_some at line is)
+unread_line (heard.Reserved at) line is = absurd (none-some line is)
 
-pub unread_decides : (part : Piece) → Decides (is_unread part) (SaysNothing part)
-unread_decides part = (unread, nothing)
-  where
-    unread : is_unread part ≡ true → SaysNothing part
-    unread is heard says = false-true (ap (λ found. is_none found) (sym (is_heard part heard says)) ∙ is)
+reserved_line : (said : Heard) (line : ℕ) → reserved_at said ≡ Some line → said ≡ heard.Reserved line
+reserved_line (heard.Says said) line is = absurd (none-some line is)
+reserved_line (heard.Unread at) line is = absurd (none-some line is)
+reserved_line (heard.Reserved at) line is = ap (λ l. heard.Reserved l) (same_some at line is)
 
-    nothing : SaysNothing part → is_unread part ≡ true
-    nothing says_none =
-        let Goal : Option Heard → Type 0 = λ found. heard_in part ≡ found → is_none found ≡ true
-        in (elim (heard_in part) as Goal [
-          | None ↦ λ none. refl
-          | Some heard ↦ λ some. absurd (says_none heard (is_said part heard some))
-        ]) refl
+pub tells_unread : (part : Piece) → Tells unread_in IsUnreadAt part
+tells_unread part = record {
+  bad = λ line is. is_said part (heard.Unread line) (unread_line (heard_in part) line is);
+  told = λ line bad. ap unread_at (is_heard part (heard.Unread line) bad);
+}
 
-pub reserved_decides : (part : Piece) → Decides (has_reserved part) (HasReservedName part)
-reserved_decides part = (there, reserving)
-  where
-    there : has_reserved part ≡ true → HasReservedName part
-    there is =
-        let Goal : Option Heard → Type 0 = λ found. heard_in part ≡ found → is_reserving found ≡ true → HasReservedName part
-        in (elim (heard_in part) as Goal [
-          | None ↦ λ none holds. absurd (false-true holds)
-          | Some heard ↦ λ some holds. record { heard = heard; says = is_said part heard some; reserved = holds }
-        ]) refl is
+pub tells_reserved : (part : Piece) → Tells reserved_in HasReservedName part
+tells_reserved part = record {
+  bad = λ line is. is_said part (heard.Reserved line) (reserved_line (heard_in part) line is);
+  told = λ line bad. ap reserved_at (is_heard part (heard.Reserved line) bad);
+}
 
-    reserving : HasReservedName part → has_reserved part ≡ true
-    reserving name = ap is_reserving (is_heard part name.heard name.says) ∙ name.reserved
+held : (holds : Bool) (at line : ℕ) → (if holds then Some at else None) ≡ Some line → (holds ≡ true) × (at ≡ line)
+held true at line is = (refl, same_some at line is)
+held false at line is = absurd (none-some line is)
+
+tells_stretch : (stretch : Stretch) → Tells bad_literal_in HoldsBadLiteral stretch
+tells_stretch stretch = record {
+  bad = λ line is. let both = held (list_any holds_bad_literal stretch.tokens) stretch.line line is in record { holds = both.0; line_is = both.1 };
+  told = λ line bad. ap (λ holds. if holds then Some stretch.line else None) bad.holds ∙ ap (λ at. Some at) bad.line_is;
+}
+
+pub tells_literal : (part : Piece) → Tells bad_literal_of HasBadLiteral part
+unfolding bad_literal_of
+tells_literal part = lowest_tells bad_literal_in HoldsBadLiteral tells_stretch stretches_of part

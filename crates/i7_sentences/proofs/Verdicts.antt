@@ -7,12 +7,14 @@ use Rattle.world_meaning.specs.declared.fault.FaultCode.{FaultCode}
 use Rattle.world_meaning.specs.declared.fault.FaultCode.TheVariants.{NumberOutOfRange, NotUnderstood, ReservedWord, Memory}
 use Rattle.i7_lexer.specs.declared.token.Token.{Token}
 use Rattle.i7_sentences.specs.Cuts.{Piece, parts_of}
-use Rattle.i7_sentences.specs.Read.{has_bad_literal, has_reserved, is_unread, lowest, or_refused, read_of, read_parts, sentence_in}
-use Rattle.i7_sentences.specs.Sources.{HasBadLiteral, HasReservedName, HasSentences, IsNowhere, IsRefused, SaysNothing, Stands}
+use Rattle.i7_sentences.specs.Lowest.{IsNowhere, lowest}
+use Rattle.i7_sentences.specs.Read.{or_refused, read_of, read_parts, reserved_in, sentence_in, unread_in}
+use Rattle.i7_sentences.specs.Sources.{HasBadLiteral, HasReservedName, HasSentences, IsRefused, IsUnreadAt, Stands}
+use Rattle.i7_sentences.specs.Stretches.{bad_literal_of}
 use Rattle.i7_sentences.specs.declared.sentence.Sentence.{Sentence}
 use Rattle.i7_sentences.proofs.Lowest.{lowest_found, lowest_line, none_found, nowhere_none}
 use Rattle.i7_sentences.proofs.Spelling.{are_said, spelled}
-use Rattle.i7_sentences.proofs.Understanding.{bad_literal_decides, reserved_decides, unread_decides}
+use Rattle.i7_sentences.proofs.Understanding.{tells_literal, tells_reserved, tells_unread}
 
 fault_at : FaultCode → ℕ → Fault
 fault_at code line = record { code = code; line = line }
@@ -22,10 +24,10 @@ abbrev said_of : List Piece → Result (List Sentence) Fault
 said_of parts = Ok (filter_map sentence_in parts)
 
 abbrev named_of : List Piece → Result (List Sentence) Fault
-named_of parts = or_refused ReservedWord (lowest has_reserved parts) (said_of parts)
+named_of parts = or_refused ReservedWord (lowest reserved_in parts) (said_of parts)
 
 abbrev understood_of : List Piece → Result (List Sentence) Fault
-understood_of parts = or_refused NotUnderstood (lowest is_unread parts) (named_of parts)
+understood_of parts = or_refused NotUnderstood (lowest unread_in parts) (named_of parts)
 
 passed : (code : FaultCode) (line : Option ℕ) (next : Result (List Sentence) Fault) → line ≡ None → or_refused code line next ≡ next
 passed code line next none = rw none refl
@@ -35,13 +37,13 @@ unfolding fault_at
 stopped code line at next some = rw some refl
 
 past_literals : (parts : List Piece) → IsNowhere HasBadLiteral parts → read_parts parts ≡ understood_of parts
-past_literals parts nowhere = passed NumberOutOfRange (lowest has_bad_literal parts) (understood_of parts) (nowhere_none HasBadLiteral has_bad_literal bad_literal_decides parts nowhere)
+past_literals parts nowhere = passed NumberOutOfRange (lowest bad_literal_of parts) (understood_of parts) (nowhere_none bad_literal_of HasBadLiteral tells_literal parts nowhere)
 
-past_unread : (parts : List Piece) → IsNowhere HasBadLiteral parts → IsNowhere SaysNothing parts → read_parts parts ≡ named_of parts
-past_unread parts nowhere read = past_literals parts nowhere ∙ passed NotUnderstood (lowest is_unread parts) (named_of parts) (nowhere_none SaysNothing is_unread unread_decides parts read)
+past_unread : (parts : List Piece) → IsNowhere HasBadLiteral parts → IsNowhere IsUnreadAt parts → read_parts parts ≡ named_of parts
+past_unread parts nowhere read = past_literals parts nowhere ∙ passed NotUnderstood (lowest unread_in parts) (named_of parts) (nowhere_none unread_in IsUnreadAt tells_unread parts read)
 
-past_names : (parts : List Piece) → IsNowhere HasBadLiteral parts → IsNowhere SaysNothing parts → IsNowhere HasReservedName parts → read_parts parts ≡ said_of parts
-past_names parts nowhere read free = past_unread parts nowhere read ∙ passed ReservedWord (lowest has_reserved parts) (said_of parts) (nowhere_none HasReservedName has_reserved reserved_decides parts free)
+past_names : (parts : List Piece) → IsNowhere HasBadLiteral parts → IsNowhere IsUnreadAt parts → IsNowhere HasReservedName parts → read_parts parts ≡ said_of parts
+past_names parts nowhere read free = past_unread parts nowhere read ∙ passed ReservedWord (lowest reserved_in parts) (said_of parts) (nowhere_none reserved_in HasReservedName tells_reserved parts free)
 
 -- tokens that spell sentences are read as these
 pub spelled_read : (tokens : List Token) (sentences : List Sentence) → HasSentences tokens sentences → read_of tokens ≡ Ok sentences
@@ -51,13 +53,13 @@ spelled_read tokens sentences spells =
 
 stands_read : (code : FaultCode) (line : ℕ) (parts : List Piece) → code ≢ Memory → Stands code line parts → read_parts parts ≡ Err (fault_at code line)
 stands_read NumberOutOfRange line parts not_memory stands =
-    stopped NumberOutOfRange (lowest has_bad_literal parts) line (understood_of parts) (lowest_line HasBadLiteral has_bad_literal bad_literal_decides parts line stands)
+    stopped NumberOutOfRange (lowest bad_literal_of parts) line (understood_of parts) (lowest_line bad_literal_of HasBadLiteral tells_literal parts line stands)
 stands_read NotUnderstood line parts not_memory stands =
     past_literals parts stands.0
-    ∙ stopped NotUnderstood (lowest is_unread parts) line (named_of parts) (lowest_line SaysNothing is_unread unread_decides parts line stands.1)
+    ∙ stopped NotUnderstood (lowest unread_in parts) line (named_of parts) (lowest_line unread_in IsUnreadAt tells_unread parts line stands.1)
 stands_read ReservedWord line parts not_memory stands =
     past_unread parts stands.0 stands.1
-    ∙ stopped ReservedWord (lowest has_reserved parts) line (said_of parts) (lowest_line HasReservedName has_reserved reserved_decides parts line stands.2)
+    ∙ stopped ReservedWord (lowest reserved_in parts) line (said_of parts) (lowest_line reserved_in HasReservedName tells_reserved parts line stands.2)
 stands_read Memory line parts not_memory stands = absurd (not_memory refl)
 stands_read _ line parts not_memory stands = absurd stands
 
@@ -73,31 +75,31 @@ Verdict tokens = ((sentences : List Sentence) × HasSentences tokens sentences) 
 refused_as : (tokens : List Token) (code : FaultCode) (line : ℕ) → code ≢ Memory → Stands code line (parts_of tokens) → Verdict tokens
 refused_as tokens code line not_memory stands = inr (record { code = code; line = line }, not_memory, stands)
 
-verdict_named : (tokens : List Token) → IsNowhere HasBadLiteral (parts_of tokens) → IsNowhere SaysNothing (parts_of tokens) → Verdict tokens
+verdict_named : (tokens : List Token) → IsNowhere HasBadLiteral (parts_of tokens) → IsNowhere IsUnreadAt (parts_of tokens) → Verdict tokens
 verdict_named tokens nowhere read =
-    let Goal : Option ℕ → Type 0 = λ found. lowest has_reserved (parts_of tokens) ≡ found → Verdict tokens
-    in elim (lowest has_reserved (parts_of tokens)) as Goal [
-      | None ↦ λ free. inl (filter_map sentence_in (parts_of tokens), record { in_range = nowhere; said = spelled (parts_of tokens) read (none_found HasReservedName has_reserved reserved_decides (parts_of tokens) free) })
+    let Goal : Option ℕ → Type 0 = λ found. lowest reserved_in (parts_of tokens) ≡ found → Verdict tokens
+    in elim (lowest reserved_in (parts_of tokens)) as Goal [
+      | None ↦ λ free. inl (filter_map sentence_in (parts_of tokens), record { in_range = nowhere; said = spelled (parts_of tokens) read (none_found reserved_in HasReservedName tells_reserved (parts_of tokens) free) })
       | Some line ↦ λ found. refused_as tokens ReservedWord line (λ e. cc)
-          (nowhere, read, lowest_found HasReservedName has_reserved reserved_decides (parts_of tokens) line found)
+          (nowhere, read, lowest_found reserved_in HasReservedName tells_reserved (parts_of tokens) line found)
     ] refl
 
 verdict_in_range : (tokens : List Token) → IsNowhere HasBadLiteral (parts_of tokens) → Verdict tokens
 verdict_in_range tokens nowhere =
-    let Goal : Option ℕ → Type 0 = λ found. lowest is_unread (parts_of tokens) ≡ found → Verdict tokens
-    in elim (lowest is_unread (parts_of tokens)) as Goal [
-      | None ↦ λ read. verdict_named tokens nowhere (none_found SaysNothing is_unread unread_decides (parts_of tokens) read)
+    let Goal : Option ℕ → Type 0 = λ found. lowest unread_in (parts_of tokens) ≡ found → Verdict tokens
+    in elim (lowest unread_in (parts_of tokens)) as Goal [
+      | None ↦ λ read. verdict_named tokens nowhere (none_found unread_in IsUnreadAt tells_unread (parts_of tokens) read)
       | Some line ↦ λ found. refused_as tokens NotUnderstood line (λ e. cc)
-          (nowhere, lowest_found SaysNothing is_unread unread_decides (parts_of tokens) line found)
+          (nowhere, lowest_found unread_in IsUnreadAt tells_unread (parts_of tokens) line found)
     ] refl
 
 pub verdict : (tokens : List Token) → Verdict tokens
 verdict tokens =
-    let Goal : Option ℕ → Type 0 = λ found. lowest has_bad_literal (parts_of tokens) ≡ found → Verdict tokens
-    in elim (lowest has_bad_literal (parts_of tokens)) as Goal [
-      | None ↦ λ none. verdict_in_range tokens (none_found HasBadLiteral has_bad_literal bad_literal_decides (parts_of tokens) none)
+    let Goal : Option ℕ → Type 0 = λ found. lowest bad_literal_of (parts_of tokens) ≡ found → Verdict tokens
+    in elim (lowest bad_literal_of (parts_of tokens)) as Goal [
+      | None ↦ λ none. verdict_in_range tokens (none_found bad_literal_of HasBadLiteral tells_literal (parts_of tokens) none)
       | Some line ↦ λ found. refused_as tokens NumberOutOfRange line (λ e. cc)
-          (lowest_found HasBadLiteral has_bad_literal bad_literal_decides (parts_of tokens) line found)
+          (lowest_found bad_literal_of HasBadLiteral tells_literal (parts_of tokens) line found)
     ] refl
 
 ok-err : (read : Result (List Sentence) Fault) (sentences : List Sentence) (fault : Fault) → read ≡ Ok sentences → read ≡ Err fault → ⊥

@@ -1,15 +1,18 @@
 -- What a form says with its letters, if it is part of the language so far.
-use Rattle.std.specs.Prelude.{ℕ, ℤ, Bool, true, false, not, ◌==◌, List, [], ◌∷◌, map, Option, Some, None, if◌then◌else◌}
+use Rattle.std.specs.Prelude.{ℕ, ℤ, Bool, true, false, codes, not, ◌&&◌, ◌||◌, ◌==◌, List, [], ◌∷◌, map, Option, Some, None, if◌then◌else◌}
 use Rattle.std.specs.List.{list_all}
 use Rattle.world_meaning.specs.declared.direction.Direction.{Direction}
 use Rattle.world_meaning.specs.declared.direction.Direction.TheVariants.{Up, Down}
 use Rattle.world_meaning.specs.declared.place.Rel.{Rel}
+use Rattle.world_meaning.specs.Spelling.{is_spelled}
 use Rattle.i7_lexer.specs.declared.token.Token.{Token}
 use Rattle.i7_lexer.specs.declared.token.TokenKind.{TokenKind}
 use Rattle.i7_lexer.specs.declared.token.TokenKind.TheVariants.{Text, Word, Mark}
+use Rattle.i7_sentences.specs.Conditions.{are_pieces_read}
 use Rattle.i7_sentences.specs.Keywords.{is_sign}
 use Rattle.i7_sentences.specs.Literals.{literal_of}
 use Rattle.i7_sentences.specs.Names.{joined, name_of, names_from}
+use Rattle.i7_sentences.specs.TextPieces.{is_text_read, text_pieces}
 use Rattle.i7_sentences.specs.Words.{word_of, direction_named}
 use Rattle.i7_sentences.specs.declared.keyword.Keyword.TheVariants as keyword
 use Rattle.i7_sentences.specs.declared.form.Form.{Form}
@@ -19,8 +22,10 @@ use Rattle.i7_sentences.specs.declared.sentence.Assertion.{Assertion}
 use Rattle.i7_sentences.specs.declared.sentence.Assertion.TheVariants as assertion
 use Rattle.i7_sentences.specs.declared.sentence.Holder.{Holder}
 use Rattle.i7_sentences.specs.declared.sentence.Side.{Side}
+use Rattle.i7_sentences.specs.declared.text_piece.TextPiece.{TextPiece}
+use Rattle.i7_sentences.specs.declared.text_piece.TextPiece.TheVariants.{Substitution}
 
--- a text that may describe: brackets that open have no meaning yet
+-- a text without a bracket that opens
 abbrev pub is_plain : List ℕ → Bool
 is_plain text = list_all (λ b. not (b == 91)) text
 
@@ -42,13 +47,43 @@ number_in [] = literal_of []
 abbrev pub names_in : List Token → List Name
 names_in letter = map name_of (names_from true letter)
 
+-- words that stand for the description of an object
+abbrev pub is_of_description : List (List ℕ) → Bool
+is_of_description (first ∷ second ∷ words) = is_spelled first (codes "description") && is_spelled second (codes "of")
+is_of_description _ = false
+
+abbrev pub may_stand_within : TextPiece → Bool
+may_stand_within (Substitution words) = not (is_of_description words)
+may_stand_within _ = true
+
+abbrev pub may_describe_so : Option (List TextPiece) → Bool
+may_describe_so None = false
+may_describe_so (Some pieces) = are_pieces_read pieces && list_all may_stand_within pieces
+
+-- a text that may describe: its brackets and its ifs are understood, and none of its pieces stands for another description
+abbrev pub may_describe : List ℕ → Bool
+may_describe text = is_plain text || may_describe_so (if is_text_read text then Some (text_pieces text) else None)
+
+abbrev pub describing : List ℕ → Option (List ℕ)
+describing text = if may_describe text then Some text else None
+
+abbrev pub describing_text_in : TokenKind → Option (List ℕ)
+describing_text_in (Text text) = describing text
+describing_text_in (Word word) = None
+describing_text_in (Mark mark) = None
+
+-- the one text of these tokens, if it may describe
+abbrev pub describing_text : List Token → Option (List ℕ)
+describing_text (token ∷ []) = describing_text_in token.kind
+describing_text _ = None
+
 abbrev pub described : Option (List ℕ) → Option Assertion
 described None = None
 described (Some text) = Some (assertion.Description text)
 
 -- a text alone
 abbrev pub description : List (List Token) → Option Assertion
-description (text ∷ []) = described (plain_text text)
+description (text ∷ []) = described (describing_text text)
 description _ = None
 
 abbrev pub rulebook : List (List Token) → Option Assertion
@@ -96,8 +131,8 @@ described_object object (Some text) = Some (assertion.DescriptionOf (name_of obj
 
 -- perhaps behind an article that opens the form
 abbrev pub description_of : List (List Token) → Option Assertion
-description_of (object ∷ text ∷ []) = described_object object (plain_text text)
-description_of (article ∷ object ∷ text ∷ []) = described_object object (plain_text text)
+description_of (object ∷ text ∷ []) = described_object object (describing_text text)
+description_of (article ∷ object ∷ text ∷ []) = described_object object (describing_text text)
 description_of _ = None
 
 abbrev pub number_of : List (List Token) → Option Assertion
@@ -213,11 +248,11 @@ is_asserting form.Action = false
 is_asserting (form.Phrase phrase) = false
 is_asserting _ = true
 
--- no text with a bracket that opens
-abbrev pub is_unbracketed_kind : TokenKind → Bool
-is_unbracketed_kind (Text text) = is_plain text
-is_unbracketed_kind (Word word) = true
-is_unbracketed_kind (Mark mark) = true
+-- no text that may not describe
+abbrev pub is_describing_kind : TokenKind → Bool
+is_describing_kind (Text text) = may_describe text
+is_describing_kind (Word word) = true
+is_describing_kind (Mark mark) = true
 
-abbrev pub is_unbracketed : Token → Bool
-is_unbracketed token = is_unbracketed_kind token.kind
+abbrev pub is_describing : Token → Bool
+is_describing token = is_describing_kind token.kind

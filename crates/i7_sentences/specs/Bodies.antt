@@ -4,9 +4,8 @@ use Rattle.world_meaning.specs.Spelling.{is_spelled}
 use Rattle.i7_lexer.specs.declared.token.Token.{Token}
 use Rattle.i7_lexer.specs.declared.token.Start.{Start}
 use Rattle.i7_lexer.specs.declared.token.Start.TheVariants.{Paragraph, Line, Within}
-use Rattle.i7_sentences.specs.Cuts.{cut, ends_sentence_kind, is_colon, is_full_stop, is_mark_kind, may_begin_kind, opens_nothing}
+use Rattle.i7_sentences.specs.Cuts.{cut, ends_sentence_kind, is_colon, is_full_stop, is_mark_kind, line_in, may_begin_kind, opens_nothing}
 use Rattle.i7_sentences.specs.PhraseMarks.{is_no_mark, is_pause}
-use Rattle.i7_sentences.specs.Read.{line_in}
 use Rattle.i7_sentences.specs.Words.{word_of}
 use Rattle.i7_sentences.specs.declared.phrase_mark.PhraseMark.{PhraseMark}
 use Rattle.i7_sentences.specs.declared.phrase_mark.PhraseMark.TheVariants.{Semicolon, Stop, Colon, Comma, Nothing}

@@ -119,6 +119,14 @@ pub record Piece : Type 0 where
   pub kind : PartKind
   pub tokens : List Token
 
+-- the line of tokens is that of the first
+abbrev pub line_in : List Token → ℕ
+line_in [] = 1
+line_in (first ∷ rest) = first.line
+
+abbrev pub line_of : Piece → ℕ
+line_of part = line_in part.tokens
+
 -- only the source's first part may be a title
 abbrev pub kind_of : List Piece → List Token → PartKind
 kind_of [] sentence = if is_title sentence then Title else Sentence

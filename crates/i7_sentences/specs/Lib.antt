@@ -1,3 +1,4 @@
+pub mod Assertions
 pub mod Automata
 pub mod Bodies
 pub mod BodyOrder
@@ -10,13 +11,13 @@ pub mod Forms
 pub mod Found
 pub mod Keywords
 pub mod Literals
+pub mod Lowest
 pub mod Matching
 pub mod Names
 pub mod PhraseForms
 pub mod PhraseMarks
 pub mod Pieces
 pub mod Read
-pub mod Assertions
 pub mod Reserved
 pub mod RuleBodies
 pub mod RuleHeads
@@ -24,6 +25,7 @@ pub mod Rules
 pub mod Seams
 pub mod Sources
 pub mod SpokenPhrases
+pub mod Stretches
 pub mod Tags
 pub mod TextPieces
 pub mod Words

@@ -1,8 +1,9 @@
 -- The body of a rule: its phrases, each with what it says and how deep it stands.
-use Rattle.std.specs.Prelude.{ℕ, ◌==◌, nat_lt, Bool, true, false, not, ◌&&◌, List, [], ◌∷◌, Option, Some, None, if◌then◌else◌}
+use Rattle.std.specs.Prelude.{ℕ, ◌==◌, Bool, true, false, not, ◌&&◌, List, [], ◌∷◌, Option, Some, None, if◌then◌else◌}
 use Rattle.std.specs.List.{list_any}
 use Rattle.i7_sentences.specs.Bodies.{Phrase}
 use Rattle.i7_sentences.specs.BodyOrder.{Place, after_phrase, body_fault, depth_of, has_instead, start, without_instead}
+use Rattle.i7_sentences.specs.Lowest.{lower_of}
 use Rattle.i7_sentences.specs.SpokenPhrases.{spoken_in}
 use Rattle.i7_sentences.specs.declared.rule.RulePhrase.{RulePhrase}
 use Rattle.i7_sentences.specs.declared.spoken.Spoken.{Spoken}
@@ -43,12 +44,6 @@ or_else_unspoken line (Some found) later = later
 abbrev pub unspoken_line : List Phrase → Option ℕ
 unspoken_line [] = None
 unspoken_line (phrase ∷ phrases) = or_else_unspoken phrase.line (spoken_phrase phrase) (unspoken_line phrases)
-
--- the lower of two lines, if there are both
-abbrev pub lower_of : Option ℕ → Option ℕ → Option ℕ
-lower_of None second = second
-lower_of (Some first) None = Some first
-lower_of (Some first) (Some second) = if nat_lt second first then Some second else Some first
 
 abbrev pub is_otherwise : Spoken → Bool
 is_otherwise (spoken.OtherwiseIf condition) = true

@@ -2,7 +2,7 @@
 use Rattle.std.specs.Prelude.{ℕ, ◌-◌, Bool, true, false, List, [], ◌∷◌, drop, length, map, Option, Some, None, if◌then◌else◌}
 use Rattle.i7_lexer.specs.declared.token.Token.{Token}
 use Rattle.i7_sentences.specs.Conditions.{is_condition}
-use Rattle.i7_sentences.specs.Forms.{Variant, all_forms}
+use Rattle.i7_sentences.specs.Forms.{Variant}
 use Rattle.i7_sentences.specs.Keywords.{is_sign}
 use Rattle.i7_sentences.specs.Matching.{Found, lowest_fit}
 use Rattle.i7_sentences.specs.Names.{rest_of}
@@ -24,19 +24,12 @@ use Rattle.i7_sentences.specs.declared.rule_head.TheConstants.{RULE_FORMS}
 unfoldable pub rule_forms : List (List Variant)
 rule_forms = map (λ form. map (λ variant. record { form = variant.0; pieces = variant.1.now }) form.now) RULE_FORMS
 
--- a sentence is a rule of such a head by the lowest form that fits it, whatever stands behind the words with which the head begins
+-- the forms of sentences that are rules, whatever stands behind the words with which their heads begin
 abbrev pub is_rule_form : Form → Bool
 is_rule_form form.EveryTurnRule = true
 is_rule_form form.PlayBeginsRule = true
 is_rule_form form.OwnRule = true
 is_rule_form _ = false
-
-abbrev pub is_rule_found : Option Found → Bool
-is_rule_found None = false
-is_rule_found (Some found) = is_rule_form found.variant.form
-
-unfoldable pub is_rule : List Token → Bool
-is_rule tokens = is_rule_found (lowest_fit all_forms tokens)
 
 abbrev pub is_head_form : Form → Option HeadForm
 is_head_form (form.Head book parts) = Some (record { book = book; parts = parts })

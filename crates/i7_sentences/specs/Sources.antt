@@ -1,75 +1,68 @@
 -- The sentences that tokens spell, or the refusal that stands.
-use Rattle.std.specs.Prelude.{◌≡◌, ℕ, ◌≤◌, true, false, List, ◌∷◌, ◌++◌, Some}
-use Rattle.std.specs.List.{All, AllZip, list_all}
+use Rattle.std.specs.Prelude.{◌≡◌, ◌⊎◌, ℕ, true, List}
+use Rattle.std.specs.List.{AllZip, list_all, list_any}
 use Rattle.world_meaning.specs.declared.fault.Fault.{Fault}
 use Rattle.world_meaning.specs.declared.fault.FaultCode.{FaultCode}
 use Rattle.world_meaning.specs.declared.fault.FaultCode.TheVariants.{NumberOutOfRange, NotUnderstood, ReservedWord, Memory}
 use Rattle.i7_lexer.specs.declared.token.Token.{Token}
-use Rattle.i7_sentences.specs.Cuts.{Piece, parts_of}
-use Rattle.i7_sentences.specs.Forms.{IsReading, Variant, all_forms}
-use Rattle.i7_sentences.specs.Read.{aside, has_bad_literal, line_of}
-use Rattle.i7_sentences.specs.Assertions.{assertion_of, is_asserting, is_unbracketed}
-use Rattle.i7_sentences.specs.Reserved.{has_reserved_among}
+use Rattle.i7_sentences.specs.Cuts.{Piece, line_in, line_of, parts_of}
+use Rattle.i7_sentences.specs.Forms.{IsReading, IsUnread, Variant, all_forms}
+use Rattle.i7_sentences.specs.Lowest.{IsLowest, IsNowhere}
+use Rattle.i7_sentences.specs.Read.{heard_by}
+use Rattle.i7_sentences.specs.Assertions.{is_asserting, is_describing}
+use Rattle.i7_sentences.specs.Stretches.{Stretch, holds_bad_literal, stretches_of}
+use Rattle.i7_sentences.specs.declared.heard.Heard.{Heard}
+use Rattle.i7_sentences.specs.declared.heard.Heard.TheVariants as heard
 use Rattle.i7_sentences.specs.declared.part.PartKind.{PartKind}
 use Rattle.i7_sentences.specs.declared.part.PartKind.TheVariants.{Title, Heading, Sentence as Said}
-use Rattle.i7_sentences.specs.declared.reader.Heard.{Heard}
+use Rattle.i7_sentences.specs.declared.sentence.Assertion.TheVariants.{Aside}
 use Rattle.i7_sentences.specs.declared.sentence.Sentence.{Sentence}
 
--- what a sentence says, by the variant of a form that reads it, and whether a name in it holds a reserved word
-pub record Reads (tokens : List Token) (heard : Heard) : Type 0 where
+-- a sentence is read by a variant of a form, and says what it says by that
+pub record Reads (tokens : List Token) (said : Heard) : Type 0 where
   pub variant : Variant
   pub letters : List (List Token)
   pub reading : IsReading all_forms tokens variant letters
-  pub makes : assertion_of variant.form letters ≡ Some heard.said
-  pub reserves : has_reserved_among variant.pieces letters ≡ heard.has_reserved_name
+  pub says : said ≡ heard_by tokens variant letters
 
--- what a part says: a title or a heading asserts nothing
+-- or no form reads it, and it isn't understood at its line
+abbrev pub SaysInWords : List Token → Heard → Type 0
+SaysInWords tokens said = Reads tokens said ⊎ (IsUnread all_forms tokens × (said ≡ heard.Unread (line_in tokens)))
+
+-- what a part says, or where it is refused: a title or a heading asserts nothing
 abbrev pub Says : PartKind → List Token → Heard → Type 0
-Says Title tokens heard = heard ≡ aside
-Says Heading tokens heard = heard ≡ aside
-Says Said tokens heard = Reads tokens heard
+Says Title tokens said = said ≡ heard.Says Aside
+Says Heading tokens said = said ≡ heard.Says Aside
+Says Said tokens said = SaysInWords tokens said
 
-abbrev pub HasBadLiteral : Piece → Type 0
-HasBadLiteral part = has_bad_literal part ≡ true
+-- a stretch holds a literal out of range, which is told at its line
+pub record HoldsBadLiteral (stretch : Stretch) (line : ℕ) : Type 0 where
+  pub holds : list_any holds_bad_literal stretch.tokens ≡ true
+  pub line_is : stretch.line ≡ line
 
-abbrev pub SaysNothing : Piece → Type 0
-SaysNothing part = (heard : Heard) → Says part.kind part.tokens heard → ⊥
+abbrev pub HasBadLiteral : Piece → ℕ → Type 0
+HasBadLiteral part line = IsLowest HoldsBadLiteral (stretches_of part) line
 
--- a form that is part of the language says something of a part, but for a text with a bracket that opens
+abbrev pub IsUnreadAt : Piece → ℕ → Type 0
+IsUnreadAt part line = Says part.kind part.tokens (heard.Unread line)
+
+abbrev pub HasReservedName : Piece → ℕ → Type 0
+HasReservedName part line = Says part.kind part.tokens (heard.Reserved line)
+
+-- a form that is part of the language says something of a part, but for a text that may not describe
 abbrev pub IsSpeaking : Variant → Piece → Type 0
 IsSpeaking variant part =
-    is_asserting variant.form ≡ true → list_all is_unbracketed part.tokens ≡ true → SaysNothing part → ⊥
+    is_asserting variant.form ≡ true → list_all is_describing part.tokens ≡ true → (line : ℕ) → IsUnreadAt part line → ⊥
 
--- a part says something in which a name holds a reserved word
-pub record HasReservedName (part : Piece) : Type 0 where
-  pub heard : Heard
-  pub says : Says part.kind part.tokens heard
-  pub reserved : heard.has_reserved_name ≡ true
-
--- a part's sentence, in which no name holds a reserved word
 pub record IsSentence (part : Piece) (sentence : Sentence) : Type 0 where
-  pub says : Says part.kind part.tokens (record { said = sentence.said; has_reserved_name = false })
+  pub says : Says part.kind part.tokens (heard.Says sentence.said)
   pub line_is : sentence.line ≡ line_of part
-
--- no part is so
-abbrev pub IsNowhere : (Piece → Type 0) → List Piece → Type 0
-IsNowhere Bad parts = All (λ part. Bad part → ⊥) parts
-
--- a part that is so begins on that line, and none on a lower one
-pub record IsLowest (Bad : Piece → Type 0) (parts : List Piece) (line : ℕ) : Type 0 where
-  pub before : List Piece
-  pub part : Piece
-  pub behind : List Piece
-  pub place : parts ≡ before ++ part ∷ behind
-  pub bad : Bad part
-  pub line_is : line ≡ line_of part
-  pub lowest : All (λ other. Bad other → line ≤ line_of other) parts
 
 -- parts are refused with that code at that line; memory may be refused at any parts
 abbrev pub Stands : FaultCode → ℕ → List Piece → Type 0
 Stands NumberOutOfRange line parts = IsLowest HasBadLiteral parts line
-Stands NotUnderstood line parts = IsNowhere HasBadLiteral parts × IsLowest SaysNothing parts line
-Stands ReservedWord line parts = IsNowhere HasBadLiteral parts × IsNowhere SaysNothing parts × IsLowest HasReservedName parts line
+Stands NotUnderstood line parts = IsNowhere HasBadLiteral parts × IsLowest IsUnreadAt parts line
+Stands ReservedWord line parts = IsNowhere HasBadLiteral parts × IsNowhere IsUnreadAt parts × IsLowest HasReservedName parts line
 Stands Memory line parts = line ≡ 1
 Stands _ line parts = ⊥
 

@@ -1,5 +1,5 @@
 -- What a text says, piece by piece.
-use Rattle.std.specs.Prelude.{ℕ, ◌==◌, Bool, true, false, not, ◌&&◌, ◌||◌, List, [], ◌∷◌, ◌++◌, map, Option, Some, None, if◌then◌else◌}
+use Rattle.std.specs.Prelude.{ℕ, ◌==◌, codes, Bool, true, false, not, ◌&&◌, ◌||◌, List, [], ◌∷◌, ◌++◌, map, Option, Some, None, if◌then◌else◌}
 use Rattle.std.specs.List.{after_first, before_first, flat_map, list_all, list_any, slice_split}
 use Rattle.world_meaning.specs.Spelling.{is_spelled}
 use Rattle.i7_lexer.specs.Bytes.{is_letter}
@@ -30,9 +30,32 @@ abbrev pub run_word : List ℕ → List (List ℕ)
 run_word [] = []
 run_word (b ∷ bytes) = (b ∷ bytes) ∷ []
 
+-- the words among bytes, each by itself
+abbrev pub runs_of : List ℕ → List (List ℕ)
+runs_of bytes = flat_map run_word (words_in bytes)
+
+abbrev pub is_switched : List ℕ → List ℕ → Bool
+is_switched first second = is_spelled first (codes "switched") && (is_spelled second (codes "on") || is_spelled second (codes "off"))
+
+abbrev pub is_fixed_in_place : List ℕ → List ℕ → List ℕ → Bool
+is_fixed_in_place first second third = is_spelled first (codes "fixed") && is_spelled second (codes "in") && is_spelled third (codes "place")
+
+abbrev pub spaced : List ℕ → List ℕ → List ℕ
+spaced first second = first ++ 32 ∷ second
+
+-- `fixed in place`, `switched on` and `switched off` are one word, as they are outside texts
+abbrev pub joined : List (List ℕ) → List (List ℕ)
+joined [] = []
+joined (first ∷ []) = first ∷ []
+joined (first ∷ second ∷ []) = if is_switched first second then spaced first second ∷ [] else first ∷ second ∷ []
+joined (first ∷ second ∷ third ∷ words) =
+    if is_switched first second then spaced first second ∷ joined (third ∷ words)
+    else (if is_fixed_in_place first second third then spaced first (spaced second third) ∷ joined words
+    else first ∷ joined (second ∷ third ∷ words))
+
 -- the words among bytes
 abbrev pub words_of : List ℕ → List (List ℕ)
-words_of bytes = flat_map run_word (words_in bytes)
+words_of bytes = joined (runs_of bytes)
 
 abbrev pub are_spelled : List (List ℕ) → List (List ℕ) → Bool
 are_spelled [] [] = true

@@ -6,7 +6,7 @@ use crate::declaration::{
     can_be, can_be_either, kind_of_kind, number_property, rulebook, scene, usually, usually_number,
     variable,
 };
-use crate::letter::{number_in, plain_text, side_direction};
+use crate::letter::{describing_text, number_in, side_direction};
 use crate::name::{joined, name_of};
 use crate::names::names_of;
 use crate::tagged::Tagged;
@@ -109,7 +109,7 @@ fn description(alloc: Global, letters: &[&[Tagged<'_>]]) -> Result<Option<Assert
     ensures { IfOk result (λ said. said ≡ description (map (λ letter. letter.now) letters.now)) }
 {
     match letters {
-        [text] => match plain_text(alloc, text)? {
+        [text] => match describing_text(alloc, text)? {
             None => Ok(None),
             Some(text) => Ok(Some(Assertion::Description(text))),
         },
@@ -139,8 +139,8 @@ fn description_of(alloc: Global, letters: &[&[Tagged<'_>]]) -> Result<Option<Ass
     ensures { IfOk result (λ said. said ≡ description_of (map (λ letter. letter.now) letters.now)) }
 {
     match letters {
-        [object, text] => Ok(described_object(alloc, object, plain_text(alloc, text)?)?),
-        [_, object, text] => Ok(described_object(alloc, object, plain_text(alloc, text)?)?),
+        [object, text] => Ok(described_object(alloc, object, describing_text(alloc, text)?)?),
+        [_, object, text] => Ok(described_object(alloc, object, describing_text(alloc, text)?)?),
         _ => Ok(None),
     }
 }

@@ -2,8 +2,7 @@
 ghost use Rattle.std.specs.Prelude.{◌≡◌, ◌≤◌, length, IfOk, OnOk};
 ghost use Rattle.i7_sentences.specs.PhraseMarks.{is_no_mark, is_pause};
 ghost use Rattle.i7_sentences.specs.Bodies.{body_lines, comma_len, ends_phrase, head_len, indent_at, indent_before, indent_behind, is_comma, is_empty_run, is_nothing, is_same_phrase, is_semicolon, is_spelled_so, lines_of, mark_at, mark_behind, mark_of, opens_inline, past, phrase_in, phrase_of, phrases_of, unmarked, with_piece, with_run};
-ghost use Rattle.i7_sentences.specs.Read.{line_in};
-ghost use Rattle.i7_sentences.specs.Cuts.{cut, opens_nothing};
+ghost use Rattle.i7_sentences.specs.Cuts.{cut, line_in, opens_nothing};
 ghost use Rattle.i7_sentences.specs.Pieces.{piece_len};
 
 use crate::cut::{ends_sentence, is_colon, is_full_stop, is_mark, may_begin};

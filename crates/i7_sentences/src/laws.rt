@@ -52,7 +52,7 @@ pub fn spelled_or_refused()
 {}
 
 /// A form that is part of the language says something wherever it is the reading of a part, so that the part
-/// is a sentence or has a reserved word in a name, but for a text with a bracket that opens.
+/// is a sentence or has a reserved word in a name, but for a text that may not describe.
 pub fn forms_that_fit_speak()
     ensures { (part : Piece) (variant : Variant) (letters : List (List Token)) → IsReading all_forms part.tokens variant letters → IsSpeaking variant part }
 {}

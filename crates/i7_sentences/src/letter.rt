@@ -1,9 +1,9 @@
 //! What a letter of a form is: a text, a number, a direction.
 ghost use Rattle.std.specs.Prelude.{◌≡◌, IfOk};
-ghost use Rattle.std.specs.List.{list_all};
-ghost use Rattle.i7_sentences.specs.Assertions.{direction_at, is_plain, number_in, plain_text, side_direction};
+ghost use Rattle.i7_sentences.specs.Assertions.{describing_text, direction_at, number_in, plain_text, side_direction};
 
 use crate::Keyword;
+use crate::describing::{describing, is_plain};
 use crate::literal::literal_of;
 use crate::tagged::Tagged;
 use crate::word::word_of;
@@ -11,14 +11,23 @@ use i7_lexer::TokenKind;
 use std::alloc::{AllocError, Global};
 use world_meaning::{Direction, TextBytes};
 
-/// Whether a text may describe: it holds no bracket that opens, which has no meaning yet.
-fn is_plain(text: &[u8]) -> bool
-    ensures { result ≡ is_plain text.now }
+/// The text that a letter is, if it may describe.
+pub(crate) fn describing_text(
+    alloc: Global,
+    letter: &[Tagged<'_>],
+) -> Result<Option<TextBytes>, AllocError>
+    ensures { IfOk result (λ text. text ≡ describing_text letter.now) }
 {
-    text.iter().all(|byte| *byte != b'[')
+    match letter {
+        [token] => match token.token().kind() {
+            TokenKind::Text(text) => Ok(describing(alloc, text.as_slice())?),
+            TokenKind::Word(_) | TokenKind::Mark(_) => Ok(None),
+        },
+        _ => Ok(None),
+    }
 }
 
-/// The text that a letter is, if it may describe.
+/// The text that a letter is, if it holds no bracket that opens.
 pub(crate) fn plain_text(
     alloc: Global,
     letter: &[Tagged<'_>],

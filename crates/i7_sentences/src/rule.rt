@@ -3,7 +3,6 @@ ghost use Rattle.std.specs.Prelude.{◌≡◌};
 
 use crate::{Spoken, WordList};
 use std::marker::Model;
-use world_meaning::Fault;
 
 /// The book that a rule's head names.
 #[derive(Debug, Drop)]
@@ -69,14 +68,4 @@ pub struct Rule {
     /// The words of `(this is the tidy rule)` between `the` and `rule`.
     pub name: Option<WordList>,
     pub body: RuleBody,
-}
-
-/// What a sentence is as a rule.
-#[derive(Debug, Drop)]
-pub enum RuleRead {
-    Says(Rule),
-    /// It isn't understood (C5), or a reserved word stands in a name (C6).
-    Refused(Fault),
-    /// It is no rule of a head that is read.
-    NoRule,
 }

@@ -3,11 +3,12 @@ ghost use Rattle.std.specs.Prelude.{◌≡◌, Some, IfOk};
 ghost use Rattle.std.specs.List.{list_any};
 ghost use Rattle.i7_sentences.specs.Bodies.{phrase_of, phrases_of};
 ghost use Rattle.i7_sentences.specs.BodyOrder.{or_else, place_of, reserved_line};
-ghost use Rattle.i7_sentences.specs.RuleBodies.{body_phrases, first_line, has_another, is_otherwise, is_outermost, lower_of, phrase_at, several_line, spoken_phrase, unread_line, unspoken_line};
+ghost use Rattle.i7_sentences.specs.RuleBodies.{body_phrases, first_line, has_another, is_otherwise, is_outermost, phrase_at, several_line, spoken_phrase, unread_line, unspoken_line};
 
 use crate::body::PhraseLine;
 use crate::body_order::{body_fault, has_instead, reserved_line, without_instead};
 use crate::body_place::{Place, advance, depth_of, start};
+use crate::low::lower_of;
 use crate::spoken_reader::{SpokenPhrase, spoken_in};
 use crate::{RuleBody, RulePhrase, Spoken};
 use std::alloc::{AllocError, Global};
@@ -87,19 +88,6 @@ fn spoken_body(
         body: RuleBody::new(all),
         unspoken,
     })
-}
-
-/// The lower of two lines, if there are both.
-fn lower_of(first: Option<u32>, second: Option<u32>) -> Option<u32>
-    ensures { result ≡ lower_of first second }
-{
-    match first {
-        None => second,
-        Some(one) => match second {
-            None => Some(one),
-            Some(other) => if other < one { Some(other) } else { Some(one) },
-        },
-    }
 }
 
 /// Whether the phrase is an `otherwise`.

@@ -1,15 +1,15 @@
 //! The heads of rules as data, and what a head says.
 ghost use Rattle.std.specs.Prelude.{◌≡◌, map, option_map, IfOk};
-ghost use Rattle.i7_sentences.specs.Forms.{all_forms};
 ghost use Rattle.i7_sentences.specs.Found.{found_in};
 ghost use Rattle.i7_sentences.specs.Matching.{lowest_fit};
-ghost use Rattle.i7_sentences.specs.RuleHeads.{behind_if, body_len, body_tokens, book_of, has_shape, head_as, head_found, head_in, head_of, if_shaped, is_conditional, is_head_form, is_named, is_one_phrase, is_own, is_rule, is_rule_form, is_rule_found, letter_if, named_if, rule_forms, words_if};
+ghost use Rattle.i7_sentences.specs.Stretches.{head_tokens};
+ghost use Rattle.i7_sentences.specs.RuleHeads.{behind_if, body_len, body_tokens, book_of, has_shape, head_as, head_found, head_in, head_of, if_shaped, is_conditional, is_head_form, is_named, is_one_phrase, is_own, is_rule_form, letter_if, named_if, rule_forms, words_if};
 
 use crate::condition::is_condition;
 use crate::form::Piece::{Letter, Word};
 use crate::matcher::signs_of;
 use crate::name::rest_of;
-use crate::reading::{Reading, lowest_fit, reading_of};
+use crate::reading::{Reading, lowest_fit};
 use crate::spoken_reader::named_in;
 use crate::tagged::Tagged;
 use crate::word_list::words_in;
@@ -142,31 +142,13 @@ pub const RULE_FORMS: [&[(Form, &[Piece])]; 3] = [
 ];
 
 /// Whether a form is one of the rules whose heads are read.
-fn is_rule_form(form: Form) -> bool
+pub fn is_rule_form(form: Form) -> bool
     ensures { result ≡ is_rule_form form }
 {
     match form {
         Form::EveryTurnRule | Form::PlayBeginsRule | Form::OwnRule => true,
         _ => false,
     }
-}
-
-/// Whether a reading is one of these.
-fn is_rule_found(reading: Option<Reading<'_, '_>>) -> bool
-    ensures { result ≡ is_rule_found (option_map found_in reading.entry) }
-{
-    match reading {
-        None => false,
-        Some(found) => is_rule_form(found.form),
-    }
-}
-
-/// Whether a sentence is a rule of such a head, by the lowest form that fits it.
-#[tactic(auto, unfolding(crate::specs::RuleHeads::is_rule))]
-pub fn is_rule(alloc: Global, tokens: &[Tagged<'_>]) -> Result<bool, AllocError>
-    ensures { IfOk result (λ answer. answer ≡ is_rule tokens.now) }
-{
-    Ok(is_rule_found(reading_of(alloc, tokens)?))
 }
 
 /// What stands in a head, if the form is one of a head.
@@ -377,10 +359,13 @@ pub fn head_in(alloc: Global, tokens: &[Tagged<'_>]) -> Result<Option<Head>, All
     Ok(head_found(alloc, rule_reading(alloc, tokens)?)?)
 }
 
-/// The tokens of the body of a rule with this head.
-pub fn body_tokens<'a>(head: &Head, tokens: &'a [PackedToken]) -> &'a [PackedToken]
-    ensures { result.now ≡ body_tokens head.now tokens.now }
+/// The tokens of a rule with this head: those in front of its body, and those of the body.
+pub fn parted_at_body<'a>(
+    head: &Head,
+    tokens: &'a [PackedToken],
+) -> (&'a [PackedToken], &'a [PackedToken])
+    ensures front { result.0.now ≡ head_tokens head.now tokens.now }
+    ensures body { result.1.now ≡ body_tokens head.now tokens.now }
 {
-    let (_, body) = tokens.split_at(tokens.len().saturating_sub(head.body_len));
-    body
+    tokens.split_at(tokens.len().saturating_sub(head.body_len))
 }

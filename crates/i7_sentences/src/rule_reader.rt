@@ -1,79 +1,95 @@
 //! Reading a sentence as a rule.
 ghost use Rattle.std.specs.Prelude.{◌≡◌, IfOk};
 ghost use Rattle.i7_sentences.specs.Bodies.{phrases_of};
-ghost use Rattle.i7_sentences.specs.Rules.{body_read, head_read, refused_or, rule_in};
+ghost use Rattle.i7_sentences.specs.Lowest.{lowest};
+ghost use Rattle.i7_sentences.specs.RuleHeads.{head_in};
+ghost use Rattle.i7_sentences.specs.Rules.{body_heard, head_heard, rule_heard, unless_reserved, unless_unread};
+ghost use Rattle.i7_sentences.specs.Stretches.{bad_literal_in, rule_stretches};
 
 use crate::body::{PhraseLine, line_in, phrases_of};
+use crate::heard::{Heard, HeardPart};
+use crate::low::lower_of;
 use crate::rule_body::read_body;
-use crate::rule_head::{Head, body_tokens, head_in, is_rule};
-use crate::tagged::with_tags;
-use crate::{Rule, RuleRead};
+use crate::rule_head::{Head, head_in, parted_at_body};
+use crate::stretch::{bad_literal_in, bad_phrase};
+use crate::tagged::Tagged;
+use crate::{Assertion, Rule};
 use i7_lexer::PackedToken;
 use std::alloc::{AllocError, Global};
-use world_meaning::{Fault, FaultCode};
 
-/// The refusal at the line, if there is one, and else the next answer.
-fn refused_or(code: FaultCode, line: Option<u32>, next: RuleRead) -> RuleRead
-    ensures { result ≡ refused_or code line next }
+/// Not understood at the line, if there is one, and else the next answer.
+fn unless_unread(line: Option<u32>, next: Heard) -> Heard
+    ensures { result ≡ unless_unread line next }
 {
     match line {
         None => next,
-        Some(line) => RuleRead::Refused(Fault { code, line }),
+        Some(line) => Heard::Unread(line),
     }
 }
 
-/// The rule with this head and a body of these phrases, or the refusal that stands.
-fn body_read(
+/// A reserved word in a name at the line, if there is one, and else the next answer.
+fn unless_reserved(line: Option<u32>, next: Heard) -> Heard
+    ensures { result ≡ unless_reserved line next }
+{
+    match line {
+        None => next,
+        Some(line) => Heard::Reserved(line),
+    }
+}
+
+/// The rule with this head and a body of these phrases, or the line at which the body is refused.
+fn body_heard(
     alloc: Global,
     line: u32,
     head: Head,
     phrases: &[PhraseLine<'_>],
-) -> Result<RuleRead, AllocError>
-    ensures { IfOk result (λ read. read ≡ body_read line head (phrases_of phrases.now)) }
+) -> Result<Heard, AllocError>
+    ensures { IfOk result (λ heard. heard ≡ body_heard line head (phrases_of phrases.now)) }
 {
     let found = read_body(alloc, line, head.takes_one, phrases)?;
-    let rule = RuleRead::Says(Rule {
+    let rule = Heard::Says(Assertion::Rule(Rule {
         book: head.book,
         condition: head.condition,
         name: head.name,
         body: found.body,
-    });
-    let named = refused_or(FaultCode::ReservedWord, found.reserved, rule);
-    Ok(refused_or(FaultCode::NotUnderstood, found.unread, named))
+    }));
+    Ok(unless_unread(found.unread, unless_reserved(found.reserved, rule)))
 }
 
-/// What a sentence with this head is, if its head is understood.
-fn head_read(
-    alloc: Global,
-    tokens: &[PackedToken],
-    head: Option<Head>,
-) -> Result<RuleRead, AllocError>
-    ensures { IfOk result (λ read. read ≡ head_read tokens.now head) }
+/// What a rule with this head says.
+fn headed_part(alloc: Global, tokens: &[PackedToken], head: Head) -> Result<HeardPart, AllocError>
+    ensures heard { IfOk result (λ part. part.heard ≡ head_heard tokens.now (Some head)) }
+    ensures literals { IfOk result (λ part. part.bad_literal ≡ lowest bad_literal_in (rule_stretches tokens.now (Some head))) }
 {
     let line = line_in(tokens);
-    match head {
-        None => Ok(RuleRead::Refused(Fault {
-            code: FaultCode::NotUnderstood,
-            line,
-        })),
-        Some(head) => {
-            let phrases = phrases_of(alloc, body_tokens(&head, tokens))?;
-            Ok(body_read(alloc, line, head, phrases.as_slice())?)
-        }
-    }
+    let (front, body) = parted_at_body(&head, tokens);
+    let phrases = phrases_of(alloc, body)?;
+    let bad_literal = lower_of(bad_literal_in(line, front), bad_phrase(phrases.as_slice()));
+    Ok(HeardPart {
+        heard: body_heard(alloc, line, head, phrases.as_slice())?,
+        bad_literal,
+    })
 }
 
-/// What a sentence is as a rule of the heads `every turn`, `when play begins` and `a W rule`: C5 at the rule's
-/// line for its head and at a phrase's for a phrase, then C6 at the line of the phrase, each at the lowest.
+/// What a sentence says that is a rule of the heads `every turn`, `when play begins` or `a W rule`: C5 is told at the
+/// rule's line of its head and at a phrase's of a phrase, then C6 at the line of the phrase, each at the lowest.
 /// (*Writing with Inform*, chapters 9, 11 and 19, as far as this profile goes.)
-#[tactic(auto, unfolding(crate::specs::Rules::rule_in))]
-pub fn rule_in(alloc: Global, tokens: &[PackedToken]) -> Result<RuleRead, AllocError>
-    ensures { IfOk result (λ read. read ≡ rule_in tokens.now) }
+#[tactic(auto, using(crate::proofs::Lowest::lower_steps))]
+pub fn rule_part(
+    alloc: Global,
+    tokens: &[PackedToken],
+    words: &[Tagged<'_>],
+) -> Result<HeardPart, AllocError>
+    requires { words.now ≡ tokens.now }
+    ensures heard { IfOk result (λ part. part.heard ≡ rule_heard tokens.now) }
+    ensures literals { IfOk result (λ part. part.bad_literal ≡ lowest bad_literal_in (rule_stretches tokens.now (head_in tokens.now))) }
 {
-    let words = with_tags(alloc, tokens)?;
-    if !is_rule(alloc, words.as_slice())? {
-        return Ok(RuleRead::NoRule);
+    let line = line_in(tokens);
+    match head_in(alloc, words)? {
+        None => Ok(HeardPart {
+            heard: Heard::Unread(line),
+            bad_literal: bad_literal_in(line, tokens),
+        }),
+        Some(head) => Ok(headed_part(alloc, tokens, head)?),
     }
-    let head = head_in(alloc, words.as_slice())?;
-    Ok(head_read(alloc, tokens, head)?)
 }

@@ -1,5 +1,5 @@
 //! Sentences and what they assert.
-use crate::{Name, Names};
+use crate::{Name, Names, Rule};
 use world_meaning::{Direction, Rel, TextBytes};
 
 /// What one sentence asserts, its names as it mentions them.
@@ -77,6 +77,8 @@ pub enum Assertion {
     },
     /// `the ball and the cup are small things in the box`
     Are(Being),
+    /// `every turn: say "Tick."`
+    Rule(Rule),
 }
 
 /// A way: the subject lies in this direction of the room.

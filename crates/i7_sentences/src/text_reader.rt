@@ -6,7 +6,8 @@ ghost use Rattle.i7_sentences.specs.TextPieces.{are_brackets_read, begins_word, 
 
 use crate::brackets::{behind_opening, in_front_of_opening, parted_at};
 use crate::text_ifs::ifs_end;
-use crate::word_list::{are_spelled, words_of};
+use crate::text_words::words_of;
+use crate::word_list::are_spelled;
 use crate::{TextPiece, TextPieces, WordList};
 use i7_lexer::is_letter;
 use std::alloc::{AllocError, Global};

@@ -1,11 +1,8 @@
-//! Lists of words: those between the brackets of a text, and those of a form's letter.
-ghost use Rattle.std.specs.Prelude.{◌≡◌, ◌<◌, ◌≤◌, ◌++◌, length, map, IfOk, MatchOption, OnOk};
-ghost use Rattle.std.specs.List.{after_first, before_first, position_or_len};
-ghost use Rattle.i7_sentences.specs.BracketedWords.{is_gap};
+//! Lists of words, and those of a form's letter.
+ghost use Rattle.std.specs.Prelude.{◌≡◌, map, IfOk};
 ghost use Rattle.i7_sentences.specs.SpokenPhrases.{words_in};
-ghost use Rattle.i7_sentences.specs.TextPieces.{are_spelled, behind_first, run_word, words_of};
+ghost use Rattle.i7_sentences.specs.TextPieces.{are_spelled, behind_first};
 
-use crate::brackets::is_gap;
 use crate::tagged::Tagged;
 use crate::word::word_of;
 use std::alloc::{AllocError, Global};
@@ -27,6 +24,13 @@ impl Model for WordList {
 }
 
 impl WordList {
+    /// These words.
+    pub(crate) fn new(all: Vec<TextBytes>) -> WordList
+        ensures { result ≡ all.items }
+    {
+        WordList { all }
+    }
+
     /// The words, in order.
     pub fn as_slice(&self) -> &[TextBytes]
         ensures { result.now ≡ self.now }
@@ -64,62 +68,6 @@ pub fn are_spelled(words: &[TextBytes], spellings: &[&[u8]]) -> bool
         }
     }
     right.is_empty()
-}
-
-/// How many bytes stand in front of the first that is of no word.
-fn run_len(bytes: &[u8]) -> usize
-    ensures place { result ≡ position_or_len is_gap bytes.now }
-    ensures within { result ≤ length bytes.now }
-{
-    bytes.iter().take_while(|byte| !is_gap(**byte)).count()
-}
-
-/// The bytes in front of the first that is of no word, and those behind it; none where there is none.
-fn parted_at_gap(bytes: &[u8]) -> Option<(&[u8], &[u8])>
-    ensures { MatchOption result (length bytes.now ≤ position_or_len is_gap bytes.now) (λ parts.
-        (position_or_len is_gap bytes.now < length bytes.now)
-        × (parts.0.now ≡ before_first is_gap bytes.now)
-        × (parts.1.now ≡ after_first is_gap bytes.now)
-        × (length parts.1.now < length bytes.now)) }
-{
-    let (front, rest) = bytes.split_at(run_len(bytes));
-    match rest {
-        [] => None,
-        [_, behind @ ..] => Some((front, behind)),
-    }
-}
-
-/// The first word, if a byte of no word stands behind it, and the bytes behind that.
-#[tactic(auto, using(crate::proofs::Telling::word_steps))]
-fn first_run(bytes: &[u8]) -> Option<(&[u8], &[u8])>
-    ensures first { MatchOption result (words_of bytes.now ≡ run_word bytes.now) (λ parts. words_of bytes.now ≡ run_word parts.0.now ++ words_of parts.1.now) }
-    ensures shorter { MatchOption result (words_of bytes.now ≡ run_word bytes.now) (λ parts. length parts.1.now < length bytes.now) }
-{
-    parted_at_gap(bytes)
-}
-
-/// Adds a word, if there is one.
-fn add_run(alloc: Global, run: &[u8], all: &mut Vec<TextBytes>) -> Result<(), AllocError>
-    ensures { OnOk result (all.new.items ≡ all.old.items ++ run_word run.now) }
-{
-    if !run.is_empty() {
-        all.push(TextBytes::copied(alloc, run)?)?;
-    }
-    Ok(())
-}
-
-/// The words of these bytes.
-pub fn words_of(alloc: Global, bytes: &[u8]) -> Result<WordList, AllocError>
-    ensures { IfOk result (λ words. words ≡ words_of bytes.now) }
-{
-    let mut all = Vec::new(alloc);
-    let mut rest = bytes;
-    while let Some((run, behind)) = first_run(rest) {
-        add_run(alloc, run, &mut all)?;
-        rest = behind;
-    }
-    add_run(alloc, rest, &mut all)?;
-    Ok(WordList { all })
 }
 
 /// The words of a letter of a form.

@@ -1,20 +1,31 @@
 -- A source has one outcome: its tokens are one list, and so its sentences, and so its tale.
 use Rattle.std.proofs.Common.{◌≡◌, ◌≢◌, ℕ, List, Ok, Err, ap, subst, sym, ◌∙◌}
-use Rattle.std.specs.Prelude.{Result}
+use Rattle.std.specs.Prelude.{None, Result, Some}
 use Rattle.world_meaning.specs.declared.fault.Fault.{Fault}
 use Rattle.world_meaning.specs.declared.fault.FaultCode.TheVariants.{Memory}
 use Rattle.world_meaning.specs.declared.tale.Tale.{Tale}
 use Rattle.i7_lexer.proofs.LawLemmas.{spelled-refused, tokens-same}
 use Rattle.i7_sentences.proofs.Verdicts.{sentences_same, spelled_refused}
+use Rattle.i7_sentences.specs.Lowest.{lowest}
 use Rattle.i7_sentences.specs.Sources.{HasSentences, IsRefused as IsUnread}
 use Rattle.i7_sentences.specs.declared.sentence.Sentence.{Sentence}
 use Rattle.i7_kinds.specs.Tales.{tale_said}
-use Rattle.story_file.specs.Compilations.{IsCompiled, IsRefused, Means, Says, memory, unmeant, unread, unspelled}
+use Rattle.story_file.specs.Compilations.{IsCompiled, IsRefused, IsUnheld, Means, Says, memory, unheld, unheld_line, unmeant, unread, unspelled}
 
 pub same_sentences : (source : List ℕ) (v w : List Sentence) → Says source v → Says source w → v ≡ w
 same_sentences source v w first second =
     let tokens : first.tokens ≡ second.tokens = tokens-same source first.tokens second.tokens first.spells second.spells in
     sentences_same second.tokens v w (subst (λ ts. HasSentences ts v) tokens first.reads) second.reads
+
+none-some : (line : ℕ) → None ≡ Some line → ⊥
+none-some line same = cc
+
+-- a source with a sentence that no story holds doesn't say its sentences
+unheld_says : (source : List ℕ) (fault : Fault) (sentences : List Sentence) → Says source sentences → IsUnheld source fault → ⊥
+unheld_says source fault sentences says refused =
+    let tokens : refused.tokens ≡ says.tokens = tokens-same source refused.tokens says.tokens refused.spells says.spells in
+    let same : refused.sentences ≡ sentences = sentences_same says.tokens refused.sentences sentences (subst (λ ts. HasSentences ts refused.sentences) tokens refused.reads) says.reads in
+    none-some fault.line (sym says.held ∙ ap (lowest unheld_line) (sym same) ∙ refused.line_is)
 
 abbrev pub said : Tale → Result Tale Fault
 said tale = Ok tale
@@ -36,6 +47,7 @@ not_both source bytes fault other compiled (unread refused) =
     let says = compiled.means.says in
     let tokens : refused.tokens ≡ says.tokens = tokens-same source refused.tokens says.tokens refused.spells says.spells in
     spelled_refused says.tokens compiled.means.sentences fault says.reads other (subst (λ ts. IsUnread ts fault) tokens refused.unread)
+not_both source bytes fault other compiled (unheld refused) = unheld_says source fault compiled.means.sentences compiled.means.says refused
 not_both source bytes fault other compiled (unmeant refused) =
     let sentences = same_sentences source compiled.means.sentences refused.sentences compiled.means.says refused.says in
     ok_not_err compiled.tale fault (sym compiled.means.meant ∙ ap tale_said sentences ∙ refused.refused)

@@ -3,6 +3,7 @@
 
 mod compiler;
 mod laws;
+mod unheld;
 mod worked_rows;
 
 pub use compiler::compile;
