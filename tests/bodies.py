@@ -1,14 +1,14 @@
 #!/usr/bin/env python3
-"""Does the body of each case of tests/bodies/phrases.json once, and compares what it says and comes to; or why it is refused.
+"""Does the body of each case of tests/bodies/phrases.json once, and compares what it says and comes to; or why it is refused, as
+of the sources of tests/bodies/rules.rows (tests/row_files.py says how rows are written).
 
 Use: tests/bodies.py PROGRAM [NAME..]    (the program of `i7story`; that of `rule_calls` stands beside it)
 NAME: only cases whose name begins so
 
 A case is a source with its name and what it is about. Of a body `text` is what it says, `result` how it leaves off, `ends` the
 text with which the story ended, or null, and `stops` null or the code with which play breaks off; of a refused source `refusal`
-is its code, the code's name and its line. The compiler reads no rules yet, and no description with a `[`. So a source is handed
-over in parts, each at its own lines: the rules; the texts with a `[` that describe; and the rest, in which a sentence that
-declares nothing stands for each rule and a marker for each such text."""
+is its code, the code's name and its line. No story holds rules yet, nor descriptions with a `[`. So beside the source stands what its
+story is compiled of, in which a sentence that declares nothing stands for each rule and a marker for each such text."""
 import json
 import pathlib
 import re
@@ -16,18 +16,11 @@ import subprocess
 import sys
 import tempfile
 
+from row_files import report, rows_of
+
 program = pathlib.Path(sys.argv[1]).resolve().parents[2] / "rule_calls/out/rule_calls"
 wanted = tuple(sys.argv[2:]) or ("",)
-file = pathlib.Path(__file__).resolve().parent / "bodies" / "phrases.json"
-
-# Cases that don't pass yet, by what is missing in the calls. One that begins to pass is to be taken off.
-# `fixed in place` and `switched on` are one word each, but `read_text` gives those between brackets as several, and so nothing is
-# found that they mean in front of a kind.
-UNJOINED = """
-    now-06 now-08 drawn-04 drawn-13 drawn-18 drawn-23 drawn-26 drawn-38 drawn-41 drawn-43
-""".split()
-# No call tells that the text of a description holds `[description of ..]`, which is not understood there.
-WITHIN_A_DESCRIPTION = ["not-understood-38"]
+folder = pathlib.Path(__file__).resolve().parent / "bodies"
 
 RULE = re.compile(r"(?:Every turn|When play begins|(?:An?|The) [\w' -]+? rule)\b")
 COMMENT = re.compile(r'("[^"]*")|\[[^]]*\]')
@@ -71,31 +64,25 @@ def sentences(source):
         yield found.start(), end
 
 
-def parts_of(source):
-    """The source's plain part, and the others with their sorts."""
-    plain, parts = "", []
-    texts = done = 0
+def plain_part(source):
+    """What the source's story is compiled of."""
+    plain, texts, done = "", 0, 0
     for start, end in sentences(without_comments(source)):
         before, sentence = source[done:start], source[start:end]
-        at_its_line = "\n" * source.count("\n", 0, start)
         if RULE.match(sentence):
-            parts.append(f"rule\t{at_its_line}{sentence}")
             sentence = STAND_IN + "\n" * sentence.count("\n")
         elif found := DESCRIPTION.search(sentence):
-            parts.append(f"text\t{at_its_line}{found[0]}")
             marker = f'"@{texts};{FINAL.search(found[1])[0]}"' + "\n" * found[0].count("\n")
             sentence = sentence[: found.start()] + marker + sentence[found.end() :]
             texts += 1
         plain, done = plain + before + sentence, end
-    return plain + source[done:], parts
+    return plain + source[done:]
 
 
-def record_of(case):
-    """The case as the program reads it."""
-    source = case["source"]
-    assert not re.search("[@\x1e\x1f]", source), case["name"]
-    plain, parts = parts_of(source)
-    return "".join(part + "\x1f" for part in [plain, *parts]) + "\x1e"
+def record_of(source):
+    """The source as the program reads it."""
+    assert not re.search("[@\x1e\x1f]", source), source
+    return source + "\x1f" + plain_part(source) + "\x1e"
 
 
 def answer_of(case):
@@ -111,36 +98,26 @@ def answer_of(case):
 
 def readable(line):
     """A line of the program with its bytes as text."""
-    return re.sub(r"\[[\d, ]*\]", lambda found: repr(bytes(json.loads(found[0])).decode(errors="replace")), line)
+    return re.sub(r"\[[\d, ]*\]", lambda found: repr(bytes(json.loads(found[0])).decode("latin-1")), line)
 
 
-def told(cases):
-    """What the program prints of cases, a line for each."""
+def told(sources):
+    """What the program prints of sources, a line for each."""
     with tempfile.NamedTemporaryFile("w", newline="") as scratch:
-        scratch.write("".join(map(record_of, cases)))
+        scratch.write("".join(map(record_of, sources)))
         scratch.flush()
         done = subprocess.run([program, "bodies", scratch.name], capture_output=True, check=True, timeout=300)
     return done.stdout.decode().split("\n")[:-1]
 
 
-def fault_of(name, line, answer):
-    """What is wrong with what the program prints of a case, or None."""
-    if name in UNJOINED + WITHIN_A_DESCRIPTION:
-        return "it passes, and is listed as one that doesn't yet" if line == answer else None
-    return None if line == answer else f"wanted {readable(answer)}, got {readable(line)}"
+def wanted_cases():
+    """The sources, each with its name and what the program is to print of it."""
+    for case in json.loads((folder / "phrases.json").read_text()):
+        yield case["name"], case["source"], answer_of(case)
+    for place, (source, answer) in rows_of(folder / "rules.rows"):
+        yield place, source.decode(), answer.decode()
 
 
-cases = [case for case in json.loads(file.read_text()) if case["name"].startswith(wanted)]
-lines = told(cases)
-assert len(lines) == len(cases), f"bodies: {len(lines)} answers for {len(cases)} cases"
-passed = failed = 0
-for case, line in zip(cases, lines):
-    name, answer = case["name"], answer_of(case)
-    fault = fault_of(name, line, answer)
-    if fault:
-        failed += 1
-        print(f"bodies: {name}: {fault}")
-    else:
-        passed += line == answer
-print(f"bodies: {passed} passed, {failed} failed, {len(cases) - passed - failed} listed as ones that don't pass yet")
-sys.exit(1 if failed or not passed else 0)
+cases = [case for case in wanted_cases() if case[0].startswith(wanted)]
+lines = told(source for _, source, _ in cases)
+report("bodies", ((name, readable(line), readable(answer)) for line, (name, _, answer) in zip(lines, cases, strict=True)))

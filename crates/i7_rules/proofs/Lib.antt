@@ -1,5 +1,15 @@
 mod Breaks
+mod Counted
 mod Headed
+mod Looked
+mod Lows
+mod Named
+mod Once
+mod OneAnswer
+mod OneRule
 mod ReadOn
+mod ReadRules
+mod Rebuilt
 mod Stated
 mod Told
+mod Whole

@@ -63,7 +63,7 @@ follow_told k words (Some book) found e h = subst (IsFoundAs (Follows k words) p
 
 -- ---- changes and endings
 
-changes_end_nothing : (said : Spoken) → is_change said ≡ true → ending_of said ≡ None
+pub changes_end_nothing : (said : Spoken) → is_change said ≡ true → ending_of said ≡ None
 changes_end_nothing (spoken.Now subject verb behind) is = refl
 changes_end_nothing (spoken.Move thing holder) is = refl
 changes_end_nothing (spoken.Increase value amount) is = refl
@@ -82,7 +82,7 @@ changes_end_nothing spoken.ContinueAction is = absurd cc
 changes_end_nothing spoken.StopAction is = absurd cc
 changes_end_nothing (spoken.EndStory text) is = absurd cc
 
-no_other_changes : (s : Scope) (said : Spoken) (p : tree.Phrase) → is_change said ≡ false → Changes s said p → ⊥
+pub no_other_changes : (s : Scope) (said : Spoken) (p : tree.Phrase) → is_change said ≡ false → Changes s said p → ⊥
 no_other_changes s (spoken.Now subject verb behind) p is changes = absurd cc
 no_other_changes s (spoken.Move thing holder) p is changes = absurd cc
 no_other_changes s (spoken.Increase value amount) p is changes = absurd cc

@@ -3,5 +3,9 @@ pub mod Doings
 pub mod Knowns
 pub mod Lines
 pub mod ReadSoFar
+pub mod RuleList
+pub mod RuleScans
 pub mod Rules
+pub mod RulesMeant
 pub mod Saying
+pub mod SourceRules

@@ -1,5 +1,8 @@
 -- What a rule of a source is (*Writing with Inform*, chapter 19), or the line at which it is none.
 use Rattle.std.specs.Prelude.{◌≡◌, ◌⊎◌, ℕ, Bool, false, true, List, [], Option, None, Some, option_map, reverse}
+use Rattle.world_meaning.specs.declared.fault.Fault.{Fault}
+use Rattle.world_meaning.specs.declared.fault.FaultCode.{FaultCode}
+use Rattle.world_meaning.specs.declared.fault.FaultCode.TheVariants as code
 use Rattle.i7_sentences.specs.declared.rule.Rule.{Rule}
 use Rattle.i7_sentences.specs.declared.rule.RuleBook.{RuleBook}
 use Rattle.i7_sentences.specs.declared.rule.RuleBook.TheVariants as book
@@ -103,3 +106,13 @@ IsRuleFound k line rule (found.Unknown at) = (HasNoHead k rule × (at ≡ line))
 IsRuleFound k line rule (found.TooMany at) =
     AreUnderstood k (reverse rule.body) × ((IsOver k rule × (at ≡ line)) ⊎ (((head : Head) × IsWithin k rule head) × IsOverAt k (reverse rule.body) at))
 IsRuleFound k line rule found.Unnested = ((head : Head) × IsWithin k rule head) × IsNoBody k rule.body
+
+abbrev pub fault_at : FaultCode → ℕ → Option Fault
+fault_at which line = Some (record { code = which; line = line })
+
+-- what is wrong with a rule at this line of which this is told, and where
+abbrev pub fault_in : ℕ → RuleFound → Option Fault
+fault_in line (found.Says told) = None
+fault_in line (found.Unknown at) = fault_at code.UnknownName at
+fault_in line (found.TooMany at) = fault_at code.TooMany at
+fault_in line found.Unnested = fault_at code.NotUnderstood line

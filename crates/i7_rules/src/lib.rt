@@ -1,14 +1,21 @@
 //! The rules of a source once names are known: what each phrase of a body is as a line of it, the body that its phrases
-//! are, and the rule with its head.
+//! are, the rule with its head, and all rules of a source.
 #![tactic(auto)]
 
 mod body;
 mod doing;
 mod known;
+mod laws;
 mod rule;
+mod rule_list;
+mod rule_names;
 mod saying;
+mod source_rules;
+mod standard_names;
 mod step;
 
 pub use body::{BodyRead, body_of};
 pub use known::Known;
+pub use laws::{one_list_of_rules, one_rule_is_told};
 pub use rule::{MeantRule, RuleFound, RuleHead, rule_of};
+pub use source_rules::{RulesFound, SourceRule, rules_of};

@@ -5,19 +5,23 @@ ghost use Rattle.i7_conditions.specs.Scopes.{scope_of};
 use i7_conditions::{Found, Scope, Step};
 use i7_lexer::lex;
 use i7_phrases::{block_of, change_of, ending_of};
-use i7_sentences::{RuleBody, RuleRead, Spoken, rule_in};
+use i7_sentences::{Assertion, RuleBody, Sentence, Spoken, read};
 use play_meaning::tree::Simple;
 use std::alloc::{AllocError, Global};
 
-/// The body of the rule that a source says, if it says one.
-fn body(alloc: Global, source: &str) -> Result<Option<RuleBody>, AllocError> {
-    let Ok(lexed) = lex(alloc, source.as_bytes()) else {
-        return Ok(None);
-    };
-    match rule_in(alloc, lexed.tokens())? {
-        RuleRead::Says(rule) => Ok(Some(rule.body)),
-        RuleRead::Refused(_) | RuleRead::NoRule => Ok(None),
+/// The body of the rule that a sentence says, if it says one.
+fn body_in(sentence: Sentence) -> Option<RuleBody> {
+    match sentence.said {
+        Assertion::Rule(rule) => Some(rule.body),
+        _ => None,
     }
+}
+
+/// The body of the rule that a source says, if it says one.
+fn body(alloc: Global, source: &str) -> Option<RuleBody> {
+    let lexed = lex(alloc, source.as_bytes()).ok()?;
+    let mut sentences = read(alloc, &lexed).ok()?;
+    body_in(sentences.pop()?)
 }
 
 /// What a phrase changes.
@@ -52,7 +56,7 @@ pub fn phrase(alloc: Global, scope: &Scope<'_>, text: &str) -> Result<String, Al
     requires few { length (scope_of scope.now).repeats ≤ 255 }
 {
     let source = format!(in alloc; "Every turn, {text}.")?;
-    let Some(body) = body(alloc, source.as_str())? else {
+    let Some(body) = body(alloc, source.as_str()) else {
         return format!(in alloc; "no rule");
     };
     match body.as_slice() {
@@ -78,7 +82,7 @@ pub fn opened(alloc: Global, scope: &Scope<'_>, text: &str) -> Result<String, Al
     let source = format!(in alloc;
         "Every turn:\n\tif in darkness:\n\t\trule fails;\n\t{text}:\n\t\trule fails."
     )?;
-    let Some(body) = body(alloc, source.as_str())? else {
+    let Some(body) = body(alloc, source.as_str()) else {
         return format!(in alloc; "no rule");
     };
     match body.as_slice() {

@@ -46,7 +46,7 @@ fn plain(alloc: Global, bytes: &[u8]) -> Result<Text, AllocError> {
     Ok(Text { parts })
 }
 
-/// The text for which a marker stands: `@2;` the third of those that stand apart from the plain sentences.
+/// The text for which a marker stands: `@2;` the third of those with brackets.
 fn marked<'a>(told: &[u8], texts: &'a [MeantText]) -> Option<&'a MeantText> {
     let told = str::from_utf8(told).ok()?;
     let (before, marker) = told.split_once('@')?;

@@ -12,9 +12,10 @@ fn turn_of(code: FaultCode) -> u8 {
         FaultCode::NumberOutOfRange => 4,
         FaultCode::NotUnderstood => 5,
         FaultCode::ReservedWord => 6,
-        FaultCode::UnknownName => 7,
-        FaultCode::TooMany => 8,
-        _ => 9,
+        FaultCode::Twice => 7,
+        FaultCode::UnknownName => 8,
+        FaultCode::TooMany => 9,
+        _ => 10,
     }
 }
 

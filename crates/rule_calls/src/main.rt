@@ -1,7 +1,7 @@
 //! Does the bodies of rules, and prints what they come to: the program that is compared with what is told of them. Its words are
 //! a form and a file. `bodies` does the body of each case, a source with a rule, or says why the source is refused; `codes`
-//! prints the codes of each case; `runs` does bodies that are told by their codes; `spelling` prints the instructions that stand
-//! in front of bytes, a line each.
+//! prints the codes of each case; `names` prints what a name of a source stands for; `runs` does bodies that are told by their
+//! codes; `spelling` prints the instructions that stand in front of bytes, a line each.
 #![tactic(auto)]
 
 mod case;
@@ -9,8 +9,8 @@ mod codes;
 mod emitted;
 mod facts;
 mod faults;
-mod literals;
 mod meant;
+mod named;
 mod playing;
 mod reading;
 mod runner;
@@ -22,6 +22,7 @@ mod told_code;
 mod unplayed;
 
 use case::Case;
+use named::names_told;
 use playing::{told, told_codes};
 use runs::Bench;
 use spelling::spelling_told;
@@ -35,6 +36,7 @@ use std::{env, fs};
 enum Form {
     Bodies,
     Codes,
+    Names,
     Runs,
     Spelling,
 }
@@ -44,6 +46,7 @@ fn form_of(name: &str) -> Option<Form> {
     match name {
         "bodies" => Some(Form::Bodies),
         "codes" => Some(Form::Codes),
+        "names" => Some(Form::Names),
         "runs" => Some(Form::Runs),
         "spelling" => Some(Form::Spelling),
         _ => None,
@@ -60,10 +63,10 @@ fn tell(out: &mut Stdout, told: Result<String, AllocError>) -> bool {
 
 /// What is printed of a case.
 fn case_told(alloc: Global, form: Form, record: &str) -> Result<String, AllocError> {
-    let case = Case::of(record);
     match form {
-        Form::Codes => told_codes(alloc, &case),
-        _ => told(alloc, &case),
+        Form::Codes => told_codes(alloc, &Case::of(record)),
+        Form::Names => names_told(alloc, record),
+        _ => told(alloc, &Case::of(record)),
     }
 }
 

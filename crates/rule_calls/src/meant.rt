@@ -1,23 +1,16 @@
 //! What the rules and the descriptions of a case mean, once its names are known.
 use crate::faults::Faults;
-use crate::reading::{Said, SaidAt, Source};
+use crate::reading::{SaidText, Source};
 use crate::unplayed::Unplayed;
 use i7_actions::standard_actions;
 use i7_conditions::{Found, Scope};
 use i7_names::names_in;
 use i7_phrases::text_of;
-use i7_rules::{Known, RuleFound, rule_of};
-use i7_sentences::{Rule, TextPieces};
+use i7_rules::{Known, RulesFound, SourceRule, rules_of};
+use i7_sentences::Sentence;
 use play_meaning::tree::{Condition, Phrase, Text};
 use std::alloc::{AllocError, Global};
 use world_meaning::{Fault, FaultCode, TextBytes};
-
-/// What a part means.
-#[derive(Drop)]
-enum Meaning {
-    Rule(MeantBody),
-    Text(MeantText),
-}
 
 /// A rule's body, the rule's line, and what its head asks.
 #[derive(Drop)]
@@ -34,7 +27,7 @@ pub struct MeantText {
     pub text: Text,
 }
 
-/// What the parts of a case mean.
+/// What a case means.
 #[derive(Drop)]
 pub struct Meant {
     pub bodies: Vec<MeantBody>,
@@ -49,66 +42,74 @@ fn refused(code: FaultCode, line: u32) -> Unplayed {
     Unplayed::Refused(Fault { code, line })
 }
 
-/// What a rule means.
-fn rule_meant(
-    alloc: Global,
-    known: &Known<'_>,
-    line: u32,
-    rule: &Rule,
-) -> Result<Meaning, Unplayed> {
-    match rule_of(alloc, known, line, rule)? {
-        RuleFound::Says(meant) => Ok(Meaning::Rule(MeantBody {
-            line,
-            condition: meant.head.condition,
-            phrases: meant.body,
-        })),
-        RuleFound::Unknown(at) => Err(refused(FaultCode::UnknownName, at)),
-        RuleFound::TooMany(at) => Err(refused(FaultCode::TooMany, at)),
-        RuleFound::Unnested => Err(refused(FaultCode::NotUnderstood, line)),
-    }
-}
-
 /// What a description means.
-fn text_meant(
-    alloc: Global,
-    known: &Known<'_>,
-    line: u32,
-    pieces: &TextPieces,
-) -> Result<Meaning, Unplayed> {
+fn text_meant(alloc: Global, known: &Known<'_>, said: &SaidText) -> Result<MeantText, Unplayed> {
+    let line = said.line;
     let scope = Scope {
         names: known.names,
         repeats: &[],
     };
-    match text_of(alloc, &scope, pieces.as_slice())? {
-        Found::Read(text) => Ok(Meaning::Text(MeantText { line, text })),
+    match text_of(alloc, &scope, said.pieces.as_slice())? {
+        Found::Read(text) => Ok(MeantText { line, text }),
         Found::TooMany => Err(refused(FaultCode::TooMany, line)),
         Found::Unread => Err(refused(FaultCode::UnknownName, line)),
     }
 }
 
-/// What a part means.
-fn part_meant(alloc: Global, known: &Known<'_>, part: &SaidAt) -> Result<Meaning, Unplayed> {
-    match &part.said {
-        Said::Rule(rule) => rule_meant(alloc, known, part.line, rule),
-        Said::Text(pieces) => text_meant(alloc, known, part.line, pieces),
+/// What a rule means.
+fn body_of(rule: SourceRule) -> MeantBody {
+    MeantBody {
+        line: rule.line,
+        condition: rule.rule.head.condition,
+        phrases: rule.rule.body,
     }
 }
 
-/// What parts mean, or the first refusal of one.
-fn meant_by(alloc: Global, known: &Known<'_>, parts: &[SaidAt]) -> Result<Meant, Unplayed> {
-    let mut faults = Faults::default();
+/// What rules mean.
+fn bodies_of(alloc: Global, rules: Vec<SourceRule>) -> Result<Vec<MeantBody>, AllocError> {
     let mut bodies = Vec::new(alloc);
-    let mut texts = Vec::new(alloc);
-    for part in parts {
-        match faults.keep(part_meant(alloc, known, part))? {
-            Some(Meaning::Rule(body)) => bodies.push(body)?,
-            Some(Meaning::Text(text)) => texts.push(text)?,
-            None => {}
+    for rule in rules {
+        bodies.push(body_of(rule))?;
+    }
+    Ok(bodies)
+}
+
+/// What the rules among sentences mean, or the refusal that stands.
+fn rules_meant(
+    alloc: Global,
+    known: &Known<'_>,
+    sentences: &[Sentence],
+) -> Result<Vec<MeantBody>, Unplayed> {
+    match rules_of(alloc, known, sentences)? {
+        RulesFound::Says(rules) => Ok(bodies_of(alloc, rules)?),
+        RulesFound::Refused(fault) => Err(Unplayed::Refused(fault)),
+    }
+}
+
+/// What texts mean; what is refused is kept.
+fn texts_meant(
+    alloc: Global,
+    known: &Known<'_>,
+    texts: &[SaidText],
+    faults: &mut Faults,
+) -> Result<Vec<MeantText>, Unplayed> {
+    let mut all = Vec::new(alloc);
+    for said in texts {
+        if let Some(text) = faults.keep(text_meant(alloc, known, said))? {
+            all.push(text)?;
         }
     }
+    Ok(all)
+}
+
+/// What a source means, or the first refusal.
+fn meant_by(alloc: Global, known: &Known<'_>, source: &Source) -> Result<Meant, Unplayed> {
+    let mut faults = Faults::default();
+    let bodies = faults.keep(rules_meant(alloc, known, source.sentences.as_slice()))?;
+    let texts = texts_meant(alloc, known, source.texts.as_slice(), &mut faults)?;
     faults.refuse()?;
     Ok(Meant {
-        bodies,
+        bodies: bodies.unwrap_or(Vec::new(alloc)),
         texts,
         books: u16::try_from(known.rulebooks.len()).unwrap_or(u16::MAX),
         scenes: known.scenes,
@@ -124,7 +125,7 @@ fn copied(alloc: Global, names: &[Vec<u8>]) -> Result<Vec<TextBytes>, AllocError
     Ok(all)
 }
 
-/// What the parts of a source mean, its plain sentences giving the names.
+/// What a source means, its plain sentences giving the names.
 pub fn case_meant(alloc: Global, source: &Source) -> Result<Meant, Unplayed> {
     let names = names_in(alloc, source.sentences.as_slice())?;
     let actions = standard_actions(alloc)?;
@@ -138,5 +139,5 @@ pub fn case_meant(alloc: Global, source: &Source) -> Result<Meant, Unplayed> {
         rulebooks: rulebooks.as_slice(),
         scenes: names.scenes as u16,
     };
-    meant_by(alloc, &known, source.parts.as_slice())
+    meant_by(alloc, &known, source)
 }

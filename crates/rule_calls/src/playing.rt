@@ -3,7 +3,7 @@ use crate::case::Case;
 use crate::codes::{Rest, all_verified, counts_of};
 use crate::emitted::emit_case;
 use crate::meant::{Meant, case_meant};
-use crate::reading::{Source, read_case};
+use crate::reading::{Source, source_of};
 use crate::runner::{Asked, Ended, run};
 use crate::stage::Stage;
 use crate::strings::strings_of;
@@ -49,7 +49,7 @@ fn set_up_meant(
         return Err(Unplayed::NotOneRule);
     };
     let told = story.as_ref();
-    let strings = strings_of(alloc, source.parts.as_slice(), told)?;
+    let strings = strings_of(alloc, source, told)?;
     let emitted = emit_case(alloc, &strings, body, told, meant.texts.as_slice())?;
     let rest = Rest {
         scenes: meant.scenes,
@@ -66,7 +66,7 @@ fn set_up_meant(
 
 /// A case whose body can be done.
 fn set_up(alloc: Global, case: &Case<'_>) -> Result<Staged, Unplayed> {
-    let source = read_case(alloc, case)?;
+    let source = source_of(alloc, case.source)?;
     let story = story_of(alloc, case.plain)?;
     let meant = case_meant(alloc, &source)?;
     set_up_meant(alloc, &source, &meant, &story)

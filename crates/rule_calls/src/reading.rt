@@ -1,117 +1,69 @@
-//! What the parts of a case say, their words not yet resolved.
-use crate::case::{Case, Part};
-use crate::faults::Faults;
-use crate::literals::{refuse_literal, refuse_literals};
+//! What the sentences of a source say, and its texts with brackets, their words not yet resolved.
 use crate::unplayed::Unplayed;
-use i7_lexer::{PackedToken, TokenKind, lex};
-use i7_sentences::{Rule, RuleRead, Sentence, TextPieces, read, read_text, rule_in};
-use std::alloc::Global;
-use world_meaning::{Fault, FaultCode};
+use i7_lexer::lex;
+use i7_sentences::{Assertion, Sentence, TextPieces, is_plain, read, read_text};
+use std::alloc::{AllocError, Global};
+use world_meaning::TextBytes;
 
-/// What a part says.
+/// What a text says that describes an object, and the line of its sentence.
 #[derive(Drop)]
-pub enum Said {
-    Rule(Rule),
-    Text(TextPieces),
-}
-
-/// What a part says, and the line at which it begins.
-#[derive(Drop)]
-pub struct SaidAt {
+pub struct SaidText {
     pub line: u32,
-    pub said: Said,
+    pub pieces: TextPieces,
 }
 
 /// What a source says.
 #[derive(Drop)]
 pub struct Source {
     pub sentences: Vec<Sentence>,
-    pub parts: Vec<SaidAt>,
+    /// The texts with brackets that describe, in order.
+    pub texts: Vec<SaidText>,
 }
 
-/// What isn't understood at a line.
-fn not_understood(line: u32) -> Unplayed {
-    Unplayed::Refused(Fault {
-        code: FaultCode::NotUnderstood,
-        line,
-    })
-}
-
-/// The sentences of a source of plain sentences.
-fn plain(alloc: Global, source: &str) -> Result<Vec<Sentence>, Unplayed> {
+/// The sentences of a source.
+pub fn sentences_in(alloc: Global, source: &str) -> Result<Vec<Sentence>, Unplayed> {
     let lexed = lex(alloc, source.as_bytes())?;
     Ok(read(alloc, &lexed)?)
 }
 
-/// The line of the first token.
-fn line_of(tokens: &[PackedToken]) -> u32 {
-    match tokens {
-        [] => 1,
-        [first, ..] => first.line(),
+/// The text of a description.
+fn text_in(said: &Assertion) -> Option<&TextBytes> {
+    match said {
+        Assertion::Description(text) => Some(text),
+        Assertion::DescriptionOf { text, .. } => Some(text),
+        _ => None,
     }
 }
 
-/// The rule of a source that is one.
-fn rule(alloc: Global, source: &str) -> Result<SaidAt, Unplayed> {
-    let lexed = lex(alloc, source.as_bytes())?;
-    let tokens = lexed.tokens();
-    refuse_literals(alloc, tokens)?;
-    let line = line_of(tokens);
-    match rule_in(alloc, tokens)? {
-        RuleRead::Says(rule) => Ok(SaidAt {
-            line,
-            said: Said::Rule(rule),
-        }),
-        RuleRead::Refused(fault) => Err(Unplayed::Refused(fault)),
-        RuleRead::NoRule => Err(not_understood(line)),
-    }
-}
-
-/// What a text says that describes an object.
-fn text_in(alloc: Global, token: &PackedToken) -> Result<SaidAt, Unplayed> {
-    let line = token.line();
-    refuse_literal(alloc, token, line)?;
-    let TokenKind::Text(text) = token.kind() else {
-        return Err(Unplayed::UnknownPart);
+/// What the text with brackets says with which a sentence describes, if it does.
+fn said_in(alloc: Global, sentence: &Sentence) -> Result<Option<SaidText>, AllocError> {
+    let Some(text) = text_in(&sentence.said) else {
+        return Ok(None);
     };
+    if is_plain(text.as_slice()) {
+        return Ok(None);
+    }
+    let line = sentence.line;
     match read_text(alloc, text.as_slice())? {
-        Some(pieces) => Ok(SaidAt {
-            line,
-            said: Said::Text(pieces),
-        }),
-        None => Err(not_understood(line)),
+        Some(pieces) => Ok(Some(SaidText { line, pieces })),
+        None => Ok(None),
     }
 }
 
-/// What the text of a source says that is one text.
-fn text(alloc: Global, source: &str) -> Result<SaidAt, Unplayed> {
-    let lexed = lex(alloc, source.as_bytes())?;
-    match lexed.tokens() {
-        [token] => text_in(alloc, token),
-        _ => Err(Unplayed::UnknownPart),
-    }
-}
-
-/// What a part says.
-fn part_said(alloc: Global, part: &Part<'_>) -> Result<SaidAt, Unplayed> {
-    match part {
-        Part::Rule(source) => rule(alloc, source),
-        Part::Text(source) => text(alloc, source),
-        Part::Unknown => Err(Unplayed::UnknownPart),
-    }
-}
-
-/// What a case says, or the first refusal of its parts.
-pub fn read_case(alloc: Global, case: &Case<'_>) -> Result<Source, Unplayed> {
-    let mut faults = Faults::default();
-    let sentences = faults.keep(plain(alloc, case.plain))?;
-    let mut parts = Vec::new(alloc);
-    for part in case.parts(alloc)?.iter() {
-        if let Some(said) = faults.keep(part_said(alloc, part))? {
-            parts.push(said)?;
+/// The texts with brackets that describe.
+fn texts_in(alloc: Global, sentences: &[Sentence]) -> Result<Vec<SaidText>, AllocError> {
+    let mut texts = Vec::new(alloc);
+    for sentence in sentences {
+        if let Some(said) = said_in(alloc, sentence)? {
+            texts.push(said)?;
         }
     }
-    faults.refuse()?;
-    let sentences = sentences.unwrap_or(Vec::new(alloc));
-    Ok(Source { sentences, parts })
+    Ok(texts)
+}
+
+/// What a source says, or its refusal.
+pub fn source_of(alloc: Global, source: &str) -> Result<Source, Unplayed> {
+    let sentences = sentences_in(alloc, source)?;
+    let texts = texts_in(alloc, sentences.as_slice())?;
+    Ok(Source { sentences, texts })
 }

@@ -1,7 +1,7 @@
 //! The strings that the codes of a case name: those of its bodies and of its descriptions.
-use crate::reading::{Said, SaidAt};
+use crate::reading::Source;
 use i7_phrases::ending_of;
-use i7_sentences::{Rule, Spoken, TextPiece};
+use i7_sentences::{Assertion, Rule, Sentence, Spoken, TextPiece};
 use object_words::Strings;
 use play_meaning::tree::Simple;
 use std::alloc::{AllocError, Global};
@@ -37,12 +37,11 @@ fn add_body(alloc: Global, all: &mut Strings, rule: &Rule) -> Result<(), AllocEr
     Ok(())
 }
 
-/// The strings of the parts of a case.
-fn add_parts(alloc: Global, all: &mut Strings, parts: &[SaidAt]) -> Result<(), AllocError> {
-    for part in parts {
-        match &part.said {
-            Said::Rule(rule) => add_body(alloc, all, rule)?,
-            Said::Text(pieces) => add_pieces(alloc, all, pieces.as_slice())?,
+/// The strings of the rules among sentences.
+fn add_rules(alloc: Global, all: &mut Strings, sentences: &[Sentence]) -> Result<(), AllocError> {
+    for sentence in sentences {
+        if let Assertion::Rule(rule) = &sentence.said {
+            add_body(alloc, all, rule)?;
         }
     }
     Ok(())
@@ -58,10 +57,13 @@ fn add_descriptions(alloc: Global, all: &mut Strings, story: &Story) -> Result<(
     Ok(())
 }
 
-/// The strings of the parts of a case and of its story's descriptions, and behind them the line break that may follow what is said.
-pub fn strings_of(alloc: Global, parts: &[SaidAt], story: &Story) -> Result<Strings, AllocError> {
+/// The strings of a case and of its story's descriptions, and behind them the line break that may follow what is said.
+pub fn strings_of(alloc: Global, source: &Source, story: &Story) -> Result<Strings, AllocError> {
     let mut all = Strings::new(alloc);
-    add_parts(alloc, &mut all, parts)?;
+    add_rules(alloc, &mut all, source.sentences.as_slice())?;
+    for text in source.texts.as_slice() {
+        add_pieces(alloc, &mut all, text.pieces.as_slice())?;
+    }
     add_descriptions(alloc, &mut all, story)?;
     all.mention(alloc, b"\n")?;
     Ok(all)

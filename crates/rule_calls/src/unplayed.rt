@@ -14,7 +14,7 @@ pub enum Unplayed {
     Unloaded(#[from] LoadFault),
     #[error("unplayed\tout of memory")]
     Memory(#[from(alloc)] AllocError),
-    #[error("unplayed\ta part is no rule and no text")]
+    #[error("unplayed\ta part can't be read")]
     UnknownPart,
     #[error("unplayed\tmore actions, rulebooks or scenes than the language has")]
     TooManyNames,
