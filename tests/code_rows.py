@@ -103,8 +103,10 @@ def bodies(rows):
 
 def record_of(plain, rule, *texts):
     """A source as `rule_calls` reads it."""
-    parts = [plain, f"rule\t{rule}", *(f"text\t{text}" for text in texts)]
-    return "".join(written_out(part) + "\x1f" for part in parts) + "\x1e"
+    plain, source = written_out(plain), written_out(f"{plain}\n\n{rule}")
+    for number, text in enumerate(texts):
+        source = source.replace(f'"@{number};"', written_out(text))
+    return f"{source}\x1f{plain}\x1e"
 
 
 def lengths(codes):

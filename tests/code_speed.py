@@ -39,8 +39,7 @@ def asked(*words, told):
 
 def codes_of(source, rule):
     """The codes of a rule as they are told."""
-    at_its_line = "\n" * (source.count("\n") + 1)
-    return asked(program, "codes", told=f"{source}\n\x1frule\t{at_its_line}{rule}\x1f\x1e").stdout.strip()
+    return asked(program, "codes", told=f"{source}\n\n{rule}\x1f{source}\x1e").stdout.strip()
 
 
 def taken(source, codes, times):

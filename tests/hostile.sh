@@ -1,6 +1,6 @@
 #!/usr/bin/env bash
 # Sources of the greatest length that are hard on a reader: each is answered within a second, and those of few
-# sentences with at most 40 bytes of memory for each of theirs.
+# sentences, phrases and pieces of texts with at most 40 bytes of memory for each of theirs.
 # Use: tests/hostile.sh PROGRAM
 set -u
 program=$(realpath "$1")
@@ -38,6 +38,25 @@ open("body.i7", "w").write(":" + "." * (longest - 1))
 open("text_brackets.i7", "w").write('Frob "' + "[" * (longest - 7) + '"')
 open("nested.i7", "wb").write(b"[" * half + b"]" * half)
 open("random.i7", "wb").write(random.Random(7).randbytes(longest))
+hall = "The Hall is a room.\n\n"
+def save_rule(name, front, unit, behind):
+    count = (longest - len(hall + front + behind)) // len(unit)
+    open(name + ".i7", "w").write(hall + front + unit * count + behind)
+save_rule("rule_conditions", "Every turn when x is y", " and x is y", ":\n\tsay \"a\".")
+save_rule("rule_alternatives", "Every turn when x is y", " or x is y", ":\n\tsay \"a\".")
+save_rule("rule_sum", "Every turn, now x is x", " plus x", ".")
+save_rule("rule_rooms", "Every turn, move x to the room", " north from the room", " x.")
+save_rule("rule_phrases", "Every turn:", "\n\trule fails;", "")
+save_rule("rule_inline_ifs", "Every turn:", "\n\tif x is y, rule fails; otherwise rule fails;", "")
+save_rule("rule_words", "Every turn, say ", "x ", "\"a\".")
+save_rule("rule_substitutions", "Every turn, say \"", "[x]", "\".")
+save_rule("rule_text_ifs", "Every turn, say \"", "[if x is y]a[end if]", "\".")
+save_rule("description_substitutions", "\"", "[x]", "\"")
+save_rule("rule_colons", "Every turn", ":", "")
+save_rule("rule_heads", "Every turn", " when x is y (this is the rule", "")
+blocks = "".join("\t" * n + "if x is y:\n" for n in range(1, 700))
+open("rule_blocks.i7", "w").write(hall + "Every turn:\n" + blocks)
+open("rules_many.i7", "w").write(hall + "Every turn, rule fails.\n" * ((longest - len(hall)) // 24))
 rooms = "".join(f"Room{n} is north of Room{n - 1}. \"The walls of room {n} are bare and cold here.\"\n\n" for n in range(1, 980))
 open("rooms.i7", "w").write("Room0 is a room.\n\n" + rooms)
 open("long_rulebook.i7", "w").write("The Hall is a room. The " + "x" * 65536 + " rules is a rulebook.")
@@ -64,7 +83,7 @@ for source in *.i7; do
   limit=$space
   case $source in
     rooms.i7 | one_room.i7) want=0 limit=unlimited ;;
-    closed_texts.i7 | long_*) limit=unlimited ;;
+    closed_texts.i7 | rule_colons.i7 | rule_substitutions.i7 | long_*) limit=unlimited ;;
   esac
   (ulimit -v "$limit"; exec timeout 1 "$program" compile "$source" story) 2>err </dev/null
   status=$?

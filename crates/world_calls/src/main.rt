@@ -1,11 +1,21 @@
-//! Makes calls of a story's world and of the tree of objects, word by word, and prints what each answers: the program around
-//! which memory is refused and instructions are counted. Its first word is a story file, or `-` for the furnished story.
+//! Makes calls of a story's world and of the tree of objects, and prints what each answers: the program around which memory is
+//! refused and instructions are counted, and that is compared with what is told by hand. Its first word is a story file, or `-`
+//! for the furnished story; each word behind it is a call, and behind `--rows` comes a file of rows, a line each.
 #![tactic(auto)]
 
+mod answer;
 mod calls;
+mod changes;
+mod names;
+mod pair;
+mod reads;
+mod row;
+mod words;
 
 use calls::{Answer, called};
+use row::row_told;
 use sample_stories::FURNISHED;
+use std::alloc::Global;
 use std::io::{Stdout, Write};
 use std::process::ExitCode;
 use std::rc::Rc;
@@ -41,25 +51,69 @@ fn tell(out: &mut Stdout, word: &str, answer: Answer) -> bool {
     }
 }
 
-/// Makes the calls, and answers the status: 0, or 4 where there is no story, no memory for it, or no room for the answers.
+/// Makes the calls of words.
+fn tell_calls(rt: &HostRuntime, story: &Rc<Story>, world: &World, calls: &[String]) -> bool {
+    let mut out = rt.stdout();
+    for word in calls {
+        let word = word.as_str();
+        if !tell(&mut out, word, called(rt.alloc(), story, world, word)) {
+            return false;
+        }
+    }
+    true
+}
+
+/// Prints what the calls of a row answer.
+fn tell_row(alloc: Global, out: &mut Stdout, story: &Rc<Story>, row: &str) -> bool {
+    match row_told(alloc, story, row) {
+        Ok(told) => writeln!(out, "{told}").is_ok(),
+        Err(_) => false,
+    }
+}
+
+/// Makes the calls of rows.
+fn tell_rows(rt: &HostRuntime, story: &Rc<Story>, rows: &str) -> bool {
+    let mut out = rt.stdout();
+    for row in rows.lines() {
+        if !tell_row(rt.alloc(), &mut out, story, row) {
+            return false;
+        }
+    }
+    true
+}
+
+/// Makes the calls of the rows of a file, if it is there.
+fn tell_file(rt: &HostRuntime, story: &Rc<Story>, path: &str) -> Option<bool> {
+    let bytes = fs::read(rt, path).ok()?;
+    let rows = str::from_utf8(bytes.as_slice()).ok()?;
+    Some(tell_rows(rt, story, rows))
+}
+
+/// Makes the calls of words, and behind `--rows` those of a file.
+fn tell_all(rt: &HostRuntime, path: &str, words: &[String]) -> Option<bool> {
+    let (story, world) = begun(rt, path)?;
+    match words {
+        [calls @ .., flag, file] if flag.as_str() == "--rows" => {
+            let told = tell_calls(rt, &story, &world, calls);
+            Some(told && tell_file(rt, &story, file.as_str())?)
+        }
+        calls => Some(tell_calls(rt, &story, &world, calls)),
+    }
+}
+
+/// Makes the calls, and answers the status: 0, or 4 where there is no story, no file of rows, no memory, or no room for the
+/// answers.
 fn status(rt: &HostRuntime) -> u8 {
     let Ok(args) = env::args(rt) else { return 4 };
     let words: Result<Vec<String>, _> = args.collect(rt.alloc());
     let Ok(words) = words else { return 4 };
-    let [_, path, calls @ ..] = words.as_slice() else {
+    let [_, path, words @ ..] = words.as_slice() else {
         return 4;
     };
-    let Some((story, world)) = begun(rt, path.as_str()) else {
-        return 4;
-    };
-    let mut out = rt.stdout();
-    for word in calls {
-        let word = word.as_str();
-        if !tell(&mut out, word, called(rt.alloc(), &story, &world, word)) {
-            return 4;
-        }
+    match tell_all(rt, path.as_str(), words) {
+        Some(true) => 0,
+        _ => 4,
     }
-    0
 }
 
 fn main(rt: HostRuntime) -> ExitCode {

@@ -1,0 +1,85 @@
+//! A rule: its rulebook, `{condition:` and `(name)`, and of each phrase its line and depth, what it says, and `!` for an `instead`:
+//! `every{in,darkness: 1/0 |x|`.
+use crate::spoken::add_spoken;
+use crate::texts::add_words;
+use crate::tokens::fault_told;
+use i7_lexer::{Lexed, lex};
+use i7_sentences::{Assertion, Rule, RuleBook, RulePhrase, Sentence, read};
+use std::alloc::{AllocError, Global};
+
+/// Adds a rulebook.
+fn add_book(out: &mut Vec<u8>, book: &RuleBook) -> Result<(), AllocError> {
+    match book {
+        RuleBook::EveryTurn => out.extend_from_slice(b"every"),
+        RuleBook::PlayBegins => out.extend_from_slice(b"begins"),
+        RuleBook::Own(words) => add_words(out, b'<', words, b'>'),
+    }
+}
+
+/// Adds the head of a rule.
+fn add_head(out: &mut Vec<u8>, rule: &Rule) -> Result<(), AllocError> {
+    add_book(out, &rule.book)?;
+    if let Some(condition) = &rule.condition {
+        add_words(out, b'{', condition, b':')?;
+    }
+    if let Some(name) = &rule.name {
+        add_words(out, b'(', name, b')')?;
+    }
+    Ok(())
+}
+
+/// Adds a phrase.
+fn add_phrase(alloc: Global, out: &mut Vec<u8>, phrase: &RulePhrase) -> Result<(), AllocError> {
+    let line = phrase.line;
+    let depth = phrase.depth;
+    let place = format!(in alloc; " {line}/{depth} ")?;
+    out.extend_from_slice(place.as_bytes())?;
+    add_spoken(out, &phrase.said)?;
+    if phrase.is_instead {
+        out.push(b'!')?;
+    }
+    Ok(())
+}
+
+/// Adds a rule with its phrases.
+pub fn add_rule(alloc: Global, out: &mut Vec<u8>, rule: &Rule) -> Result<(), AllocError> {
+    add_head(out, rule)?;
+    for phrase in rule.body.as_slice() {
+        add_phrase(alloc, out, phrase)?;
+    }
+    Ok(())
+}
+
+/// What a sentence says as a rule.
+fn said_told(alloc: Global, said: &Assertion) -> Result<Vec<u8>, AllocError> {
+    let mut out = Vec::new(alloc);
+    match said {
+        Assertion::Rule(rule) => add_rule(alloc, &mut out, rule)?,
+        _ => out.extend_from_slice(b"no rule")?,
+    }
+    Ok(out)
+}
+
+/// What the one sentence of a source says as a rule.
+fn sentence_told(alloc: Global, sentences: &[Sentence]) -> Result<Vec<u8>, AllocError> {
+    match sentences {
+        [sentence] => said_told(alloc, &sentence.said),
+        _ => Vec::from_slice(alloc, b"not one sentence"),
+    }
+}
+
+/// What tokens are as a rule, or their refusal.
+fn read_told(alloc: Global, lexed: &Lexed) -> Result<Vec<u8>, AllocError> {
+    match read(alloc, lexed) {
+        Ok(sentences) => sentence_told(alloc, sentences.as_slice()),
+        Err(fault) => fault_told(alloc, fault),
+    }
+}
+
+/// What a source of one sentence is as a rule: the rule, its refusal, or that it is none.
+pub fn rule_told(alloc: Global, source: &[u8]) -> Result<Vec<u8>, AllocError> {
+    match lex(alloc, source) {
+        Ok(lexed) => read_told(alloc, &lexed),
+        Err(fault) => fault_told(alloc, fault),
+    }
+}

@@ -1,0 +1,121 @@
+//! Rows: calls of a story's world, `;` in between, made one after the other on a world as the story begins.
+use crate::answer::{chain_told, objects_told, truth_told};
+use crate::changes::{change_of, changed};
+use crate::pair::Pair;
+use crate::reads::read_told;
+use crate::words::Words;
+use play_meaning::make;
+use std::alloc::{AllocError, Global};
+use std::rc::Rc;
+use story_format::Story;
+use world_store::World;
+
+/// A turn count that a row doesn't come to.
+const MANY_TURNS: u32 = 1000;
+
+fn made(alloc: Global) -> Result<String, AllocError> {
+    format!(in alloc; "made")
+}
+
+fn unknown(alloc: Global) -> Result<String, AllocError> {
+    format!(in alloc; "no such call")
+}
+
+/// What a call answers that changes a world or reads it.
+fn world_told(
+    alloc: Global,
+    world: &mut World,
+    call: &str,
+    words: &mut Words<'_>,
+) -> Result<String, AllocError> {
+    let Some(change) = change_of(alloc, call, words) else {
+        return match read_told(alloc, world, call, words)? {
+            Some(told) => Ok(told),
+            None => unknown(alloc),
+        };
+    };
+    if !words.are_read() {
+        return unknown(alloc);
+    }
+    match changed(world, change) {
+        Ok(()) => made(alloc),
+        Err(fault) => format!(in alloc; "{fault}"),
+    }
+}
+
+/// Makes a change that is told by words, whether or not it is allowed.
+fn make_told(
+    alloc: Global,
+    world: &mut World,
+    words: &mut Words<'_>,
+) -> Result<String, AllocError> {
+    let call = words.word();
+    match change_of(alloc, call, words) {
+        Some(change) if words.are_read() => {
+            make(world, change);
+            made(alloc)
+        }
+        _ => unknown(alloc),
+    }
+}
+
+/// Counts a turn more, if they aren't too many.
+fn next_turn_told(alloc: Global, world: &mut World) -> Result<String, AllocError> {
+    if world.turns() < MANY_TURNS {
+        world.next_turn();
+        made(alloc)
+    } else {
+        format!(in alloc; "too many turns")
+    }
+}
+
+/// What the call of an object's chain answers.
+fn climb_told(alloc: Global, world: &World, words: &mut Words<'_>) -> Result<String, AllocError> {
+    match words.object() {
+        Some(object) if words.are_read() => chain_told(alloc, world.chain(object)),
+        _ => unknown(alloc),
+    }
+}
+
+/// What a call answers by its words.
+fn words_told(alloc: Global, world: &mut World, told: &str) -> Result<String, AllocError> {
+    let mut words = Words::of(told);
+    match words.word() {
+        "make" => make_told(alloc, world, &mut words),
+        "chain" => climb_told(alloc, world, &mut words),
+        call => world_told(alloc, world, call, &mut words),
+    }
+}
+
+/// What a call answers. Beside those of the world there are `make` in front of a change, which makes it by the function of that
+/// name; `copy`, behind which the calls go to the copy; `other`, behind which they go to the world that isn't called; and
+/// `agree`, whether the two worlds say the same of all objects.
+fn call_told(alloc: Global, pair: &mut Pair, call: &str) -> Result<String, AllocError> {
+    match call {
+        "copy" => {
+            pair.copy(alloc)?;
+            made(alloc)
+        }
+        "other" => {
+            pair.swap();
+            made(alloc)
+        }
+        "agree" => truth_told(alloc, pair.agree()),
+        "next_turn" => next_turn_told(alloc, &mut pair.here),
+        "on_view" => objects_told(alloc, pair.here.on_view(alloc)?.as_slice()),
+        _ => words_told(alloc, &mut pair.here, call),
+    }
+}
+
+/// What the calls of a row answer, `; ` in between.
+pub fn row_told(alloc: Global, story: &Rc<Story>, row: &str) -> Result<String, AllocError> {
+    let mut pair = Pair::begun(alloc, story)?;
+    let mut line = String::new(alloc);
+    for call in row.split(';') {
+        if !line.is_empty() {
+            line.push_str("; ")?;
+        }
+        line.push_str(call_told(alloc, &mut pair, call)?.as_str())?;
+    }
+    Ok(line)
+}

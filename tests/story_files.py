@@ -1,0 +1,104 @@
+#!/usr/bin/env python3
+"""A story written by hand from docs/story-format.md, tests/story_files/two_rooms.hex: the source that says it is compiled to its
+bytes, and each change of changes.rows makes it refused, or leaves a story that plays. A plain reader of the format must say the
+same. The numbers with which a story begins are those that numbers.rows tells of numbers.i7.
+
+Use: tests/story_files.py PROGRAM    (tests/row_files.py says how rows are written)"""
+import pathlib
+import re
+import subprocess
+import sys
+import tempfile
+
+from plain_stories import Fault, has, opening, tables
+from row_files import report, rows_of
+
+program = pathlib.Path(sys.argv[1]).resolve()
+folder = pathlib.Path(__file__).resolve().parent / "story_files"
+CHANGE = re.compile(r"(\d+|end)([=+-])([\d,]+)")
+TWO_ROOMS = b"""The Hall is a room. "A bare hall."\n\nThe Garden is north of the Hall.\n"""
+
+
+def digits_of(path):
+    lines = path.read_text().splitlines()
+    return bytes.fromhex("".join(line for line in lines if not line.startswith("#")))
+
+
+def changed(story, told):
+    """The story with each of these changes."""
+    pieces = [bytes([byte]) for byte in story] + [b""]
+    for change in told.split():
+        place, sign, said = CHANGE.fullmatch(change).groups()
+        numbers = bytes(int(number) for number in re.findall(r"\d+", said))
+        place = len(story) if place == "end" else int(place)
+        if sign == "-":
+            pieces[place - numbers[0] : place] = [b""] * numbers[0]
+        else:
+            pieces[place] = numbers if sign == "=" else numbers + pieces[place]
+    return b"".join(pieces)
+
+
+def compiled(scratch, source):
+    """The story of a source."""
+    (scratch / "source").write_bytes(source)
+    subprocess.run([program, "compile", scratch / "source", scratch / "story"], check=True)
+    return (scratch / "story").read_bytes()
+
+
+def played(scratch, story):
+    """What the program says of a story: the fault, or that it plays."""
+    path = scratch / "story"
+    path.write_bytes(story)
+    done = subprocess.run([program, "play", path], stdin=subprocess.DEVNULL, capture_output=True, timeout=10)
+    if done.returncode == 0 and done.stdout and not done.stderr:
+        return b"plays"
+    if done.returncode == 2 and not done.stdout:
+        return done.stderr.removeprefix(b"%s: " % bytes(path)).removesuffix(b"\n")
+    return b"status %d: %s" % (done.returncode, done.stderr)
+
+
+def read_plainly(story):
+    """What a plain reader says of a story."""
+    try:
+        opening(story)
+    except Fault as fault:
+        return str(fault).encode()
+    return b"plays"
+
+
+def number_of(told, thing, number):
+    """The number of a property that an object has, with its sign, or `-`."""
+    kinds = told["numbers"]
+    if not has(told, thing["kind"], kinds[number]):
+        return "-"
+    return signed(thing["numbers"][sum(has(told, thing["kind"], given) for given in kinds[:number])])
+
+
+def signed(number):
+    """A number of four bytes as it is written."""
+    return str(number - 2**32 if number >= 2**31 else number)
+
+
+def numbers_of(told, asked):
+    """What a row of numbers asks."""
+    if asked == b"variables":
+        return " ".join(signed(number) for number in told["variables"]).encode()
+    number = int(asked.removeprefix(b"property "))
+    return " ".join(number_of(told, thing, number) for thing in told["objects"]).encode()
+
+
+def answers(scratch):
+    story = digits_of(folder / "two_rooms.hex")
+    yield "two_rooms.hex", compiled(scratch, TWO_ROOMS).hex(), story.hex()
+    for place, (change, wanted, _) in rows_of(folder / "changes.rows"):
+        other = changed(story, change.decode())
+        yield place, played(scratch, other), wanted
+        yield f"{place}, plainly", read_plainly(other), wanted
+    told = tables(compiled(scratch, (folder / "numbers.i7").read_bytes()))
+    yield "numbers.i7", str(len(told["numbers"])), "2"
+    for place, (asked, wanted) in rows_of(folder / "numbers.rows"):
+        yield place, numbers_of(told, asked), wanted
+
+
+with tempfile.TemporaryDirectory() as folder_of_files:
+    report("story files", answers(pathlib.Path(folder_of_files)))

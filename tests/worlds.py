@@ -1,0 +1,70 @@
+#!/usr/bin/env python3
+"""Compares what the calls of a story's world answer with what is told by hand, by the rows of tests/worlds/*.rows.
+
+Use: tests/worlds.py PROGRAM [FILE]    (the program of `i7story`; that of `world_calls` stands beside it)
+
+A row is a line: calls, `; ` in between, made one after the other on a world as the story begins, each with what it answers behind
+` = `; one behind which nothing stands is to be made. The calls have the names of the methods of `World`, `Ground` and
+`GroundMut`, and the words of `crates/world_calls/src/names.rt`; that crate's `row.rt` says what `make`, `copy`, `other` and
+`agree` are. The story of FILE is that of its name in `sample_stories`, or the furnished one, and a line that begins with `#`
+says what the rows below it are about."""
+import pathlib
+import re
+import subprocess
+import sys
+import tempfile
+
+crates = pathlib.Path(sys.argv[1]).resolve().parents[2]
+wanted_file = sys.argv[2] if len(sys.argv) > 2 else ""
+program = crates / "world_calls/out/world_calls"
+stories = crates / "sample_stories/src"
+folder = pathlib.Path(__file__).resolve().parent / "worlds"
+
+
+def lines_of(path):
+    """The rows of a file with their lines' numbers."""
+    lines = path.read_text().splitlines()
+    return [(number, line) for number, line in enumerate(lines, 1) if not line.startswith("#")]
+
+
+def call_in(part):
+    """A call and what it is to answer."""
+    call, _, wanted = part.partition(" = ")
+    return call, wanted or "made"
+
+
+def story_of(path, scratch):
+    """The story of a file, as `world_calls` is told it: the bytes that are written there by hand, or the furnished one."""
+    written = stories / f"{path.stem}.rt"
+    if not written.exists():
+        return "-"
+    story = scratch / "story"
+    story.write_bytes(bytes.fromhex("".join(re.findall(r"\b0x([0-9a-f]{2})\b", written.read_text()))))
+    return story
+
+
+def all_told(path, rows):
+    """What the program prints of the rows of a file, a line for each."""
+    with tempfile.TemporaryDirectory() as name:
+        scratch = pathlib.Path(name)
+        (scratch / "rows").write_text("".join(row + "\n" for row in rows))
+        words = [program, story_of(path, scratch), "--rows", scratch / "rows"]
+        done = subprocess.run(words, capture_output=True, check=True, timeout=300)
+    return done.stdout.decode().split("\n")[:-1]
+
+
+passed = failed = 0
+for path in sorted(folder.glob("*.rows")):
+    if wanted_file not in ("", path.stem):
+        continue
+    lines = lines_of(path)
+    rows = [[call_in(part) for part in line.split("; ")] for _, line in lines]
+    found = all_told(path, [";".join(call for call, _ in row) for row in rows])
+    for (number, _), row, line in zip(lines, rows, found, strict=True):
+        wanted = "; ".join(answer for _, answer in row)
+        passed += line == wanted
+        if line != wanted:
+            failed += 1
+            print(f"worlds: {path.name}:{number}: wanted {wanted[:500]}, got {line[:500]}")
+print(f"worlds: {passed} passed, {failed} failed")
+sys.exit(1 if failed or not passed else 0)
