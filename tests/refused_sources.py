@@ -1,8 +1,10 @@
 #!/usr/bin/env python3
 """Compiles the source of each row of tests/refused_sources/*.rows (tests/row_files.py says how a row is written): it is refused as
-its second field says, a line, a code and its name, or `taken`.
+its second field says, a line, a code and its name, or `taken`. The sources of tests/bodies are refused as is told there; one of
+which all is understood for its first rule or description with a `[`, since no story holds these so far.
 
 Use: tests/refused_sources.py PROGRAM"""
+import json
 import os
 import pathlib
 import subprocess
@@ -10,9 +12,11 @@ import sys
 import tempfile
 
 from row_files import report, rows_of
+from rule_sources import unheld_line
 
 program = pathlib.Path(sys.argv[1]).resolve()
 folder = pathlib.Path(__file__).resolve().parent / "refused_sources"
+bodies = folder.parent / "bodies"
 
 
 def answer(source):
@@ -30,10 +34,21 @@ def answer(source):
     return b"status %d: %s" % (done.returncode, told)
 
 
+def told_of_bodies():
+    """The sources of tests/bodies, each with its place and the refusal that is told there, if one is."""
+    for case in json.loads((bodies / "phrases.json").read_text()):
+        refusal = case.get("refusal")
+        yield case["name"], case["source"].encode(), refusal and b"%d: %s %s" % (refusal["line"], refusal["code"].encode(), refusal["name"].encode())
+    for place, (source, told) in rows_of(bodies / "rules.rows"):
+        yield place, source, told.removeprefix(b"refused\t") if told.startswith(b"refused\t") else None
+
+
 def answers():
     for path in sorted(folder.glob("*.rows")):
         for place, (source, wanted) in rows_of(path):
             yield place, answer(source), wanted
+    for place, source, refusal in told_of_bodies():
+        yield place, answer(source), refusal or b"%d: C5 NotUnderstood" % unheld_line(source.decode())
 
 
 with tempfile.TemporaryDirectory() as scratch:

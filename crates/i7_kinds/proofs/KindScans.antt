@@ -137,7 +137,7 @@ name_step most names (Some name) few h =
       | inr isnt ↦ let full : nat_le most (length names) ≡ false = rw isnt at h in rw isnt (omega (arith, leb-false most (length names) full, length-append names (name ∷ [])))
     ]
 
-names_few : (s : Sort) (claims : List Claim) (names : List (List ℕ)) → length names ≤ most_names s → lowest (shows_too_many s) (with_claimed s) names claims None ≡ None → length (fold (with_claimed s) names claims) ≤ most_names s
+pub names_few : (s : Sort) (claims : List Claim) (names : List (List ℕ)) → length names ≤ most_names s → lowest (shows_too_many s) (with_claimed s) names claims None ≡ None → length (fold (with_claimed s) names claims) ≤ most_names s
 names_few s [] names few h = few
 names_few s (c ∷ cs) names few h =
     let t = none_shown (shows_too_many s) (with_claimed s) names c cs h in

@@ -13,7 +13,6 @@ use Rattle.i7_sentences.specs.declared.rule.RuleBook.TheVariants as book
 use Rattle.i7_sentences.specs.declared.rule.Rule.{Rule}
 use Rattle.i7_sentences.specs.declared.rule.RulePhrase.{RulePhrase}
 use Rattle.i7_sentences.specs.declared.sentence.Sentence.{Sentence}
-use Rattle.i7_sentences.proofs.Sameness.{all_there}
 use Rattle.play_meaning.specs.Meant.{body_meant}
 use Rattle.play_meaning.specs.Trees.{Body}
 use Rattle.i7_actions.specs.Books.{IsOwn, first_own}
@@ -29,24 +28,12 @@ use Rattle.i7_rules.specs.SourceRules.{AreFound, AreTold, IsNamedTwice, IsOver, 
 use Rattle.i7_rules.specs.declared.source_rules.RulesFound.{RulesFound}
 use Rattle.i7_rules.specs.declared.source_rules.RulesFound.TheVariants as whole
 use Rattle.i7_rules.specs.declared.source_rules.SourceRule.{SourceRule}
+use Rattle.i7_rules.proofs.Lows.{both_ways, lowest_once, nowhere_there}
 use Rattle.i7_rules.proofs.Once.{AreOnce}
 use Rattle.i7_rules.proofs.OneRule.{asked_once, forth, same_lines}
 use Rattle.i7_rules.proofs.Rebuilt.{IsSame, body_again}
 
 -- ---- refusals
-
-nowhere_there : (Bad : Placed → ℕ → Type 0) (ps : List Placed) (line : ℕ) → IsNowhere Bad ps → IsLowest Bad ps line → ⊥
-nowhere_there Bad ps line nowhere is = all_there (λ p. (at : ℕ) → Bad p at → ⊥) is.before is.bad is.behind (subst (AllOf (λ p. (at : ℕ) → Bad p at → ⊥)) is.place nowhere) line is.is_bad
-
-below : (Bad : Placed → ℕ → Type 0) (ps : List Placed) (a b : ℕ) → IsLowest Bad ps a → IsLowest Bad ps b → a ≤ b
-below Bad ps a b one other =
-    all_there (λ p. (at : ℕ) → Bad p at → a ≤ at) other.before other.bad other.behind (subst (AllOf (λ p. (at : ℕ) → Bad p at → a ≤ at)) other.place one.lowest) b other.is_bad
-
-both_ways : (a b : ℕ) → a ≤ b → b ≤ a → a ≡ b
-both_ways a b low high = omega (arith, low, high)
-
-lowest_once : (Bad : Placed → ℕ → Type 0) (ps : List Placed) (a b : ℕ) → IsLowest Bad ps a → IsLowest Bad ps b → a ≡ b
-lowest_once Bad ps a b one other = both_ways a b (below Bad ps a b one other) (below Bad ps b a other one)
 
 abbrev refusal : FaultCode → ℕ → RulesMeant
 refusal code line = Refused (record { code = code; line = line })

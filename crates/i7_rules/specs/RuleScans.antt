@@ -17,9 +17,9 @@ use Rattle.i7_rules.specs.declared.source_rules.SoFar.{SoFar}
 use Rattle.i7_rules.specs.declared.source_rules.SourceRule.{SourceRule}
 
 -- one of these is bad at this line and none at a lower one, or none is at any
-abbrev pub IsLow : (Placed → ℕ → Type 0) → List Placed → Option ℕ → Type 0
-IsLow Bad rules None = IsNowhere Bad rules
-IsLow Bad rules (Some line) = IsLowest Bad rules line
+abbrev pub IsLow : {X : Type 0} → (X → ℕ → Type 0) → List X → Option ℕ → Type 0
+IsLow Bad xs None = IsNowhere Bad xs
+IsLow Bad xs (Some line) = IsLowest Bad xs line
 
 -- the line of the rule behind so many others, if there is one
 abbrev pub line_behind : List RuleAt → ℕ → Option ℕ

@@ -1,7 +1,8 @@
 //! The codes of a case, as bytes: the body's in front, behind it those of the descriptions and of what the rule's head asks, each
 //! with the tests that it names behind it.
-use crate::meant::{MeantBody, MeantText};
+use crate::meant::MeantBody;
 use crate::unplayed::Unplayed;
+use i7_resolution::SourceText;
 use object_words::Strings;
 use play_meaning::tree::{Piece, Said, Text};
 use std::alloc::{AllocError, Global};
@@ -47,7 +48,7 @@ fn plain(alloc: Global, bytes: &[u8]) -> Result<Text, AllocError> {
 }
 
 /// The text for which a marker stands: `@2;` the third of those with brackets.
-fn marked<'a>(told: &[u8], texts: &'a [MeantText]) -> Option<&'a MeantText> {
+fn marked<'a>(told: &[u8], texts: &'a [SourceText]) -> Option<&'a SourceText> {
     let told = str::from_utf8(told).ok()?;
     let (before, marker) = told.split_once('@')?;
     let (number, _) = marker.split_once(';')?;
@@ -101,7 +102,7 @@ impl Emitted {
         alloc: Global,
         strings: &Strings,
         told: &[u8],
-        texts: &[MeantText],
+        texts: &[SourceText],
     ) -> Result<u16, Unplayed> {
         match marked(told, texts) {
             Some(meant) => self.add(alloc, strings, meant.line, &meant.text),
@@ -119,7 +120,7 @@ pub fn emit_case(
     strings: &Strings,
     body: &MeantBody,
     story: &Story,
-    texts: &[MeantText],
+    texts: &[SourceText],
 ) -> Result<Emitted, Unplayed> {
     let mut emitted = of_body(alloc, strings, body)?;
     for number in 0..story.object_count() as u16 {

@@ -8,7 +8,6 @@ mod case;
 mod codes;
 mod emitted;
 mod facts;
-mod faults;
 mod meant;
 mod named;
 mod playing;

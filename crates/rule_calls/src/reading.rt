@@ -5,19 +5,12 @@ use i7_sentences::{Assertion, Sentence, TextPieces, is_plain, read, read_text};
 use std::alloc::{AllocError, Global};
 use world_meaning::TextBytes;
 
-/// What a text says that describes an object, and the line of its sentence.
-#[derive(Drop)]
-pub struct SaidText {
-    pub line: u32,
-    pub pieces: TextPieces,
-}
-
 /// What a source says.
 #[derive(Drop)]
 pub struct Source {
     pub sentences: Vec<Sentence>,
-    /// The texts with brackets that describe, in order.
-    pub texts: Vec<SaidText>,
+    /// What the texts with brackets say that describe, in order.
+    pub texts: Vec<TextPieces>,
 }
 
 /// The sentences of a source.
@@ -27,7 +20,7 @@ pub fn sentences_in(alloc: Global, source: &str) -> Result<Vec<Sentence>, Unplay
 }
 
 /// The text of a description.
-fn text_in(said: &Assertion) -> Option<&TextBytes> {
+pub fn text_in(said: &Assertion) -> Option<&TextBytes> {
     match said {
         Assertion::Description(text) => Some(text),
         Assertion::DescriptionOf { text, .. } => Some(text),
@@ -36,22 +29,18 @@ fn text_in(said: &Assertion) -> Option<&TextBytes> {
 }
 
 /// What the text with brackets says with which a sentence describes, if it does.
-fn said_in(alloc: Global, sentence: &Sentence) -> Result<Option<SaidText>, AllocError> {
+fn said_in(alloc: Global, sentence: &Sentence) -> Result<Option<TextPieces>, AllocError> {
     let Some(text) = text_in(&sentence.said) else {
         return Ok(None);
     };
     if is_plain(text.as_slice()) {
         return Ok(None);
     }
-    let line = sentence.line;
-    match read_text(alloc, text.as_slice())? {
-        Some(pieces) => Ok(Some(SaidText { line, pieces })),
-        None => Ok(None),
-    }
+    read_text(alloc, text.as_slice())
 }
 
 /// The texts with brackets that describe.
-fn texts_in(alloc: Global, sentences: &[Sentence]) -> Result<Vec<SaidText>, AllocError> {
+fn texts_in(alloc: Global, sentences: &[Sentence]) -> Result<Vec<TextPieces>, AllocError> {
     let mut texts = Vec::new(alloc);
     for sentence in sentences {
         if let Some(said) = said_in(alloc, sentence)? {

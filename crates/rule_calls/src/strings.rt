@@ -62,7 +62,7 @@ pub fn strings_of(alloc: Global, source: &Source, story: &Story) -> Result<Strin
     let mut all = Strings::new(alloc);
     add_rules(alloc, &mut all, source.sentences.as_slice())?;
     for text in source.texts.as_slice() {
-        add_pieces(alloc, &mut all, text.pieces.as_slice())?;
+        add_pieces(alloc, &mut all, text.as_slice())?;
     }
     add_descriptions(alloc, &mut all, story)?;
     all.mention(alloc, b"\n")?;

@@ -277,7 +277,7 @@ words_held m mentions h = authors_few m 13 mentions (omega arith) h
 
 -- ---- all of it
 
-meant_none : (refusal : Option Fault) (t tale : Tale) → or_refused refusal t ≡ Ok tale → (refusal ≡ None) × (t ≡ tale)
+pub meant_none : (refusal : Option Fault) (t tale : Tale) → or_refused refusal t ≡ Ok tale → (refusal ≡ None) × (t ≡ tale)
 meant_none None t tale h = (refl, cc)
 meant_none (Some fault) t tale h = absurd cc
 

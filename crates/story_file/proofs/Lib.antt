@@ -1,3 +1,4 @@
+pub mod Counted
 pub mod Held
 pub mod MadeDeclarations
 pub mod MadeObjects

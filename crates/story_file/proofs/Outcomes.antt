@@ -6,11 +6,11 @@ use Rattle.world_meaning.specs.declared.fault.FaultCode.TheVariants.{Memory}
 use Rattle.world_meaning.specs.declared.tale.Tale.{Tale}
 use Rattle.i7_lexer.proofs.LawLemmas.{spelled-refused, tokens-same}
 use Rattle.i7_sentences.proofs.Verdicts.{sentences_same, spelled_refused}
-use Rattle.i7_sentences.specs.Lowest.{lowest}
 use Rattle.i7_sentences.specs.Sources.{HasSentences, IsRefused as IsUnread}
 use Rattle.i7_sentences.specs.declared.sentence.Sentence.{Sentence}
 use Rattle.i7_kinds.specs.Tales.{tale_said}
-use Rattle.story_file.specs.Compilations.{IsCompiled, IsRefused, IsUnheld, Means, Says, memory, unheld, unheld_line, unmeant, unread, unspelled}
+use Rattle.story_file.specs.Compilations.{IsCompiled, IsRefused, Means, Says, memory, unmeant as unsaid, unread, unspelled}
+use Rattle.story_file.specs.Meanings.{AreMeant, AreRefused, unheld, unmeant, unresolved}
 
 pub same_sentences : (source : List ℕ) (v w : List Sentence) → Says source v → Says source w → v ≡ w
 same_sentences source v w first second =
@@ -20,13 +20,6 @@ same_sentences source v w first second =
 none-some : (line : ℕ) → None ≡ Some line → ⊥
 none-some line same = cc
 
--- a source with a sentence that no story holds doesn't say its sentences
-unheld_says : (source : List ℕ) (fault : Fault) (sentences : List Sentence) → Says source sentences → IsUnheld source fault → ⊥
-unheld_says source fault sentences says refused =
-    let tokens : refused.tokens ≡ says.tokens = tokens-same source refused.tokens says.tokens refused.spells says.spells in
-    let same : refused.sentences ≡ sentences = sentences_same says.tokens refused.sentences sentences (subst (λ ts. HasSentences ts refused.sentences) tokens refused.reads) says.reads in
-    none-some fault.line (sym says.held ∙ ap (lowest unheld_line) (sym same) ∙ refused.line_is)
-
 abbrev pub said : Tale → Result Tale Fault
 said tale = Ok tale
 
@@ -35,10 +28,16 @@ same_ok tale other same = cc
 
 pub same_tale : (source : List ℕ) (tale other : Tale) → Means source tale → Means source other → tale ≡ other
 same_tale source tale other first second =
-    same_ok tale other (sym first.meant ∙ ap tale_said (same_sentences source first.sentences second.sentences first.says second.says) ∙ second.meant)
+    same_ok tale other (sym first.meant.tale_is ∙ ap tale_said (same_sentences source first.sentences second.sentences first.says second.says) ∙ second.meant.tale_is)
 
 pub ok_not_err : (tale : Tale) (fault : Fault) → Ok tale ≡ Err fault → ⊥
 ok_not_err tale fault same = absurd cc
+
+-- sentences that mean a tale aren't refused
+meant_or_refused : (sentences : List Sentence) (tale : Tale) (fault : Fault) → AreMeant sentences tale → AreRefused sentences fault → ⊥
+meant_or_refused sentences tale fault meant (unmeant refused) = ok_not_err tale fault (sym meant.tale_is ∙ refused)
+meant_or_refused sentences tale fault meant (unresolved refused) = none-some refused.unheld.0 (sym meant.held ∙ refused.unheld.1)
+meant_or_refused sentences tale fault meant (unheld refused) = none-some fault.line (sym meant.held ∙ refused.line_is)
 
 pub not_both : (source bytes : List ℕ) (fault : Fault) → fault.code ≢ Memory → IsCompiled source bytes → IsRefused source fault → ⊥
 not_both source bytes fault other compiled (unspelled refused) =
@@ -47,8 +46,7 @@ not_both source bytes fault other compiled (unread refused) =
     let says = compiled.means.says in
     let tokens : refused.tokens ≡ says.tokens = tokens-same source refused.tokens says.tokens refused.spells says.spells in
     spelled_refused says.tokens compiled.means.sentences fault says.reads other (subst (λ ts. IsUnread ts fault) tokens refused.unread)
-not_both source bytes fault other compiled (unheld refused) = unheld_says source fault compiled.means.sentences compiled.means.says refused
-not_both source bytes fault other compiled (unmeant refused) =
-    let sentences = same_sentences source compiled.means.sentences refused.sentences compiled.means.says refused.says in
-    ok_not_err compiled.tale fault (sym compiled.means.meant ∙ ap tale_said sentences ∙ refused.refused)
+not_both source bytes fault other compiled (unsaid refused) =
+    let sentences = same_sentences source refused.sentences compiled.means.sentences refused.says compiled.means.says in
+    meant_or_refused compiled.means.sentences compiled.tale fault compiled.means.meant (subst (λ all. AreRefused all fault) sentences refused.refused)
 not_both source bytes fault other compiled (memory short is) = other (ap (λ f. f.code) is)

@@ -1,2 +1,3 @@
 pub mod Compilations
+pub mod Meanings
 pub mod WorkedRows

@@ -3,6 +3,7 @@
 
 mod compiler;
 mod laws;
+mod meaning;
 mod unheld;
 mod worked_rows;
 

@@ -1,7 +1,7 @@
 //! The sentences that no story holds so far: rules, and descriptions with something to be worked out.
 ghost use Rattle.std.specs.Prelude.{◌≡◌};
 ghost use Rattle.i7_sentences.specs.Lowest.{lowest};
-ghost use Rattle.story_file.specs.Compilations.{line_unless, unheld_line};
+ghost use Rattle.story_file.specs.Meanings.{line_unless, unheld_line};
 
 use i7_sentences::{Assertion, Sentence, is_plain, lower_of};
 

@@ -10,6 +10,6 @@ loop-rest-init c = starts (IsNamedTo c.in_ok-names.names None) (rules_lent c.arg
 
 pub loop-rest-preserved : goal.loop-rest-preserved
 loop-rest-preserved c =
-    goes_on (IsNamedTo c.loop-rest.names c.loop-rest.low) (IsNamedTo c.twice_at.new.names c.lower_of-low.result) (rules_lent c.args.rules.now) c.loop-rest.rest.now c.rule-item.result c.in-len1-up.len_at_least
+    goes_on rule_lent (IsNamedTo c.loop-rest.names c.loop-rest.low) (IsNamedTo c.twice_at.new.names c.lower_of-low.result) (rules_lent c.args.rules.now) c.loop-rest.rest.now c.rule-item.result c.in-len1-up.len_at_least
     c.rule-item.is c.loop-rest.invariant
     (named_further c.loop-rest.names c.twice_at.new.names c.loop-rest.low c.in_ok-twice_at.field-0 c.lower_of-low.result (rule_lent c.rule-item.result) c.in_ok-twice_at.ensures.names c.in_ok-twice_at.ensures.told c.lower_of-low.ensures)

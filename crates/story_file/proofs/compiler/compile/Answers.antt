@@ -7,7 +7,7 @@ use Rattle.story_file.proofs.Ranges.{says_ranged}
 use Rattle.story_file.proofs.compiler.compile.Goals as goal
 
 pub write-requires : goal.write-requires
-write-requires c = let m = c.in_ok-tale.ensures.meant in tale_held m.sentences c.in_ok-tale.tale (says_ranged c.args.source.now m.sentences m.says) m.meant
+write-requires c = let m = c.in_ok-tale.ensures.meant in tale_held m.sentences c.in_ok-tale.tale (says_ranged c.args.source.now m.sentences m.says) m.meant.tale_is
 
 pub returns-in-Ok : goal.returns-in-Ok
 returns-in-Ok c =
@@ -17,7 +17,7 @@ returns-in-Ok c =
       means = m;
       tables = tables_of c.in_ok-tale.tale;
       tables_are = refl;
-      carries = tale_carried c.in_ok-tale.tale (tale_held m.sentences c.in_ok-tale.tale (says_ranged c.args.source.now m.sentences m.says) m.meant);
+      carries = tale_carried c.in_ok-tale.tale (tale_held m.sentences c.in_ok-tale.tale (says_ranged c.args.source.now m.sentences m.says) m.meant.tale_is);
       spells = c.in-Ok.ensures;
     }
 

@@ -1,6 +1,6 @@
 use Rattle.std.proofs.Common.{◌≡◌, length}
 use Rattle.i7_sentences.specs.Lowest.{lower_of, lowest}
-use Rattle.story_file.specs.Compilations.{unheld_line}
+use Rattle.story_file.specs.Meanings.{unheld_line}
 use Rattle.story_file.proofs.unheld.lowest_unheld.Given as goal
 
 abbrev pub invariant-loop-rest : goal.invariant-loop-rest

@@ -1,8 +1,9 @@
-use Rattle.std.proofs.Common.{inl, inr, ap, sym, ◌∙◌}
+use Rattle.std.proofs.Common.{List, inl, inr, subst}
 use Rattle.std.proofs.lemmas.Result.{err_from_is_err_and}
+use Rattle.i7_sentences.specs.declared.sentence.Sentence.{Sentence}
 use Rattle.story_file.specs.Compilations.IsRefused.{memory, unmeant}
-use Rattle.i7_kinds.specs.Tales.{tale_said}
-use Rattle.story_file.proofs.compiler.tale_meant.Goals as goal
+use Rattle.story_file.specs.Meanings.{AreMeant, AreRefused}
+use Rattle.story_file.proofs.compiler.tale_of_source.Goals as goal
 
 pub returns-in_err-tale-clause-refused : goal.returns-in_err-tale-clause-refused
 returns-in_err-tale-clause-refused c =
@@ -11,7 +12,7 @@ returns-in_err-tale-clause-refused c =
       | inl refused ↦ unmeant (record {
         sentences = c.in_ok-sentences.sentences.items;
         says = c.in_ok-sentences.ensures.said;
-        refused = ap tale_said (sym c.as_slice.ensures.value) ∙ refused;
+        refused = subst (λ (all : List Sentence). AreRefused all c.in_err-tale.field-0) c.as_slice.ensures.value refused;
       })
       | inr is ↦ memory c.in_ok-sentences.ensures.said.spells.readable.short is
     ])
@@ -20,5 +21,5 @@ pub returns-clause-meant : goal.returns-clause-meant
 returns-clause-meant c = record {
   sentences = c.in_ok-sentences.sentences.items;
   says = c.in_ok-sentences.ensures.said;
-  meant = ap tale_said (sym c.as_slice.ensures.value) ∙ c.in_ok-tale.ensures.told;
+  meant = subst (λ (all : List Sentence). AreMeant all c.in_ok-tale.tale) c.as_slice.ensures.value c.in_ok-tale.ensures.meant;
 }

@@ -1,0 +1,63 @@
+-- What is resolved of a source: its rules and the texts that describe, or the first refusal for either.
+use Rattle.std.specs.Prelude.{◌≡◌, ℕ, ◌==◌, Bool, ◌&&◌, ◌||◌, nat_lt, List, if◌then◌else◌}
+use Rattle.world_meaning.specs.declared.fault.Fault.{Fault}
+use Rattle.world_meaning.specs.declared.fault.FaultCode.{FaultCode}
+use Rattle.world_meaning.specs.declared.fault.FaultCode.TheVariants.{TooMany, Twice, UnknownName}
+use Rattle.i7_actions.specs.Actions.{standard_actions}
+use Rattle.i7_conditions.specs.NamesOf.{has_operators, meanings_of, plurals_of}
+use Rattle.i7_names.specs.declared.source_names.SourceNames.{SourceNames}
+use Rattle.i7_rules.specs.Knowns.{Known}
+use Rattle.i7_rules.specs.SourceRules.{IsRulesFound}
+use Rattle.i7_rules.specs.declared.source_rules.RulesFound.{RulesFound}
+use Rattle.i7_rules.specs.declared.source_rules.RulesFound.TheVariants as ruled
+use Rattle.i7_sentences.specs.declared.sentence.Sentence.{Sentence}
+use Rattle.i7_resolution.specs.SourceTexts.{IsTextsFound}
+use Rattle.i7_resolution.specs.declared.resolution.Resolution.{Resolution}
+use Rattle.i7_resolution.specs.declared.resolution.Resolution.TheVariants.{Refused, Says}
+use Rattle.i7_resolution.specs.declared.source_texts.TextsFound.{TextsFound}
+use Rattle.i7_resolution.specs.declared.source_texts.TextsFound.TheVariants as texted
+
+-- what phrases and texts may name: what the names of a source stand for, its rulebooks and scenes, and the standard actions
+abbrev pub known_in : SourceNames → Known
+known_in source = record {
+  meanings = meanings_of source.names;
+  plurals = plurals_of source.names;
+  has_operators = has_operators source.names;
+  actions = standard_actions;
+  rulebooks = source.rulebooks;
+  scenes = source.scenes;
+}
+
+-- ---- of two refusals the first
+
+-- each code is looked for before the next
+abbrev pub turn_of : FaultCode → ℕ
+turn_of Twice = 0
+turn_of UnknownName = 1
+turn_of TooMany = 2
+turn_of _ = 3
+
+abbrev pub goes_before : Fault → Fault → Bool
+goes_before one other = nat_lt (turn_of one.code) (turn_of other.code) || (turn_of one.code == turn_of other.code && nat_lt one.line other.line)
+
+abbrev pub first_of : Fault → Fault → Fault
+first_of one other = if goes_before other one then other else one
+
+-- ---- the whole
+
+abbrev pub refused_with : Fault → TextsFound → Resolution
+refused_with fault (texted.Says texts) = Refused fault
+refused_with fault (texted.Refused other) = Refused (first_of fault other)
+
+abbrev pub resolved : RulesFound → TextsFound → Resolution
+resolved (ruled.Says rules) (texted.Says texts) = Says (record { rules = rules; texts = texts })
+resolved (ruled.Says rules) (texted.Refused fault) = Refused fault
+resolved (ruled.Refused fault) texts = refused_with fault texts
+
+-- what is told of a source by what is told of its rules and of its texts
+pub record IsResolution (k : Known) (sentences : List Sentence) (told : Resolution) : Type 0 where
+  pub rules : RulesFound
+  pub texts : TextsFound
+  pub rules_are : IsRulesFound k sentences rules
+  pub texts_are : IsTextsFound k sentences texts
+  pub told_is : told ≡ resolved rules texts

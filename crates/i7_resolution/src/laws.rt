@@ -1,0 +1,27 @@
+//! Laws: of a source's texts, and of all that is resolved of it, one thing is told.
+ghost use Rattle.std.specs.Prelude.{◌≡◌, List};
+ghost use Rattle.i7_rules.specs.Knowns.{Known};
+ghost use Rattle.i7_sentences.specs.declared.sentence.Sentence.{Sentence as Said};
+ghost use Rattle.i7_resolution.specs.ResolutionsMeant.{resolution_meant};
+ghost use Rattle.i7_resolution.specs.Resolutions.{IsResolution};
+ghost use Rattle.i7_resolution.specs.SourceTexts.{IsTextsFound, texts_meant};
+ghost use Rattle.i7_resolution.specs.declared.resolution.Resolution.{Resolution as Told};
+ghost use Rattle.i7_resolution.specs.declared.source_texts.TextsFound.{TextsFound as Answer};
+
+use i7_phrases::one_text_is_meant;
+use i7_rules::one_list_of_rules;
+
+/// No sentences have two answers about the texts that describe.
+pub fn one_list_of_texts()
+    ensures { (k : Known) (sentences : List Said) (a b : Answer) → IsTextsFound k sentences a → IsTextsFound k sentences b → texts_meant a ≡ texts_meant b }
+{
+    one_text_is_meant();
+}
+
+/// No sentences are resolved in two ways.
+pub fn one_resolution()
+    ensures { (k : Known) (sentences : List Said) (a b : Told) → IsResolution k sentences a → IsResolution k sentences b → resolution_meant a ≡ resolution_meant b }
+{
+    one_list_of_rules();
+    one_list_of_texts();
+}

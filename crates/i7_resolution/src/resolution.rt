@@ -1,0 +1,130 @@
+//! What is resolved of a source, or the refusal that stands.
+ghost use Rattle.std.specs.Prelude.{◌≡◌, ◌+◌, ◌*◌, ◌≤◌, length, map, IfOk};
+ghost use Rattle.i7_rules.specs.Knowns.{known_of};
+ghost use Rattle.i7_resolution.specs.Resolutions.{IsResolution, first_of, goes_before, known_in, refused_with, resolved, turn_of};
+
+use crate::source_texts::{SourceText, TextsFound, texts_of};
+use i7_actions::standard_actions;
+use i7_names::SourceNames;
+use i7_rules::{Known, RulesFound, SourceRule, rules_of};
+use i7_sentences::Sentence;
+use std::alloc::{AllocError, Global};
+use world_meaning::{Fault, FaultCode, TextBytes};
+
+/// The rules of a source, and the texts that describe, both in the order of their sentences.
+#[derive(Debug, Drop)]
+pub struct Resolved {
+    pub rules: Vec<SourceRule>,
+    pub texts: Vec<SourceText>,
+}
+
+/// What is resolved of a source.
+#[derive(Debug, Drop)]
+pub enum Resolution {
+    Says(Resolved),
+    Refused(Fault),
+}
+
+/// Where a code comes among those that refuse a source for its rules and its texts.
+fn turn_of(code: FaultCode) -> u8
+    ensures { result ≡ turn_of code }
+{
+    match code {
+        FaultCode::Twice => 0,
+        FaultCode::UnknownName => 1,
+        FaultCode::TooMany => 2,
+        _ => 3,
+    }
+}
+
+/// Whether a refusal is told before another: its code is looked for before the other's, or it is the same one on a lower line.
+fn goes_before(one: &Fault, other: &Fault) -> bool
+    ensures { result ≡ goes_before one.now other.now }
+{
+    let (turn, others) = (turn_of(one.code), turn_of(other.code));
+    turn < others || (turn == others && one.line < other.line)
+}
+
+/// The first of two refusals.
+fn first_of(one: Fault, other: Fault) -> Fault
+    ensures { result ≡ first_of one other }
+{
+    if goes_before(&other, &one) {
+        other
+    } else {
+        one
+    }
+}
+
+/// Refused so, or by the texts before that.
+fn refused_with(fault: Fault, texts: TextsFound) -> Resolution
+    ensures { result ≡ refused_with fault texts }
+{
+    match texts {
+        TextsFound::Says(_) => Resolution::Refused(fault),
+        TextsFound::Refused(other) => Resolution::Refused(first_of(fault, other)),
+    }
+}
+
+/// Both, or the first refusal.
+fn resolved(rules: RulesFound, texts: TextsFound) -> Resolution
+    ensures { result ≡ resolved rules texts }
+{
+    match rules {
+        RulesFound::Says(rules) => match texts {
+            TextsFound::Says(texts) => Resolution::Says(Resolved { rules, texts }),
+            TextsFound::Refused(fault) => Resolution::Refused(fault),
+        },
+        RulesFound::Refused(fault) => refused_with(fault, texts),
+    }
+}
+
+/// What is resolved where so much is known.
+fn resolved_of(
+    alloc: Global,
+    known: &Known<'_>,
+    sentences: &[Sentence],
+) -> Result<Resolution, AllocError>
+    ensures { IfOk result (λ told. IsResolution (known_of known.now) sentences.now told) }
+{
+    let rules = rules_of(alloc, known, sentences)?;
+    let texts = texts_of(alloc, known, sentences)?;
+    Ok(resolved(rules, texts))
+}
+
+/// The names of rulebooks, as they are known.
+fn rulebooks_of(alloc: Global, names: &[Vec<u8>]) -> Result<Vec<TextBytes>, AllocError>
+    ensures { IfOk result (λ rulebooks. rulebooks.items ≡ map (λ name. name.items) names.now) }
+{
+    let mut rulebooks = Vec::new(alloc);
+    let mut rest = names;
+    while let [name, behind @ ..] = rest {
+        rulebooks.push(TextBytes::copied(alloc, name.as_slice())?)?;
+        rest = behind;
+    }
+    Ok(rulebooks)
+}
+
+/// The rules of a source and the texts that describe, where its names stand for this, or the refusal that stands: each code is looked for in
+/// all rules and texts before the next, and told at its lowest line. These are C9, C7, C12 and C5, as `rules_of` and
+/// `texts_of` have them.
+#[tactic(auto, unfolding(i7_actions::specs::Actions::standard_actions))]
+pub fn resolution_of(
+    alloc: Global,
+    names: &SourceNames,
+    sentences: &[Sentence],
+) -> Result<Resolution, AllocError>
+    requires countable { 8 + 2 * names.now.scenes + length names.now.rulebooks ≤ 65535 }
+    ensures { IfOk result (λ told. IsResolution (known_in names.now) sentences.now told) }
+{
+    let actions = standard_actions(alloc)?;
+    let rulebooks = rulebooks_of(alloc, names.rulebooks.as_slice())?;
+    let known = Known {
+        names: &names.names,
+        actions: actions.as_slice(),
+        rulebooks: rulebooks.as_slice(),
+        scenes: names.scenes as u16,
+    };
+    let told = resolved_of(alloc, &known, sentences)?;
+    Ok(told)
+}
