@@ -44,7 +44,7 @@ lower_yet Bad low line (p ∷ ps) under all =
 -- one that is nowhere bad
 pub low_past : {X : Type 0} (Bad : X → ℕ → Type 0) (p : X) (ps : List X) (low : Option ℕ) → ((line : ℕ) → Bad p line → ⊥) → IsLow Bad ps low → IsLow Bad (p ∷ ps) low
 low_past Bad p ps None good is = All-cons (Good Bad) p ps good is
-low_past Bad p ps (Some line) good is = record {
+low_past {X} Bad p ps (Some line) good is = record {
   before = p ∷ is.before;
   bad = is.bad;
   behind = is.behind;
@@ -64,7 +64,7 @@ lowest_here Bad p ps line bad others = record {
 }
 
 lowest_behind : {X : Type 0} (Bad : X → ℕ → Type 0) (p : X) (ps : List X) (line low : ℕ) → BadAt Bad p line → low ≤ line → IsLowest Bad ps low → IsLowest Bad (p ∷ ps) low
-lowest_behind Bad p ps line low bad under is = record {
+lowest_behind {X} Bad p ps line low bad under is = record {
   before = p ∷ is.before;
   bad = is.bad;
   behind = is.behind;
