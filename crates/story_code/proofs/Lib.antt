@@ -17,6 +17,7 @@ pub mod Passing
 pub mod Phrases
 pub mod Places
 pub mod Rooms
+pub mod SaidTexts
 pub mod Served
 pub mod SoundBytes
 pub mod SoundConditions
@@ -36,3 +37,4 @@ pub mod TestsNamed
 pub mod Texts
 pub mod Truths
 pub mod WalkLemmas
+pub mod Within

@@ -1,3 +1,4 @@
+pub mod AmongCodes
 pub mod Asking
 pub mod Choosing
 pub mod Emits
