@@ -4,6 +4,8 @@ pub mod Carried
 pub mod Described
 pub mod Exact
 pub mod Fetched
+pub mod FitLists
+pub mod FitsTold
 pub mod FittingShown
 pub mod Followed
 pub mod FrontLemmas
@@ -19,6 +21,7 @@ pub mod Places
 pub mod Rooms
 pub mod SaidTexts
 pub mod Served
+pub mod SoundAnywhere
 pub mod SoundBytes
 pub mod SoundConditions
 pub mod SoundDescriptions
