@@ -86,12 +86,7 @@ impl Emitted {
     }
 
     /// Adds the codes of what a rule's head asks, if it asks anything.
-    fn ask(
-        &mut self,
-        alloc: Global,
-        counts: &Counts,
-        body: &MeantBody,
-    ) -> Result<(), Unplayed> {
+    fn ask(&mut self, alloc: Global, counts: &Counts, body: &MeantBody) -> Result<(), Unplayed> {
         let Some(condition) = &body.condition else {
             return Ok(());
         };

@@ -57,14 +57,7 @@ fn set_up_meant(
         codes: 0,
     };
     let counts = counts_of(alloc, told, &rest)?;
-    let emitted = emit_case(
-        alloc,
-        &counts,
-        &strings,
-        body,
-        told,
-        meant.texts.as_slice(),
-    )?;
+    let emitted = emit_case(alloc, &counts, &strings, body, told, meant.texts.as_slice())?;
     let codes = all_verified(alloc, &emitted, counts)?;
     let world = World::start(alloc, story)?;
     let stage = Stage::new(alloc, world, &strings, emitted.descriptions)?;

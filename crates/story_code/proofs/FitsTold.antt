@@ -1,5 +1,5 @@
 -- The tests whether trees fit tell exactly that, whatever the code's own number and however many codes there are.
-use Rattle.std.proofs.Common.{◌≡◌, refl, sym, ap, subst, ℕ, ◌+◌, ◌-◌, ◌<◌, ◌&&◌, Bool, true, false, List, [], ◌∷◌, Option, None, Some, arith}
+use Rattle.std.proofs.Common.{◌≡◌, refl, ℕ, ◌+◌, ◌-◌, ◌&&◌, Bool, true, List, [], ◌∷◌, Option, None, Some, arith}
 use Rattle.std.specs.Prelude.{Decides, nat_lt}
 use Rattle.std.proofs.lemmas.Bool.Decides.{Decides-and, Decides-like, Decides-ltb}
 use Rattle.play_meaning.specs.Stands.{is_body}

@@ -1,5 +1,5 @@
 -- What tells whether trees fit, as `Fitting` says: inside so many loops `k`, with so much room for more operands.
-use Rattle.std.specs.Prelude.{ℕ, ◌+◌, ◌-◌, nat_lt, Bool, true, false, ◌&&◌, List, [], ◌∷◌, Option, None, Some}
+use Rattle.std.specs.Prelude.{ℕ, ◌+◌, ◌-◌, nat_lt, Bool, true, ◌&&◌, List, [], ◌∷◌, Option, None, Some}
 use Rattle.std.specs.List.{list_all}
 use Rattle.play_meaning.specs.Meant.{body_meant, condition_meant, description_meant, number_meant, object_meant}
 use Rattle.play_meaning.specs.Stands.{is_body}

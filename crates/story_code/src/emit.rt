@@ -50,7 +50,8 @@ pub fn body_codes(
 ) -> Result<Vec<TextBytes>, EmitFault>
     ensures codes { IfOk result (λ codes. AreEmitted (whole_body (number_in strings.now) (body_meant body.now) first 0) codes.items) }
     ensures sound { IfOk result (λ codes. AreSoundAnywhere counts.now role.Body first (whole_body (number_in strings.now) (body_meant body.now) first 0) codes.items) }
-    ensures too_long { IfErr result (λ fault. fault ≡ EmitFault.TooLong → BodyFits counts.now (number_in strings.now) 0 (body_meant body.now) → can_say_all (whole_body (number_in strings.now) (body_meant body.now) first 0) ≡ false) }
+    ensures too_long { IfErr result (λ fault. fault ≡ EmitFault.TooLong → BodyFits counts.now (number_in strings.now) 0 (body_meant body.now)
+        → can_say_all (whole_body (number_in strings.now) (body_meant body.now) first 0) ≡ false) }
 {
     if !body_fits(counts, strings, body) {
         return Err(EmitFault::TooLong);
@@ -75,7 +76,8 @@ pub fn condition_codes(
 ) -> Result<Vec<TextBytes>, EmitFault>
     ensures codes { IfOk result (λ codes. AreEmitted (test_part (condition_meant condition.now) first 0) codes.items) }
     ensures sound { IfOk result (λ codes. AreSoundAnywhere counts.now (role.Test 0) first (test_part (condition_meant condition.now) first 0) codes.items) }
-    ensures too_long { IfErr result (λ fault. fault ≡ EmitFault.TooLong → ConditionFits counts.now 0 0 (condition_meant condition.now) → can_say_all (test_part (condition_meant condition.now) first 0) ≡ false) }
+    ensures too_long { IfErr result (λ fault. fault ≡ EmitFault.TooLong → ConditionFits counts.now 0 0 (condition_meant condition.now)
+        → can_say_all (test_part (condition_meant condition.now) first 0) ≡ false) }
 {
     if !condition_fits(counts, condition) {
         return Err(EmitFault::TooLong);
@@ -101,7 +103,8 @@ pub fn description_codes(
 ) -> Result<Vec<TextBytes>, EmitFault>
     ensures codes { IfOk result (λ codes. AreEmitted (description_part (number_in strings.now) (text_meant text.now) first 0) codes.items) }
     ensures sound { IfOk result (λ codes. AreSoundAnywhere counts.now role.Describing first (description_part (number_in strings.now) (text_meant text.now) first 0) codes.items) }
-    ensures too_long { IfErr result (λ fault. fault ≡ EmitFault.TooLong → TextFits counts.now role.Describing (number_in strings.now) 0 (text_meant text.now) → can_say_all (description_part (number_in strings.now) (text_meant text.now) first 0) ≡ false) }
+    ensures too_long { IfErr result (λ fault. fault ≡ EmitFault.TooLong → TextFits counts.now role.Describing (number_in strings.now) 0 (text_meant text.now)
+        → can_say_all (description_part (number_in strings.now) (text_meant text.now) first 0) ≡ false) }
 {
     if !description_fits(counts, strings, text) {
         return Err(EmitFault::TooLong);
