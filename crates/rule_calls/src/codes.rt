@@ -112,12 +112,16 @@ pub fn sound(bytes: Vec<u8>, counts: Counts, own: usize, role: Use) -> Result<Ve
     }
 }
 
-/// The codes of a case, if each is sound.
+/// The codes of a case, if each is sound among them.
 pub fn all_verified(
     alloc: Global,
     emitted: &Emitted,
     counts: Counts,
 ) -> Result<Vec<Verified>, Unplayed> {
+    let counts = Counts {
+        codes: small(emitted.codes.len()),
+        ..counts
+    };
     let mut codes = Vec::new(alloc);
     for (own, code) in emitted.codes.iter().enumerate() {
         let role = role_of(alloc, emitted, small(own))?;

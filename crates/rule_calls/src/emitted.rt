@@ -4,6 +4,7 @@ use crate::meant::MeantBody;
 use crate::unplayed::Unplayed;
 use i7_resolution::SourceText;
 use object_words::Strings;
+use play_meaning::Counts;
 use play_meaning::tree::{Piece, Said, Text};
 use std::alloc::{AllocError, Global};
 use story_code::{EmitFault, body_codes, condition_codes, description_codes};
@@ -30,8 +31,13 @@ fn refused(fault: EmitFault, line: u32) -> Unplayed {
 }
 
 /// The codes of a body.
-fn of_body(alloc: Global, strings: &Strings, body: &MeantBody) -> Result<Emitted, Unplayed> {
-    match body_codes(alloc, strings, 1, body.phrases.as_slice()) {
+fn of_body(
+    alloc: Global,
+    counts: &Counts,
+    strings: &Strings,
+    body: &MeantBody,
+) -> Result<Emitted, Unplayed> {
+    match body_codes(alloc, counts, strings, 1, body.phrases.as_slice()) {
         Ok(codes) => Ok(Emitted {
             codes,
             descriptions: Vec::new(alloc),
@@ -63,12 +69,13 @@ impl Emitted {
     fn add(
         &mut self,
         alloc: Global,
+        counts: &Counts,
         strings: &Strings,
         line: u32,
         text: &Text,
     ) -> Result<u16, Unplayed> {
         let number = u16::try_from(self.codes.len()).unwrap_or(u16::MAX);
-        match description_codes(alloc, strings, number.saturating_add(1), text) {
+        match description_codes(alloc, counts, strings, number.saturating_add(1), text) {
             Ok(codes) => {
                 for code in codes {
                     self.codes.push(code)?;
@@ -80,12 +87,12 @@ impl Emitted {
     }
 
     /// Adds the codes of what a rule's head asks, if it asks anything.
-    fn ask(&mut self, alloc: Global, body: &MeantBody) -> Result<(), Unplayed> {
+    fn ask(&mut self, alloc: Global, counts: &Counts, body: &MeantBody) -> Result<(), Unplayed> {
         let Some(condition) = &body.condition else {
             return Ok(());
         };
         let number = u16::try_from(self.codes.len()).unwrap_or(u16::MAX);
-        match condition_codes(alloc, number.saturating_add(1), condition) {
+        match condition_codes(alloc, counts, number.saturating_add(1), condition) {
             Ok(codes) => {
                 for code in codes {
                     self.codes.push(code)?;
@@ -100,36 +107,39 @@ impl Emitted {
     fn describe(
         &mut self,
         alloc: Global,
+        counts: &Counts,
         strings: &Strings,
         told: &[u8],
         texts: &[SourceText],
     ) -> Result<u16, Unplayed> {
         match marked(told, texts) {
-            Some(meant) => self.add(alloc, strings, meant.line, &meant.text),
+            Some(meant) => self.add(alloc, counts, strings, meant.line, &meant.text),
             None => {
                 let text = plain(alloc, told)?;
-                self.add(alloc, strings, 1, &text)
+                self.add(alloc, counts, strings, 1, &text)
             }
         }
     }
 }
 
-/// The codes of a rule, and those of a story's descriptions, the texts in place of their markers.
+/// The codes of a rule, and those of a story's descriptions, the texts in place of their markers. What there is besides codes
+/// is counted.
 pub fn emit_case(
     alloc: Global,
+    counts: &Counts,
     strings: &Strings,
     body: &MeantBody,
     story: &Story,
     texts: &[SourceText],
 ) -> Result<Emitted, Unplayed> {
-    let mut emitted = of_body(alloc, strings, body)?;
+    let mut emitted = of_body(alloc, counts, strings, body)?;
     for number in 0..story.object_count() as u16 {
         let described = match story.description(ObjNo::new(number)) {
-            Some(told) => Some(emitted.describe(alloc, strings, told, texts)?),
+            Some(told) => Some(emitted.describe(alloc, counts, strings, told, texts)?),
             None => None,
         };
         emitted.descriptions.push(described)?;
     }
-    emitted.ask(alloc, body)?;
+    emitted.ask(alloc, counts, body)?;
     Ok(emitted)
 }

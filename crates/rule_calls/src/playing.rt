@@ -50,14 +50,14 @@ fn set_up_meant(
     };
     let told = story.as_ref();
     let strings = strings_of(alloc, source, told)?;
-    let emitted = emit_case(alloc, &strings, body, told, meant.texts.as_slice())?;
     let rest = Rest {
         scenes: meant.scenes,
         books: meant.books,
         strings: strings.len(),
-        codes: emitted.codes.len(),
+        codes: 0,
     };
     let counts = counts_of(alloc, told, &rest)?;
+    let emitted = emit_case(alloc, &counts, &strings, body, told, meant.texts.as_slice())?;
     let codes = all_verified(alloc, &emitted, counts)?;
     let world = World::start(alloc, story)?;
     let stage = Stage::new(alloc, world, &strings, emitted.descriptions)?;

@@ -4,6 +4,8 @@ pub mod Carried
 pub mod Described
 pub mod Exact
 pub mod Fetched
+pub mod FitLists
+pub mod FitsTold
 pub mod FittingShown
 pub mod Followed
 pub mod FrontLemmas
@@ -17,7 +19,9 @@ pub mod Passing
 pub mod Phrases
 pub mod Places
 pub mod Rooms
+pub mod SaidTexts
 pub mod Served
+pub mod SoundAnywhere
 pub mod SoundBytes
 pub mod SoundConditions
 pub mod SoundDescriptions
@@ -36,3 +40,4 @@ pub mod TestsNamed
 pub mod Texts
 pub mod Truths
 pub mod WalkLemmas
+pub mod Within

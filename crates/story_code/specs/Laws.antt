@@ -1,14 +1,20 @@
 -- What is promised of codes and their bytes.
 use Rattle.std.specs.Prelude.{◌≡◌, ℕ, false, List, [], ◌∷◌, Some, slice_get}
+use Rattle.play_meaning.specs.Codes.{Codes, description_said}
+use Rattle.play_meaning.specs.Saying.{Telling, said_in}
+use Rattle.play_meaning.specs.Scripts.{scope_of}
 use Rattle.play_meaning.specs.SoundCodes.{loops_around}
 use Rattle.play_meaning.specs.Stands.{is_body}
 use Rattle.play_meaning.specs.Translation.{Emitted}
 use Rattle.play_meaning.specs.TranslatedScripts.{description_part, test_part}
 use Rattle.play_meaning.specs.Trees as tree
+use Rattle.play_meaning.specs.Worlds.{World}
+use Rattle.play_meaning.specs.declared.action.ActionNow.{ActionNow}
 use Rattle.play_meaning.specs.declared.instruction.Instruction.{Instruction}
 use Rattle.play_meaning.specs.declared.operand.Counts.{Counts}
 use Rattle.play_meaning.specs.declared.operand.Use.{Use}
 use Rattle.play_meaning.specs.declared.operand.Use.TheVariants.{Body, Describing, Test}
+use Rattle.story_code.specs.AmongCodes.{IsDescriptionAmong}
 use Rattle.story_code.specs.Emits.{AreEmitted, whole_body}
 use Rattle.story_code.specs.Fitting.{BodyFits, ConditionFits, TextFits}
 use Rattle.story_code.specs.Runs.{AreSoundTogether, IsBody, MayDo, MayRead, Standing}
@@ -50,6 +56,13 @@ abbrev pub DescriptionsAreSound : Type 0
 DescriptionsAreSound = (z : Counts) (string : List ℕ → ℕ) (first : ℕ) (text : tree.Text) → TextFits z Describing string 0 text
     → AreNumbered z first (description_part string text first 0).tests
     → IsSoundlyEmitted z Describing first (description_part string text first 0)
+
+-- among the codes of a story the code of a description that fits says in every world what its text says, whatever numbers
+-- the strings and the tests have
+abbrev pub DescriptionsSayTheirTexts : Type 0
+DescriptionsSayTheirTexts = (z : Counts) (c : Codes) (string : List ℕ → ℕ) (n first : ℕ) (text : tree.Text) (t : Telling) (now : ActionNow) (w : World)
+    → TextFits z Describing string 0 text → AreNumbered z first (description_part string text first 0).tests → IsDescriptionAmong c string n first text
+    → description_said c t n now w ≡ said_in t (scope_of now) w text
 
 -- ---- their bytes, alone and in a story
 

@@ -1,7 +1,9 @@
+pub mod AmongCodes
 pub mod Asking
 pub mod Choosing
 pub mod Emits
 pub mod Emitting
+pub mod Fits
 pub mod Fitting
 pub mod FittingRows
 pub mod Fronts

@@ -55,6 +55,14 @@ abbrev pub AreSoundCodes : Counts → Use → ℕ → List (List ℕ) → Type 0
 AreSoundCodes z role first [] = ⊥
 AreSoundCodes z role first (bytes ∷ tests) = (sound : IsSoundCode (sizes_as z role z.own) bytes) × NameInTurn (IsSoundTestCode z) sound.code first tests
 
+-- of so many codes, judged as one by this number
+abbrev pub among : Counts → ℕ → ℕ → Counts
+among z own codes = record z { own = own; codes = codes }
+
+-- they are sound codes by whatever number, and among however many, as long as the tests have numbers of codes behind it
+abbrev pub AreSoundAnywhere : Counts → Use → ℕ → Emitted → List (List ℕ) → Type 0
+AreSoundAnywhere z role first e bytes = (own codes : ℕ) → AreNumbered (among z own codes) first e.tests → AreSoundCodes (among z own codes) role first bytes
+
 -- ---- among the codes of a story
 
 -- the story's code of this number has these bytes, and is judged so

@@ -4,17 +4,21 @@ ghost use Rattle.object_words.specs.Mentions.{number_in};
 ghost use Rattle.play_meaning.specs.Meant.{body_meant, condition_meant, text_meant};
 ghost use Rattle.play_meaning.specs.TranslatedScripts.{description_part, test_part};
 ghost use Rattle.play_meaning.specs.Translation.{Part};
+ghost use Rattle.play_meaning.specs.declared.operand.Use.TheVariants as role;
 ghost use Rattle.story_code.specs.Emits.{AreEmitted, AreSpelled, whole_body};
 ghost use Rattle.story_code.specs.Emitting.{can_say_all, emitted, nothing_from};
+ghost use Rattle.story_code.specs.Fitting.{BodyFits, ConditionFits, TextFits};
+ghost use Rattle.story_code.specs.SoundlyEmitted.{AreSoundAnywhere};
 
 use crate::emitting::condition::emit_condition;
 use crate::emitting::output::Output;
 use crate::emitting::phrase::emit_body;
 use crate::emitting::text::emit_text;
 use crate::encoding::spell;
+use crate::fitting::{body_fits, condition_fits, description_fits};
 use object_words::Strings;
-use play_meaning::Instruction;
 use play_meaning::tree::{Condition, Phrase, Text};
+use play_meaning::{Counts, Instruction};
 use std::alloc::{AllocError, Global};
 use thiserror::Error;
 use world_meaning::{Listed, TextBytes};
@@ -22,7 +26,8 @@ use world_meaning::{Listed, TextBytes};
 /// Why no codes were emitted.
 #[derive(Clone, Copy, Debug, Drop, PartialEq, Eq, Error)]
 pub enum EmitFault {
-    /// A code takes more than 65,535 bytes or opens more than nine loops, or a test's number takes more than two bytes.
+    /// The tree names what isn't there, or takes more than sixty-four operands at once or nine loops; or a code takes more
+    /// than 65,535 bytes, or a test's number more than two.
     #[error("too long")]
     TooLong,
     #[error("out of memory")]
@@ -30,20 +35,27 @@ pub enum EmitFault {
 }
 
 /// The bytes of the code of a rule's body, and behind it those of the tests that it names, which are numbered from `first`
-/// on. Each string goes by its number among `strings`.
+/// on. Each string goes by its number among `strings`. By what there is in `counts` they are sound codes, whatever number the
+/// body's code has in front of `first`, and however many codes there are that hold all of them.
 ///
 /// # Errors
 ///
-/// `TooLong` only where bytes can't say the codes, and `Memory`.
+/// `TooLong` only where the tree doesn't fit or bytes can't say the codes, and `Memory`.
 pub fn body_codes(
     alloc: Global,
+    counts: &Counts,
     strings: &Strings,
     first: u16,
     body: &[Phrase],
 ) -> Result<Vec<TextBytes>, EmitFault>
     ensures codes { IfOk result (λ codes. AreEmitted (whole_body (number_in strings.now) (body_meant body.now) first 0) codes.items) }
-    ensures too_long { IfErr result (λ fault. fault ≡ EmitFault.TooLong → can_say_all (whole_body (number_in strings.now) (body_meant body.now) first 0) ≡ false) }
+    ensures sound { IfOk result (λ codes. AreSoundAnywhere counts.now role.Body first (whole_body (number_in strings.now) (body_meant body.now) first 0) codes.items) }
+    ensures too_long { IfErr result (λ fault. fault ≡ EmitFault.TooLong → BodyFits counts.now (number_in strings.now) 0 (body_meant body.now)
+        → can_say_all (whole_body (number_in strings.now) (body_meant body.now) first 0) ≡ false) }
 {
+    if !body_fits(counts, strings, body) {
+        return Err(EmitFault::TooLong);
+    }
     let Ok(out) = body_output(alloc, strings, first, body) else {
         return Err(EmitFault::Memory);
     };
@@ -51,19 +63,25 @@ pub fn body_codes(
 }
 
 /// The bytes of the code that answers a condition, and behind it those of the tests that it names, which are numbered from
-/// `first` on.
+/// `first` on: sound codes, as a body's are.
 ///
 /// # Errors
 ///
-/// `TooLong` only where bytes can't say the codes, and `Memory`.
+/// `TooLong` only where the tree doesn't fit or bytes can't say the codes, and `Memory`.
 pub fn condition_codes(
     alloc: Global,
+    counts: &Counts,
     first: u16,
     condition: &Condition,
 ) -> Result<Vec<TextBytes>, EmitFault>
     ensures codes { IfOk result (λ codes. AreEmitted (test_part (condition_meant condition.now) first 0) codes.items) }
-    ensures too_long { IfErr result (λ fault. fault ≡ EmitFault.TooLong → can_say_all (test_part (condition_meant condition.now) first 0) ≡ false) }
+    ensures sound { IfOk result (λ codes. AreSoundAnywhere counts.now (role.Test 0) first (test_part (condition_meant condition.now) first 0) codes.items) }
+    ensures too_long { IfErr result (λ fault. fault ≡ EmitFault.TooLong → ConditionFits counts.now 0 0 (condition_meant condition.now)
+        → can_say_all (test_part (condition_meant condition.now) first 0) ≡ false) }
 {
+    if !condition_fits(counts, condition) {
+        return Err(EmitFault::TooLong);
+    }
     let Ok(out) = condition_output(alloc, first, condition) else {
         return Err(EmitFault::Memory);
     };
@@ -71,20 +89,26 @@ pub fn condition_codes(
 }
 
 /// The bytes of the code that says a description, and behind it those of the tests that it names, which are numbered from
-/// `first` on. Each string goes by its number among `strings`.
+/// `first` on: sound codes, as a body's are. Each string goes by its number among `strings`.
 ///
 /// # Errors
 ///
-/// `TooLong` only where bytes can't say the codes, and `Memory`.
+/// `TooLong` only where the tree doesn't fit or bytes can't say the codes, and `Memory`.
 pub fn description_codes(
     alloc: Global,
+    counts: &Counts,
     strings: &Strings,
     first: u16,
     text: &Text,
 ) -> Result<Vec<TextBytes>, EmitFault>
     ensures codes { IfOk result (λ codes. AreEmitted (description_part (number_in strings.now) (text_meant text.now) first 0) codes.items) }
-    ensures too_long { IfErr result (λ fault. fault ≡ EmitFault.TooLong → can_say_all (description_part (number_in strings.now) (text_meant text.now) first 0) ≡ false) }
+    ensures sound { IfOk result (λ codes. AreSoundAnywhere counts.now role.Describing first (description_part (number_in strings.now) (text_meant text.now) first 0) codes.items) }
+    ensures too_long { IfErr result (λ fault. fault ≡ EmitFault.TooLong → TextFits counts.now role.Describing (number_in strings.now) 0 (text_meant text.now)
+        → can_say_all (description_part (number_in strings.now) (text_meant text.now) first 0) ≡ false) }
 {
+    if !description_fits(counts, strings, text) {
+        return Err(EmitFault::TooLong);
+    }
     let Ok(out) = description_output(alloc, strings, first, text) else {
         return Err(EmitFault::Memory);
     };

@@ -1,6 +1,6 @@
 //! What is known of codes and their bytes.
 ghost use Rattle.story_code.specs.FittingRows.{FittingRows};
-ghost use Rattle.story_code.specs.Laws.{BodiesAreSound, BodiesBeginStanding, ConditionsAreSound, DescriptionsAreSound, EmittedBytesAreSound, OneCode, RunsBeginStanding, RunsStandBehindAnyWork, SoundCodesStandRightly};
+ghost use Rattle.story_code.specs.Laws.{BodiesAreSound, BodiesBeginStanding, ConditionsAreSound, DescriptionsAreSound, DescriptionsSayTheirTexts, EmittedBytesAreSound, OneCode, RunsBeginStanding, RunsStandBehindAnyWork, SoundCodesStandRightly};
 ghost use Rattle.story_code.specs.Soundness.{IsSoundCode};
 
 use crate::verified::Verified;
@@ -32,6 +32,13 @@ pub fn emitted_codes_are_sound()
     ensures bodies { BodiesAreSound }
     ensures conditions { ConditionsAreSound }
     ensures descriptions { DescriptionsAreSound }
+{}
+
+/// The code of a description that fits a story, among the codes of that story, says what the description's text says, in
+/// every world and action, or abandons as it does: whatever numbers the story gives to the strings that it says and to the
+/// tests that it names.
+pub fn descriptions_say_their_texts()
+    ensures { DescriptionsSayTheirTexts }
 {}
 
 /// Where what is emitted is sound and bytes say it, these are sound codes; and in a story that holds them, each by its

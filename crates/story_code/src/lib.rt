@@ -14,6 +14,7 @@ mod emit;
 mod emitting;
 mod encoding;
 mod fetching;
+mod fitting;
 mod known;
 mod laws;
 mod listing;
@@ -39,9 +40,10 @@ pub use body::step_plain;
 pub use decoding::front;
 pub use emit::{EmitFault, body_codes, condition_codes, description_codes};
 pub use encoding::spell;
+pub use fitting::{body_fits, condition_fits, description_fits};
 pub use laws::{
-    emitted_bytes_are_sound, emitted_codes_are_sound, one_code, rows_of_fitting,
-    runs_begin_standing, verified_code_is_sound,
+    descriptions_say_their_texts, emitted_bytes_are_sound, emitted_codes_are_sound, one_code,
+    rows_of_fitting, runs_begin_standing, verified_code_is_sound,
 };
 pub use plain::read_plain;
 pub use sizes::Sizes;

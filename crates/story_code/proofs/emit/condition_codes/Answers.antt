@@ -1,9 +1,22 @@
+use Rattle.std.proofs.lemmas.Bool.Decides.{not_from_Decides}
+use Rattle.std.proofs.lemmas.Result.{IfErr-weaker, IfOk-weaker}
 use Rattle.play_meaning.specs.Meant.{condition_meant}
 use Rattle.play_meaning.specs.TranslatedScripts.{test_part}
+use Rattle.story_code.proofs.SoundAnywhere.{condition_anywhere}
 use Rattle.story_code.proofs.emit.condition_codes.Goals as goal
+
+pub returns-then-not-condition_fits-clause-too_long : goal.returns-then-not-condition_fits-clause-too_long
+returns-then-not-condition_fits-clause-too_long c = λ told fits.
+    absurd (not_from_Decides c.condition_fits.result (c.condition_fits.ensures c.args.counts.now.own c.args.counts.now.codes) c.if-not-condition_fits.true fits)
 
 pub returns-clause-codes : goal.returns-clause-codes
 returns-clause-codes c = c.finish.ensures.codes c.args.first (test_part (condition_meant c.args.condition.now)) c.in-Ok.ensures
 
+pub returns-clause-sound : goal.returns-clause-sound
+returns-clause-sound c =
+    IfOk-weaker c.finish.result _ _ (λ codes. condition_anywhere c.args.counts.now c.args.first c.condition_fits.result c.if-not-condition_fits.false codes.items (condition_meant c.args.condition.now) c.condition_fits.ensures)
+    (c.finish.ensures.codes c.args.first (test_part (condition_meant c.args.condition.now)) c.in-Ok.ensures)
+
 pub returns-clause-too_long : goal.returns-clause-too_long
-returns-clause-too_long c = c.finish.ensures.too_long c.args.first (test_part (condition_meant c.args.condition.now)) c.in-Ok.ensures
+returns-clause-too_long c =
+    IfErr-weaker c.finish.result _ _ (λ fault told is fits. told is) (c.finish.ensures.too_long c.args.first (test_part (condition_meant c.args.condition.now)) c.in-Ok.ensures)

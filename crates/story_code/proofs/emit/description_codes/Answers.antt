@@ -1,10 +1,23 @@
+use Rattle.std.proofs.lemmas.Bool.Decides.{not_from_Decides}
+use Rattle.std.proofs.lemmas.Result.{IfErr-weaker, IfOk-weaker}
 use Rattle.object_words.specs.Mentions.{number_in}
 use Rattle.play_meaning.specs.Meant.{text_meant}
 use Rattle.play_meaning.specs.TranslatedScripts.{description_part}
+use Rattle.story_code.proofs.SoundAnywhere.{description_anywhere}
 use Rattle.story_code.proofs.emit.description_codes.Goals as goal
+
+pub returns-then-not-description_fits-clause-too_long : goal.returns-then-not-description_fits-clause-too_long
+returns-then-not-description_fits-clause-too_long c = λ told fits.
+    absurd (not_from_Decides c.description_fits.result (c.description_fits.ensures c.args.counts.now.own c.args.counts.now.codes) c.if-not-description_fits.true fits)
 
 pub returns-clause-codes : goal.returns-clause-codes
 returns-clause-codes c = c.finish.ensures.codes c.args.first (description_part (number_in c.args.strings.now) (text_meant c.args.text.now)) c.in-Ok.ensures
 
+pub returns-clause-sound : goal.returns-clause-sound
+returns-clause-sound c =
+    IfOk-weaker c.finish.result _ _ (λ codes. description_anywhere c.args.counts.now c.args.first c.description_fits.result c.if-not-description_fits.false codes.items (number_in c.args.strings.now) (text_meant c.args.text.now) c.description_fits.ensures)
+    (c.finish.ensures.codes c.args.first (description_part (number_in c.args.strings.now) (text_meant c.args.text.now)) c.in-Ok.ensures)
+
 pub returns-clause-too_long : goal.returns-clause-too_long
-returns-clause-too_long c = c.finish.ensures.too_long c.args.first (description_part (number_in c.args.strings.now) (text_meant c.args.text.now)) c.in-Ok.ensures
+returns-clause-too_long c =
+    IfErr-weaker c.finish.result _ _ (λ fault told is fits. told is) (c.finish.ensures.too_long c.args.first (description_part (number_in c.args.strings.now) (text_meant c.args.text.now)) c.in-Ok.ensures)
