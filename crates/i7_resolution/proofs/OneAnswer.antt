@@ -16,7 +16,7 @@ use Rattle.i7_rules.specs.declared.source_rules.RulesFound.TheVariants as ruled
 use Rattle.i7_sentences.specs.Lowest.{IsLowest, IsNowhere}
 use Rattle.i7_sentences.specs.declared.sentence.Sentence.{Sentence}
 use Rattle.play_meaning.specs.Meant.{text_meant}
-use Rattle.i7_resolution.specs.Resolutions.{IsResolution, first_of, resolved}
+use Rattle.i7_resolution.specs.Resolutions.{IsResolution, first_of, joined}
 use Rattle.i7_resolution.specs.ResolutionsMeant.{Both, ResolutionMeant, Refused as Unresolved, resolution_meant}
 use Rattle.i7_resolution.specs.SourceTexts.{All, AreFound, AreTold, IsOver, IsTextsFound, IsTold, IsUnknown, Refused, Stands, TextMeant, TextsMeant, meant_in, texts_meant}
 use Rattle.i7_resolution.specs.SourceTexts as texts
@@ -95,7 +95,7 @@ both_meant (rules.All rs) (texts.Refused fault) = Unresolved fault
 both_meant (rules.Refused fault) (texts.All ts) = Unresolved fault
 both_meant (rules.Refused fault) (texts.Refused other) = Unresolved (first_of fault other)
 
-meant_so : (r : RulesFound) (t : TextsFound) → resolution_meant (resolved r t) ≡ both_meant (rules_meant r) (texts_meant t)
+meant_so : (r : RulesFound) (t : TextsFound) → resolution_meant (joined r t) ≡ both_meant (rules_meant r) (texts_meant t)
 meant_so (ruled.Says rs) (found.Says ts) = refl
 meant_so (ruled.Says rs) (found.Refused fault) = refl
 meant_so (ruled.Refused fault) (found.Says ts) = refl

@@ -49,10 +49,10 @@ abbrev pub refused_with : Fault → TextsFound → Resolution
 refused_with fault (texted.Says texts) = Refused fault
 refused_with fault (texted.Refused other) = Refused (first_of fault other)
 
-abbrev pub resolved : RulesFound → TextsFound → Resolution
-resolved (ruled.Says rules) (texted.Says texts) = Says (record { rules = rules; texts = texts })
-resolved (ruled.Says rules) (texted.Refused fault) = Refused fault
-resolved (ruled.Refused fault) texts = refused_with fault texts
+abbrev pub joined : RulesFound → TextsFound → Resolution
+joined (ruled.Says rules) (texted.Says texts) = Says (record { rules = rules; texts = texts })
+joined (ruled.Says rules) (texted.Refused fault) = Refused fault
+joined (ruled.Refused fault) texts = refused_with fault texts
 
 -- what is told of a source by what is told of its rules and of its texts
 pub record IsResolution (k : Known) (sentences : List Sentence) (told : Resolution) : Type 0 where
@@ -60,4 +60,4 @@ pub record IsResolution (k : Known) (sentences : List Sentence) (told : Resoluti
   pub texts : TextsFound
   pub rules_are : IsRulesFound k sentences rules
   pub texts_are : IsTextsFound k sentences texts
-  pub told_is : told ≡ resolved rules texts
+  pub told_is : told ≡ joined rules texts

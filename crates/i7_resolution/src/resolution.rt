@@ -1,7 +1,7 @@
 //! What is resolved of a source, or the refusal that stands.
 ghost use Rattle.std.specs.Prelude.{◌≡◌, ◌+◌, ◌*◌, ◌≤◌, length, map, IfOk};
 ghost use Rattle.i7_rules.specs.Knowns.{known_of};
-ghost use Rattle.i7_resolution.specs.Resolutions.{IsResolution, first_of, goes_before, known_in, refused_with, resolved, turn_of};
+ghost use Rattle.i7_resolution.specs.Resolutions.{IsResolution, first_of, goes_before, joined, known_in, refused_with, turn_of};
 
 use crate::source_texts::{SourceText, TextsFound, texts_of};
 use i7_actions::standard_actions;
@@ -67,8 +67,8 @@ fn refused_with(fault: Fault, texts: TextsFound) -> Resolution
 }
 
 /// Both, or the first refusal.
-fn resolved(rules: RulesFound, texts: TextsFound) -> Resolution
-    ensures { result ≡ resolved rules texts }
+fn joined(rules: RulesFound, texts: TextsFound) -> Resolution
+    ensures { result ≡ joined rules texts }
 {
     match rules {
         RulesFound::Says(rules) => match texts {
@@ -89,7 +89,7 @@ fn resolved_of(
 {
     let rules = rules_of(alloc, known, sentences)?;
     let texts = texts_of(alloc, known, sentences)?;
-    Ok(resolved(rules, texts))
+    Ok(joined(rules, texts))
 }
 
 /// The names of rulebooks, as they are known.

@@ -1,8 +1,8 @@
 mod Breaks
 mod Counted
 mod Headed
-mod Looked
-mod Lows
+pub mod Looked
+pub mod Lows
 mod Named
 mod Once
 mod OneAnswer
