@@ -7,6 +7,7 @@ use Rattle.i7_actions.specs.Actions.{standard_actions}
 use Rattle.i7_kinds.specs.Tales.{tale_said}
 use Rattle.i7_names.specs.SourceNames.{names_in, rulebooks_in, scene_count}
 use Rattle.i7_resolution.specs.Resolutions.{IsResolution}
+use Rattle.i7_resolution.specs.declared.resolution.Resolution.{Resolution}
 use Rattle.i7_resolution.specs.declared.resolution.Resolution.TheVariants.{Refused, Says}
 use Rattle.i7_resolution.specs.declared.resolution.Resolved.{Resolved}
 use Rattle.i7_rules.specs.Knowns.{Known}
@@ -67,6 +68,11 @@ pub record AreUnheld (sentences : List Sentence) (fault : Fault) : Type 0 where
   pub resolved_is : IsResolution (known_said sentences) sentences (Says resolved)
   pub code_is : fault.code ≡ NotUnderstood
   pub line_is : lowest unheld_line sentences ≡ Some fault.line
+
+-- what refuses sentences of which so much is resolved and no story holds the one on this line
+abbrev pub fault_told : Resolution → ℕ → Fault
+fault_told (Refused fault) line = fault
+fault_told (Says resolved) line = record { code = NotUnderstood; line = line }
 
 -- Sentences are refused for what they say of the world, for their rules and texts, or for what no story holds.
 pub data AreRefused (sentences : List Sentence) (fault : Fault) : Type 0 where

@@ -3,7 +3,7 @@ ghost use Rattle.std.specs.Prelude.{◌≡◌, ◌⊎◌, Some, IfErr, IfOk};
 ghost use Rattle.i7_resolution.specs.Resolutions.{IsResolution};
 ghost use Rattle.i7_sentences.specs.Lowest.{lowest};
 ghost use Rattle.world_meaning.specs.Faults.{out_of_memory};
-ghost use Rattle.story_file.specs.Meanings.{AreMeant, AreRefused, MeanSomeTale, known_said, unheld_line};
+ghost use Rattle.story_file.specs.Meanings.{AreMeant, AreRefused, MeanSomeTale, fault_told, known_said, unheld_line};
 
 use crate::unheld::lowest_unheld;
 use i7_kinds::tale_of;
@@ -23,8 +23,21 @@ fn resolution_said(alloc: Global, sentences: &[Sentence]) -> Result<Resolution, 
     Ok(told)
 }
 
-/// Why sentences are refused of which no story holds one so far, on this line: for their rules or the texts that describe, or else because
-/// of that one.
+/// What refuses sentences of which so much is resolved and no story holds the one on this line.
+fn fault_told(told: Resolution, line: u32) -> Fault
+    ensures { result ≡ fault_told told line }
+{
+    match told {
+        Resolution::Refused(fault) => fault,
+        Resolution::Says(_) => Fault {
+            code: FaultCode::NotUnderstood,
+            line,
+        },
+    }
+}
+
+/// Why sentences are refused of which no story holds one so far, on this line: for their rules or the texts that describe,
+/// or else because of that one.
 fn fault_unheld(alloc: Global, sentences: &[Sentence], line: u32) -> Fault
     requires meant { MeanSomeTale sentences.now }
     requires unheld { lowest unheld_line sentences.now ≡ Some line }
@@ -32,13 +45,7 @@ fn fault_unheld(alloc: Global, sentences: &[Sentence], line: u32) -> Fault
 {
     match resolution_said(alloc, sentences) {
         Err(_) => Fault::OUT_OF_MEMORY,
-        Ok(told) => match told {
-            Resolution::Refused(fault) => fault,
-            Resolution::Says(_) => Fault {
-                code: FaultCode::NotUnderstood,
-                line,
-            },
-        },
+        Ok(told) => fault_told(told, line),
     }
 }
 

@@ -2,7 +2,8 @@ use Rattle.std.proofs.Common.{List, inl, inr, subst}
 use Rattle.std.proofs.lemmas.Result.{err_from_is_err_and}
 use Rattle.i7_sentences.specs.declared.sentence.Sentence.{Sentence}
 use Rattle.story_file.specs.Compilations.IsRefused.{memory, unmeant}
-use Rattle.story_file.specs.Meanings.{AreMeant, AreRefused}
+use Rattle.story_file.specs.Meanings.{AreMeant}
+use Rattle.story_file.proofs.Outcomes.{refused_so}
 use Rattle.story_file.proofs.compiler.tale_of_source.Goals as goal
 
 pub returns-in_err-tale-clause-refused : goal.returns-in_err-tale-clause-refused
@@ -12,7 +13,7 @@ returns-in_err-tale-clause-refused c =
       | inl refused ↦ unmeant (record {
         sentences = c.in_ok-sentences.sentences.items;
         says = c.in_ok-sentences.ensures.said;
-        refused = subst (λ (all : List Sentence). AreRefused all c.in_err-tale.field-0) c.as_slice.ensures.value refused;
+        refused = refused_so _ _ _ c.as_slice.ensures.value refused;
       })
       | inr is ↦ memory c.in_ok-sentences.ensures.said.spells.readable.short is
     ])
