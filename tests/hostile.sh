@@ -83,7 +83,7 @@ for source in *.i7; do
   limit=$space
   case $source in
     rooms.i7 | one_room.i7) want=0 limit=unlimited ;;
-    closed_texts.i7 | rule_colons.i7 | rule_substitutions.i7 | long_*) limit=unlimited ;;
+    closed_texts.i7 | rule_colons.i7 | rule_phrases.i7 | rule_substitutions.i7 | rules_many.i7 | long_*) limit=unlimited ;;
   esac
   (ulimit -v "$limit"; exec timeout 1 "$program" compile "$source" story) 2>err </dev/null
   status=$?
