@@ -28,7 +28,7 @@ use Rattle.source_player.specs.declared.source_run.SourceRunFault.TheVariants.{S
 pub same_game : (source bytes : List ℕ) (compiled : IsCompiled source bytes) (story : Tables) → Spells bytes story → game_of_story story ≡ game_of_tale compiled.tale
 same_game source bytes compiled story spells =
     let same : story ≡ tables_of compiled.tale = same_story bytes story compiled.tables spells compiled.spells ∙ compiled.tables_are in
-    let held = tale_held compiled.means.sentences compiled.tale (says_ranged source compiled.means.sentences compiled.means.says) compiled.means.meant in
+    let held = tale_held compiled.means.sentences compiled.tale (says_ranged source compiled.means.sentences compiled.means.says) compiled.means.meant.tale_is in
     ap game_of_story same ∙ ap game_of_plain (tables_game compiled.tale held)
 
 pub played_source : (source bytes : List ℕ) (echo : Bool) (unread rest held now : Option (List ℕ)) (result : Result Ending SourceRunFault) → IsCompiled source bytes → IfOk result (PlayedStory bytes echo (streams_of unread held) (streams_of rest now)) → IfOk result (PlayedSource source echo (streams_of unread held) (streams_of rest now))
