@@ -1,5 +1,5 @@
 -- Parts of lists, and the order of lists of numbers.
-use Rattle.std.proofs.Common.{◌≡◌, ℕ, ◌-◌, ◌<◌, Bool, true, false, List, [], ◌∷◌, ◌++◌, length, take, drop, get_or, map, refl, ap, sym, ◌∙◌, arith}
+use Rattle.std.proofs.Common.{◌≡◌, ℕ, ◌-◌, ◌<◌, Bool, true, false, List, [], ◌∷◌, ◌++◌, length, take, drop, get_or, refl, ap, sym, ◌∙◌, arith}
 use Rattle.std.proofs.lemmas.Grind.{common_steps}
 use Rattle.std.proofs.lemmas.List.{length-append}
 use Rattle.std.proofs.Math.Seq.{take-append_seam, drop-append_seam}
@@ -73,14 +73,6 @@ short_long : {X : Type 0} (ys : List X) (b x y : X) → x ∷ [] ≡ b ∷ (ys +
 short_long [] b x y e = nil-cons y [] (same_tail x b [] (y ∷ []) e)
 short_long (c ∷ ys) b x y e = nil-cons c (ys ++ y ∷ []) (same_tail x b [] (c ∷ (ys ++ y ∷ [])) e)
 
-not_none : {X : Type 0} (xs : List X) (x : X) → [] ≡ xs ++ x ∷ [] → ⊥
-not_none [] x e = nil-cons x [] e
-not_none (y ∷ xs) x e = nil-cons y (xs ++ x ∷ []) e
-
-map_last : {V X : Type 0} (f : V → X) (xs : List V) (x : V) → map f (xs ++ x ∷ []) ≡ map f xs ++ f x ∷ []
-map_last f [] x = refl
-map_last f (y ∷ xs) x = ap (λ zs. f y ∷ zs) (map_last f xs x)
-
 -- the last of a list, and those before it
 pub same_last : {X : Type 0} (xs ys : List X) (x y : X) → xs ++ x ∷ [] ≡ ys ++ y ∷ [] → (xs ≡ ys) × (x ≡ y)
 same_last [] [] x y e = (refl, same_head x y [] [] e)
@@ -90,9 +82,3 @@ same_last (a ∷ xs) (b ∷ ys) x y e =
     let tails = same_last xs ys x y (same_tail a b (xs ++ x ∷ []) (ys ++ y ∷ []) e) in
     let heads = same_head a b (xs ++ x ∷ []) (ys ++ y ∷ []) e in
     (cc, tails.1)
-
-pub popped : {V X : Type 0} (f : V → X) (new : List V) (behind : V) (xs : List X) (x : X) (old : List V) → map f old ≡ xs ++ x ∷ [] → old ≡ new ++ behind ∷ [] → (map f new ≡ xs) × (f behind ≡ x)
-popped f new behind xs x old told parts = same_last (map f new) xs (f behind) x (sym (map_last f new behind) ∙ ap (map f) (sym parts) ∙ told)
-
-pub not_popped : {V X : Type 0} (f : V → X) (xs : List X) (x : X) (old : List V) → map f old ≡ xs ++ x ∷ [] → old ≡ [] → ⊥
-not_popped f xs x old told none = not_none xs x (ap (map f) (sym none) ∙ told)

@@ -24,8 +24,11 @@ pub mod RuleHeads
 pub mod Rules
 pub mod Seams
 pub mod Sources
+pub mod Signs
+pub mod SmallRows
 pub mod SpokenPhrases
 pub mod Stretches
 pub mod Tags
 pub mod TextPieces
+pub mod WordColumns
 pub mod Words

@@ -108,6 +108,24 @@ ahead_of_run ahead can next = record {
   beside = then_ahead ahead next;
 }
 
+-- the same of a letter that is one token
+abbrev pub ahead_of_alone : Ahead → Bool → Option State → Ahead
+ahead_of_alone ahead can next = record {
+  start = then_ahead ahead next;
+  inside = can || false;
+  between = false;
+  beside = false;
+}
+
+-- the same of names, whose steps at first and behind what parts two are one
+abbrev pub ahead_of_names : Ahead → Bool → Option State → Option State → Ahead
+ahead_of_names ahead can first later = record {
+  start = then_ahead ahead first;
+  inside = can || then_ahead ahead later;
+  between = then_ahead ahead first;
+  beside = false;
+}
+
 abbrev pub ahead_of : Class → List Bool → List Token → Ahead
 ahead_of class behind [] = ahead_of_none (looked behind 0)
 ahead_of class behind (token ∷ tokens) = ahead_of_more class (ahead_of class behind tokens) (looked behind (length (token ∷ tokens))) token

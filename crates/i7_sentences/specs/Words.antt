@@ -1,11 +1,14 @@
 -- What a token is: a word, a text or a mark, and what it may name.
-use Rattle.std.specs.Prelude.{ℕ, Bool, true, false, List, [], Option, find}
+use Rattle.std.specs.Prelude.{ℕ, Bool, true, false, List, [], ◌∷◌, Option, find}
+use Rattle.std.specs.Char.{eq_ignore_ascii_case}
+use Rattle.std.specs.List.{list_any}
 use Rattle.world_meaning.specs.Spelling.{is_spelled}
 use Rattle.world_meaning.specs.Directions.{all_directions, direction_name}
 use Rattle.world_meaning.specs.declared.direction.Direction.{Direction}
 use Rattle.i7_lexer.specs.declared.token.Token.{Token}
 use Rattle.i7_lexer.specs.declared.token.TokenKind.{TokenKind}
 use Rattle.i7_lexer.specs.declared.token.TokenKind.TheVariants.{Text, Word, Mark}
+use Rattle.i7_sentences.specs.declared.word.TheConstants.{COMPASS}
 
 abbrev pub word_in : TokenKind → List ℕ
 word_in (Text text) = []
@@ -38,3 +41,8 @@ names_direction word d = is_spelled word (direction_name d)
 
 abbrev pub direction_named : List ℕ → Option Direction
 direction_named word = find (names_direction word) all_directions
+
+-- whether the word begins as a direction's name does
+unfoldable pub may_lead : List ℕ → Bool
+may_lead [] = false
+may_lead (letter ∷ more) = list_any (λ first. eq_ignore_ascii_case letter first) COMPASS

@@ -1,7 +1,9 @@
 //! The words and marks that sentence forms are made of, and those that no name may hold.
-ghost use Rattle.std.specs.Prelude.{◌≡◌, length, map};
-ghost use Rattle.std.specs.List.{slice_get};
+ghost use Rattle.std.specs.Prelude.{◌≡◌, true, length, map};
+ghost use Rattle.std.specs.List.{list_all, slice_get};
+ghost use Rattle.world_meaning.specs.Spelling.{is_spelled};
 ghost use Rattle.i7_sentences.specs.Keywords.{keyword_among, keyword_in, keyword_of, keyword_spelled};
+ghost use Rattle.i7_sentences.specs.SmallRows.{are_small, begins_with, is_small, small_first};
 
 use i7_lexer::{PackedToken, TokenKind};
 use world_meaning::is_spelled;
@@ -242,13 +244,49 @@ pub const RESERVED: [Keyword; 16] = [
     Keyword::During,
 ];
 
+/// The table of keywords at one place of memory.
+static TABLE: [&[(&[u8], Keyword)]; 12] = KEYWORDS;
+
+/// The first letter of a word, a capital as a small one; 0 of no word.
+fn small_first(word: &[u8]) -> u8
+    ensures { result ≡ small_first word.now }
+{
+    match word {
+        [] => 0,
+        [letter, ..] => letter.to_ascii_lowercase(),
+    }
+}
+
+/// Whether the spelling begins with this letter, if it isn't empty.
+fn begins_with(first: u8, spelling: &[u8]) -> bool
+    ensures { result ≡ begins_with first spelling.now }
+{
+    match spelling {
+        [] => true,
+        [letter, ..] => first == *letter,
+    }
+}
+
+/// Whether the word, whose first letter is this, is spelled so; the letter tells of most words that they aren't.
+#[tactic(auto, using(crate::proofs::SmallRows::first_tells))]
+fn is_spelled_from(first: u8, word: &[u8], spelling: &[u8]) -> bool
+    requires first { first ≡ small_first word.now }
+    requires small { is_small spelling.now ≡ true }
+    ensures { result ≡ is_spelled word.now spelling.now }
+{
+    begins_with(first, spelling) && is_spelled(word, spelling)
+}
+
 /// The keyword of the first of these rows that is spelled as the word is.
+#[tactic(auto, using(crate::proofs::SmallRows::small_parts))]
 fn keyword_in(rows: &[(&[u8], Keyword)], word: &[u8]) -> Option<Keyword>
+    requires { are_small (map (λ row. record { spelling = row.0.now; keyword = row.1 }) rows.now) ≡ true }
     ensures { result ≡ keyword_in word.now (map (λ row. record { spelling = row.0.now; keyword = row.1 }) rows.now) }
 {
+    let first = small_first(word);
     let mut rest = rows;
     while let [row, after @ ..] = rest {
-        if is_spelled(word, row.0) {
+        if is_spelled_from(first, word, row.0) {
             return Some(row.1);
         }
         rest = after;
@@ -259,6 +297,7 @@ fn keyword_in(rows: &[(&[u8], Keyword)], word: &[u8]) -> Option<Keyword>
 /// The keyword that is spelled as the word is, in a table by length.
 #[tactic(auto, using(crate::proofs::Keywords::rows_there))]
 fn keyword_in_table(table: &[&[(&[u8], Keyword)]], word: &[u8]) -> Option<Keyword>
+    requires { list_all are_small (map (λ rows. map (λ row. record { spelling = row.0.now; keyword = row.1 }) rows.now) table.now) ≡ true }
     ensures { result ≡ keyword_among word.now (slice_get (map (λ rows. map (λ row. record { spelling = row.0.now; keyword = row.1 }) rows.now) table.now) (length word.now)) }
 {
     match table.get(word.len()) {
@@ -272,7 +311,7 @@ fn keyword_in_table(table: &[&[(&[u8], Keyword)]], word: &[u8]) -> Option<Keywor
 fn keyword_spelled(word: &[u8]) -> Option<Keyword>
     ensures { result ≡ keyword_spelled word.now }
 {
-    keyword_in_table(&KEYWORDS, word)
+    keyword_in_table(&TABLE, word)
 }
 
 /// The keyword that a token is, if it is one; texts are none.

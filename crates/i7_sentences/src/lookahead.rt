@@ -1,11 +1,13 @@
 //! From where pieces can fit words: for each piece, from the last to the first, a column that tells of
 //! each count of words left whether the pieces from that one on can fit them.
-ghost use Rattle.std.specs.Prelude.{◌≡◌, true, false, ◌&&◌, ◌++◌, length, map, IfNone, IfOk, IfSome, OnSome};
+ghost use Rattle.std.specs.Prelude.{◌≡◌, true, false, ◌&&◌, ◌++◌, [], length, IfNone, IfOk, IfSome, OnSome};
 ghost use Rattle.std.specs.List.{list_any};
 ghost use Rattle.i7_sentences.specs.Keywords.{is_sign};
-ghost use Rattle.i7_sentences.specs.Matching.{ahead_at, ahead_of, ahead_of_more, ahead_of_none, ahead_of_run, columns_of, end_column, first_column, is_never, letter_column, looked, piece_column, reaches, then_ahead, word_column};
+ghost use Rattle.i7_sentences.specs.Matching.{ahead_at, ahead_of, ahead_of_alone, ahead_of_more, ahead_of_names, ahead_of_none, ahead_of_run, columns_of, end_column, first_column, is_never, letter_column, looked, piece_column, reaches, then_ahead, word_column};
+ghost use Rattle.i7_sentences.specs.WordColumns.{is_words, words_column};
 
 use crate::class::State;
+use crate::column_stack::ColumnStack;
 use crate::tagged::Tagged;
 use crate::{Class, Keyword, Piece};
 use std::alloc::{AllocError, Global};
@@ -59,18 +61,23 @@ impl Ahead {
     }
 
     /// With one more word in front; `can` tells whether the pieces behind the letter can fit here.
+    #[tactic(auto, unfolding(crate::specs::Automata::names_step))]
     fn of_more(self, class: Class, can: bool, token: &Tagged<'_>) -> Ahead
         ensures { result ≡ ahead_of_more class self can token.now }
     {
         match class {
             Class::Words | Class::Name | Class::What | Class::Usual | Class::Texts | Class::Head =>
                 self.of_run(can, class.step(State::Start, token)),
-            Class::Names
-            | Class::Article
-            | Class::Side
-            | Class::Number
-            | Class::Text
-            | Class::Body => Ahead {
+            Class::Article | Class::Number | Class::Text => self.of_alone(
+                can,
+                class.step(State::Start, token),
+            ),
+            Class::Names => self.of_names(
+                can,
+                class.step(State::Start, token),
+                class.step(State::Inside, token),
+            ),
+            Class::Side | Class::Body => Ahead {
                 start: self.reaches(class, can, token, State::Start),
                 inside: self.reaches(class, can, token, State::Inside),
                 between: self.reaches(class, can, token, State::Between),
@@ -91,6 +98,31 @@ impl Ahead {
             beside: behind,
         }
     }
+
+    /// The same where the letter is one token.
+    fn of_alone(self, can: bool, step: Option<State>) -> Ahead
+        ensures { result ≡ ahead_of_alone self can step }
+    {
+        Ahead {
+            start: self.then(step),
+            inside: can,
+            between: false,
+            beside: false,
+        }
+    }
+
+    /// The same of names, whose steps at first and behind what parts two are one.
+    fn of_names(self, can: bool, first: Option<State>, later: Option<State>) -> Ahead
+        ensures { result ≡ ahead_of_names self can first later }
+    {
+        let begins = self.then(first);
+        Ahead {
+            start: begins,
+            inside: can || self.then(later),
+            between: begins,
+            beside: false,
+        }
+    }
 }
 
 /// A column's answer for so many words left.
@@ -101,10 +133,12 @@ pub fn looked(column: &[bool], left: usize) -> bool
 }
 
 /// The column of no pieces, which fit no words alone.
-fn end_column(alloc: Global) -> Result<Vec<bool>, AllocError>
-    ensures { IfOk result (λ column. column.items ≡ end_column) }
+fn end_column(mut column: Vec<bool>) -> Result<Vec<bool>, AllocError>
+    requires { column.items ≡ [] }
+    ensures { IfOk result (λ full. full.items ≡ end_column) }
 {
-    Vec::from_slice(alloc, &[true])
+    column.push(true)?;
+    Ok(column)
 }
 
 /// Whether the word is the token, with the pieces behind it.
@@ -116,14 +150,14 @@ fn can_take(keyword: Keyword, token: &Tagged<'_>, behind: &[bool], left: usize) 
 
 /// The column in front of a word of the form.
 fn word_column(
-    alloc: Global,
+    mut column: Vec<bool>,
     keyword: Keyword,
     behind: &[bool],
     tokens: &[Tagged<'_>],
 ) -> Result<Vec<bool>, AllocError>
-    ensures { IfOk result (λ column. column.items ≡ word_column keyword behind.now tokens.now) }
+    requires { column.items ≡ [] }
+    ensures { IfOk result (λ full. full.items ≡ word_column keyword behind.now tokens.now) }
 {
-    let mut column = Vec::with_capacity(alloc, tokens.len() + 1)?;
     column.push(false)?;
     let mut place = tokens.len();
     while place > 0 {
@@ -141,14 +175,14 @@ fn word_column(
 
 /// The column in front of a letter.
 fn letter_column(
-    alloc: Global,
+    mut column: Vec<bool>,
     class: Class,
     behind: &[bool],
     tokens: &[Tagged<'_>],
 ) -> Result<Vec<bool>, AllocError>
-    ensures { IfOk result (λ column. column.items ≡ letter_column class behind.now tokens.now) }
+    requires { column.items ≡ [] }
+    ensures { IfOk result (λ full. full.items ≡ letter_column class behind.now tokens.now) }
 {
-    let mut column = Vec::with_capacity(alloc, tokens.len() + 1)?;
     let mut ahead = Ahead::of_none(looked(behind, 0));
     column.push(ahead.start)?;
     let mut place = tokens.len();
@@ -166,18 +200,69 @@ fn letter_column(
     Ok(column)
 }
 
+/// Whether a letter of the class is one or more words, whatever they are.
+fn is_words(class: Class) -> bool
+    ensures { result ≡ is_words class }
+{
+    match class {
+        Class::Words | Class::Name | Class::What | Class::Usual => true,
+        Class::Names
+        | Class::Article
+        | Class::Side
+        | Class::Number
+        | Class::Text
+        | Class::Texts
+        | Class::Head
+        | Class::Body => false,
+    }
+}
+
+/// The column in front of a letter of words.
+fn words_column(
+    mut column: Vec<bool>,
+    behind: &[bool],
+    tokens: &[Tagged<'_>],
+) -> Result<Vec<bool>, AllocError>
+    requires { column.items ≡ [] }
+    ensures { IfOk result (λ full. full.items ≡ words_column behind.now tokens.now) }
+{
+    column.push(false)?;
+    let mut inside = looked(behind, 0);
+    let mut place = tokens.len();
+    while place > 0 {
+        place -= 1;
+        let (_, rest) = tokens.split_at(place);
+        match rest {
+            [] => return Ok(column),
+            [token, ..] => {
+                let begins = token.is_word() && inside;
+                column.push(begins)?;
+                inside = looked(behind, rest.len()) || begins;
+            }
+        }
+    }
+    Ok(column)
+}
+
 /// The column in front of a piece.
+#[tactic(auto, using(crate::proofs::WordColumns::words_same))]
 fn piece_column(
-    alloc: Global,
+    column: Vec<bool>,
     piece: Piece,
     behind: &[bool],
     tokens: &[Tagged<'_>],
 ) -> Result<Vec<bool>, AllocError>
-    ensures { IfOk result (λ column. column.items ≡ piece_column piece behind.now tokens.now) }
+    requires { column.items ≡ [] }
+    ensures { IfOk result (λ full. full.items ≡ piece_column piece behind.now tokens.now) }
 {
     match piece {
-        Piece::Word(keyword) => Ok(word_column(alloc, keyword, behind, tokens)?),
-        Piece::Letter(class) => Ok(letter_column(alloc, class, behind, tokens)?),
+        Piece::Word(keyword) => Ok(word_column(column, keyword, behind, tokens)?),
+        Piece::Letter(class) => {
+            if is_words(class) {
+                return Ok(words_column(column, behind, tokens)?);
+            }
+            Ok(letter_column(column, class, behind, tokens)?)
+        }
     }
 }
 
@@ -194,22 +279,25 @@ fn columns(
     alloc: Global,
     pieces: &[Piece],
     tokens: &[Tagged<'_>],
-    told: &mut Vec<Vec<bool>>,
+    told: &mut ColumnStack,
 ) -> Result<Option<Vec<bool>>, AllocError>
     ensures none { IfOk result (λ found. IfNone found (is_never pieces.now tokens.now ≡ true)) }
     ensures own { IfOk result (λ found. IfSome found (λ column. column.items ≡ first_column pieces.now tokens.now)) }
-    ensures added { IfOk result (λ found. OnSome found (map (λ column. column.items) told.new.items ≡ map (λ column. column.items) told.old.items ++ columns_of pieces.now tokens.now)) }
+    ensures added { IfOk result (λ found. OnSome found (told.new ≡ told.old ++ columns_of pieces.now tokens.now)) }
 {
     match pieces {
-        [] => Ok(Some(end_column(alloc)?)),
+        [] => Ok(Some(end_column(told.empty(alloc, 1)?)?)),
         [piece, after @ ..] => match columns(alloc, after, tokens, told)? {
             None => Ok(None),
             Some(behind) => {
-                let column = piece_column(alloc, *piece, behind.as_slice(), tokens)?;
+                let empty = told.empty(alloc, tokens.len() + 1)?;
+                let column = piece_column(empty, *piece, behind.as_slice(), tokens)?;
                 if !has_yes(column.as_slice()) {
+                    told.set_free(behind)?;
+                    told.set_free(column)?;
                     return Ok(None);
                 }
-                told.push(behind)?;
+                told.add(behind)?;
                 Ok(Some(column))
             }
         },
@@ -222,17 +310,17 @@ pub fn columns_behind(
     alloc: Global,
     pieces: &[Piece],
     tokens: &[Tagged<'_>],
-    told: &mut Vec<Vec<bool>>,
+    told: &mut ColumnStack,
 ) -> Result<bool, AllocError>
     ensures none { IfOk result (λ can. can ≡ false → is_never pieces.now tokens.now ≡ true) }
-    ensures added { IfOk result (λ can. can ≡ true → map (λ column. column.items) told.new.items ≡ map (λ column. column.items) told.old.items ++ columns_of pieces.now tokens.now) }
+    ensures added { IfOk result (λ can. can ≡ true → told.new ≡ told.old ++ columns_of pieces.now tokens.now) }
 {
     match pieces {
         [] => Ok(true),
         [_, after @ ..] => match columns(alloc, after, tokens, told)? {
             None => Ok(false),
             Some(behind) => {
-                told.push(behind)?;
+                told.add(behind)?;
                 Ok(true)
             }
         },

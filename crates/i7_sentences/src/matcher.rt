@@ -2,11 +2,13 @@
 //! pieces behind it can fit.
 ghost use Rattle.std.specs.Prelude.{◌≡◌, true, ◌≤◌, ◌++◌, ◌∷◌, [], length, map, option_map, IfNone, IfOk, IfSome, IsTrue, None, Some, false};
 ghost use Rattle.std.specs.List.{list_any};
-ghost use Rattle.i7_sentences.specs.Keywords.{is_among, signs_of};
-ghost use Rattle.i7_sentences.specs.Matching.{behind_word, can_begin, can_fit, can_take, columns_of, first_column, first_fit, is_absent, is_kept, is_missing, IsEndOf, left_by, letters_with, looked, nearest};
+ghost use Rattle.i7_sentences.specs.Signs.{is_unmarked, table_of};
+ghost use Rattle.i7_sentences.specs.Matching.{behind_word, can_begin, can_fit, can_take, columns_of, first_column, first_fit, is_kept, is_missing, IsEndOf, left_by, letters_with, looked, nearest};
 
 use crate::class::State;
+use crate::column_stack::ColumnStack;
 use crate::lookahead::{columns_behind, looked};
+use crate::signs::Signs;
 use crate::tagged::Tagged;
 use crate::{Class, Keyword, Piece};
 use std::alloc::{AllocError, Global};
@@ -81,17 +83,21 @@ fn left_behind(
     after: &[Piece],
     tokens: &[Tagged<'_>],
     rest: &[Tagged<'_>],
-    told: &mut Vec<Vec<bool>>,
-) -> Option<usize>
-    requires told { map (λ column. column.items) told.old.items ≡ columns_of after.now tokens.now ++ first_column after.now tokens.now ∷ [] }
+    told: &mut ColumnStack,
+) -> Result<Option<usize>, AllocError>
+    requires told { told.old ≡ columns_of after.now tokens.now ++ first_column after.now tokens.now ∷ [] }
     requires suffix { IsEndOf rest.now tokens.now }
-    ensures told { map (λ column. column.items) told.new.items ≡ columns_of after.now tokens.now }
-    ensures left { result ≡ left_by piece (can_fit after.now) rest.now }
-    ensures within { IfSome result (λ left. left ≤ length rest.now) }
+    ensures told { told.new ≡ columns_of after.now tokens.now }
+    ensures left { IfOk result (λ found. found ≡ left_by piece (can_fit after.now) rest.now) }
+    ensures within { IfOk result (λ found. IfSome found (λ left. left ≤ length rest.now)) }
 {
-    match told.pop() {
-        None => None,
-        Some(behind) => left_by(piece, behind.as_slice(), rest),
+    match told.take_last() {
+        None => Ok(None),
+        Some(behind) => {
+            let left = left_by(piece, behind.as_slice(), rest);
+            told.set_free(behind)?;
+            Ok(left)
+        }
     }
 }
 
@@ -101,19 +107,19 @@ fn take_piece<'a, 'b>(
     after: &[Piece],
     tokens: &[Tagged<'_>],
     rest: &'a [Tagged<'b>],
-    told: &mut Vec<Vec<bool>>,
+    told: &mut ColumnStack,
     letters: &mut Vec<&'a [Tagged<'b>]>,
 ) -> Result<Option<&'a [Tagged<'b>]>, AllocError>
-    requires told { map (λ column. column.items) told.old.items ≡ columns_of after.now tokens.now ++ first_column after.now tokens.now ∷ [] }
+    requires told { told.old ≡ columns_of after.now tokens.now ++ first_column after.now tokens.now ∷ [] }
     requires suffix { IsEndOf rest.now tokens.now }
-    ensures told { map (λ column. column.items) told.new.items ≡ columns_of after.now tokens.now }
+    ensures told { told.new ≡ columns_of after.now tokens.now }
     ensures suffix { IfOk result (λ behind. IfSome behind (λ others. IsEndOf others.now tokens.now)) }
     ensures none { IfOk result (λ behind. IfNone behind (first_fit (piece ∷ after.now) rest.now ≡ None)) }
     ensures some { IfOk result (λ behind. IfSome behind (λ others.
         letters_with (map (λ letter. letter.now) letters.new.items) after.now others.now
         ≡ letters_with (map (λ letter. letter.now) letters.old.items) (piece ∷ after.now) rest.now)) }
 {
-    match left_behind(piece, after, tokens, rest, told) {
+    match left_behind(piece, after, tokens, rest, told)? {
         None => Ok(None),
         Some(left) => {
             let (words, others) = rest.split_at(rest.len() - left);
@@ -181,10 +187,10 @@ fn fits_from<'a, 'b>(
     pieces: &[Piece],
     tokens: &[Tagged<'_>],
     rest: &'a [Tagged<'b>],
-    told: &mut Vec<Vec<bool>>,
+    told: &mut ColumnStack,
     letters: &mut Vec<&'a [Tagged<'b>]>,
 ) -> Result<bool, AllocError>
-    requires told { map (λ column. column.items) told.old.items ≡ columns_of pieces.now tokens.now }
+    requires told { told.old ≡ columns_of pieces.now tokens.now }
     requires suffix { IsEndOf rest.now tokens.now }
     ensures fits { IfOk result (λ fits. IsTrue fits → letters_with (map (λ letter. letter.now) letters.old.items) pieces.now rest.now ≡ Some (map (λ letter. letter.now) letters.new.items)) }
     ensures unfit { IfOk result (λ fits. fits ≡ false → first_fit pieces.now rest.now ≡ None) }
@@ -198,45 +204,23 @@ fn fits_from<'a, 'b>(
     }
 }
 
-/// The words and marks of forms among the tokens, in order.
-pub fn signs_of(alloc: Global, tokens: &[Tagged<'_>]) -> Result<Vec<Keyword>, AllocError>
-    ensures { IfOk result (λ signs. signs.items ≡ signs_of tokens.now) }
-{
-    let mut signs = Vec::new(alloc);
-    let mut rest = tokens;
-    while let [token, after @ ..] = rest {
-        if let Some(keyword) = token.keyword() {
-            signs.push(keyword)?;
-        }
-        rest = after;
-    }
-    Ok(signs)
-}
-
-/// Whether the word or mark is one of these.
-fn is_among(keyword: Keyword, signs: &[Keyword]) -> bool
-    ensures { result ≡ is_among keyword signs.now }
-{
-    signs.iter().any(|sign| *sign == keyword)
-}
-
-/// Whether the piece is a word or mark of the form's own that isn't one of these.
-fn is_absent(piece: Piece, signs: &[Keyword]) -> bool
-    ensures { result ≡ is_absent signs.now piece }
+/// Whether the piece is a word or mark of the form's own that isn't marked.
+fn is_unmarked(piece: Piece, signs: &Signs) -> bool
+    ensures { result ≡ is_unmarked signs.now piece }
 {
     match piece {
-        Piece::Word(keyword) => !is_among(keyword, signs),
+        Piece::Word(keyword) => !signs.is_marked(keyword),
         Piece::Letter(_) => false,
     }
 }
 
-/// Whether one of the pieces is a word or mark that isn't one of these.
-fn lacks_sign(pieces: &[Piece], signs: &[Keyword]) -> bool
-    ensures { result ≡ list_any (is_absent signs.now) pieces.now }
+/// Whether one of the pieces is a word or mark that isn't marked.
+fn lacks_sign(pieces: &[Piece], signs: &Signs) -> bool
+    ensures { result ≡ list_any (is_unmarked signs.now) pieces.now }
 {
     let mut rest = pieces;
     while let [piece, after @ ..] = rest {
-        if is_absent(*piece, signs) {
+        if is_unmarked(*piece, signs) {
             return true;
         }
         rest = after;
@@ -248,8 +232,8 @@ fn lacks_sign(pieces: &[Piece], signs: &[Keyword]) -> bool
 /// they can't begin with the first token, or one of them can begin with none. The signs are those of
 /// the tokens.
 #[tactic(auto, using(crate::proofs::Missing::missing_fits, crate::proofs::Missing::never_begins))]
-pub fn is_passed_over(pieces: &[Piece], signs: &[Keyword], tokens: &[Tagged<'_>]) -> bool
-    requires { signs.now ≡ signs_of tokens.now }
+pub fn is_passed_over(pieces: &[Piece], signs: &Signs, tokens: &[Tagged<'_>]) -> bool
+    requires { signs.now ≡ table_of tokens.now }
     ensures { result ≡ true → first_fit pieces.now tokens.now ≡ None }
 {
     if lacks_sign(pieces, signs) {
@@ -265,15 +249,16 @@ pub fn fit<'a, 'b>(
     alloc: Global,
     pieces: &[Piece],
     tokens: &'a [Tagged<'b>],
+    told: &mut ColumnStack,
 ) -> Result<Option<Vec<&'a [Tagged<'b>]>>, AllocError>
     ensures { IfOk result (λ found. option_map (λ letters. map (λ letter. letter.now) letters.items) found ≡ first_fit pieces.now tokens.now) }
 {
-    let mut told = Vec::new(alloc);
-    if !columns_behind(alloc, pieces, tokens, &mut told)? {
+    told.clear()?;
+    if !columns_behind(alloc, pieces, tokens, told)? {
         return Ok(None);
     }
     let mut letters = Vec::new(alloc);
-    if fits_from(pieces, tokens, tokens, &mut told, &mut letters)? {
+    if fits_from(pieces, tokens, tokens, told, &mut letters)? {
         Ok(Some(letters))
     } else {
         Ok(None)

@@ -4,10 +4,11 @@ ghost use Rattle.i7_sentences.specs.Found.{found_in};
 ghost use Rattle.i7_sentences.specs.Matching.{lowest_fit};
 ghost use Rattle.i7_sentences.specs.PhraseForms.{is_phrase_form, phrase_forms, shape_found, shape_in};
 
+use crate::column_stack::ColumnStack;
 use crate::form::Piece::{Letter, Word};
-use crate::matcher::signs_of;
 use crate::reading::{Reading, lowest_fit};
 use crate::reserved::has_reserved_among;
+use crate::signs::signs_of;
 use crate::tagged::{Tagged, with_tags};
 use crate::{Class, Form, Keyword, Piece};
 use i7_lexer::PackedToken;
@@ -200,8 +201,9 @@ pub fn phrase_reading<'a, 'b>(
 ) -> Result<Option<Reading<'a, 'b>>, AllocError>
     ensures { IfOk result (λ found. option_map found_in found ≡ lowest_fit phrase_forms tokens.now) }
 {
-    let signs = signs_of(alloc, tokens)?;
-    Ok(lowest_fit(alloc, &PHRASE_FORMS, signs.as_slice(), tokens)?)
+    let signs = signs_of(tokens);
+    let mut columns = ColumnStack::new(alloc);
+    Ok(lowest_fit(alloc, &PHRASE_FORMS, &signs, tokens, &mut columns)?)
 }
 
 /// What a phrase is by its shape, without its mark and a closing `instead`; none where no form fits.

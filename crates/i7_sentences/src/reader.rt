@@ -15,6 +15,7 @@ ghost use Rattle.i7_sentences.specs.Stretches.{bad_literal_in, bad_literal_of, r
 
 use crate::assertion::assertion_of;
 use crate::body::line_in;
+use crate::column_stack::ColumnStack;
 use crate::cut::parts_of;
 use crate::heard::{Heard, HeardPart};
 use crate::low::lower_of;
@@ -74,13 +75,17 @@ fn plain_heard(alloc: Global, line: u32, reading: &Reading<'_, '_>) -> Result<He
 
 /// What a sentence says.
 #[tactic(auto, using(crate::proofs::Lowest::lower_steps))]
-fn sentence_part(alloc: Global, tokens: &[PackedToken]) -> Result<HeardPart, AllocError>
+fn sentence_part(
+    alloc: Global,
+    tokens: &[PackedToken],
+    columns: &mut ColumnStack,
+) -> Result<HeardPart, AllocError>
     ensures heard { IfOk result (λ part. part.heard ≡ heard_found tokens.now (lowest_fit all_forms tokens.now)) }
     ensures literals { IfOk result (λ part. part.bad_literal ≡ lowest bad_literal_in (read_stretches tokens.now (lowest_fit all_forms tokens.now))) }
 {
     let line = line_in(tokens);
     let words = with_tags(alloc, tokens)?;
-    match reading_of(alloc, words.as_slice())? {
+    match reading_of(alloc, words.as_slice(), columns)? {
         None => Ok(HeardPart {
             heard: Heard::Unread(line),
             bad_literal: bad_literal_in(line, tokens),
@@ -99,7 +104,11 @@ fn sentence_part(alloc: Global, tokens: &[PackedToken]) -> Result<HeardPart, All
 
 /// What a part says.
 #[tactic(auto, unfolding(crate::specs::Read::heard_in, crate::specs::Stretches::bad_literal_of))]
-fn heard_part(alloc: Global, part: &Part<'_>) -> Result<HeardPart, AllocError>
+fn heard_part(
+    alloc: Global,
+    part: &Part<'_>,
+    columns: &mut ColumnStack,
+) -> Result<HeardPart, AllocError>
     ensures heard { IfOk result (λ found. found.heard ≡ heard_in (piece_of part.now)) }
     ensures literals { IfOk result (λ found. found.bad_literal ≡ bad_literal_of (piece_of part.now)) }
 {
@@ -108,7 +117,7 @@ fn heard_part(alloc: Global, part: &Part<'_>) -> Result<HeardPart, AllocError>
             heard: Heard::Says(Assertion::Aside),
             bad_literal: None,
         }),
-        PartKind::Sentence => Ok(sentence_part(alloc, part.tokens)?),
+        PartKind::Sentence => Ok(sentence_part(alloc, part.tokens, columns)?),
     }
 }
 
@@ -120,13 +129,14 @@ fn heard_parts(alloc: Global, parts: &[Part<'_>]) -> Result<HeardParts, AllocErr
     ensures unread { IfOk result (λ heard. heard.unread ≡ lowest unread_in (pieces_of parts.now)) }
     ensures reserved { IfOk result (λ heard. heard.reserved ≡ lowest reserved_in (pieces_of parts.now)) }
 {
+    let mut columns = ColumnStack::new(alloc);
     let mut sentences = Vec::new(alloc);
     let mut bad_literal = None;
     let mut unread = None;
     let mut reserved = None;
     let mut rest = parts;
     while let [part, after @ ..] = rest {
-        let found = heard_part(alloc, part)?;
+        let found = heard_part(alloc, part, &mut columns)?;
         bad_literal = lower_of(bad_literal, found.bad_literal);
         match found.heard {
             Heard::Unread(line) => unread = lower_of(unread, Some(line)),

@@ -1,15 +1,20 @@
 //! The reading of a sentence: the lowest form that fits, with the shortest letters.
 ghost use Rattle.std.specs.Prelude.{◌≡◌, ◌≤◌, length, map, option_map, IfOk};
 ghost use Rattle.i7_sentences.specs.Forms.{all_forms, are_shorter};
-ghost use Rattle.i7_sentences.specs.Keywords.{signs_of};
 ghost use Rattle.i7_sentences.specs.Matching.{best_fit, first_fit, found_as, lowest_fit, preferred};
 ghost use Rattle.i7_sentences.specs.Found.{found_in};
+ghost use Rattle.i7_sentences.specs.Signs.{table_of};
 
+use crate::column_stack::ColumnStack;
 use crate::form::FORMS;
-use crate::matcher::{fit, is_passed_over, signs_of};
+use crate::matcher::{fit, is_passed_over};
+use crate::signs::{Signs, signs_of};
 use crate::tagged::Tagged;
-use crate::{Form, Keyword, Piece};
+use crate::{Form, Piece};
 use std::alloc::{AllocError, Global};
+
+/// The forms at one place of memory.
+static TABLE: [&[(Form, &[Piece])]; 30] = FORMS;
 
 /// How a sentence is read: a form's variant, and the words for its letters.
 #[derive(Drop)]
@@ -68,10 +73,11 @@ fn reading_as<'a, 'b>(
     form: Form,
     pieces: &'static [Piece],
     tokens: &'a [Tagged<'b>],
+    columns: &mut ColumnStack,
 ) -> Result<Option<Reading<'a, 'b>>, AllocError>
     ensures { IfOk result (λ found. option_map found_in found ≡ found_as (record { form = form; pieces = pieces.now }) (first_fit pieces.now tokens.now)) }
 {
-    match fit(alloc, pieces, tokens)? {
+    match fit(alloc, pieces, tokens, columns)? {
         None => Ok(None),
         Some(letters) => Ok(Some(Reading {
             form,
@@ -85,10 +91,10 @@ fn reading_as<'a, 'b>(
 #[tactic(auto, using(crate::proofs::Choosing::passed_best))]
 fn without_unfit<'a>(
     variants: &'a [(Form, &'static [Piece])],
-    signs: &[Keyword],
+    signs: &Signs,
     tokens: &[Tagged<'_>],
 ) -> &'a [(Form, &'static [Piece])]
-    requires { signs.now ≡ signs_of tokens.now }
+    requires { signs.now ≡ table_of tokens.now }
     ensures same { best_fit (map (λ variant. record { form = variant.0; pieces = variant.1.now }) result.now) tokens.now
         ≡ best_fit (map (λ variant. record { form = variant.0; pieces = variant.1.now }) variants.now) tokens.now }
     ensures within { length result.now ≤ length variants.now }
@@ -107,17 +113,19 @@ fn without_unfit<'a>(
 fn best_fit<'a, 'b>(
     alloc: Global,
     variants: &[(Form, &'static [Piece])],
-    signs: &[Keyword],
+    signs: &Signs,
     tokens: &'a [Tagged<'b>],
+    columns: &mut ColumnStack,
 ) -> Result<Option<Reading<'a, 'b>>, AllocError>
-    requires { signs.now ≡ signs_of tokens.now }
+    requires { signs.now ≡ table_of tokens.now }
     ensures { IfOk result (λ found. option_map found_in found ≡ best_fit (map (λ variant. record { form = variant.0; pieces = variant.1.now }) variants.now) tokens.now) }
 {
     match variants {
         [] => Ok(None),
         [variant, after @ ..] => {
-            let first = reading_as(alloc, variant.0, variant.1, tokens)?;
-            let later = best_fit(alloc, without_unfit(after, signs, tokens), signs, tokens)?;
+            let first = reading_as(alloc, variant.0, variant.1, tokens, columns)?;
+            let behind = without_unfit(after, signs, tokens);
+            let later = best_fit(alloc, behind, signs, tokens, columns)?;
             Ok(preferred(first, later))
         }
     }
@@ -127,17 +135,18 @@ fn best_fit<'a, 'b>(
 pub fn lowest_fit<'a, 'b>(
     alloc: Global,
     forms: &[&[(Form, &'static [Piece])]],
-    signs: &[Keyword],
+    signs: &Signs,
     tokens: &'a [Tagged<'b>],
+    columns: &mut ColumnStack,
 ) -> Result<Option<Reading<'a, 'b>>, AllocError>
-    requires { signs.now ≡ signs_of tokens.now }
+    requires { signs.now ≡ table_of tokens.now }
     ensures { IfOk result (λ found. option_map found_in found ≡ lowest_fit (map (λ form. map (λ variant. record { form = variant.0; pieces = variant.1.now }) form.now) forms.now) tokens.now) }
 {
     let mut rest = forms;
     while let [form, after @ ..] = rest {
         let variants = without_unfit(form, signs, tokens);
         if !variants.is_empty() {
-            if let Some(reading) = best_fit(alloc, variants, signs, tokens)? {
+            if let Some(reading) = best_fit(alloc, variants, signs, tokens, columns)? {
                 return Ok(Some(reading));
             }
         }
@@ -152,9 +161,10 @@ pub fn lowest_fit<'a, 'b>(
 pub fn reading_of<'a, 'b>(
     alloc: Global,
     tokens: &'a [Tagged<'b>],
+    columns: &mut ColumnStack,
 ) -> Result<Option<Reading<'a, 'b>>, AllocError>
     ensures { IfOk result (λ found. option_map found_in found ≡ lowest_fit all_forms tokens.now) }
 {
-    let signs = signs_of(alloc, tokens)?;
-    Ok(lowest_fit(alloc, &FORMS, signs.as_slice(), tokens)?)
+    let signs = signs_of(tokens);
+    Ok(lowest_fit(alloc, &TABLE, &signs, tokens, columns)?)
 }

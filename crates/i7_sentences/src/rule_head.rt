@@ -5,11 +5,12 @@ ghost use Rattle.i7_sentences.specs.Matching.{lowest_fit};
 ghost use Rattle.i7_sentences.specs.Stretches.{head_tokens};
 ghost use Rattle.i7_sentences.specs.RuleHeads.{behind_if, body_len, body_tokens, book_of, has_shape, head_as, head_found, head_in, head_of, if_shaped, is_conditional, is_head_form, is_named, is_one_phrase, is_own, is_rule_form, letter_if, named_if, rule_forms, words_if};
 
+use crate::column_stack::ColumnStack;
 use crate::condition::is_condition;
 use crate::form::Piece::{Letter, Word};
-use crate::matcher::signs_of;
 use crate::name::rest_of;
 use crate::reading::{Reading, lowest_fit};
+use crate::signs::signs_of;
 use crate::spoken_reader::named_in;
 use crate::tagged::Tagged;
 use crate::word_list::words_in;
@@ -347,8 +348,9 @@ fn rule_reading<'a, 'b>(
 ) -> Result<Option<Reading<'a, 'b>>, AllocError>
     ensures { IfOk result (λ found. option_map found_in found ≡ lowest_fit rule_forms tokens.now) }
 {
-    let signs = signs_of(alloc, tokens)?;
-    Ok(lowest_fit(alloc, &RULE_FORMS, signs.as_slice(), tokens)?)
+    let signs = signs_of(tokens);
+    let mut columns = ColumnStack::new(alloc);
+    Ok(lowest_fit(alloc, &RULE_FORMS, &signs, tokens, &mut columns)?)
 }
 
 /// What the head of a rule says; none where it isn't understood.

@@ -21,6 +21,7 @@ pub struct Tagged<'a> {
     keyword: Option<Keyword>,
     direction: Option<Direction>,
     is_number: bool,
+    is_word: bool,
 }
 
 impl<'a> Model for Tagged<'a> {
@@ -33,7 +34,7 @@ impl<'a> Model for Tagged<'a> {
 
     ghost view = { λ t. t.token.now };
 
-    ghost invariant = { λ t. IsTagged t.token.now t.keyword t.direction t.is_number };
+    ghost invariant = { λ t. IsTagged t.token.now t.keyword t.direction t.is_number t.is_word };
 }
 
 impl<'a> Tagged<'a> {
@@ -46,6 +47,7 @@ impl<'a> Tagged<'a> {
             keyword: keyword_of(token),
             direction: direction_of(word),
             is_number: is_literal(word),
+            is_word: is_word(token),
         }
     }
 
@@ -92,7 +94,7 @@ impl<'a> Tagged<'a> {
     pub fn is_word(&self) -> bool
         ensures { result ≡ is_word self.now }
     {
-        is_word(self.token)
+        self.is_word
     }
 
     pub fn is_text(&self) -> bool

@@ -1,9 +1,34 @@
 //! What a token is, its bytes, and the direction that a word names.
 ghost use Rattle.std.specs.Prelude.{◌≡◌, find};
-ghost use Rattle.i7_sentences.specs.Words.{direction_named, is_text, is_word, names_direction, word_of};
+ghost use Rattle.std.specs.Char.{eq_ignore_ascii_case};
+ghost use Rattle.std.specs.List.{list_any};
+ghost use Rattle.i7_sentences.specs.Words.{direction_named, is_text, is_word, may_lead, names_direction, word_of};
 
 use i7_lexer::{PackedToken, TokenKind};
 use world_meaning::{Direction, is_spelled};
+
+/// The letters that the directions' names begin with.
+pub const COMPASS: [u8; 8] = [b'n', b's', b'e', b'w', b'u', b'd', b'i', b'o'];
+
+/// Whether the letter is one of these, its case aside.
+fn is_any_letter(letter: u8, letters: &[u8]) -> bool
+    ensures { result ≡ list_any (λ other. eq_ignore_ascii_case letter other) letters.now }
+{
+    letters
+        .iter()
+        .any(|other| letter.eq_ignore_ascii_case(other))
+}
+
+/// Whether the word begins as a direction's name does.
+#[tactic(auto, unfolding(crate::specs::Words::may_lead))]
+fn may_lead(word: &[u8]) -> bool
+    ensures { result ≡ may_lead word.now }
+{
+    match word {
+        [] => false,
+        [letter, ..] => is_any_letter(*letter, &COMPASS),
+    }
+}
 
 /// The bytes of a word as written; none of a text or a mark.
 pub fn word_of(token: &PackedToken) -> &[u8]
@@ -57,8 +82,13 @@ fn first_named(word: &[u8], directions: &[Direction]) -> Option<Direction>
 }
 
 /// The direction that a word names in a sentence; short words aren't read there.
+#[tactic(auto, using(crate::proofs::Leading::not_leading))]
 pub fn direction_of(word: &[u8]) -> Option<Direction>
     ensures { result ≡ direction_named word.now }
 {
-    first_named(word, &Direction::ALL)
+    if may_lead(word) {
+        first_named(word, &Direction::ALL)
+    } else {
+        None
+    }
 }
