@@ -1,5 +1,5 @@
 -- The actions that every story has: their numbers, and what each asks for.
-use Rattle.std.specs.Prelude.{ℕ, Bool, true, false, List, [], ◌∷◌}
+use Rattle.std.specs.Prelude.{ℕ, Bool, true, false, List, [], ◌∷◌, slice_index_or}
 use Rattle.play_meaning.specs.declared.action.Needs.{Needs}
 use Rattle.play_meaning.specs.declared.action.Slot.{Slot}
 use Rattle.play_meaning.specs.declared.action.Slot.TheVariants.{Absent, Visible, Touched, Carried}
@@ -66,3 +66,7 @@ standard_needs =
     ∷ asking Carried Touched false ∷ asking Carried Touched false ∷ asking Touched Absent false ∷ asking Touched Absent false
     ∷ asking Visible Absent false ∷ asking Carried Absent false ∷ asking Touched Absent false ∷ asking Absent Absent false
     ∷ asking Absent Absent false ∷ asking Absent Absent false ∷ asking Touched Absent false ∷ asking Touched Absent false ∷ []
+
+-- what is asked where no source has actions of its own
+abbrev pub needs_of : ℕ → Needs
+needs_of action = slice_index_or standard_needs action no_needs

@@ -30,7 +30,9 @@ pub use code_laws::{
     bodies_run_among_codes, bodies_run_as_they_mean, runs_stand_where_codes_say, sound_codes_run,
     tests_mean_among_codes, tests_mean_their_conditions,
 };
-pub use deed_laws::{going_is_one_deed, looking_is_one_deed, plain_turns_are_deeds};
+pub use deed_laws::{
+    going_is_one_deed, looking_is_one_deed, plain_scripts_tell_plain_stories, plain_turns_are_deeds,
+};
 pub use effect_laws::effects_are_what_rules_do;
 pub use fault::WorldFault;
 pub use game_laws::{
