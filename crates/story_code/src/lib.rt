@@ -38,6 +38,7 @@ mod verifying;
 
 pub use body::step_plain;
 pub use decoding::front;
+pub use describing::description;
 pub use emit::{EmitFault, body_codes, condition_codes, description_codes};
 pub use encoding::spell;
 pub use fitting::{body_fits, condition_fits, description_fits};

@@ -1,0 +1,12 @@
+pub mod Behind
+pub mod Coded
+pub mod Counted
+pub mod Grown
+pub mod Lists
+pub mod Onward
+pub mod Said
+pub mod SaidStrings
+pub mod Tabled
+pub mod Together
+pub mod Turns
+pub mod Walked

@@ -1,0 +1,268 @@
+-- The bytes of texts' codes, and behind them those of the tests that these name, are a table.
+use Rattle.std.proofs.Common.{◌≡◌, ◌∙◌, ap, sym, subst, refl, ℕ, zero, suc, ◌+◌, ◌≤◌, List, [], ◌∷◌, ◌++◌, length, append-nil, Option, Some, None, arith, length-append}
+use Rattle.std.specs.List.{AllByRecursion, flat_map}
+use Rattle.std.specs.Prelude.{map, replicate}
+use Rattle.std.proofs.lemmas.List.{map-append}
+use Rattle.play_meaning.specs.TranslatedScripts.{description_part, emitted_in_turn, in_list}
+use Rattle.play_meaning.specs.Translation.{Emitted}
+use Rattle.play_meaning.specs.Trees.{Text}
+use Rattle.play_meaning.specs.declared.instruction.Instruction.{Instruction}
+use Rattle.play_meaning.specs.declared.operand.Counts.{Counts}
+use Rattle.play_meaning.specs.declared.operand.Use.{Use}
+use Rattle.play_meaning.specs.declared.operand.Use.TheVariants.{Describing}
+use Rattle.story_code.specs.Emits.{AreSpelled}
+use Rattle.story_code.specs.Fronts.{code_in}
+use Rattle.story_code.specs.Runs.{code_or_none, code_told, test_named}
+use Rattle.story_code.specs.Soundness.{Judged}
+use Rattle.story_code.specs.SoundlyEmitted.{AreNumbered, IsSoundTestCode, NameInTurn, NamesNext, NamesNone, among, sizes_as}
+use Rattle.story_code.proofs.Exact.{one_code, spells_in}
+use Rattle.code_table.specs.Coding.{AreCoded}
+use Rattle.code_table.specs.Descriptions.{AllFit, codes_of_texts, texts_emitted}
+use Rattle.code_table.specs.Tables.{IsTableOf, sizes_from, tests_in, tests_of, use_of}
+use Rattle.code_table.proofs.Lists.{all_append, flat_append}
+use Rattle.code_table.proofs.Onward.{Sound, turn_append}
+use Rattle.code_table.proofs.Turns.{AreInTurn, number_of}
+
+-- ---- bytes judged for uses, the first by a number
+
+abbrev pub judged_from : Counts → ℕ → List Use → List (List ℕ) → List Judged
+judged_from z n [] codes = []
+judged_from z n (role ∷ uses) [] = []
+judged_from z n (role ∷ uses) (bytes ∷ codes) = record { sizes = sizes_as z role n; bytes = bytes } ∷ judged_from z (n + 1) uses codes
+
+judged_bytes : (z : Counts) (n : ℕ) (uses : List Use) (codes : List (List ℕ)) → length uses ≡ length codes → map (λ j. j.bytes) (judged_from z n uses codes) ≡ codes
+judged_bytes z n [] [] same = refl
+judged_bytes z n [] (b ∷ codes) same = absurd (omega (arith, same))
+judged_bytes z n (role ∷ uses) [] same = absurd (omega (arith, same))
+judged_bytes z n (role ∷ uses) (b ∷ codes) same = ap (λ l. b ∷ l) (judged_bytes z (n + 1) uses codes (omega (arith, same)))
+
+judged_sizes : (z : Counts) (n : ℕ) (uses : List Use) (codes : List (List ℕ)) → length uses ≡ length codes → map (λ j. j.sizes) (judged_from z n uses codes) ≡ sizes_from z n uses
+judged_sizes z n [] codes same = refl
+judged_sizes z n (role ∷ uses) [] same = absurd (omega (arith, same))
+judged_sizes z n (role ∷ uses) (b ∷ codes) same = ap (λ l. sizes_as z role n ∷ l) (judged_sizes z (n + 1) uses codes (omega (arith, same)))
+
+judged_append : (z : Counts) (n : ℕ) (uses others : List Use) (codes more : List (List ℕ)) → length uses ≡ length codes
+    → judged_from z n (uses ++ others) (codes ++ more) ≡ judged_from z n uses codes ++ judged_from z (n + length uses) others more
+judged_append z n [] others [] more same = let number : n ≡ n + 0 = omega arith in ap (λ k. judged_from z k others more) number
+judged_append z n [] others (b ∷ codes) more same = absurd (omega (arith, same))
+judged_append z n (role ∷ uses) others [] more same = absurd (omega (arith, same))
+judged_append z n (role ∷ uses) others (b ∷ codes) more same =
+    let number : n + 1 + length uses ≡ n + suc (length uses) = omega arith in
+    ap (λ l. record { sizes = sizes_as z role n; bytes = b } ∷ l)
+    (judged_append z (n + 1) uses others codes more (omega (arith, same)) ∙ ap (λ k. judged_from z (n + 1) uses codes ++ judged_from z k others more) number)
+
+judged_codes : (z : Counts) (n : ℕ) (uses : List Use) (bytes : List (List ℕ)) (codes : List (List Instruction)) → length uses ≡ length bytes → AreSpelled bytes codes → map code_told (judged_from z n uses bytes) ≡ codes
+judged_codes z n [] [] [] same spelled = refl
+judged_codes z n [] [] (code ∷ codes) same spelled = absurd spelled
+judged_codes z n [] (b ∷ bytes) codes same spelled = absurd (omega (arith, same))
+judged_codes z n (role ∷ uses) [] codes same spelled = absurd (omega (arith, same))
+judged_codes z n (role ∷ uses) (b ∷ bytes) [] same spelled = absurd spelled
+judged_codes z n (role ∷ uses) (b ∷ bytes) (code ∷ codes) same spelled =
+    ap (λ l. code_or_none (code_in b) ∷ l) (judged_codes z (n + 1) uses bytes codes (omega (arith, same)) spelled.1) ∙ ap (λ o. code_or_none o ∷ codes) (spells_in b code spelled.0)
+
+pub spelled_append : (bytes more : List (List ℕ)) (codes others : List (List Instruction)) → AreSpelled bytes codes → AreSpelled more others → AreSpelled (bytes ++ more) (codes ++ others)
+spelled_append [] more [] others first second = second
+spelled_append [] more (code ∷ codes) others first second = absurd first
+spelled_append (b ∷ bytes) more [] others first second = absurd first
+spelled_append (b ∷ bytes) more (code ∷ codes) others first second = (first.0, spelled_append bytes more codes others first.1 second)
+
+pub spelled_long : (bytes : List (List ℕ)) (codes : List (List Instruction)) → AreSpelled bytes codes → length bytes ≡ length codes
+spelled_long [] [] spelled = refl
+spelled_long [] (code ∷ codes) spelled = absurd spelled
+spelled_long (b ∷ bytes) [] spelled = absurd spelled
+spelled_long (b ∷ bytes) (code ∷ codes) spelled = ap suc (spelled_long bytes codes spelled.1)
+
+-- ---- the tests that a code names in turn
+
+names_none : (code : List Instruction) → NamesNone code → tests_in code ≡ []
+names_none [] none = refl
+names_none (i ∷ is) none = ap (λ o. in_list o ++ tests_in is) none.0 ∙ names_none is none.1
+
+module _ (z : Counts) where
+  -- these tests stand in a table, in turn from this number on
+  pub record StandInTurn (named : List (ℕ × ℕ)) (first : ℕ) (tests : List (List ℕ)) : Type 0 where
+    pub turn : AreInTurn first named
+    pub many : length named ≡ length tests
+    pub sound : AllByRecursion Sound (judged_from z first (map use_of named) tests)
+
+  abbrev Named : List Instruction → ℕ → List (List ℕ) → Type 0
+  Named code first tests = NameInTurn (IsSoundTestCode z) code first tests
+
+  stand_in_turn : (code : List Instruction) (first : ℕ) (tests : List (List ℕ)) → Named code first tests → StandInTurn (tests_in code) first tests
+  stand_in_turn [] first tests names = record { turn = refl; many = ap length (sym names); sound = tt }
+  stand_in_turn (i ∷ is) first tests names = by (test_named i) tests names (λ n more later. stand_in_turn is n more later)
+    where
+      by : (o : Option (ℕ × ℕ)) (more : List (List ℕ)) → NamesNext (IsSoundTestCode z) (λ n others. Named is n others) first o more
+          → ((n : ℕ) (others : List (List ℕ)) → Named is n others → StandInTurn (tests_in is) n others) → StandInTurn (in_list o ++ tests_in is) first more
+      by None more names later = later first more names
+      by (Some t) [] names later = absurd names
+      by (Some t) (test ∷ more) names later =
+          let rest = later (first + 1) more names.1.1 in
+          record { turn = ap (λ n. n ∷ map number_of (tests_in is)) names.0 ∙ ap (λ l. first ∷ l) rest.turn; many = ap suc rest.many; sound = (names.1.0.0, rest.sound) }
+
+  -- they name none themselves
+  tests_silent : (code : List Instruction) (first : ℕ) (tests : List (List ℕ)) (codes : List (List Instruction)) → Named code first tests → AreSpelled tests codes → tests_of codes ≡ []
+  tests_silent [] first tests codes names spelled = none tests codes names spelled
+    where
+      none : (tests : List (List ℕ)) (codes : List (List Instruction)) → tests ≡ [] → AreSpelled tests codes → tests_of codes ≡ []
+      none [] [] empty spelled = refl
+      none [] (code ∷ codes) empty spelled = absurd spelled
+      none (test ∷ tests) codes empty spelled = absurd cc
+  tests_silent (i ∷ is) first tests codes names spelled = by (test_named i) tests codes names spelled (λ n more others later spelled. tests_silent is n more others later spelled)
+    where
+      by : (o : Option (ℕ × ℕ)) (more : List (List ℕ)) (codes : List (List Instruction)) → NamesNext (IsSoundTestCode z) (λ n others. Named is n others) first o more → AreSpelled more codes
+          → ((n : ℕ) (more : List (List ℕ)) (codes : List (List Instruction)) → Named is n more → AreSpelled more codes → tests_of codes ≡ []) → tests_of codes ≡ []
+      by None more codes names spelled later = later first more codes names spelled
+      by (Some t) [] codes names spelled later = absurd names
+      by (Some t) (test ∷ more) [] names spelled later = absurd spelled
+      by (Some t) (test ∷ more) (code ∷ codes) names spelled later =
+          let sound = names.1.0.0 in
+          let same : sound.code ≡ code = one_code test sound.code code sound.spells spelled.0 in
+          ap (λ c. tests_in c ++ tests_of codes) (sym same) ∙ ap (λ l. l ++ tests_of codes) (names_none sound.code names.1.0.1) ∙ later (first + 1) more codes names.1.1 spelled.1
+
+  stand_append : (a b : List (ℕ × ℕ)) (first : ℕ) (tests more : List (List ℕ)) → StandInTurn a first tests → StandInTurn b (first + length tests) more → StandInTurn (a ++ b) first (tests ++ more)
+  stand_append a b first tests more one other =
+      let long : length (map use_of a) ≡ length tests = mapped a ∙ one.many in
+      let number : first + length tests ≡ first + length a = ap (λ n. first + n) (sym one.many) in record {
+        turn = turn_append first a b one.turn (subst (λ n. AreInTurn n b) number other.turn);
+        many = omega (arith, length-append a b, length-append tests more, one.many, other.many);
+        sound =
+            subst (λ l. AllByRecursion Sound l) (sym (
+            ap (λ l. judged_from z first l (tests ++ more)) (map-append use_of a b) ∙ judged_append z first (map use_of a) (map use_of b) tests more long
+            ∙ ap (λ n. judged_from z first (map use_of a) tests ++ judged_from z (first + n) (map use_of b) more) long))
+            (all_append Sound (judged_from z first (map use_of a) tests) (judged_from z (first + length tests) (map use_of b) more) one.sound other.sound);
+      }
+    where
+      mapped : (l : List (ℕ × ℕ)) → length (map use_of l) ≡ length l
+      mapped [] = refl
+      mapped (t ∷ l) = ap suc (mapped l)
+
+-- ---- the codes of texts
+
+module _ (z : Counts) (string : List ℕ → ℕ) (total : ℕ) where
+  abbrev Whole : Counts
+  Whole = record z { codes = total }
+
+  abbrev Emitted_from : ℕ → List Text → List Emitted
+  Emitted_from first texts = emitted_in_turn first (map (description_part string) texts)
+
+  -- the codes of texts from this number on, and the tests from that one
+  pub record AreTabled (n first : ℕ) (texts : List Text) (codes tests : List (List ℕ)) : Type 0 where
+    pub spelled : AreSpelled codes (map (λ e. e.code) (Emitted_from first texts))
+    pub named : AreSpelled tests (flat_map (λ e. e.tests) (Emitted_from first texts))
+    pub stand : StandInTurn Whole (tests_of (map (λ e. e.code) (Emitted_from first texts))) first tests
+    pub silent : tests_of (flat_map (λ e. e.tests) (Emitted_from first texts)) ≡ []
+    pub sound : AllByRecursion Sound (judged_from Whole n (replicate (length texts) Describing) codes)
+
+  tabled : (n first : ℕ) (texts : List Text) (codes tests : List (List ℕ)) → AreCoded z string first texts codes tests → n + length texts ≤ first → first + length tests ≤ total → AreTabled n first texts codes tests
+  tabled n first [] codes tests coded before there =
+      subst (λ l. AreTabled n first [] l tests) (sym coded.0) (subst (λ l. AreTabled n first [] [] l) (sym coded.1) (record {
+        spelled = tt;
+        named = tt;
+        stand = record { turn = refl; many = refl; sound = tt };
+        silent = refl;
+        sound = tt;
+      }))
+  tabled n first (text ∷ texts) codes tests coded before there =
+      let b = coded.0 in
+      let own = coded.1.0 in
+      let is = coded.1.1.0 in
+      let others = coded.1.1.1.0 in
+      let later = coded.1.1.1.1.0 in
+      let first_is = coded.1.1.1.1.1.0 in
+      let tests_are = coded.1.1.1.1.1.1.0 in
+      let e = description_part string text first 0 in
+      let as_many : length own ≡ length e.tests = spelled_long own e.tests is.emitted.spelled.1 in
+      let all_tests : length tests ≡ length own + length later = ap length tests_are ∙ length-append own later in
+      let numbered : AreNumbered (among z n total) first e.tests = record { behind = omega (arith, before); there = omega (arith, there, all_tests, as_many) } in
+      let sound = is.sound n total numbered in
+      let same : sound.0.code ≡ e.code = one_code b sound.0.code e.code sound.0.spells is.emitted.spelled.0 in
+      let names : NameInTurn (IsSoundTestCode Whole) e.code first own = subst (λ code. NameInTurn (IsSoundTestCode Whole) code first own) same sound.1 in
+      let rest : AreTabled (n + 1) (first + length own) texts others later = tabled (n + 1) (first + length own) texts others later coded.1.1.1.1.1.1.1 (omega (arith, before)) (omega (arith, there, all_tests)) in
+      let number : first + length own ≡ first + length e.tests = ap (λ k. first + k) as_many in
+      let behind : AreTabled (n + 1) (first + length e.tests) texts others later = subst (λ k. AreTabled (n + 1) k texts others later) number rest in
+      let es = Emitted_from (first + length e.tests) texts in
+      subst (λ l. AreTabled n first (text ∷ texts) l tests) (sym first_is) (subst (λ l. AreTabled n first (text ∷ texts) (b ∷ others) l) (sym tests_are) (record {
+        spelled = (is.emitted.spelled.0, behind.spelled);
+        named = spelled_append own later e.tests (flat_map (λ e. e.tests) es) is.emitted.spelled.1 behind.named;
+        stand = stand_append Whole (tests_in e.code) (tests_of (map (λ e. e.code) es)) first own later (stand_in_turn Whole e.code first own names)
+            (subst (λ k. StandInTurn Whole (tests_of (map (λ e. e.code) es)) k later) (sym number) behind.stand);
+        silent = flat_append tests_in e.tests (flat_map (λ e. e.tests) es) ∙ ap (λ l. l ++ tests_of (flat_map (λ e. e.tests) es)) (tests_silent Whole e.code first own e.tests names is.emitted.spelled.1) ∙ behind.silent;
+        sound = (sound.0, behind.sound);
+      }))
+
+  pub all_fit : (first : ℕ) (texts : List Text) (codes tests : List (List ℕ)) → AreCoded z string first texts codes tests → AllFit z string texts
+  all_fit first [] codes tests coded = tt
+  all_fit first (text ∷ texts) codes tests coded = (coded.1.1.0.fits, all_fit (first + length coded.1.0) texts coded.1.1.1.0 coded.1.1.1.1.0 coded.1.1.1.1.1.1.1)
+
+  replicated : (k : ℕ) → length (replicate k Describing) ≡ k
+  replicated zero = refl
+  replicated (suc k) = ap suc (replicated k)
+
+  mapped : (l : List (ℕ × ℕ)) → length (map use_of l) ≡ length l
+  mapped [] = refl
+  mapped (t ∷ l) = ap suc (mapped l)
+
+  pub coded_long : (first : ℕ) (texts : List Text) (codes tests : List (List ℕ)) → AreCoded z string first texts codes tests → length codes ≡ length texts
+  coded_long first [] codes tests coded = ap length coded.0
+  coded_long first (text ∷ texts) codes tests coded = ap length coded.1.1.1.1.1.0 ∙ ap suc (coded_long (first + length coded.1.0) texts coded.1.1.1.0 coded.1.1.1.1.0 coded.1.1.1.1.1.1.1)
+
+  module _ (texts : List Text) (codes tests all : List (List ℕ)) (coded : AreCoded z string (length texts) texts codes tests) (all_is : all ≡ codes ++ tests) (total_is : total ≡ length all) where
+    together : AreTabled 0 (length texts) texts codes tests
+    together = tabled 0 (length texts) texts codes tests coded (omega arith) (omega (arith, total_is, ap length all_is, length-append codes tests, coded_long (length texts) texts codes tests coded))
+
+    pub all_spelled : AreSpelled all (codes_of_texts string texts)
+    all_spelled =
+        subst (λ l. AreSpelled l (codes_of_texts string texts)) (sym all_is)
+        (spelled_append codes tests (map (λ e. e.code) (texts_emitted string texts)) (flat_map (λ e. e.tests) (texts_emitted string texts)) together.spelled together.named)
+
+    heads : List Use
+    heads = replicate (length texts) Describing
+
+    named : List (ℕ × ℕ)
+    named = tests_of (map (λ e. e.code) (texts_emitted string texts))
+
+    tests_all : tests_of (codes_of_texts string texts) ≡ named
+    unfolding named
+    tests_all = flat_append tests_in (map (λ e. e.code) (texts_emitted string texts)) (flat_map (λ e. e.tests) (texts_emitted string texts)) ∙ ap (λ l. named ++ l) together.silent ∙ append-nil named
+
+    judged : List Judged
+    judged = judged_from Whole 0 (heads ++ map use_of named) all
+
+    heads_long : length heads ≡ length codes
+    unfolding heads
+    heads_long = replicated (length texts) ∙ sym (coded_long (length texts) texts codes tests coded)
+
+    uses_long : length (heads ++ map use_of named) ≡ length all
+    unfolding named
+    uses_long = omega (arith, length-append heads (map use_of named), heads_long, mapped named, together.stand.many, ap length all_is, length-append codes tests)
+
+    told : map code_told judged ≡ codes_of_texts string texts
+    unfolding judged
+    told = judged_codes Whole 0 (heads ++ map use_of named) all (codes_of_texts string texts) uses_long all_spelled
+
+    pub tabled_whole : (judged : List Judged) × IsTableOf Whole (replicate (length texts) Describing) all judged
+    unfolding judged heads named
+    tabled_whole = (
+      judged,
+      record {
+        bytes = judged_bytes Whole 0 (heads ++ map use_of named) all uses_long;
+        all = total_is;
+        sizes = judged_sizes Whole 0 (heads ++ map use_of named) all uses_long ∙ ap (λ l. sizes_from Whole 0 (heads ++ map use_of l)) (sym tests_all ∙ ap tests_of (sym told));
+        in_turn = subst (λ l. AreInTurn (length heads) l) (sym tests_all ∙ ap tests_of (sym told)) (subst (λ n. AreInTurn n named) (sym (replicated (length texts))) together.stand.turn);
+        sound =
+            subst (λ l. AllByRecursion Sound l)
+            (sym (ap (judged_from Whole 0 (heads ++ map use_of named)) all_is ∙ judged_append Whole 0 heads (map use_of named) codes tests heads_long ∙ ap (λ n. judged_from Whole 0 heads codes ++ judged_from Whole n (map use_of named) tests) number))
+            (all_append Sound (judged_from Whole 0 heads codes) (judged_from Whole (length heads) (map use_of named) tests) together.sound
+            (subst (λ n. AllByRecursion Sound (judged_from Whole n (map use_of named) tests)) (sym (replicated (length texts))) together.stand.sound));
+      },
+    )
+      where
+        number : 0 + length (replicate (length texts) Describing) ≡ length (replicate (length texts) Describing)
+        number = omega arith
+
+-- where so many texts are said
+pub table_of_texts : (z : Counts) (string : List ℕ → ℕ) (count : ℕ) (texts : List Text) (codes tests all : List (List ℕ)) → count ≡ length texts → AreCoded z string (length texts) texts codes tests → all ≡ codes ++ tests
+    → (judged : List Judged) × IsTableOf (record z { codes = length all }) (replicate count Describing) all judged
+table_of_texts z string count texts codes tests all many coded all_is =
+    subst (λ n. (judged : List Judged) × IsTableOf (record z { codes = length all }) (replicate n Describing) all judged) (sym many) (tabled_whole z string (length all) texts codes tests all coded all_is refl)

@@ -1,0 +1,51 @@
+-- What is promised of tables of codes.
+use Rattle.std.specs.Prelude.{◌≡◌, ℕ, ◌<◌, List, [], map, Some, slice_get, slice_index_or}
+use Rattle.std.specs.List.{AllByRecursion, flat_map}
+use Rattle.play_meaning.specs.Codes.{Codes, description_said}
+use Rattle.play_meaning.specs.Saying.{Telling, said_in}
+use Rattle.play_meaning.specs.Scripts.{scope_of}
+use Rattle.play_meaning.specs.Translation.{strings_of_text}
+use Rattle.play_meaning.specs.Trees.{Text}
+use Rattle.play_meaning.specs.Worlds.{World}
+use Rattle.play_meaning.specs.declared.action.ActionNow.{ActionNow}
+use Rattle.play_meaning.specs.declared.instruction.Instruction.{Instruction}
+use Rattle.play_meaning.specs.declared.operand.Counts.{Counts}
+use Rattle.play_meaning.specs.declared.operand.Use.{Use}
+use Rattle.story_code.specs.Emits.{AreSpelled}
+use Rattle.story_code.specs.Runs.{AreSoundTogether, code_told}
+use Rattle.story_code.specs.Soundness.{Judged}
+use Rattle.code_table.specs.Descriptions.{AllFit, codes_of_texts}
+use Rattle.code_table.specs.Strings.{strings_of}
+use Rattle.code_table.specs.Tables.{IsTableOf}
+
+-- where objects have numbers of two bytes
+abbrev pub TablesAreSoundTogether : Type 0
+TablesAreSoundTogether = (z : Counts) (heads : List Use) (codes : List (List ℕ)) (judged : List Judged) → z.objects < 65536 → IsTableOf z heads codes judged → AreSoundTogether judged
+
+-- codes are judged in one way
+abbrev pub OneTable : Type 0
+OneTable = (z : Counts) (heads : List Use) (codes : List (List ℕ)) (one another : List Judged) → IsTableOf z heads codes one → IsTableOf z heads codes another → one ≡ another
+
+-- what other tables name is there, for the use for which they name it: as a description (`IsDescription`), a body (`IsBody`) or a
+-- test (`IsTestAt`)
+abbrev pub HeadsAreForTheirUses : Type 0
+HeadsAreForTheirUses = (z : Counts) (heads : List Use) (codes : List (List ℕ)) (judged : List Judged) (n : ℕ) (role : Use) → IsTableOf z heads codes judged → slice_get heads n ≡ Some role
+    → (j : Judged) × ((slice_get judged n ≡ Some j) × (j.sizes.role ≡ role))
+
+-- they are the codes that the bytes spell
+abbrev pub TablesAreTold : Type 0
+TablesAreTold = (z : Counts) (heads : List Use) (bytes : List (List ℕ)) (judged : List Judged) (codes : List (List Instruction)) → IsTableOf z heads bytes judged → AreSpelled bytes codes
+    → map code_told judged ≡ codes
+
+-- ---- the codes that say texts
+
+-- among the codes of a story, where each string stands by its number, the code of a text's number says it
+abbrev pub DescriptionsAreSaid : Type 0
+DescriptionsAreSaid = (z : Counts) (c : Codes) (string : List ℕ → ℕ) (texts : List Text) (n : ℕ) (text : Text) (t : Telling) (now : ActionNow) (w : World)
+    → AllFit z string texts → c.codes ≡ codes_of_texts string texts → slice_get texts n ≡ Some text
+    → AllByRecursion (λ bytes. slice_index_or c.strings (string bytes) [] ≡ bytes) (strings_of_text text)
+    → description_said c t n now w ≡ said_in t (scope_of now) w text
+
+-- the strings that the codes name are those that the texts say, in order
+abbrev pub StringsAreInOrder : Type 0
+StringsAreInOrder = (string : List ℕ → ℕ) (texts : List Text) → strings_of (codes_of_texts string texts) ≡ map string (flat_map strings_of_text texts)

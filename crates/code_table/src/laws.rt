@@ -1,0 +1,34 @@
+//! What is known of tables of codes.
+ghost use Rattle.code_table.specs.Laws.{DescriptionsAreSaid, HeadsAreForTheirUses, OneTable, StringsAreInOrder, TablesAreSoundTogether, TablesAreTold};
+
+/// The codes of a table are sound together: each is judged by its own number, and each test that one names is one, inside
+/// one loop more than are open there.
+pub fn tables_are_sound_together()
+    ensures { TablesAreSoundTogether }
+{}
+
+/// No codes are a table in two ways.
+pub fn one_table()
+    ensures { OneTable }
+{}
+
+/// Each code that other tables name is there, for the use for which they name it.
+pub fn heads_are_for_their_uses()
+    ensures { HeadsAreForTheirUses }
+{}
+
+/// The codes of a table are those that its bytes spell.
+pub fn tables_are_told()
+    ensures { TablesAreTold }
+{}
+
+/// In a story whose codes are those of texts that fit it, and in which each string stands by its number, the code of a
+/// text's number says what the text says, in every world and action, or abandons as it does.
+pub fn descriptions_are_said()
+    ensures { DescriptionsAreSaid }
+{}
+
+/// The codes of texts name the strings that the texts say, in order.
+pub fn strings_are_in_order()
+    ensures { StringsAreInOrder }
+{}

@@ -1,0 +1,17 @@
+//! A story's codes together: each is named once, in turn, and verified for the use for which it is named.
+#![tactic(auto)]
+
+mod describing;
+mod laws;
+mod naming;
+mod strings;
+mod table;
+mod walking;
+
+pub use describing::description_table;
+pub use laws::{
+    descriptions_are_said, heads_are_for_their_uses, one_table, strings_are_in_order,
+    tables_are_sound_together, tables_are_told,
+};
+pub use strings::strings_counted;
+pub use table::table_of;
