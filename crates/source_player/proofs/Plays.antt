@@ -1,12 +1,14 @@
 -- Playing the story that a source is compiled to is playing the source.
-use Rattle.std.proofs.Common.{◌≡◌, ℕ, Bool, List, Ok, Err, Option, ap, subst, ◌∙◌}
+use Rattle.std.proofs.Common.{◌≡◌, ℕ, Bool, List, Ok, Err, Option, ap, refl, subst, sym, ◌∙◌}
 use Rattle.std.specs.Prelude.{Result, IfErr, IfOk}
 use Rattle.story_player.specs.Runs.{BrokeOff, streams_of, most_input}
 use Rattle.story_player.specs.declared.fault.RunFault.{RunFault}
 use Rattle.world_meaning.specs.declared.session.Ending.{Ending}
+use Rattle.world_meaning.specs.declared.tale.Tale.{Tale}
 use Rattle.play_meaning.specs.Games.{Game}
 use Rattle.play_meaning.specs.PlainStories.{game_of_plain}
-use Rattle.play_meaning.specs.PlainTales.{game_of_tale}
+use Rattle.play_meaning.specs.PlainTales.{game_of_tale, plain_texts, script_of, story_of_tale}
+use Rattle.play_meaning.proofs.PlainTurns.{plain_script}
 use Rattle.play_meaning.specs.Sessions.{State, opened}
 use Rattle.story_format.proofs.ReadingLemmas.{not_refused, same_story}
 use Rattle.story_format.specs.Refusals.{IsRefused as IsNoStory}
@@ -24,12 +26,17 @@ use Rattle.source_player.specs.SourceRuns.{BrokeOffGame, LeavesSource, LeavesSto
 use Rattle.source_player.specs.declared.source_run.SourceRunFault.{SourceRunFault}
 use Rattle.source_player.specs.declared.source_run.SourceRunFault.TheVariants.{Source, Story, Start, Run}
 
+-- a tale's game is that of the plain story that it tells
+plain_tale : (t : Tale) → game_of_tale t ≡ game_of_plain (story_of_tale t)
+unfolding script_of
+plain_tale t = plain_script (script_of t (plain_texts t)) (record { rules = refl; scenes = refl; needs = refl })
+
 -- the story's game is the tale's
 pub same_game : (source bytes : List ℕ) (compiled : IsCompiled source bytes) (story : Tables) → Spells bytes story → game_of_story story ≡ game_of_tale compiled.tale
 same_game source bytes compiled story spells =
     let same : story ≡ tables_of compiled.tale = same_story bytes story compiled.tables spells compiled.spells ∙ compiled.tables_are in
     let held = tale_held compiled.means.sentences compiled.tale (says_ranged source compiled.means.sentences compiled.means.says) compiled.means.meant.tale_is in
-    ap game_of_story same ∙ ap game_of_plain (tables_game compiled.tale held)
+    ap game_of_story same ∙ ap game_of_plain (tables_game compiled.tale held) ∙ sym (plain_tale compiled.tale)
 
 pub played_source : (source bytes : List ℕ) (echo : Bool) (unread rest held now : Option (List ℕ)) (result : Result Ending SourceRunFault) → IsCompiled source bytes → IfOk result (PlayedStory bytes echo (streams_of unread held) (streams_of rest now)) → IfOk result (PlayedSource source echo (streams_of unread held) (streams_of rest now))
 played_source source bytes echo unread rest held now (Err fault) compiled played = tt

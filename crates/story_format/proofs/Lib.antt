@@ -16,3 +16,5 @@ pub mod Carried
 pub mod RoomLemmas
 pub mod Beginnings
 pub mod Telling
+pub mod PlainCodes
+pub mod LoadedCodes

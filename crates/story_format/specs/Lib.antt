@@ -2,6 +2,7 @@ pub mod Formats
 pub mod FormatLaws
 pub mod Layouts
 pub mod Choices
+pub mod Codes
 pub mod KindTables
 pub mod Layout
 pub mod Sizes
@@ -16,6 +17,7 @@ pub mod Telling
 pub mod Placed
 pub mod Reading
 pub mod Refusals
+pub mod Loaded
 pub mod Making
 pub mod WordedViews
 pub mod Holding

@@ -3,6 +3,7 @@
 #![tactic(auto)]
 
 mod checks;
+mod codes;
 mod fact_laws;
 mod facts;
 mod fault;

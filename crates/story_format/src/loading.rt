@@ -10,6 +10,7 @@ ghost use Rattle.story_format.specs.declared.fault.LoadFault.TheVariants.{Memory
 ghost use Rattle.story_format.specs.declared.tables.Tables.{Tables};
 
 use crate::checks::are_right;
+use crate::codes::codes_of;
 use crate::fault::LoadFault;
 use crate::field::Field;
 use crate::number::number16;
@@ -73,5 +74,6 @@ pub fn load(alloc: Global, bytes: &[u8]) -> Result<Story, LoadFault>
     if !are_sound(alloc, &tables)? {
         return Err(LoadFault::BadCode);
     }
-    Ok(Story::new(tables))
+    let codes = codes_of(alloc, &tables)?;
+    Ok(Story::new(tables, codes))
 }

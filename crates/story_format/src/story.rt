@@ -1,8 +1,10 @@
 //! A story that was loaded, and what it says of its objects.
-ghost use Rattle.std.specs.Prelude.{◌≡◌, ◌≤◌, ◌-◌, map};
+ghost use Rattle.std.specs.Prelude.{◌≡◌, ◌≤◌, ◌-◌, ℕ, Some, map};
 ghost use Rattle.std.specs.List.{list_any};
 ghost use Rattle.std.specs.Option.{option_map};
 ghost use Rattle.story_format.specs.Facts.{description_code_of, description_of, exits_at, name_of, object_count_of, start_of, text_at, way_of, words_of};
+ghost use Rattle.story_code.specs.Runs.{AreSoundTogether, IsDescription};
+ghost use Rattle.story_format.specs.Codes.{AreCodesOf};
 ghost use Rattle.world_meaning.specs.Spelling.{is_spelled};
 
 use crate::facts::way_in;
@@ -11,23 +13,25 @@ use crate::soundness::string_said;
 use crate::standing::{count_of_rooms, is_room_entry};
 use crate::tables::{Entry, Tables};
 use std::marker::Model;
+use story_code::Verified;
 use world_meaning::{Exits, KindNo, ObjNo, TextBytes, is_spelled};
 
-/// A story: its tables.
+/// A story: its tables, and its codes verified.
 #[derive(Debug, Drop)]
 pub struct Story {
     tables: Tables,
+    codes: Vec<Verified>,
 }
 
 impl Model for Story {
+    ghost use Rattle.story_format.specs.Loaded.{IsLoaded};
     ghost use Rattle.story_format.specs.declared.tables.Tables.{Tables};
-    ghost use Rattle.story_format.specs.Spells.{IsStory};
 
     ghost Value = { Tables };
 
     ghost view = { λ story. story.tables };
 
-    ghost invariant = { λ story. IsStory story.tables };
+    ghost invariant = { λ story. IsLoaded story.tables story.codes.items };
 }
 
 /// The string of a number; no bytes where there is no such string.
@@ -77,12 +81,13 @@ pub(crate) fn place_of_way(direction: ObjNo) -> usize
 impl Story {
     ghost use Rattle.story_format.specs.Spells.{IsStory};
 
-    /// The story of these tables.
-    pub(crate) fn new(tables: Tables) -> Story
-        requires { IsStory tables }
+    /// The story of these tables, with their codes.
+    pub(crate) fn new(tables: Tables, codes: Vec<Verified>) -> Story
+        requires story { IsStory tables }
+        requires judged { AreCodesOf tables codes.items }
         ensures { result ≡ tables }
     {
-        Story { tables }
+        Story { tables, codes }
     }
 
     /// The tables, which are a story's.
@@ -169,6 +174,16 @@ impl Story {
         ensures { result ≡ way_of self.now room direction }
     {
         way_in(&self.exits(room), direction)
+    }
+
+    /// The codes, by number, each verified for what it is for: they are sound together, and a described object is described by
+    /// one that is a description's.
+    pub fn codes(&self) -> &[Verified]
+        ensures codes { AreCodesOf self.now result.now }
+        ensures sound { AreSoundTogether result.now }
+        ensures described { (o n : ℕ) → description_code_of self.now o ≡ Some n → IsDescription result.now n }
+    {
+        self.codes.as_slice()
     }
 
     /// The room in which the player stands as the story begins.

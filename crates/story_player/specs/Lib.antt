@@ -1,3 +1,4 @@
+pub mod Begun
 pub mod Breaks
 pub mod FaultTexts
 pub mod KeptWorlds

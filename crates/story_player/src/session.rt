@@ -1,27 +1,27 @@
 //! A session: a story in play, line by line.
-ghost use Rattle.std.specs.Prelude.{◌≡◌, true, None, Some, IfOk};
+ghost use Rattle.std.specs.Prelude.{◌≡◌, ◌≢◌, true, None, Some, IfOk};
 ghost use Rattle.play_meaning.specs.Games.{Acts, Quit, Undo};
 ghost use Rattle.play_meaning.specs.PlainReading.{done, goes_rightly, is_rightly_read, meant};
-ghost use Rattle.play_meaning.specs.Sessions.{answer_of, answer_to, opened, read_answer};
+ghost use Rattle.play_meaning.specs.Sessions.{abandon_text, answer_of, answer_to, opened, read_answer};
 ghost use Rattle.play_meaning.specs.Transcripts.{ended_at_end};
+ghost use Rattle.world_meaning.specs.declared.session.Abandon.TheVariants.{Memory};
+ghost use Rattle.world_store.specs.StartWorlds.{start_world};
 ghost use Rattle.world_store.specs.StoryGames.{game_of_story, means_in};
 ghost use Rattle.world_store.specs.StorySettings.{setting_of};
+ghost use Rattle.story_player.specs.Begun.{IsBegun};
 ghost use Rattle.story_player.specs.KeptWorlds.{AreGoing, AreOf};
 ghost use Rattle.story_player.specs.Typed.{plain_told, told, told_reading};
 
-use crate::turns::done;
+use crate::turns::{done, turn};
 use crate::typed::Typed;
 use crate::{Reply, read_line, texts};
 use circular_buffer::HeapCircularBuffer;
-use std::alloc::{AllocError, Global};
+use std::alloc::Global;
 use std::rc::Rc;
 use story_format::Story;
 use thiserror::Error;
 use world_meaning::{Abandon, Action, Ending, Reading, ReplyKind, TextBytes};
 use world_store::{World, directions_are_directions};
-
-/// The highest turn count.
-const MOST_TURNS: u32 = 2_147_483_647;
 
 /// The most worlds that are kept.
 const MOST_KEPT: usize = 8;
@@ -59,11 +59,59 @@ fn read_typed(story: &Story, typed: Typed<'_>) -> Reading
     }
 }
 
-/// That a turn was abandoned.
-fn abandoned(reason: Abandon, text: &'static [u8]) -> Reply
-    ensures { result ≡ record { text = text.now; kind = ReplyKind.Abandoned reason } }
+/// The line that is said where play is abandoned.
+fn abandon_text(reason: Abandon) -> &'static [u8]
+    ensures { result.now ≡ abandon_text reason }
 {
-    Reply::fixed(text, ReplyKind::Abandoned(reason))
+    match reason {
+        Abandon::NestedTooDeep => texts::TOO_DEEP,
+        Abandon::TooMuchWork => texts::TOO_MUCH_WORK,
+        Abandon::NumberOutOfRange => texts::OUT_OF_RANGE,
+        Abandon::Memory => texts::OUT_OF_MEMORY,
+    }
+}
+
+/// That a turn was abandoned.
+fn abandoned(reason: Abandon) -> Reply
+    ensures { result ≡ record { text = abandon_text reason; kind = ReplyKind.Abandoned reason } }
+{
+    Reply::fixed(abandon_text(reason), ReplyKind::Abandoned(reason))
+}
+
+/// A world and a text with which a story begins: the player looks round. An opening that is abandoned leaves the start
+/// world.
+fn opened(alloc: Global, story: &Rc<Story>) -> Result<(World, TextBytes), StartFault>
+    ensures { IfOk result (λ begun. IsBegun story.now.value begun.0 begun.1) }
+{
+    let Ok(mut world) = World::start(alloc, story) else {
+        return Err(StartFault::Memory);
+    };
+    match done(alloc, &mut world, Action::Looking) {
+        Ok(text) => Ok((world, text)),
+        Err(reason) => Ok(unopened(alloc, story, reason)?),
+    }
+}
+
+/// The start world and the line that is said where the opening is abandoned.
+fn unopened(
+    alloc: Global,
+    story: &Rc<Story>,
+    reason: Abandon,
+) -> Result<(World, TextBytes), StartFault>
+    ensures known { IfOk result (λ begun. reason ≢ Memory) }
+    ensures world { IfOk result (λ begun. begun.0 ≡ record { tables = story.now.value; world = start_world story.now.value }) }
+    ensures text { IfOk result (λ begun. begun.1 ≡ abandon_text reason) }
+{
+    if reason == Abandon::Memory {
+        return Err(StartFault::Memory);
+    }
+    let Ok(world) = World::start(alloc, story) else {
+        return Err(StartFault::Memory);
+    };
+    match TextBytes::copied(alloc, abandon_text(reason)) {
+        Ok(text) => Ok((world, text)),
+        Err(_) => Err(StartFault::Memory),
+    }
 }
 
 impl Session {
@@ -75,26 +123,20 @@ impl Session {
         ensures game { IfOk result (λ session. game_of session ≡ game_of_story story) }
         ensures story { IfOk result (λ session. story_of session ≡ story) }
     {
-        Session::begin(alloc, story).map_err(|_| StartFault::Memory)
-    }
-
-    /// Begins the story, where there is memory.
-    fn begin(alloc: Global, story: Story) -> Result<Session, AllocError>
-        ensures begun { IfOk result (λ session. state_of session ≡ (opened (game_of_story story)).state) }
-        ensures game { IfOk result (λ session. game_of session ≡ game_of_story story) }
-        ensures story { IfOk result (λ session. story_of session ≡ story) }
-    {
-        let story = Rc::new(alloc, story)?;
-        let mut world = World::start(alloc, &story)?;
-        let opening = done(alloc, &mut world, Action::Looking)?;
-        let kept = HeapCircularBuffer::with_capacity(alloc, MOST_KEPT)?;
-        Ok(Session {
-            alloc,
-            world,
-            kept,
-            ending: None,
-            opening,
-        })
+        let Ok(story) = Rc::new(alloc, story) else {
+            return Err(StartFault::Memory);
+        };
+        let (world, opening) = opened(alloc, &story)?;
+        match HeapCircularBuffer::with_capacity(alloc, MOST_KEPT) {
+            Ok(kept) => Ok(Session {
+                alloc,
+                world,
+                kept,
+                ending: None,
+                opening,
+            }),
+            Err(_) => Err(StartFault::Memory),
+        }
     }
 
     /// The text with which the session began.
@@ -119,7 +161,7 @@ impl Session {
         self.ending
     }
 
-    /// Plays a turn; the world before it is kept. Where memory is refused that is the world again.
+    /// Plays a turn; the world before it is kept. Where the turn is abandoned that is the world again.
     fn act(&mut self, action: Action) -> Reply
         requires going { (state_of self.old).ending ≡ None }
         requires rightly { goes_rightly (setting_of (story_of self.old)) action ≡ true }
@@ -128,21 +170,17 @@ impl Session {
         ensures story { story_of self.new ≡ story_of self.old }
     {
         directions_are_directions(&self.world);
-        if self.world.turns() >= MOST_TURNS {
-            return abandoned(Abandon::NumberOutOfRange, texts::OUT_OF_RANGE);
-        }
         let Ok(before) = self.world.copy(self.alloc) else {
-            return abandoned(Abandon::Memory, texts::OUT_OF_MEMORY);
+            return abandoned(Abandon::Memory);
         };
-        match done(self.alloc, &mut self.world, action) {
+        match turn(self.alloc, &mut self.world, action) {
             Ok(text) => {
-                self.world.next_turn();
                 self.kept.push_front(before);
                 Reply::made(text, ReplyKind::Kept)
             }
-            Err(_) => {
+            Err(reason) => {
                 self.world = before;
-                abandoned(Abandon::Memory, texts::OUT_OF_MEMORY)
+                abandoned(reason)
             }
         }
     }

@@ -19,3 +19,7 @@ pub const NO_WAY: &[u8] = b"You can't go that way.\n";
 pub const OUT_OF_MEMORY: &[u8] = b"[The turn was abandoned: out of memory.]\n";
 
 pub const OUT_OF_RANGE: &[u8] = b"[The turn was abandoned: number out of range.]\n";
+
+pub const TOO_DEEP: &[u8] = b"[The turn was abandoned: nested too deep.]\n";
+
+pub const TOO_MUCH_WORK: &[u8] = b"[The turn was abandoned: too much work.]\n";

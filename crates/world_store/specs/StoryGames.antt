@@ -1,15 +1,23 @@
 -- The game of a story that was loaded: it is told by what the tables say of the objects.
 use Rattle.world_meaning.specs.Reading.{Means}
 use Rattle.play_meaning.specs.Games.{Game}
+use Rattle.play_meaning.specs.Grounds.{telling_by}
 use Rattle.play_meaning.specs.PlainReading.{direction_for, reads_plainly}
 use Rattle.play_meaning.specs.PlainStories.{PlainStory, game_of_plain}
-use Rattle.story_format.specs.Facts.{description_of, words_of}
+use Rattle.story_format.specs.Codes.{codes_told}
+use Rattle.story_format.specs.Facts.{description_code_of, words_of}
 use Rattle.story_format.specs.declared.tables.Tables.{Tables}
 use Rattle.world_store.specs.StartWorlds.{start_world}
 use Rattle.world_store.specs.StorySettings.{setting_of}
 
+-- each object is described by its code
 unfoldable pub plain_story : Tables → PlainStory
-plain_story t = record { setting = setting_of t; start = start_world t; descriptions = description_of t; reads = reads_plainly (setting_of t) (words_of t) }
+plain_story t = record {
+  setting = setting_of t;
+  start = start_world t;
+  describes = (telling_by (codes_told t) (setting_of t) (description_code_of t)).describes;
+  reads = reads_plainly (setting_of t) (words_of t);
+}
 
 -- which direction a noun means
 abbrev pub means_in : Tables → Means

@@ -5,6 +5,7 @@
 mod atlas;
 mod changes;
 mod columns;
+mod describing;
 mod ground;
 mod laws;
 mod sight;

@@ -41,8 +41,8 @@ pub returns-then-not-branch-2-clause-refused : goal.returns-then-not-branch-2-cl
 returns-then-not-branch-2-clause-refused c =
     code_fault c.args.bytes.now c.in_ok-tables.tables (λ i. omega (arith, c.type_inv.bytes i)) c.in_ok-tables.ensures (sym c.in_ok-are_right.ensures ∙ c.if-not-branch.false) (sym c.in_ok-are_sound.ensures ∙ c.if-not-branch-2.true)
 
-pub new-requires : goal.new-requires
-new-requires c =
+pub new-requires-clause-story : goal.new-requires-clause-story
+new-requires-clause-story c =
     (story_there c.args.bytes.now c.in_ok-tables.tables (λ i. omega (arith, c.type_inv.bytes i)) c.in_ok-tables.ensures (sym c.in_ok-are_right.ensures ∙ c.if-not-branch.false) (sym c.in_ok-are_sound.ensures ∙ c.if-not-branch-2.false)).story
 
 pub returns-clause-found : goal.returns-clause-found
@@ -51,3 +51,8 @@ returns-clause-found c =
 
 pub returns-clause-only : goal.returns-clause-only
 returns-clause-only c = λ tables spells. c.new.ensures ∙ sym (read_is c.args.bytes.now tables c.in_ok-tables.tables spells c.in_ok-tables.ensures)
+
+pub returns-in_err-codes-clause-refused : goal.returns-in_err-codes-clause-refused
+returns-in_err-codes-clause-refused c =
+    let p = err_from_is_err_and c.from_residual-in_err-codes.result c.from_residual-in_err-codes.ensures.1 in
+    rw (p.1, p.2, c.in_err-codes.ensures.refused) (memory_fault c.args.bytes.now c.in_ok-tables.tables (λ i. omega (arith, c.type_inv.bytes i)) c.in_ok-tables.ensures)

@@ -1,16 +1,14 @@
-use Rattle.std.proofs.Common.{◌≡◌, subst}
-use Rattle.std.specs.Prelude.{IfOk, OnOk}
-use Rattle.play_meaning.specs.Deeds.{look_text, visit}
+use Rattle.std.proofs.Common.{subst}
+use Rattle.play_meaning.specs.Deeds.{look}
+use Rattle.play_meaning.specs.Progress.{fresh}
 use Rattle.world_store.specs.StoryGames.{plain_story}
-use Rattle.world_store.specs.StorySettings.{setting_of}
-use Rattle.world_store.specs.StoryWorlds.{StoryWorld, in_world}
-use Rattle.story_player.proofs.Turning.{put_so}
+use Rattle.world_store.specs.StoryWorlds.{StoryWorld}
+use Rattle.story_player.proofs.Turning.{CameTo, arrived, put_so}
 use Rattle.story_player.proofs.turns.arrive.Goals as goal
 
-pub returns-clause-text : goal.returns-clause-text
+pub returns-clause-told : goal.returns-clause-told
 unfolding plain_story
-returns-clause-text c = subst (λ (v : StoryWorld). IfOk c.look.result (λ text. text.items ≡ look_text (plain_story v.tables) v.world)) (put_so c.args.world.now c.put.new.self c.args.room c.new.result c.new.ensures c.put.ensures.world) c.look.ensures.text
-
-pub returns-clause-world : goal.returns-clause-world
-unfolding plain_story
-returns-clause-world c = subst (λ (v : StoryWorld). OnOk c.look.result (c.look.new.world ≡ in_world v (visit (setting_of v.tables) v.world))) (put_so c.args.world.now c.put.new.self c.args.room c.new.result c.new.ensures c.put.ensures.world) c.look.ensures.world
+returns-clause-told c =
+    let there = put_so c.args.world.now c.put.new.self c.args.room c.new.result c.new.ensures c.put.ensures.world in
+    let came = subst (λ (v : StoryWorld). CameTo (look (plain_story v.tables) (fresh v.world)) c.look.new.world.world (λ text. text.items) c.look.result) there c.look.ensures.told in
+    arrived (plain_story c.args.world.now.tables) c.args.world.now.world c.look.new.world.world c.args.room (λ text. text.items) c.look.result came
