@@ -1,12 +1,12 @@
 -- What looking comes to, by its rules one behind the other.
 use Rattle.std.proofs.Common.{◌≡◌, ◌∙◌, ap, sym, ℕ, ◌+◌, Bool, true, false, List, [], ◌∷◌, ◌++◌, ◌≤◌, append_assoc, refl, Ok, Err, nat_lt, length, suc, arith}
-use Rattle.std.specs.Prelude.{Option, None, Some, map, int_le, pos, if◌then◌else◌}
+use Rattle.std.specs.Prelude.{map, int_le, pos, if◌then◌else◌}
 use Rattle.std.proofs.lemmas.Bool.{le-leb, lt-ltb}
 use Rattle.std.proofs.lemmas.List.{append-nil}
 use Rattle.play_meaning.specs.Attempts.{Attempt, next}
 use Rattle.play_meaning.specs.Acting.{access, act, carrying, dark_text, stages, visibility}
 use Rattle.play_meaning.specs.Consulting.{applies, ask, consult}
-use Rattle.play_meaning.specs.Deeds.{body_text, contents_text, heading, look, look_text, looked as behind_look, on_view, view_text, visit}
+use Rattle.play_meaning.specs.Deeds.{body_text, contents_text, heading, look, looked as behind_look, on_view, view_text, visit}
 use Rattle.play_meaning.specs.Doing.{Inner, do_body, do_phrase}
 use Rattle.play_meaning.specs.Games.{Game}
 use Rattle.play_meaning.specs.Order.{book_of}

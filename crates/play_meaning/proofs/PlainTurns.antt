@@ -11,7 +11,7 @@ use Rattle.play_meaning.specs.Changes.{make_so, may_be_put, put}
 use Rattle.play_meaning.specs.Consulting.{consult}
 use Rattle.play_meaning.specs.Deeds.{arrive, closed_text, come_to, go, going_to, is_closed, look, look_text, looked as behind_look, visit}
 use Rattle.play_meaning.specs.Order.{book_of}
-use Rattle.play_meaning.specs.PlainStories.{PlainStory, game_of_plain, plain_telling}
+use Rattle.play_meaning.specs.PlainStories.{PlainStory, game_of_plain}
 use Rattle.play_meaning.specs.Progress.{Progress, fresh, undecided}
 use Rattle.play_meaning.specs.Scripts.{Script, begins_in, condition_holds, ends_in, game_of, rule_body, rule_condition, rule_is_about, telling_of}
 use Rattle.play_meaning.specs.PlainTales.{IsPlain, story_of_script}
