@@ -4,10 +4,11 @@ use Rattle.std.specs.List.{flat_map}
 use Rattle.std.proofs.lemmas.List.{append-nil}
 use Rattle.i7_lexer.specs.declared.lexeme.Piece.TheVariants.{Word, Text, Mark}
 use Rattle.i7_lexer.specs.declared.placed.Placed.{Placed}
+use Rattle.i7_lexer.specs.declared.token.Start.{Start}
 use Rattle.i7_lexer.specs.declared.token.Token.{Token}
 use Rattle.i7_lexer.specs.declared.token.TokenKind.TheVariants.{Word as WordToken, Text as TextToken, Mark as MarkToken}
 use Rattle.i7_lexer.specs.Texts.{folded}
-use Rattle.i7_lexer.specs.Tokens.{is_switched, is_fixed_in_place, joined_len, says, spaced, token_of, tokens_behind, tokens_of}
+use Rattle.i7_lexer.specs.Tokens.{is_switched, is_fixed_in_place, joined_len, says, spaced, start_of, token_of, tokens_behind, tokens_of, with_other}
 
 joined_len-never : (first : Placed) (rest : List Placed) → says (codes "switched") first.piece ≡ false → says (codes "fixed") first.piece ≡ false → joined_len first rest ≡ 0
 unfolding is_switched is_fixed_in_place
@@ -33,9 +34,9 @@ joined-is : (first : Placed) (rest behind : List Placed) (token : Token) (n : �
 joined-is first rest behind token n is_n is_token is_behind =
     rw (is_token, is_behind, ← behind-drop n rest, is_n) refl
 
-pub join-some : (first : Placed) (word bytes : List ℕ) (rest behind : List Placed) (token : Token) (n : ℕ) → first.piece ≡ Word word → n ≡ joined_len first rest → bytes ≡ word ++ flat_map (λ other. spaced other.piece) (take n rest) → token ≡ record { kind = WordToken bytes; line = first.at.line; start = first.at.start } → behind ≡ drop n rest → token ∷ tokens_of behind ≡ tokens_of (first ∷ rest)
-join-some first word bytes rest behind token n is_word is_n is_bytes is_token is_behind =
-    joined-is first rest behind token n is_n (is_token ∙ rw (is_bytes, is_word) refl) is_behind
+pub join-some : (first : Placed) (word bytes : List ℕ) (start : Start) (rest behind : List Placed) (token : Token) (n : ℕ) → first.piece ≡ Word word → n ≡ joined_len first rest → bytes ≡ word ++ flat_map (λ other. spaced other.piece) (take n rest) → start ≡ start_of first.at.start (take n rest) → token ≡ record { kind = WordToken bytes; line = first.at.line; start = start } → behind ≡ drop n rest → token ∷ tokens_of behind ≡ tokens_of (first ∷ rest)
+join-some first word bytes start rest behind token n is_word is_n is_bytes is_start is_token is_behind =
+    joined-is first rest behind token n is_n (is_token ∙ rw (is_bytes, is_start, is_word) refl) is_behind
 
 pub join-none : (first : Placed) (word : List ℕ) (rest behind : List Placed) (token : Token) → first.piece ≡ Word word → joined_len first rest ≡ 0 → token ≡ record { kind = WordToken word; line = first.at.line; start = first.at.start } → behind ≡ rest → token ∷ tokens_of behind ≡ tokens_of (first ∷ rest)
 join-none first word rest behind token is_word none is_token is_behind =
@@ -55,6 +56,13 @@ spaced-push bytes bytes' whole zero other rest after h is_first is_more so_far =
 spaced-push bytes bytes' whole (suc n) other rest after h is_first is_more so_far =
     let same : suc n - 1 ≡ n = omega arith in
     rw (same, is_more) (append_assoc bytes (spaced other.piece) (flat_map (λ other. spaced other.piece) (take n after)) ∙ (ap (λ t. bytes ++ flat_map (λ other. spaced other.piece) (take (suc n) t)) (sym is_first) ∙ so_far))
+
+-- one more word, and how the word with it stands
+pub start-push : (start start' whole : Start) (n : ℕ) (other : Placed) (rest after : List Placed) → 0 < n → rest ≡ other ∷ after → start' ≡ with_other start other.at.start → start_of start (take n rest) ≡ whole → start_of start' (take (n - 1) after) ≡ whole
+start-push start start' whole zero other rest after h is_first is_start so_far = absurd (omega (arith, h))
+start-push start start' whole (suc n) other rest after h is_first is_start so_far =
+    let same : suc n - 1 ≡ n = omega arith in
+    rw (same, is_start) (ap (λ t. start_of start (take (suc n) t)) (sym is_first) ∙ so_far)
 
 pub drop-push : (n : ℕ) (other : Placed) (rest after whole : List Placed) → 0 < n → rest ≡ other ∷ after → drop n rest ≡ whole → drop (n - 1) after ≡ whole
 drop-push zero other rest after whole h is_first so_far = absurd (omega (arith, h))

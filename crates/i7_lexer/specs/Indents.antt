@@ -2,7 +2,7 @@
 use Rattle.std.specs.Prelude.{◌≡◌, ℕ, ◌+◌, Bool, true, false, ◌==◌, nat_lt, if◌then◌else◌, List, ◌∷◌, ◌++◌, fold, Option, Some, None}
 use Rattle.i7_lexer.specs.declared.indents.LineBefore.{LineBefore}
 use Rattle.i7_lexer.specs.declared.token.Start.{Start}
-use Rattle.i7_lexer.specs.declared.token.Start.TheVariants.{Paragraph, Line, Within}
+use Rattle.i7_lexer.specs.declared.token.Start.TheVariants.{Paragraph, Line, Within, Across}
 use Rattle.i7_lexer.specs.declared.lexeme.Piece.{Piece}
 use Rattle.i7_lexer.specs.declared.lexeme.Piece.TheVariants.{Word, Text, Mark}
 use Rattle.i7_lexer.specs.declared.placed.Placed.{Placed}
@@ -17,6 +17,7 @@ abbrev pub indent_with : ℕ → Start → ℕ
 indent_with indent Paragraph = 0
 indent_with indent (Line tabs) = tabs
 indent_with indent Within = indent
+indent_with indent Across = indent
 
 -- the line that a token stands on, as far as it is read
 abbrev pub line_with : LineBefore → Placed → LineBefore
@@ -31,6 +32,7 @@ abbrev pub forbids : LineBefore → Start → Bool
 forbids before Paragraph = false
 forbids before (Line tabs) = nat_lt (if before.colon then before.indent + 1 else before.indent) tabs
 forbids before Within = false
+forbids before Across = false
 
 -- the first line that is too deep, one token later
 abbrev pub deep_with : Option ℕ → LineBefore → Placed → Option ℕ

@@ -3,11 +3,11 @@ use Rattle.std.specs.Prelude.{ℕ, List}
 use Rattle.i7_lexer.specs.declared.packed.Sort.{Sort}
 use Rattle.i7_lexer.specs.declared.packed.Sort.TheVariants.{Text as TextSort, Word as WordSort}
 use Rattle.i7_lexer.specs.declared.packed.NearStart.{NearStart}
-use Rattle.i7_lexer.specs.declared.packed.NearStart.TheVariants.{Paragraph as NearParagraph, Line as NearLine, Within as NearWithin}
+use Rattle.i7_lexer.specs.declared.packed.NearStart.TheVariants.{Paragraph as NearParagraph, Line as NearLine, Within as NearWithin, Across as NearAcross}
 use Rattle.i7_lexer.specs.declared.packed.Shape.{Shape}
 use Rattle.i7_lexer.specs.declared.packed.Shape.TheVariants.{Mark as MarkShape, Short, Long}
 use Rattle.i7_lexer.specs.declared.token.Start.{Start}
-use Rattle.i7_lexer.specs.declared.token.Start.TheVariants.{Paragraph, Line, Within}
+use Rattle.i7_lexer.specs.declared.token.Start.TheVariants.{Paragraph, Line, Within, Across}
 use Rattle.i7_lexer.specs.declared.token.Token.{Token}
 use Rattle.i7_lexer.specs.declared.token.TokenKind.{TokenKind}
 use Rattle.i7_lexer.specs.declared.token.TokenKind.TheVariants.{Word, Text, Mark}
@@ -22,6 +22,7 @@ abbrev pub far : NearStart → Start
 far NearParagraph = Paragraph
 far (NearLine indent) = Line indent
 far NearWithin = Within
+far NearAcross = Across
 
 -- the token that is kept so
 abbrev pub seen : Shape → Token

@@ -3,7 +3,7 @@ use Rattle.std.specs.Prelude.{ℕ, ◌+◌, ◌==◌, if◌then◌else◌, List,
 use Rattle.std.specs.List.{prefix_len}
 use Rattle.i7_lexer.specs.declared.cursor.Cursor.{Cursor}
 use Rattle.i7_lexer.specs.declared.token.Start.{Start}
-use Rattle.i7_lexer.specs.declared.token.Start.TheVariants.{Paragraph, Line, Within}
+use Rattle.i7_lexer.specs.declared.token.Start.TheVariants.{Paragraph, Line, Within, Across}
 use Rattle.i7_lexer.specs.declared.lexeme.Lexeme.{Lexeme}
 use Rattle.i7_lexer.specs.declared.lexeme.Lexeme.TheVariants.{Kept, Space, Comment}
 use Rattle.i7_lexer.specs.declared.lexeme.Piece.TheVariants.{Word, Text, Mark}
@@ -36,6 +36,7 @@ abbrev pub line_start : Start → ℕ → Start
 line_start Paragraph tabs = Paragraph
 line_start (Line _) tabs = Line tabs
 line_start Within tabs = Line tabs
+line_start Across tabs = Line tabs
 
 -- how a token stands behind white space: two line breaks make a blank line
 unfoldable pub start_behind : Start → List ℕ → Start

@@ -1,12 +1,12 @@
 -- The tokens of a source.
-use Rattle.std.specs.Prelude.{ℕ, zero, suc, Bool, true, false, ◌&&◌, ◌||◌, if◌then◌else◌, List, [], ◌∷◌, ◌++◌, take, codes}
+use Rattle.std.specs.Prelude.{ℕ, zero, suc, Bool, true, false, ◌&&◌, ◌||◌, if◌then◌else◌, List, [], ◌∷◌, ◌++◌, fold, take, codes}
 use Rattle.std.specs.List.{flat_map}
 use Rattle.std.specs.Str.{str_eq_ignore_ascii_case}
 use Rattle.i7_lexer.specs.declared.lexeme.Piece.{Piece}
 use Rattle.i7_lexer.specs.declared.lexeme.Piece.TheVariants.{Word, Text, Mark}
 use Rattle.i7_lexer.specs.declared.placed.Placed.{Placed}
 use Rattle.i7_lexer.specs.declared.token.Start.{Start}
-use Rattle.i7_lexer.specs.declared.token.Start.TheVariants.{Paragraph, Line, Within}
+use Rattle.i7_lexer.specs.declared.token.Start.TheVariants.{Paragraph, Line, Within, Across}
 use Rattle.i7_lexer.specs.declared.token.Token.{Token}
 use Rattle.i7_lexer.specs.declared.token.TokenKind.{TokenKind}
 use Rattle.i7_lexer.specs.declared.token.TokenKind.TheVariants.{Word as WordToken, Text as TextToken, Mark as MarkToken}
@@ -23,6 +23,7 @@ abbrev pub goes_on : Start → Bool
 goes_on Paragraph = false
 goes_on (Line indent) = true
 goes_on Within = true
+goes_on Across = true
 
 -- the token is this word, and no blank line parts it from the one before; comments part nothing
 abbrev pub continues : List ℕ → Placed → Bool
@@ -52,9 +53,27 @@ kind_of (Word bytes) others = WordToken (bytes ++ flat_map (λ other. spaced oth
 kind_of (Text bytes) others = TextToken (folded bytes)
 kind_of (Mark b) others = MarkToken b
 
+-- a word that begins within its line and goes over a line break
+abbrev pub over_break : Start → Start
+over_break Paragraph = Paragraph
+over_break (Line indent) = Line indent
+over_break Within = Across
+over_break Across = Across
+
+-- how a word stands that begins so, with one more of its words: one that begins a line takes it over a line break
+abbrev pub with_other : Start → Start → Start
+with_other start Paragraph = start
+with_other start (Line indent) = over_break start
+with_other start Within = start
+with_other start Across = start
+
+-- how a word stands that begins so and has these other words
+abbrev pub start_of : Start → List Placed → Start
+start_of start others = fold (λ so_far other. with_other so_far other.at.start) start others
+
 -- the first token, and the others that are one word with it
 abbrev pub token_of : Placed → List Placed → Token
-token_of first others = record { kind = kind_of first.piece others; line = first.at.line; start = first.at.start }
+token_of first others = record { kind = kind_of first.piece others; line = first.at.line; start = start_of first.at.start others }
 
 -- the tokens, where so many in front belong to the word before
 abbrev pub tokens_behind : ℕ → List Placed → List Token

@@ -87,7 +87,7 @@ fn line_start(start: Start, indent: u32) -> Start
 {
     match start {
         Start::Paragraph => Start::Paragraph,
-        Start::Line { .. } | Start::Within => Start::Line { indent },
+        Start::Line { .. } | Start::Within | Start::Across => Start::Line { indent },
     }
 }
 

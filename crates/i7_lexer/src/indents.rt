@@ -60,7 +60,7 @@ impl LineBefore {
                 };
                 deepest < u64::from(indent)
             }
-            Start::Paragraph | Start::Within => false,
+            Start::Paragraph | Start::Within | Start::Across => false,
         }
     }
 
@@ -97,7 +97,7 @@ fn indent_with(indent: u32, start: Start) -> u32
     match start {
         Start::Paragraph => 0,
         Start::Line { indent } => indent,
-        Start::Within => indent,
+        Start::Within | Start::Across => indent,
     }
 }
 

@@ -2,7 +2,7 @@
 ghost use Rattle.std.specs.Prelude.{◌≡◌, ◌≤◌, ◌++◌, length, ◌∷◌, ◌||◌, codes, drop, take, IfOk, OnOk};
 ghost use Rattle.std.specs.List.{flat_map};
 ghost use Rattle.i7_lexer.specs.Texts.{folded};
-ghost use Rattle.i7_lexer.specs.Tokens.{tokens_of, joined_len, is_switched, is_fixed_in_place, says, continues, goes_on, spaced};
+ghost use Rattle.i7_lexer.specs.Tokens.{tokens_of, joined_len, is_switched, is_fixed_in_place, says, continues, goes_on, over_break, spaced, start_of, with_other};
 ghost use Rattle.i7_lexer.specs.declared.lexeme.Piece.TheVariants.{Word};
 ghost use Rattle.i7_lexer.specs.declared.token.TokenKind.TheVariants.{Text as TextToken};
 
@@ -84,31 +84,56 @@ fn word_token<'a>(
         return Ok((token, after.again()));
     }
     let mut bytes = Vec::from_slice(alloc, word)?;
-    let behind = push_spaced_words(&mut bytes, after, count)?;
-    let token = PackedToken::copied(alloc, Sort::Word, bytes.as_slice(), at.line, at.start)?;
+    let (start, behind) = push_spaced_words(&mut bytes, at.start, after, count)?;
+    let token = PackedToken::copied(alloc, Sort::Word, bytes.as_slice(), at.line, start)?;
     Ok((token, behind))
 }
 
-/// Writes so many words, a space before each, and answers the lexemes behind them.
+/// Writes so many words, a space before each, and answers how the word stands that begins so and has them, and
+/// the lexemes behind them.
 fn push_spaced_words<'a>(
     bytes: &mut Vec<u8>,
+    begins: Start,
     others: &Places<'a>,
     count: usize,
-) -> Result<Places<'a>, AllocError>
+) -> Result<(Start, Places<'a>), AllocError>
     ensures words { OnOk result (bytes.new.items ≡ bytes.old.items ++ flat_map (λ other. spaced other.piece) (take count others.now)) }
-    ensures rest { IfOk result (λ rest. rest ≡ drop count others.now) }
+    ensures start { IfOk result (λ found. found.0 ≡ start_of begins (take count others.now)) }
+    ensures rest { IfOk result (λ found. found.1 ≡ drop count others.now) }
 {
     let mut left = count;
+    let mut start = begins;
     let mut rest = others.again();
     while left > 0 {
         let Some((other, after)) = rest.first() else {
-            return Ok(rest);
+            return Ok((start, rest));
         };
         push_spaced(bytes, &other.piece)?;
+        start = with_other(start, other.at.start);
         left -= 1;
         rest = after;
     }
-    Ok(rest)
+    Ok((start, rest))
+}
+
+/// How a word stands that begins so, with one more of its words.
+fn with_other(start: Start, other: Start) -> Start
+    ensures { result ≡ with_other start other }
+{
+    match other {
+        Start::Line { .. } => over_break(start),
+        Start::Paragraph | Start::Within | Start::Across => start,
+    }
+}
+
+/// How a word stands that begins so and goes over a line break.
+fn over_break(start: Start) -> Start
+    ensures { result ≡ over_break start }
+{
+    match start {
+        Start::Within | Start::Across => Start::Across,
+        Start::Paragraph | Start::Line { .. } => start,
+    }
 }
 
 /// Whether other words may be one word with this: `fixed` and `switched` alone have such.
@@ -188,7 +213,7 @@ fn goes_on(start: Start) -> bool
 {
     match start {
         Start::Paragraph => false,
-        Start::Line { .. } | Start::Within => true,
+        Start::Line { .. } | Start::Within | Start::Across => true,
     }
 }
 

@@ -23,6 +23,7 @@ pub(crate) enum NearStart {
     Paragraph,
     Line { indent: u8 },
     Within,
+    Across,
 }
 
 /// What doesn't lie in the token.
@@ -168,6 +169,7 @@ fn near(start: Start) -> Option<NearStart>
     match start {
         Start::Paragraph => Some(NearStart::Paragraph),
         Start::Within => Some(NearStart::Within),
+        Start::Across => Some(NearStart::Across),
         Start::Line { indent } => match u8::try_from(indent) {
             Ok(indent) => Some(NearStart::Line { indent }),
             Err(_) => None,
@@ -185,5 +187,6 @@ fn far(near: NearStart) -> Start
             indent: u32::from(indent),
         },
         NearStart::Within => Start::Within,
+        NearStart::Across => Start::Across,
     }
 }

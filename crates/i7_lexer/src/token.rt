@@ -23,6 +23,9 @@ pub enum Start {
     Line { indent: u32 },
     /// A token stands before it on its line.
     Within,
+    /// A token stands before it on its line, and it goes over a line break: a word of `switched on`,
+    /// `switched off` or `fixed in place` begins a later line.
+    Across,
 }
 
 /// A token, and where it stands.

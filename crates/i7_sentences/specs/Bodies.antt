@@ -3,7 +3,7 @@ use Rattle.std.specs.Prelude.{ℕ, ◌+◌, ◌-◌, Bool, true, false, not, ◌
 use Rattle.world_meaning.specs.Spelling.{is_spelled}
 use Rattle.i7_lexer.specs.declared.token.Token.{Token}
 use Rattle.i7_lexer.specs.declared.token.Start.{Start}
-use Rattle.i7_lexer.specs.declared.token.Start.TheVariants.{Paragraph, Line, Within}
+use Rattle.i7_lexer.specs.declared.token.Start.TheVariants.{Paragraph, Line, Within, Across}
 use Rattle.i7_sentences.specs.Cuts.{cut, ends_sentence_kind, is_colon, is_full_stop, is_mark_kind, line_in, may_begin_kind, opens_nothing}
 use Rattle.i7_sentences.specs.PhraseMarks.{is_no_mark, is_pause}
 use Rattle.i7_sentences.specs.Words.{word_of}
@@ -75,6 +75,7 @@ abbrev pub indent_of : ℕ → Start → ℕ
 indent_of indent Paragraph = 0
 indent_of indent (Line tabs) = tabs
 indent_of indent Within = indent
+indent_of indent Across = indent
 
 abbrev pub indent_at : ℕ → Token → ℕ
 indent_at indent token = indent_of indent token.start

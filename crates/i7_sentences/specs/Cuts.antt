@@ -6,7 +6,7 @@ use Rattle.i7_lexer.specs.declared.token.Token.{Token}
 use Rattle.i7_lexer.specs.declared.token.TokenKind.{TokenKind}
 use Rattle.i7_lexer.specs.declared.token.TokenKind.TheVariants.{Text, Word, Mark}
 use Rattle.i7_lexer.specs.declared.token.Start.{Start}
-use Rattle.i7_lexer.specs.declared.token.Start.TheVariants.{Paragraph, Line, Within}
+use Rattle.i7_lexer.specs.declared.token.Start.TheVariants.{Paragraph, Line, Within, Across}
 use Rattle.i7_sentences.specs.Words.{is_text, is_word, word_of}
 use Rattle.world_meaning.specs.Spelling.{is_spelled}
 use Rattle.i7_sentences.specs.declared.cut.TheConstants.{HEADINGS}
@@ -32,6 +32,7 @@ abbrev pub is_paragraph_start : Start → Bool
 is_paragraph_start Paragraph = true
 is_paragraph_start (Line indent) = false
 is_paragraph_start Within = false
+is_paragraph_start Across = false
 
 -- no token opens a paragraph
 abbrev pub opens_nothing : Token → Bool
@@ -45,6 +46,7 @@ abbrev pub is_within_line : Start → Bool
 is_within_line Paragraph = false
 is_within_line (Line indent) = false
 is_within_line Within = true
+is_within_line Across = false
 
 abbrev pub opens_heading : List ℕ → Bool
 opens_heading word = list_any (λ heading. is_spelled word heading.now) HEADINGS
@@ -70,6 +72,7 @@ abbrev pub is_unindented : Start → Bool
 is_unindented Paragraph = true
 is_unindented (Line indent) = indent == 0
 is_unindented Within = false
+is_unindented Across = false
 
 -- `.`, `?` and `!`
 abbrev pub is_final : ℕ → Bool

@@ -139,7 +139,7 @@ fn indent_at(indent: u32, token: &PackedToken) -> u32
     match token.start() {
         Start::Paragraph => 0,
         Start::Line { indent: tabs } => tabs,
-        Start::Within => indent,
+        Start::Within | Start::Across => indent,
     }
 }
 

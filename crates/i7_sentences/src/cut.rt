@@ -22,17 +22,17 @@ fn is_same_paragraph(token: &PackedToken, next: &PackedToken) -> bool
     let _ = token;
     match next.start() {
         Start::Paragraph => false,
-        Start::Line { .. } | Start::Within => true,
+        Start::Line { .. } | Start::Within | Start::Across => true,
     }
 }
 
-/// Whether a token stands within its line.
+/// Whether a token stands within its line, all of it.
 fn is_within_line(start: Start) -> bool
     ensures { result ≡ is_within_line start }
 {
     match start {
         Start::Within => true,
-        Start::Paragraph | Start::Line { .. } => false,
+        Start::Paragraph | Start::Line { .. } | Start::Across => false,
     }
 }
 
@@ -91,7 +91,7 @@ fn is_unindented(start: Start) -> bool
     match start {
         Start::Paragraph => true,
         Start::Line { indent } => indent == 0,
-        Start::Within => false,
+        Start::Within | Start::Across => false,
     }
 }
 

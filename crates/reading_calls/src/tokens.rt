@@ -1,5 +1,5 @@
-//! The tokens of a source, each with `P`, or `L` and its indent, where it begins a paragraph or a line, then its line and what it is,
-//! texts in quotes: `P1:The|1:Hall|L0 2:"Bare."|`.
+//! The tokens of a source, each with `P`, or `L` and its indent, where it begins a paragraph or a line, with `A` where its words go
+//! over a line break, then its line and what it is, texts in quotes: `P1:The|1:Hall|L0 2:"Bare."|`.
 use i7_lexer::{Lexed, PackedToken, Start, TokenKind, lex};
 use std::alloc::{AllocError, Global};
 use world_meaning::Fault;
@@ -13,6 +13,7 @@ fn add_start(alloc: Global, out: &mut Vec<u8>, start: Start) -> Result<(), Alloc
             out.extend_from_slice(told.as_bytes())
         }
         Start::Within => Ok(()),
+        Start::Across => out.extend_from_slice(b"A"),
     }
 }
 
