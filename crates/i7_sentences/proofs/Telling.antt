@@ -1,10 +1,10 @@
 -- The first part of a text, and the first word between brackets.
-use Rattle.std.proofs.Common.{◌≡◌, ℕ, ◌<◌, ◌≤◌, Bool, true, false, not, ◌&&◌, List, [], ◌∷◌, ◌++◌, length, refl, ap, ◌∙◌, append_assoc, arith}
-use Rattle.std.specs.List.{after_first, before_first, flat_map, list_all, position_or_len, slice_split}
+use Rattle.std.proofs.Common.{◌≡◌, ℕ, ◌<◌, ◌≤◌, List, [], ◌∷◌, ◌++◌, length, refl, ap, ◌∙◌}
+use Rattle.std.specs.List.{after_first, before_first, flat_map, position_or_len}
 use Rattle.std.proofs.lemmas.List.Splits.{slice_split_first}
-use Rattle.i7_sentences.specs.BracketedWords.{ended, is_byte, is_gap}
-use Rattle.i7_sentences.specs.TextPieces.{are_brackets_read, closed_parts, has_opening, is_bracket_read, last_of, open_part, part_pieces, print_of, run_word, text_pieces, runs_of}
-use Rattle.i7_sentences.proofs.Bracketing.{ended_more, one_part, split_some}
+use Rattle.i7_sentences.specs.BracketedWords.{is_byte, is_gap}
+use Rattle.i7_sentences.specs.TextPieces.{parts_of, run_word, runs_of}
+use Rattle.i7_sentences.proofs.Bracketing.{one_part}
 
 pub words_first : (bytes : List ℕ) → position_or_len is_gap bytes < length bytes
     → runs_of bytes ≡ run_word (before_first is_gap bytes) ++ runs_of (after_first is_gap bytes)
@@ -19,43 +19,11 @@ words_last bytes ends = ap (flat_map run_word) (one_part is_gap bytes ends) ∙ 
 
 pub ruleset word_steps = (words_first, words_last)
 
-closed_first : (text : List ℕ) → position_or_len (is_byte 93) text < length text
-    → closed_parts text ≡ before_first (is_byte 93) text ∷ closed_parts (after_first (is_byte 93) text)
-closed_first text ends =
-    ap ended (slice_split_first (is_byte 93) text 0 ends)
-    ∙ ended_more (before_first (is_byte 93) text) (slice_split (is_byte 93) (after_first (is_byte 93) text)) (split_some (is_byte 93) (after_first (is_byte 93) text))
+pub part_first : (text : List ℕ) → position_or_len (is_byte 91) text < length text
+    → parts_of text ≡ before_first (is_byte 91) text ∷ parts_of (after_first (is_byte 91) text)
+part_first text ends = slice_split_first (is_byte 91) text 0 ends
 
-last_more : (part : List ℕ) (parts : List (List ℕ)) → 0 < length parts → last_of (part ∷ parts) ≡ last_of parts
-last_more part [] some = absurd (omega (arith, some))
-last_more part (next ∷ parts) some = refl
+pub part_last : (text : List ℕ) → length text ≤ position_or_len (is_byte 91) text → parts_of text ≡ text ∷ []
+part_last text ends = one_part (is_byte 91) text ends
 
-open_first : (text : List ℕ) → position_or_len (is_byte 93) text < length text → open_part text ≡ open_part (after_first (is_byte 93) text)
-open_first text ends =
-    ap last_of (slice_split_first (is_byte 93) text 0 ends)
-    ∙ last_more (before_first (is_byte 93) text) (slice_split (is_byte 93) (after_first (is_byte 93) text)) (split_some (is_byte 93) (after_first (is_byte 93) text))
-
-pub pieces_first : (text : List ℕ) → position_or_len (is_byte 93) text < length text
-    → text_pieces text ≡ part_pieces (before_first (is_byte 93) text) ++ text_pieces (after_first (is_byte 93) text)
-pieces_first text ends =
-    ap (λ parts. flat_map part_pieces parts ++ print_of (open_part text)) (closed_first text ends)
-    ∙ ap (λ last. (part_pieces (before_first (is_byte 93) text) ++ flat_map part_pieces (closed_parts (after_first (is_byte 93) text))) ++ print_of last) (open_first text ends)
-    ∙ append_assoc (part_pieces (before_first (is_byte 93) text)) (flat_map part_pieces (closed_parts (after_first (is_byte 93) text))) (print_of (open_part (after_first (is_byte 93) text)))
-
-pub pieces_last : (text : List ℕ) → length text ≤ position_or_len (is_byte 93) text → text_pieces text ≡ print_of text
-pieces_last text ends = ap (λ parts. flat_map part_pieces (ended parts) ++ print_of (last_of parts)) (one_part (is_byte 93) text ends)
-
-and_and : (a b c : Bool) → ((a && b) && c) ≡ (a && (b && c))
-and_and true b c = refl
-and_and false b c = refl
-
-pub read_first : (text : List ℕ) → position_or_len (is_byte 93) text < length text
-    → are_brackets_read text ≡ (is_bracket_read (before_first (is_byte 93) text) && are_brackets_read (after_first (is_byte 93) text))
-read_first text ends =
-    ap (λ parts. list_all is_bracket_read parts && not (has_opening (open_part text))) (closed_first text ends)
-    ∙ ap (λ last. (is_bracket_read (before_first (is_byte 93) text) && list_all is_bracket_read (closed_parts (after_first (is_byte 93) text))) && not (has_opening last)) (open_first text ends)
-    ∙ and_and (is_bracket_read (before_first (is_byte 93) text)) (list_all is_bracket_read (closed_parts (after_first (is_byte 93) text))) (not (has_opening (open_part (after_first (is_byte 93) text))))
-
-pub read_last : (text : List ℕ) → length text ≤ position_or_len (is_byte 93) text → are_brackets_read text ≡ not (has_opening text)
-read_last text ends = ap (λ parts. list_all is_bracket_read (ended parts) && not (has_opening (last_of parts))) (one_part (is_byte 93) text ends)
-
-pub ruleset part_steps = (pieces_first, pieces_last, read_first, read_last)
+pub ruleset part_steps = (part_first, part_last)

@@ -1,9 +1,9 @@
 -- What a text says, piece by piece.
-use Rattle.std.specs.Prelude.{ℕ, ◌==◌, codes, Bool, true, false, not, ◌&&◌, ◌||◌, List, [], ◌∷◌, ◌++◌, map, Option, Some, None, if◌then◌else◌}
+use Rattle.std.specs.Prelude.{ℕ, ◌==◌, codes, Bool, true, false, ◌&&◌, ◌||◌, List, [], ◌∷◌, ◌++◌, map, Option, Some, None, if◌then◌else◌}
 use Rattle.std.specs.List.{after_first, before_first, flat_map, list_all, list_any, slice_split}
 use Rattle.world_meaning.specs.Spelling.{is_spelled}
 use Rattle.i7_lexer.specs.Bytes.{is_letter}
-use Rattle.i7_sentences.specs.BracketedWords.{ended, is_byte, words_in}
+use Rattle.i7_sentences.specs.BracketedWords.{is_byte, words_in}
 use Rattle.i7_sentences.specs.declared.text_reader.TheConstants.{APOSTROPHE, LINE_BREAK, PARAGRAPH_BREAK, OTHERWISE, END_IF, IF}
 use Rattle.i7_sentences.specs.declared.text_piece.TextPiece.{TextPiece}
 use Rattle.i7_sentences.specs.declared.text_piece.TextPiece.TheVariants.{Printed, Substitution, If, Otherwise, EndIf}
@@ -81,37 +81,28 @@ piece_of words =
     else (if are_spelled words (map (λ word. word.now) END_IF) then EndIf
     else (if is_if words then If (behind_first words) else Substitution words)))))
 
-abbrev pub has_opening : List ℕ → Bool
-has_opening part = list_any (is_byte 91) part
-
 -- what bytes outside brackets say
 abbrev pub print_of : List ℕ → List TextPiece
 print_of [] = []
 print_of (b ∷ bytes) = Printed (printed (b ∷ bytes)) ∷ []
 
--- What a part says that ends at a `]`: what is in front of its `[` is printed, and the words between the two are a piece; without a `[` the
--- `]` is itself.
-abbrev pub part_pieces : List ℕ → List TextPiece
-part_pieces part =
-    if has_opening part then print_of (before_first (is_byte 91) part) ++ piece_of (words_of (after_first (is_byte 91) part)) ∷ []
-    else print_of part ++ Printed (93 ∷ []) ∷ []
+-- the parts of a text, parted by its `[`s
+abbrev pub parts_of : List ℕ → List (List ℕ)
+parts_of text = slice_split (is_byte 91) text
 
--- the last of some parts
-abbrev pub last_of : List (List ℕ) → List ℕ
-last_of [] = []
-last_of (part ∷ []) = part
-last_of (part ∷ next ∷ parts) = last_of (next ∷ parts)
+-- what a part says that stands behind a `[`: the words up to its first `]` are a piece, and what is behind that is printed
+abbrev pub bracket_pieces : List ℕ → List TextPiece
+bracket_pieces part = piece_of (words_of (before_first (is_byte 93) part)) ∷ print_of (after_first (is_byte 93) part)
 
--- the parts of a text that end at a `]`, and what stands behind the last of these
-abbrev pub closed_parts : List ℕ → List (List ℕ)
-closed_parts text = ended (slice_split (is_byte 93) text)
+-- what stands in front of the first `[` is printed, a `]` among it as any other byte
+abbrev pub pieces_of : List (List ℕ) → List TextPiece
+pieces_of [] = []
+pieces_of (front ∷ parts) = print_of front ++ flat_map bracket_pieces parts
 
-abbrev pub open_part : List ℕ → List ℕ
-open_part text = last_of (slice_split (is_byte 93) text)
-
--- the pieces of a text
+-- the pieces of a text; one without a byte prints nothing
 abbrev pub text_pieces : List ℕ → List TextPiece
-text_pieces text = flat_map part_pieces (closed_parts text) ++ print_of (open_part text)
+text_pieces [] = Printed [] ∷ []
+text_pieces (b ∷ bytes) = pieces_of (parts_of (b ∷ bytes))
 
 abbrev pub is_word_or_blank : ℕ → Bool
 is_word_or_blank b = is_letter b || b == 32 || b == 9 || b == 10
@@ -120,12 +111,16 @@ is_word_or_blank b = is_letter b || b == 32 || b == 9 || b == 10
 unfoldable pub is_of_words : List ℕ → Bool
 is_of_words bytes = list_any is_letter bytes && list_all is_word_or_blank bytes
 
+abbrev pub has_closing : List ℕ → Bool
+has_closing part = list_any (is_byte 93) part
+
+-- a part that stands behind a `[` has its `]`, and words in front of that
 unfoldable pub is_bracket_read : List ℕ → Bool
-is_bracket_read part = not (has_opening part) || is_of_words (after_first (is_byte 91) part)
+is_bracket_read part = has_closing part && is_of_words (before_first (is_byte 93) part)
 
 -- each `[` has its `]`, and between them stand words
 abbrev pub are_brackets_read : List ℕ → Bool
-are_brackets_read text = list_all is_bracket_read (closed_parts text) && not (has_opening (open_part text))
+are_brackets_read text = list_all is_bracket_read (behind_first (parts_of text))
 
 -- where a text stands behind one more piece, if it may stand there: an if ends at its `[end if]`, perhaps behind one `[otherwise]`, and none
 -- stands in another

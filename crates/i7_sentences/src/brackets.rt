@@ -39,11 +39,21 @@ pub fn behind_opening(bytes: &[u8]) -> &[u8]
     }
 }
 
-/// The bytes in front of the first `[`; all of them without one.
-pub fn in_front_of_opening(bytes: &[u8]) -> &[u8]
-    ensures { result.now ≡ before_first (is_byte 91) bytes.now }
+/// The bytes behind the first `]`; none without one.
+pub fn behind_closing(bytes: &[u8]) -> &[u8]
+    ensures { result.now ≡ after_first (is_byte 93) bytes.now }
 {
-    let (front, _) = bytes.split_at(place_of(b'[', bytes));
+    match parted_at(b']', bytes) {
+        None => &[],
+        Some((_, behind)) => behind,
+    }
+}
+
+/// The bytes in front of the first `]`; all of them without one.
+pub fn in_front_of_closing(bytes: &[u8]) -> &[u8]
+    ensures { result.now ≡ before_first (is_byte 93) bytes.now }
+{
+    let (front, _) = bytes.split_at(place_of(b']', bytes));
     front
 }
 

@@ -1,10 +1,10 @@
 //! Reading a text: its pieces, if its brackets and its ifs are understood.
-ghost use Rattle.std.specs.Prelude.{◌≡◌, not, ◌||◌, ◌<◌, ◌++◌, [], Some, None, length, if◌then◌else◌, ◌&&◌, IfOk, MatchOption, OnOk};
-ghost use Rattle.std.specs.List.{list_all, list_any};
+ghost use Rattle.std.specs.Prelude.{◌≡◌, ◌<◌, ◌++◌, [], ◌∷◌, Some, None, length, if◌then◌else◌, IfOk, IfSome, MatchOption, OnOk};
+ghost use Rattle.std.specs.List.{flat_map, list_all, list_any};
 ghost use Rattle.i7_lexer.specs.Bytes.{is_letter};
-ghost use Rattle.i7_sentences.specs.TextPieces.{are_brackets_read, begins_word, has_opening, is_bracket_read, is_if, is_of_words, is_text_read, is_word_or_blank, part_pieces, piece_of, print_of, printed, printed_byte, text_pieces};
+ghost use Rattle.i7_sentences.specs.TextPieces.{are_brackets_read, begins_word, bracket_pieces, has_closing, is_bracket_read, is_if, is_of_words, is_text_read, is_word_or_blank, parts_of, piece_of, pieces_of, print_of, printed, printed_byte, text_pieces};
 
-use crate::brackets::{behind_opening, in_front_of_opening, parted_at};
+use crate::brackets::{behind_closing, in_front_of_closing, parted_at};
 use crate::text_ifs::ifs_end;
 use crate::text_words::words_of;
 use crate::word_list::are_spelled;
@@ -101,13 +101,6 @@ fn piece_of(alloc: Global, words: WordList) -> Result<TextPiece, AllocError>
     }
 }
 
-/// Whether a `[` stands there.
-fn has_opening(part: &[u8]) -> bool
-    ensures { result ≡ has_opening part.now }
-{
-    part.iter().any(|byte| *byte == b'[')
-}
-
 /// Adds what bytes outside brackets print, if there are any.
 fn add_print(alloc: Global, bytes: &[u8], all: &mut Vec<TextPiece>) -> Result<(), AllocError>
     ensures { OnOk result (all.new.items ≡ all.old.items ++ print_of bytes.now) }
@@ -118,28 +111,46 @@ fn add_print(alloc: Global, bytes: &[u8], all: &mut Vec<TextPiece>) -> Result<()
     Ok(())
 }
 
-/// Adds what a part says that ends at a `]`.
-fn add_part(alloc: Global, part: &[u8], all: &mut Vec<TextPiece>) -> Result<(), AllocError>
-    ensures { OnOk result (all.new.items ≡ all.old.items ++ part_pieces part.now) }
+/// Adds what a part says that stands behind a `[`.
+fn add_bracket(alloc: Global, part: &[u8], all: &mut Vec<TextPiece>) -> Result<(), AllocError>
+    ensures { OnOk result (all.new.items ≡ all.old.items ++ bracket_pieces part.now) }
 {
-    if has_opening(part) {
-        add_print(alloc, in_front_of_opening(part), all)?;
-        all.push(piece_of(alloc, words_of(alloc, behind_opening(part))?)?)?;
-    } else {
-        add_print(alloc, part, all)?;
-        all.push(TextPiece::Printed(TextBytes::copied(alloc, b"]")?))?;
-    }
-    Ok(())
+    all.push(piece_of(alloc, words_of(alloc, in_front_of_closing(part))?)?)?;
+    add_print(alloc, behind_closing(part), all)
 }
 
-/// The part up to the first `]`, and the bytes behind that.
+/// The part up to the first `[`, and the bytes behind that.
 #[tactic(auto, using(crate::proofs::Telling::part_steps))]
 fn first_part(text: &[u8]) -> Option<(&[u8], &[u8])>
-    ensures pieces { MatchOption result (text_pieces text.now ≡ print_of text.now) (λ parts. text_pieces text.now ≡ part_pieces parts.0.now ++ text_pieces parts.1.now) }
-    ensures read { MatchOption result (are_brackets_read text.now ≡ not (has_opening text.now)) (λ parts. are_brackets_read text.now ≡ (is_bracket_read parts.0.now && are_brackets_read parts.1.now)) }
-    ensures shorter { MatchOption result (text_pieces text.now ≡ print_of text.now) (λ parts. length parts.1.now < length text.now) }
+    ensures parts { MatchOption result (parts_of text.now ≡ text.now ∷ []) (λ parts. parts_of text.now ≡ parts.0.now ∷ parts_of parts.1.now) }
+    ensures shorter { IfSome result (λ parts. length parts.1.now < length text.now) }
 {
-    parted_at(b']', text)
+    parted_at(b'[', text)
+}
+
+/// Adds what the parts of a text say, each of which stands behind a `[`.
+fn add_brackets(alloc: Global, text: &[u8], all: &mut Vec<TextPiece>) -> Result<(), AllocError>
+    ensures { OnOk result (all.new.items ≡ all.old.items ++ flat_map bracket_pieces (parts_of text.now)) }
+{
+    let mut rest = text;
+    while let Some((part, behind)) = first_part(rest) {
+        add_bracket(alloc, part, all)?;
+        rest = behind;
+    }
+    add_bracket(alloc, rest, all)
+}
+
+/// Adds what a text says.
+fn add_text(alloc: Global, text: &[u8], all: &mut Vec<TextPiece>) -> Result<(), AllocError>
+    ensures { OnOk result (all.new.items ≡ all.old.items ++ pieces_of (parts_of text.now)) }
+{
+    match first_part(text) {
+        None => add_print(alloc, text, all),
+        Some((front, behind)) => {
+            add_print(alloc, front, all)?;
+            add_brackets(alloc, behind, all)
+        }
+    }
 }
 
 /// The pieces of a text.
@@ -147,12 +158,10 @@ fn text_pieces(alloc: Global, text: &[u8]) -> Result<TextPieces, AllocError>
     ensures { IfOk result (λ pieces. pieces ≡ text_pieces text.now) }
 {
     let mut all = Vec::new(alloc);
-    let mut rest = text;
-    while let Some((part, behind)) = first_part(rest) {
-        add_part(alloc, part, &mut all)?;
-        rest = behind;
+    match text {
+        [] => all.push(TextPiece::Printed(TextBytes::copied(alloc, text)?))?,
+        [_, ..] => add_text(alloc, text, &mut all)?,
     }
-    add_print(alloc, rest, &mut all)?;
     Ok(TextPieces::new(all))
 }
 
@@ -185,17 +194,24 @@ fn is_of_words(bytes: &[u8]) -> bool
     has_word(bytes) && has_no_mark(bytes)
 }
 
-/// Whether words stand between the brackets of a part, if it has them.
+/// Whether a `]` stands there.
+fn has_closing(part: &[u8]) -> bool
+    ensures { result ≡ has_closing part.now }
+{
+    part.iter().any(|byte| *byte == b']')
+}
+
+/// Whether a part that stands behind a `[` has its `]`, and words in front of that.
 #[tactic(auto, unfolding(crate::specs::TextPieces::is_bracket_read))]
 fn is_bracket_read(part: &[u8]) -> bool
     ensures { result ≡ is_bracket_read part.now }
 {
-    !has_opening(part) || is_of_words(behind_opening(part))
+    has_closing(part) && is_of_words(in_front_of_closing(part))
 }
 
-/// Whether each `[` has its `]`, and words stand between them.
-fn are_brackets_read(text: &[u8]) -> bool
-    ensures { result ≡ are_brackets_read text.now }
+/// Whether each part of a text is so.
+fn are_parts_read(text: &[u8]) -> bool
+    ensures { result ≡ list_all is_bracket_read (parts_of text.now) }
 {
     let mut rest = text;
     while let Some((part, behind)) = first_part(rest) {
@@ -204,7 +220,17 @@ fn are_brackets_read(text: &[u8]) -> bool
         }
         rest = behind;
     }
-    !has_opening(rest)
+    is_bracket_read(rest)
+}
+
+/// Whether each `[` has its `]`, and words stand between them.
+fn are_brackets_read(text: &[u8]) -> bool
+    ensures { result ≡ are_brackets_read text.now }
+{
+    match first_part(text) {
+        None => true,
+        Some((_, behind)) => are_parts_read(behind),
+    }
 }
 
 /// The pieces of a text, which is given without its quotes; none where a bracket or an if of it isn't
