@@ -15,7 +15,7 @@ use Rattle.code_table.specs.Tables.{IsTableOf, tests_in}
 use Rattle.code_table.proofs.Onward.{table_parts, table_whole}
 
 -- the code of a number is one
-one_code : (z : Counts) (uses : List Use) (n : ℕ) (b : List ℕ) (j k : Judged) → IsCodeOf z uses n b j → IsCodeOf z uses n b k → j ≡ k
+pub one_code : (z : Counts) (uses : List Use) (n : ℕ) (b : List ℕ) (j k : Judged) → IsCodeOf z uses n b j → IsCodeOf z uses n b k → j ≡ k
 one_code z uses n b j k one other =
     let same : one.role ≡ other.role = (let e = sym one.named ∙ other.named in cc) in
     one.judged ∙ ap (λ role. record { sizes = sizes_as z role n; bytes = b }) same ∙ sym other.judged

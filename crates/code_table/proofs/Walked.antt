@@ -1,25 +1,12 @@
 -- The walk over a code's bytes, and what the names come to that its instructions hold.
-use Rattle.std.proofs.Common.{◌≡◌, ◌∙◌, ap, sym, refl, ℕ, Bool, true, false, List, [], ◌++◌, drop, MatchOption, Option, Some, None}
+use Rattle.std.proofs.Common.{◌≡◌, ◌∙◌, ap, sym, refl, ℕ, Bool, true, false, List, [], ◌++◌, drop, Option, Some, None}
 use Rattle.std.specs.List.{flat_map}
 use Rattle.play_meaning.specs.Instructions.{size_of}
 use Rattle.play_meaning.specs.declared.instruction.Instruction.{Instruction}
 use Rattle.story_code.specs.Fronts.{code_in, front, with_first}
 use Rattle.story_code.specs.Passes.{if_so, is_nil}
-use Rattle.story_code.specs.Spelling.{HasNoFront, IsFront}
-use Rattle.story_code.proofs.Exact.{front_exact}
-use Rattle.story_code.proofs.FrontLemmas.{Small}
-use Rattle.story_code.proofs.SpelledFronts.{front_spelled}
 use Rattle.story_code.proofs.WalkLemmas.{code_is_none, code_splits}
 use Rattle.code_table.specs.Growing.{over_code}
-
--- what is told of the front is what the front is
-pub front_told : (bytes : List ℕ) (o : Option Instruction) → Small bytes → MatchOption o (HasNoFront bytes) (λ i. IsFront i bytes) → o ≡ front bytes
-front_told bytes (Some i) small is = sym (ap front is.cut ∙ front_spelled i is.rest is.can)
-front_told bytes None small none = by (front bytes) refl
-  where
-    by : (o : Option Instruction) → front bytes ≡ o → None ≡ o
-    by None at = refl
-    by (Some i) at = absurd (none i (front_exact bytes (Some i) small (sym at)))
 
 module _ {S X : Type 0} (f : S → List X → Option S) (names : Instruction → List X) where
   abbrev pub Joins : Type 0

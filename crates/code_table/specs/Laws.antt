@@ -1,5 +1,5 @@
 -- What is promised of tables of codes.
-use Rattle.std.specs.Prelude.{◌≡◌, ℕ, ◌<◌, List, [], map, Some, slice_get, slice_index_or}
+use Rattle.std.specs.Prelude.{◌≡◌, ◌⊎◌, ℕ, ◌<◌, List, [], map, Some, slice_get, slice_index, slice_index_or}
 use Rattle.std.specs.List.{AllByRecursion, flat_map}
 use Rattle.play_meaning.specs.Codes.{Codes, description_said}
 use Rattle.play_meaning.specs.Saying.{Telling, said_in}
@@ -25,6 +25,11 @@ TablesAreSoundTogether = (z : Counts) (heads : List Use) (codes : List (List ℕ
 -- codes are judged in one way
 abbrev pub OneTable : Type 0
 OneTable = (z : Counts) (heads : List Use) (codes : List (List ℕ)) (one another : List Judged) → IsTableOf z heads codes one → IsTableOf z heads codes another → one ≡ another
+
+-- codes of bytes are a table or none
+abbrev pub TableOrNone : Type 0
+TableOrNone = (z : Counts) (heads : List Use) (codes : List (List ℕ)) → AllByRecursion (λ bytes. (i : ℕ) → slice_index bytes i < 256) codes
+    → ((judged : List Judged) × IsTableOf z heads codes judged) ⊎ ((judged : List Judged) → IsTableOf z heads codes judged → ⊥)
 
 -- what other tables name is there, for the use for which they name it: as a description (`IsDescription`), a body (`IsBody`) or a
 -- test (`IsTestAt`)

@@ -17,7 +17,7 @@ use object_words::Strings;
 use play_meaning::Counts;
 use play_meaning::tree::Text;
 use std::alloc::{AllocError, Global};
-use story_code::{EmitFault, description_codes, description_fits};
+use story_code::{EmitFault, description_codes};
 use world_meaning::TextBytes;
 
 /// The number behind so many texts and tests, if two bytes say it.
@@ -60,9 +60,6 @@ fn add_text(
     ensures too_long { IfErr result (λ fault. fault ≡ EmitFault.TooLong → ((own codes : ℕ) → TextFits (among counts.now own codes) role.Describing (number_in strings.now) 0 (text_meant text.now))
         → can_say_all (description_part (number_in strings.now) (text_meant text.now) first 0) ≡ false) }
 {
-    if !description_fits(counts, strings, text) {
-        return Err(EmitFault::TooLong);
-    }
     match description_codes(alloc, counts, strings, first, text) {
         Ok(emitted) => match keep(codes, tests, emitted) {
             Ok(()) => Ok(()),

@@ -1,5 +1,5 @@
 //! What is known of tables of codes.
-ghost use Rattle.code_table.specs.Laws.{DescriptionsAreSaid, HeadsAreForTheirUses, OneTable, StringsAreInOrder, TablesAreSoundTogether, TablesAreTold};
+ghost use Rattle.code_table.specs.Laws.{DescriptionsAreSaid, HeadsAreForTheirUses, OneTable, StringsAreInOrder, TableOrNone, TablesAreSoundTogether, TablesAreTold};
 
 /// The codes of a table are sound together: each is judged by its own number, and each test that one names is one, inside
 /// one loop more than are open there.
@@ -10,6 +10,11 @@ pub fn tables_are_sound_together()
 /// No codes are a table in two ways.
 pub fn one_table()
     ensures { OneTable }
+{}
+
+/// Codes are a table or none.
+pub fn table_or_none()
+    ensures { TableOrNone }
 {}
 
 /// Each code that other tables name is there, for the use for which they name it.

@@ -6,12 +6,11 @@ mod laws;
 mod naming;
 mod strings;
 mod table;
-mod walking;
 
 pub use describing::description_table;
 pub use laws::{
     descriptions_are_said, heads_are_for_their_uses, one_table, strings_are_in_order,
-    tables_are_sound_together, tables_are_told,
+    table_or_none, tables_are_sound_together, tables_are_told,
 };
 pub use strings::strings_counted;
 pub use table::table_of;

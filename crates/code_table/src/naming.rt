@@ -5,9 +5,9 @@ ghost use Rattle.story_code.specs.Passes.{if_so};
 ghost use Rattle.story_code.specs.Runs.{test_named};
 ghost use Rattle.code_table.specs.Growing.{with_code, with_test};
 
-use crate::walking::{first, size};
 use play_meaning::{Instruction, Use};
 use std::alloc::AllocError;
+use story_code::{first, size};
 
 /// The loop that a test of an instruction is inside, innermost, and the test.
 fn test_named(instruction: Instruction) -> Option<(u8, u16)>

@@ -6,9 +6,8 @@ ghost use Rattle.story_code.specs.Runs.{code_told};
 ghost use Rattle.code_table.specs.Growing.{count_code};
 ghost use Rattle.code_table.specs.Strings.{counted_on, string_named, strings_of};
 
-use crate::walking::{first, size};
 use play_meaning::Instruction;
-use story_code::{Verified, verified_code_is_sound};
+use story_code::{Verified, first, size, verified_code_is_sound};
 
 /// The string that an instruction names.
 fn string_named(instruction: Instruction) -> Option<u16>

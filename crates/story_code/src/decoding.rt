@@ -241,7 +241,7 @@ fn front_by(byte: u8, rest: &[u8]) -> Option<Instruction>
 }
 
 /// The instruction at the front, by its byte.
-pub(crate) fn first(bytes: &[u8]) -> Option<Instruction>
+pub fn first(bytes: &[u8]) -> Option<Instruction>
     ensures { result ≡ front bytes.now }
 {
     match bytes {

@@ -1,5 +1,5 @@
 //! The codes of trees: of a rule's body, of a condition, of a description, each with the tests that it names.
-ghost use Rattle.std.specs.Prelude.{◌≡◌, ℕ, ◌∷◌, false, IfErr, IfOk};
+ghost use Rattle.std.specs.Prelude.{◌≡◌, ℕ, ◌∷◌, false, IfErr, IfOk, OnOk};
 ghost use Rattle.object_words.specs.Mentions.{number_in};
 ghost use Rattle.play_meaning.specs.Meant.{body_meant, condition_meant, text_meant};
 ghost use Rattle.play_meaning.specs.TranslatedScripts.{description_part, test_part};
@@ -8,7 +8,7 @@ ghost use Rattle.play_meaning.specs.declared.operand.Use.TheVariants as role;
 ghost use Rattle.story_code.specs.Emits.{AreEmitted, AreSpelled, whole_body};
 ghost use Rattle.story_code.specs.Emitting.{can_say_all, emitted, nothing_from};
 ghost use Rattle.story_code.specs.Fitting.{BodyFits, ConditionFits, TextFits};
-ghost use Rattle.story_code.specs.SoundlyEmitted.{AreSoundAnywhere};
+ghost use Rattle.story_code.specs.SoundlyEmitted.{AreSoundAnywhere, among};
 
 use crate::emitting::condition::emit_condition;
 use crate::emitting::output::Output;
@@ -89,7 +89,8 @@ pub fn condition_codes(
 }
 
 /// The bytes of the code that says a description, and behind it those of the tests that it names, which are numbered from
-/// `first` on: sound codes, as a body's are. Each string goes by its number among `strings`.
+/// `first` on: sound codes, as a body's are. Each string goes by its number among `strings`. Codes are given only of a text
+/// that fits, whatever number its code has and however many codes there are.
 ///
 /// # Errors
 ///
@@ -102,6 +103,7 @@ pub fn description_codes(
     text: &Text,
 ) -> Result<Vec<TextBytes>, EmitFault>
     ensures codes { IfOk result (λ codes. AreEmitted (description_part (number_in strings.now) (text_meant text.now) first 0) codes.items) }
+    ensures fits { OnOk result ((own codes : ℕ) → TextFits (among counts.now own codes) role.Describing (number_in strings.now) 0 (text_meant text.now)) }
     ensures sound { IfOk result (λ codes. AreSoundAnywhere counts.now role.Describing first (description_part (number_in strings.now) (text_meant text.now) first 0) codes.items) }
     ensures too_long { IfErr result (λ fault. fault ≡ EmitFault.TooLong → TextFits counts.now role.Describing (number_in strings.now) 0 (text_meant text.now)
         → can_say_all (description_part (number_in strings.now) (text_meant text.now) first 0) ≡ false) }

@@ -37,7 +37,7 @@ mod verified;
 mod verifying;
 
 pub use body::step_plain;
-pub use decoding::front;
+pub use decoding::{first, front};
 pub use describing::description;
 pub use emit::{EmitFault, body_codes, condition_codes, description_codes};
 pub use encoding::spell;
@@ -47,6 +47,7 @@ pub use laws::{
     rows_of_fitting, runs_begin_standing, verified_code_is_sound,
 };
 pub use plain::read_plain;
+pub use row::size;
 pub use sizes::Sizes;
 pub use state::RunState;
 pub use step::Step;

@@ -1,17 +1,12 @@
-use Rattle.std.proofs.lemmas.Bool.Decides.{not_from_Decides}
 use Rattle.object_words.specs.Mentions.{number_in}
 use Rattle.play_meaning.specs.Meant.{text_meant}
 use Rattle.code_table.proofs.Coded.{adds_by}
 use Rattle.code_table.proofs.describing.add_text.Goals as goal
 
-pub returns-then-not-description_fits-clause-too_long : goal.returns-then-not-description_fits-clause-too_long
-returns-then-not-description_fits-clause-too_long c = λ told fits.
-    absurd (not_from_Decides c.description_fits.result (c.description_fits.ensures 0 0) c.if-not-description_fits.true (fits 0 0))
-
 pub returns-in-Ok-keep-clause-coded : goal.returns-in-Ok-keep-clause-coded
 returns-in-Ok-keep-clause-coded c =
     adds_by c.args.counts.now (number_in c.args.strings.now) c.args.first (text_meant c.args.text.now) c.args.codes.now.items c.args.tests.now.items c.keep.new.codes.items c.keep.new.tests.items c.in-Ok.emitted.items
-    (λ own count. (c.description_fits.ensures own count).0 c.if-not-description_fits.false) c.in-Ok.ensures.codes c.in-Ok.ensures.sound c.in-Ok-keep.ensures.codes c.in-Ok-keep.ensures.tests
+    c.in-Ok.ensures.fits c.in-Ok.ensures.codes c.in-Ok.ensures.sound c.in-Ok-keep.ensures.codes c.in-Ok-keep.ensures.tests
 
 pub returns-in-Err-clause-too_long : goal.returns-in-Err-clause-too_long
 returns-in-Err-clause-too_long c = λ told fits. c.in-Err.ensures.too_long told (fits c.args.counts.now.own c.args.counts.now.codes)

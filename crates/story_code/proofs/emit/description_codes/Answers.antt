@@ -13,6 +13,11 @@ returns-then-not-description_fits-clause-too_long c = λ told fits.
 pub returns-clause-codes : goal.returns-clause-codes
 returns-clause-codes c = c.finish.ensures.codes c.args.first (description_part (number_in c.args.strings.now) (text_meant c.args.text.now)) c.in-Ok.ensures
 
+pub returns-clause-fits : goal.returns-clause-fits
+returns-clause-fits c =
+    IfOk-weaker c.finish.result _ _ (λ codes emitted own count. (c.description_fits.ensures own count).0 c.if-not-description_fits.false)
+    (c.finish.ensures.codes c.args.first (description_part (number_in c.args.strings.now) (text_meant c.args.text.now)) c.in-Ok.ensures)
+
 pub returns-clause-sound : goal.returns-clause-sound
 returns-clause-sound c =
     IfOk-weaker c.finish.result _ _ (λ codes. description_anywhere c.args.counts.now c.args.first c.description_fits.result c.if-not-description_fits.false codes.items (number_in c.args.strings.now) (text_meant c.args.text.now) c.description_fits.ensures)
