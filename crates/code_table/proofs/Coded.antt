@@ -1,12 +1,12 @@
 -- The codes of texts are put together text by text.
 use Rattle.std.proofs.Common.{◌≡◌, ◌∙◌, ap, sym, subst, refl, ℕ, suc, ◌+◌, ◌-◌, ◌<◌, ◌≤◌, nat_lt, Bool, true, false, if◌then◌else◌, List, [], ◌∷◌, ◌++◌, length, drop, take, get_or, append_assoc, append-nil, Some, None, arith, length-append}
 use Rattle.std.specs.List.{AllByRecursion, flat_map}
+use Rattle.std.specs.Borrow.{Bor}
 use Rattle.std.specs.Prelude.{map}
 use Rattle.std.proofs.lemmas.Bool.{ltb-false, ltb-true}
-use Rattle.std.proofs.lemmas.List.{take_all}
+use Rattle.std.proofs.lemmas.List.{length-map, take_all}
 use Rattle.play_meaning.specs.Meant.{text_meant}
-use Rattle.play_meaning.specs.TranslatedScripts.{description_part, emitted_in_turn}
-use Rattle.play_meaning.specs.Translation.{Emitted}
+use Rattle.play_meaning.specs.TranslatedScripts.{description_part}
 use Rattle.play_meaning.specs.Trees as tree
 use Rattle.play_meaning.specs.declared.operand.Counts.{Counts}
 use Rattle.play_meaning.specs.declared.operand.Use.TheVariants as role
@@ -15,31 +15,66 @@ use Rattle.story_code.specs.Emits.{AreEmitted}
 use Rattle.story_code.specs.Emitting.{can_say_all}
 use Rattle.story_code.specs.Fitting.{TextFits}
 use Rattle.story_code.specs.SoundlyEmitted.{AreSoundAnywhere, among}
-use Rattle.code_table.specs.Coding.{Adds, AreCoded, IsCoded, number_behind}
-use Rattle.code_table.specs.Descriptions.{AllFit, CanBeSaid, texts_emitted}
-use Rattle.code_table.proofs.Tabled.{spelled_long}
+use Rattle.story_code.specs.declared.emit.EmitFault.{EmitFault}
+use Rattle.story_code.specs.declared.emit.EmitFault.TheVariants as emit
+use Rattle.code_table.specs.Coding.{Adds, AreCoded, IsCoded, fault_at, number_behind}
+use Rattle.code_table.specs.Descriptions.{HaveNoTable, IsTooLong, codes_of_texts, number_from, texts_emitted, texts_from, texts_lent}
+use Rattle.code_table.proofs.Tabled.{all_fit, coded_long, spelled_long}
+
+pub lent_long : (texts : List (Bor Text)) → length (texts_lent texts) ≡ length texts
+lent_long texts = length-map texts (λ text. text_meant text.now)
+
+-- ---- what is told of texts that are coded
+
+pub coded_tests : (z : Counts) (string : List ℕ → ℕ) (first : ℕ) (texts : List tree.Text) (codes tests : List (List ℕ)) → AreCoded z string first texts codes tests
+    → length tests ≡ length (flat_map (λ e. e.tests) (texts_from string first texts))
+coded_tests z string first [] codes tests coded = ap length coded.1
+coded_tests z string first (text ∷ texts) codes tests coded =
+    let own = coded.1.0 in
+    let later = coded.1.1.1.1.0 in
+    let e = description_part string text first 0 in
+    let as_many : length own ≡ length e.tests = spelled_long own e.tests coded.1.1.0.emitted.spelled.1 in
+    let number : first + length own ≡ first + length e.tests = ap (λ k. first + k) as_many in
+    let rest = coded_tests z string (first + length own) texts coded.1.1.1.0 later coded.1.1.1.1.1.1.1 ∙ ap (λ n. length (flat_map (λ e. e.tests) (texts_from string n texts))) number in
+    omega (arith, ap length coded.1.1.1.1.1.1.0, length-append own later, as_many, rest, length-append e.tests (flat_map (λ e. e.tests) (texts_from string (first + length e.tests) texts)))
+
+coded_said : (z : Counts) (string : List ℕ → ℕ) (first : ℕ) (texts : List tree.Text) (codes tests : List (List ℕ)) → AreCoded z string first texts codes tests
+    → AllByRecursion (λ e. can_say_all e ≡ true) (texts_from string first texts)
+coded_said z string first [] codes tests coded = tt
+coded_said z string first (text ∷ texts) codes tests coded =
+    let own = coded.1.0 in
+    let e = description_part string text first 0 in
+    let number : first + length own ≡ first + length e.tests = ap (λ k. first + k) (spelled_long own e.tests coded.1.1.0.emitted.spelled.1) in
+    (coded.1.1.0.emitted.said, subst (λ n. AllByRecursion (λ e. can_say_all e ≡ true) (texts_from string n texts)) number (coded_said z string (first + length own) texts coded.1.1.1.0 coded.1.1.1.1.0 coded.1.1.1.1.1.1.1))
+
+tests_grow : (string : List ℕ → ℕ) (first : ℕ) (texts others : List tree.Text)
+    → length (flat_map (λ e. e.tests) (texts_from string first texts)) ≤ length (flat_map (λ e. e.tests) (texts_from string first (texts ++ others)))
+tests_grow string first [] others = omega arith
+tests_grow string first (text ∷ texts) others =
+    let e = description_part string text first 0 in
+    let rest = tests_grow string (first + length e.tests) texts others in
+    omega (arith, rest, length-append e.tests (flat_map (λ e. e.tests) (texts_from string (first + length e.tests) texts)), length-append e.tests (flat_map (λ e. e.tests) (texts_from string (first + length e.tests) (texts ++ others))))
 
 module _ (z : Counts) (string : List ℕ → ℕ) (all : List tree.Text) where
-  abbrev Emitted_from : ℕ → List tree.Text → List Emitted
-  Emitted_from first texts = emitted_in_turn first (map (description_part string) texts)
-
-  abbrev AllSaid : ℕ → List tree.Text → Type 0
-  AllSaid first texts = AllByRecursion (λ e. can_say_all e ≡ true) (Emitted_from first texts)
-
   -- these texts are left, where so many codes and tests are put together
   pub record IsOnWay (codes tests : List (List ℕ)) (rest : List tree.Text) : Type 0 where
-    pub coded : (more later : List (List ℕ)) → AreCoded z string (length all + length tests) rest more later → AreCoded z string (length all) all (codes ++ more) (tests ++ later)
-    pub fit : AllFit z string all → AllFit z string rest
-    pub said : AllSaid (length all) all → AllSaid (length all + length tests) rest
-    pub many : length tests + length (flat_map (λ e. e.tests) (Emitted_from (length all + length tests) rest)) ≡ length (flat_map (λ e. e.tests) (Emitted_from (length all) all))
+    pub before : List tree.Text
+    pub parts : all ≡ before ++ rest
+    pub coded : (others : List tree.Text) (more later : List (List ℕ)) → AreCoded z string (length all + length tests) others more later → AreCoded z string (length all) (before ++ others) (codes ++ more) (tests ++ later)
+
+  -- those of the texts so far
+  so_far : (codes tests : List (List ℕ)) (rest : List tree.Text) (way : IsOnWay codes tests rest) → AreCoded z string (length all) way.before codes tests
+  so_far codes tests rest way =
+      subst (λ l. AreCoded z string (length all) l codes tests) (append-nil way.before)
+      (subst (λ l. AreCoded z string (length all) (way.before ++ []) l tests) (append-nil codes)
+      (subst (λ l. AreCoded z string (length all) (way.before ++ []) (codes ++ []) l) (append-nil tests) (way.coded [] [] [] (refl, refl))))
 
   pub begins : (codes tests : List (List ℕ)) → codes ≡ [] → tests ≡ [] → IsOnWay codes tests all
   begins codes tests none no_tests =
       subst (λ l. IsOnWay l tests all) (sym none) (subst (λ l. IsOnWay [] l all) (sym no_tests) (record {
-        coded = λ more later is. subst (λ n. AreCoded z string n all more later) number is;
-        fit = λ fit. fit;
-        said = λ said. subst (λ n. AllSaid n all) (sym number) said;
-        many = omega (arith, ap (λ n. length (flat_map (λ e. e.tests) (Emitted_from n all))) number);
+        before = [];
+        parts = refl;
+        coded = λ others more later is. subst (λ n. AreCoded z string n others more later) number is;
       }))
     where
       number : length all + 0 ≡ length all
@@ -53,58 +88,71 @@ module _ (z : Counts) (string : List ℕ → ℕ) (all : List tree.Text) where
       let own = adds.1.0 in
       let codes_are = adds.1.1.0 in
       let tests_are = adds.1.1.1.0 in
-      let at = length all + length tests in
-      let is : IsCoded z string at text code own = subst (λ n. IsCoded z string n text code own) number adds.1.1.1.1 in
-      let e = description_part string text at 0 in
-      let as_many : length own ≡ length e.tests = spelled_long own e.tests is.emitted.spelled.1 in
+      let is : IsCoded z string (length all + length tests) text code own = subst (λ n. IsCoded z string n text code own) number adds.1.1.1.1 in
       let long : length more_tests ≡ length tests + length own = ap length tests_are ∙ length-append tests own in
-      let by_own : length all + length more_tests ≡ at + length own = omega (arith, long) in
-      let by_tests : length all + length more_tests ≡ at + length e.tests = omega (arith, long, as_many) in
-      let others = flat_map (λ e. e.tests) (Emitted_from (at + length e.tests) rest) in
-      let same : length (flat_map (λ e. e.tests) (Emitted_from (length all + length more_tests) rest)) ≡ length others = ap (λ n. length (flat_map (λ e. e.tests) (Emitted_from n rest))) by_tests in
+      let by_own : length all + length more_tests ≡ (length all + length tests) + length own = omega (arith, long) in
       record {
-        coded = λ more later coded.
-            let whole = way.coded (code ∷ more) (own ++ later) (code, (own, (is, (more, (later, (refl, (refl, subst (λ n. AreCoded z string n rest more later) by_own coded))))))) in
-            subst (λ l. AreCoded z string (length all) all l (more_tests ++ later)) (sym (ap (λ l. l ++ more) codes_are ∙ append_assoc codes (code ∷ []) more))
-            (subst (λ l. AreCoded z string (length all) all (codes ++ (code ∷ more)) l) (sym (ap (λ l. l ++ later) tests_are ∙ append_assoc tests own later)) whole);
-        fit = λ fit. (way.fit fit).1;
-        said = λ said. subst (λ n. AllSaid n rest) (sym by_tests) (way.said said).1;
-        many = omega (arith, long, as_many, same, length-append e.tests others, way.many);
+        before = way.before ++ text ∷ [];
+        parts = way.parts ∙ sym (append_assoc way.before (text ∷ []) rest);
+        coded = λ others more later coded.
+            let whole = way.coded (text ∷ others) (code ∷ more) (own ++ later) (code, (own, (is, (more, (later, (refl, (refl, subst (λ n. AreCoded z string n others more later) by_own coded))))))) in
+            subst (λ l. AreCoded z string (length all) l (more_codes ++ more) (more_tests ++ later)) (sym (append_assoc way.before (text ∷ []) others))
+            (subst (λ l. AreCoded z string (length all) (way.before ++ text ∷ others) l (more_tests ++ later)) (sym (ap (λ l. l ++ more) codes_are ∙ append_assoc codes (code ∷ []) more))
+            (subst (λ l. AreCoded z string (length all) (way.before ++ text ∷ others) (codes ++ (code ∷ more)) l) (sym (ap (λ l. l ++ later) tests_are ∙ append_assoc tests own later)) whole));
       }
 
   -- ---- as the loop keeps it
 
-  pub grows_on : (codes tests more_codes more_tests : List (List ℕ)) (first : ℕ) (rest : List Text) (text : Text) → 1 ≤ length rest → text ≡ get_or rest 0 text → first ≡ length all + length tests
-      → Adds z string first (text_meant text) codes tests more_codes more_tests → IsOnWay codes tests (map text_meant rest) → IsOnWay more_codes more_tests (map text_meant (take (length rest - 1) (drop 1 rest)))
+  pub grows_on : (codes tests more_codes more_tests : List (List ℕ)) (first : ℕ) (rest : List (Bor Text)) (text : Bor Text) → 1 ≤ length rest → text ≡ get_or rest 0 text → first ≡ length all + length tests
+      → Adds z string first (text_meant text.now) codes tests more_codes more_tests → IsOnWay codes tests (texts_lent rest) → IsOnWay more_codes more_tests (texts_lent (take (length rest - 1) (drop 1 rest)))
   grows_on codes tests more_codes more_tests first [] text some at number adds way = absurd (omega (arith, some))
   grows_on codes tests more_codes more_tests first (one ∷ rest) text some at number adds way =
       let whole : take (suc (length rest) - 1) rest ≡ rest = take_all _ rest (omega arith) in
-      subst (λ l. IsOnWay more_codes more_tests (map text_meant l)) (sym whole)
-      (grown codes tests more_codes more_tests first (text_meant one) (map text_meant rest) number (subst (λ (t : Text). Adds z string first (text_meant t) codes tests more_codes more_tests) at adds) way)
+      subst (λ l. IsOnWay more_codes more_tests (texts_lent l)) (sym whole)
+      (grown codes tests more_codes more_tests first (text_meant one.now) (texts_lent rest) number (subst (λ (t : Bor Text). Adds z string first (text_meant t.now) codes tests more_codes more_tests) at adds) way)
 
-  pub refused_for : (codes tests : List (List ℕ)) (first : ℕ) (rest : List Text) (text : Text) → 1 ≤ length rest → text ≡ get_or rest 0 text → first ≡ length all + length tests
-      → (((own count : ℕ) → TextFits (among z own count) role.Describing string 0 (text_meant text)) → can_say_all (description_part string (text_meant text) first 0) ≡ false)
-      → IsOnWay codes tests (map text_meant rest) → AllFit z string all → CanBeSaid string all → ⊥
-  refused_for codes tests first [] text some at number told way fit said = absurd (omega (arith, some))
-  refused_for codes tests first (one ∷ rest) text some at number told way fit said =
-      let yes : can_say_all (description_part string (text_meant one) (length all + length tests) 0) ≡ true = (way.said said.each).0 in
-      let fits = subst (λ (t : Text). (own count : ℕ) → TextFits (among z own count) role.Describing string 0 (text_meant t)) (sym at) (way.fit fit).0 in
-      let no = ap (λ (t : Text). can_say_all (description_part string (text_meant t) (length all + length tests) 0)) (sym at) ∙ ap (λ n. can_say_all (description_part string (text_meant text) n 0)) (sym number) ∙ told fits in
-      let never : true ≡ false = sym yes ∙ no in
-      cc
+  -- the text in front is too long
+  pub is_too_long : (codes tests : List (List ℕ)) (first : ℕ) (rest : List (Bor Text)) (text : Bor Text) → 1 ≤ length rest → text ≡ get_or rest 0 text → first ≡ length all + length tests
+      → (((own count : ℕ) → TextFits (among z own count) role.Describing string 0 (text_meant text.now)) → can_say_all (description_part string (text_meant text.now) first 0) ≡ false)
+      → IsOnWay codes tests (texts_lent rest) → IsTooLong z string all (length codes)
+  is_too_long codes tests first [] text some at number told way = absurd (omega (arith, some))
+  is_too_long codes tests first (one ∷ rest) text some at number told way =
+      let coded = so_far codes tests (texts_lent (one ∷ rest)) way in
+      let there : first ≡ number_from string (length all) way.before = omega (arith, number, coded_tests z string (length all) way.before codes tests coded) in
+      record {
+        before = way.before;
+        text = text_meant one.now;
+        behind = texts_lent rest;
+        parts = way.parts;
+        place = coded_long z string 0 (length all) way.before codes tests coded;
+        fit = all_fit z string 0 (length all) way.before codes tests coded;
+        said = coded_said z string (length all) way.before codes tests coded;
+        long = subst (λ (t : Bor Text). ((own count : ℕ) → TextFits (among z own count) role.Describing string 0 (text_meant t.now)) → can_say_all (description_part string (text_meant t.now) (number_from string (length all) way.before) 0) ≡ false) at
+            (subst (λ n. ((own count : ℕ) → TextFits (among z own count) role.Describing string 0 (text_meant text.now)) → can_say_all (description_part string (text_meant text.now) n 0) ≡ false) there told);
+      }
 
-  codes_long : (first : ℕ) (texts : List tree.Text) → length (map (λ e. e.code) (Emitted_from first texts)) ≡ length texts
+  codes_long : (first : ℕ) (texts : List tree.Text) → length (map (λ e. e.code) (texts_from string first texts)) ≡ length texts
   codes_long first [] = refl
   codes_long first (text ∷ texts) = ap suc (codes_long (first + length (description_part string text first 0).tests) texts)
 
-  pub too_many : (codes tests : List (List ℕ)) (rest : List tree.Text) → 65536 ≤ length all + length tests → IsOnWay codes tests rest → CanBeSaid string all → ⊥
-  too_many codes tests rest many way said =
-      omega (arith, many, way.many, said.few, length-append (map (λ e. e.code) (texts_emitted string all)) (flat_map (λ e. e.tests) (texts_emitted string all)), codes_long (length all) all)
+  -- the numbers have run out
+  pub too_many : (codes tests : List (List ℕ)) (rest : List tree.Text) → 65536 ≤ length all + length tests → IsOnWay codes tests rest → 65535 < length (codes_of_texts string all)
+  too_many codes tests rest many way =
+      let coded = so_far codes tests rest way in
+      let fewer : length (flat_map (λ e. e.tests) (texts_from string (length all) way.before)) ≤ length (flat_map (λ e. e.tests) (texts_emitted string all)) =
+      subst (λ l. length (flat_map (λ e. e.tests) (texts_from string (length all) way.before)) ≤ length (flat_map (λ e. e.tests) (texts_from string (length all) l))) (sym way.parts) (tests_grow string (length all) way.before rest) in
+      omega (arith, many, fewer, coded_tests z string (length all) way.before codes tests coded, length-append (map (λ e. e.code) (texts_emitted string all)) (flat_map (λ e. e.tests) (texts_emitted string all)), codes_long (length all) all)
 
-  pub ends : (codes tests : List (List ℕ)) (rest : List Text) → length rest < 1 → IsOnWay codes tests (map text_meant rest) → AreCoded z string (length all) all codes tests
+  pub ends : (codes tests : List (List ℕ)) (rest : List (Bor Text)) → length rest < 1 → IsOnWay codes tests (texts_lent rest) → AreCoded z string (length all) all codes tests
   ends codes tests (one ∷ rest) none way = absurd (omega (arith, none))
   ends codes tests [] none way =
-      subst (λ l. AreCoded z string (length all) all l tests) (append-nil codes) (subst (λ l. AreCoded z string (length all) all (codes ++ []) l) (append-nil tests) (way.coded [] [] (refl, refl)))
+      subst (λ l. AreCoded z string (length all) l codes tests) (sym (way.parts ∙ append-nil way.before)) (so_far codes tests [] way)
+
+-- ---- faults
+
+pub none_for : (z : Counts) (string : List ℕ → ℕ) (texts : List tree.Text) (number : ℕ) (fault : EmitFault) → (fault ≡ emit.TooLong → IsTooLong z string texts number) → HaveNoTable z string texts (fault_at number fault)
+none_for z string texts number emit.TooLong long = long refl
+none_for z string texts number emit.Memory long = tt
 
 -- ---- numbers
 

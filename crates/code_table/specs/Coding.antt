@@ -7,10 +7,19 @@ use Rattle.play_meaning.specs.declared.operand.Use.TheVariants as role
 use Rattle.story_code.specs.Emits.{AreEmitted}
 use Rattle.story_code.specs.Fitting.{TextFits}
 use Rattle.story_code.specs.SoundlyEmitted.{AreSoundAnywhere, among}
+use Rattle.story_code.specs.declared.emit.EmitFault.{EmitFault}
+use Rattle.story_code.specs.declared.emit.EmitFault.TheVariants as emit
+use Rattle.code_table.specs.declared.describing.TableFault.{TableFault}
+use Rattle.code_table.specs.declared.describing.TableFault.TheVariants.{TooLong, Memory}
 
 -- the number behind so many texts and tests, if two bytes say it
 abbrev pub number_behind : ℕ → ℕ → Option ℕ
 number_behind texts tests = if nat_lt (texts + tests) 65536 then Some (texts + tests) else None
+
+-- why there is no table where a text of this number isn't told
+abbrev pub fault_at : ℕ → EmitFault → TableFault
+fault_at number emit.TooLong = TooLong number
+fault_at number emit.Memory = Memory
 
 -- these are the bytes of a text's code and of the tests that it names, the first of this number
 pub record IsCoded (z : Counts) (string : List ℕ → ℕ) (first : ℕ) (text : Text) (code : List ℕ) (tests : List (List ℕ)) : Type 0 where
