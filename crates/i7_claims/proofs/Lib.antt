@@ -7,4 +7,3 @@ pub mod Firsts
 pub mod Ranged
 pub mod Columns
 pub mod Lengths
-mod Quoting

@@ -6,7 +6,6 @@ pub mod NameScans
 pub mod Numbers
 pub mod Phrases
 pub mod Plurals
-pub mod Quotes
 pub mod Scans
 pub mod Sorts
 pub mod Standings

@@ -13,7 +13,6 @@ use Rattle.i7_sentences.specs.declared.sentence.Sentence.{Sentence}
 use Rattle.i7_sentences.specs.declared.sentence.Side.{Side}
 use Rattle.i7_claims.specs.Beings.{names_said}
 pub use Rattle.i7_claims.specs.Numbers.{number_in, place_or}
-use Rattle.i7_claims.specs.Quotes.{printed}
 use Rattle.i7_claims.specs.declared.statements.Numbered.{Numbered}
 use Rattle.i7_claims.specs.declared.statements.Numbered.TheVariants as numbered
 use Rattle.i7_claims.specs.declared.statements.NumberedSentence.{NumberedSentence}
@@ -85,10 +84,10 @@ numbered_holding named Part holder things = numbered_subject named things
 abbrev pub side_in : Named → Side → NumberedSide
 side_in named side = record { direction = side.direction; room = number_of named side.room }
 
--- what a sentence asserts, objects by their numbers and texts as they are printed
+-- what a sentence asserts, objects by their numbers and texts as they are written
 abbrev pub numbered_in : Named → Assertion → Numbered
-numbered_in named (Description text) = numbered.Description (printed text)
-numbered_in named (DescriptionOf object text) = numbered.Describes (number_of named object) (printed text)
+numbered_in named (Description text) = numbered.Description text
+numbered_in named (DescriptionOf object text) = numbered.Describes (number_of named object) text
 numbered_in named (Are being) = numbered_subject named being.subjects
 numbered_in named (Way way) = numbered.Way (record { subject = number_of named way.subject; direction = way.direction; room = number_of named way.room })
 numbered_in named (Door door first second) = numbered.Door (record { door = number_of named door; first = side_in named first; second = side_in named second })

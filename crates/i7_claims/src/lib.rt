@@ -13,7 +13,6 @@ mod names;
 mod numbering;
 mod phrases;
 mod plurals;
-mod quotes;
 mod reserved_names;
 mod scans;
 mod sorts;

@@ -4,7 +4,6 @@ ghost use Rattle.i7_claims.specs.Statements.{numbered_holding, numbered_in, numb
 ghost use Rattle.i7_claims.specs.Views.{names_of};
 
 use crate::names::Names;
-use crate::quotes::printed;
 use i7_sentences::{Assertion, Name, Sentence, Side};
 use std::alloc::{AllocError, Global};
 use world_meaning::{Direction, Rel, TextBytes};
@@ -14,9 +13,9 @@ use world_meaning::{Direction, Rel, TextBytes};
 pub enum Numbered {
     /// Nothing of ways and texts: a title, a heading, what is declared.
     Aside,
-    /// A text as it is printed.
+    /// A text as it is written.
     Description(TextBytes),
-    /// An object, and the text that describes it, as it is printed.
+    /// An object, and the text that describes it, as it is written.
     Describes { object: usize, text: TextBytes },
     /// What an object is.
     Being(usize),
@@ -97,10 +96,13 @@ fn numbered_in(alloc: Global, names: &Names<'_>, said: &Assertion) -> Result<Num
     ensures { IfOk result (λ numbered. numbered ≡ numbered_in (names_of names.now) said.now) }
 {
     match said {
-        Assertion::Description(text) => Ok(Numbered::Description(printed(alloc, text.as_slice())?)),
+        Assertion::Description(text) => Ok(Numbered::Description(TextBytes::copied(
+            alloc,
+            text.as_slice(),
+        )?)),
         Assertion::DescriptionOf { object, text } => Ok(Numbered::Describes {
             object: names.number_of(alloc, object)?,
-            text: printed(alloc, text.as_slice())?,
+            text: TextBytes::copied(alloc, text.as_slice())?,
         }),
         Assertion::Are(being) => numbered_subject(alloc, names, being.subjects.as_slice()),
         Assertion::Holds {

@@ -15,3 +15,4 @@ pub mod Ranged
 pub mod Readiness
 pub mod FewWords
 pub mod LongNames
+pub mod Written

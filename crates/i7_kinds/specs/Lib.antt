@@ -13,3 +13,4 @@ pub mod Suits
 pub mod Tales
 pub mod Values
 pub mod Views
+pub mod Written

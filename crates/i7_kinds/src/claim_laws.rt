@@ -1,4 +1,4 @@
-//! Laws: the lines that scans over claims find are the lowest that show what is looked for.
+//! Laws: the lines that scans over claims find are the lowest that show what is looked for, and what is described is written.
 ghost use Rattle.std.specs.Prelude.{ℕ, Decides, List, Option};
 ghost use Rattle.i7_kinds.specs.Doors.{IsDoorDemanded, IsToldAgain, door_twice, doors_of};
 ghost use Rattle.i7_claims.specs.Numbers.{has_name};
@@ -8,6 +8,7 @@ ghost use Rattle.i7_kinds.specs.Places.{IsHolderCycle, IsSecond, holder_cycle, s
 ghost use Rattle.i7_claims.specs.Scans.{IsLowest, ShownBy};
 ghost use Rattle.i7_kinds.specs.Knowns.{Scope};
 ghost use Rattle.i7_kinds.specs.Values.{IsContrary, told_by, value_twice, values_by};
+ghost use Rattle.i7_kinds.specs.Written.{DescriptionsAreWritten};
 ghost use Rattle.i7_kinds.specs.declared.values.Bearer.{Bearer};
 ghost use Rattle.i7_claims.specs.declared.claim.Claim.{Claim};
 
@@ -54,4 +55,9 @@ pub fn doors_twice_are_found()
 /// Another value of a property of an object, of what is usual of a kind, or of a variable is found at its lowest line.
 pub fn values_twice_are_found()
     ensures { (bearer : Bearer) (scope : Scope) (claims : List Claim) → IsLowest (ShownBy (λ before c. IsContrary (values_by bearer scope before) (told_by bearer scope c.fact)) claims) (value_twice bearer scope claims) }
+{}
+
+/// The description of an object of a tale stands in one of the sentences that mean the tale.
+pub fn descriptions_are_written()
+    ensures { DescriptionsAreWritten }
 {}

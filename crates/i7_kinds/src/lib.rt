@@ -26,9 +26,9 @@ mod values;
 mod ways;
 
 pub use claim_laws::{
-    cycles_are_found, doors_are_those_demanded, doors_twice_are_found, holder_cycles_are_found,
-    kinds_too_many_are_found, longer_names_are_found, second_places_are_found,
-    unknown_kinds_are_found, values_twice_are_found,
+    cycles_are_found, descriptions_are_written, doors_are_those_demanded, doors_twice_are_found,
+    holder_cycles_are_found, kinds_too_many_are_found, longer_names_are_found,
+    second_places_are_found, unknown_kinds_are_found, values_twice_are_found,
 };
 pub use i7_claims::{books_twice_are_found, names_too_many_are_found, names_twice_are_found};
 pub use tale::tale_of;
