@@ -18,3 +18,8 @@ pub mod Beginnings
 pub mod Telling
 pub mod PlainCodes
 pub mod LoadedCodes
+pub mod Counting
+pub mod Naming
+pub mod SoundOrNot
+pub mod ToldCodes
+pub mod ToldStories

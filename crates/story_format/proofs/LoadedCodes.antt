@@ -20,6 +20,7 @@ use Rattle.story_format.specs.WorldChecks.{suits_kind}
 use Rattle.story_format.specs.declared.row.Sizes.{Sizes}
 use Rattle.story_format.specs.declared.tables.Entry.{Entry}
 use Rattle.story_format.specs.declared.tables.Tables.{Tables}
+use Rattle.story_format.proofs.Naming.{named_within}
 use Rattle.story_format.proofs.RoomLemmas.{right_parts}
 use Rattle.story_format.proofs.StoryLemmas.{all_at, last_of_five, three}
 
@@ -72,7 +73,7 @@ all_described (suc count) (suc n) lt = all_described count n (omega (arith, lt))
 
 pub loaded_described : (t : Tables) (judged : List Judged) → IsLoaded t judged → (o n : ℕ) → description_code_of t o ≡ Some n → IsDescription judged n
 loaded_described t judged loaded o n is =
-    head_there (counts_of t) (uses_of t) t.codes judged loaded.codes n Describing (all_described (length t.codes) n (code_within t (slice_get t.objects o) o n loaded.story.right refl is))
+    head_there (counts_of t) (uses_of t) t.codes judged loaded.codes n Describing (all_described (length (codes_named t.objects)) n (omega (arith, named_within 0 t.objects o n loaded.story.sound.in_turn is)))
 
 -- ---- what they are
 

@@ -9,9 +9,11 @@ use Rattle.world_meaning.proofs.Bools.{both, both_are, either}
 use Rattle.object_words.specs.Mentions.{mention, first_mentions, number_in}
 use Rattle.story_format.specs.Making.{Worded, texts_of, entry_strings, code_strings, strings_of, code_number, entry_of, entries_of, codes_of, code_of}
 use Rattle.story_format.specs.Checks.{are_distinct, are_named_in_order, strings_named, codes_named, is_some_code}
-use Rattle.story_format.specs.Soundness.{are_in_turn, are_all_named}
+use Rattle.code_table.specs.Strings.{counted_on}
+use Rattle.story_format.specs.Soundness.{are_in_turn}
 use Rattle.object_words.proofs.StringLemmas.{length_mapped}
 use Rattle.object_words.proofs.Folds.{fold_both}
+use Rattle.story_format.proofs.Counting.{counted_rest}
 use Rattle.story_format.proofs.Known.{passes_at, text_is_itself}
 
 -- ---- no string twice
@@ -71,9 +73,8 @@ number_is_place strings x lt few =
     let small : min (position_or_len (bytes_eq x) strings) 65535 ≡ position_or_len (bytes_eq x) strings = omega (arith, lt, few) in
     rw (inside, small) refl
 
-all_ordered : (whole named seen : List (List ℕ)) → whole ≡ fold mention seen named → length whole < 65535 → are_all_named (length whole) (length seen) (map (number_in whole) named) ≡ true
-unfolding are_all_named
-all_ordered whole [] seen e few = eq-eqb (length seen) (length whole) (ap length (sym e))
+all_ordered : (whole named seen : List (List ℕ)) → whole ≡ fold mention seen named → length whole < 65535 → counted_on (length seen) (map (number_in whole) named) ≡ Some (length whole)
+all_ordered whole [] seen e few = ap Some (ap length (sym e))
 all_ordered whole (x ∷ named) seen e few =
     let t = grows named (mention seen x) in
     elim (either (list_any (bytes_eq x) seen)) [
@@ -108,24 +109,24 @@ numbers_named strings next (w ∷ ws) =
     ap (λ (later : List ℕ). number_in strings w.object.name ∷ (map (number_in strings) (w.words) ++ later)) (numbers_named strings (next + length (code_strings w)) ws)
     ∙ ap (λ (later : List ℕ). number_in strings w.object.name ∷ later) (sym (map_both (number_in strings) (w.words) (flat_map entry_strings ws)))
 
-pub strings_all_named : (ws : List Worded) → length (strings_of ws) < 65535 → are_all_named (length (strings_of ws)) 0 (map (number_in (strings_of ws)) (flat_map entry_strings ws ++ flat_map code_strings ws)) ≡ true
+pub strings_all_named : (ws : List Worded) → length (strings_of ws) < 65535 → counted_on 0 (map (number_in (strings_of ws)) (flat_map entry_strings ws ++ flat_map code_strings ws)) ≡ Some (length (strings_of ws))
 unfolding strings_of
 strings_all_named ws few = all_ordered (strings_of ws) (flat_map entry_strings ws ++ flat_map code_strings ws) [] refl few
 
 -- where all are named in order, those in front are
-in_order_in_front : (ns ms : List ℕ) (count next : ℕ) → are_all_named count next (ns ++ ms) ≡ true → are_named_in_order next ns ≡ true
-unfolding are_named_in_order are_all_named
+in_order_in_front : (ns ms : List ℕ) (count next : ℕ) → counted_on next (ns ++ ms) ≡ Some count → are_named_in_order next ns ≡ true
+unfolding are_named_in_order
 in_order_in_front [] ms count next h = refl
 in_order_in_front (n ∷ ns) ms count next h =
-    let t = both_are (leb n next) (are_all_named count (max next (n + 1)) (ns ++ ms)) h in
-    both (leb n next) (are_named_in_order (max next (n + 1)) ns) t.0 (in_order_in_front ns ms count (max next (n + 1)) t.1)
+    let t = counted_rest count next n (ns ++ ms) h in
+    both (leb n next) (are_named_in_order (max next (n + 1)) ns) (le-leb _ _ t.0) (in_order_in_front ns ms count (max next (n + 1)) t.1)
 
 pub strings_in_order : (ws : List Worded) → length (strings_of ws) < 65535 → are_named_in_order 0 (flat_map strings_named (entries_of (strings_of ws) 0 ws)) ≡ true
 strings_in_order ws few =
     let strings = strings_of ws in
     let parts = map_both (number_in strings) (flat_map entry_strings ws) (flat_map code_strings ws) in
     ap (are_named_in_order 0) (numbers_named strings 0 ws)
-    ∙ in_order_in_front (map (number_in strings) (flat_map entry_strings ws)) (map (number_in strings) (flat_map code_strings ws)) (length strings) 0 (sym (ap (are_all_named (length strings) 0) parts) ∙ strings_all_named ws few)
+    ∙ in_order_in_front (map (number_in strings) (flat_map entry_strings ws)) (map (number_in strings) (flat_map code_strings ws)) (length strings) 0 (sym (ap (counted_on 0) parts) ∙ strings_all_named ws few)
 
 -- ---- codes are named in order
 
@@ -137,35 +138,51 @@ pub at_most_one : (d : Option (List ℕ)) → length (texts_of d) ≤ 1
 at_most_one None = omega arith
 at_most_one (Some text) = omega arith
 
-one_in_turn : (count next n : ℕ) (d : Option (List ℕ)) (later : List ℕ) → next < 65535 → are_in_turn count (next + length (texts_of d)) (filter is_some_code later) ≡ true → are_in_turn count next (filter is_some_code (code_number next d ∷ later)) ≡ true
+one_in_turn : (next : ℕ) (d : Option (List ℕ)) (later : List ℕ) → next < 65535 → are_in_turn (next + length (texts_of d)) (filter is_some_code later) ≡ true → are_in_turn next (filter is_some_code (code_number next d ∷ later)) ≡ true
 unfolding are_in_turn
-one_in_turn count next n None later lt h = let same : next + 0 ≡ next = omega arith in ap (λ k. are_in_turn count k (filter is_some_code later)) (sym same) ∙ h
-one_in_turn count next n (Some text) later lt h =
+one_in_turn next None later lt h = let same : next + 0 ≡ next = omega arith in ap (λ k. are_in_turn k (filter is_some_code later)) (sym same) ∙ h
+one_in_turn next (Some text) later lt h =
     let number : min next 65535 ≡ next = omega arith in
     let told : eqb next 65535 ≡ false = ne_eqb _ _ (λ k. omega (arith, k, lt)) in
     rw (number, told, eq-eqb next next refl) h
 
-pub codes_in_turn : (strings : List (List ℕ)) (ws : List Worded) (next count : ℕ) → next + length (flat_map (codes_of strings) ws) ≡ count → next + length ws < 65535 → are_in_turn count next (codes_named (entries_of strings next ws)) ≡ true
+pub codes_in_turn : (strings : List (List ℕ)) (ws : List Worded) (next : ℕ) → next + length ws < 65535 → are_in_turn next (codes_named (entries_of strings next ws)) ≡ true
 unfolding entries_of are_in_turn
-codes_in_turn strings [] next count e lt = eq-eqb next count (omega (arith, e))
-codes_in_turn strings (w ∷ ws) next count e lt =
+codes_in_turn strings [] next lt = refl
+codes_in_turn strings (w ∷ ws) next lt =
+    let bound = at_most_one w.object.description in
+    rw (entry_code strings next w) (one_in_turn next w.object.description (map (λ e. e.description) (entries_of strings (next + length (code_strings w)) ws)) (omega (arith, lt))
+    (codes_in_turn strings ws (next + length (code_strings w)) (omega (arith, bound, lt))))
+
+one_counted : (next : ℕ) (d : Option (List ℕ)) (later : List ℕ) (count : ℕ) → next < 65535 → length (filter is_some_code later) ≡ count → length (filter is_some_code (code_number next d ∷ later)) ≡ length (texts_of d) + count
+one_counted next None later count lt h = omega (arith, h)
+one_counted next (Some text) later count lt h =
+    let number : min next 65535 ≡ next = omega arith in
+    let told : eqb next 65535 ≡ false = ne_eqb _ _ (λ k. omega (arith, k, lt)) in
+    rw (number, told) (omega (arith, h))
+
+-- so many are named as there are
+pub codes_counted : (strings : List (List ℕ)) (ws : List Worded) (next : ℕ) → next + length ws < 65535 → length (codes_named (entries_of strings next ws)) ≡ length (flat_map (codes_of strings) ws)
+unfolding entries_of
+codes_counted strings [] next lt = refl
+codes_counted strings (w ∷ ws) next lt =
     let bound = at_most_one w.object.description in
     let one : length (codes_of strings w) ≡ length (code_strings w) = length_mapped (code_of strings) (code_strings w) in
     let sum : length (codes_of strings w ++ flat_map (codes_of strings) ws) ≡ length (codes_of strings w) + length (flat_map (codes_of strings) ws) = length-append (codes_of strings w) (flat_map (codes_of strings) ws) in
-    rw (entry_code strings next w) (one_in_turn count next 0 w.object.description (map (λ e. e.description) (entries_of strings (next + length (code_strings w)) ws)) (omega (arith, lt))
-    (codes_in_turn strings ws (next + length (code_strings w)) count (omega (arith, e, one, sum)) (omega (arith, bound, lt))))
+    let rest = codes_counted strings ws (next + length (code_strings w)) (omega (arith, bound, lt)) in
+    let all : length (filter is_some_code (code_number next w.object.description ∷ map (λ e. e.description) (entries_of strings (next + length (code_strings w)) ws))) ≡ length (code_strings w) + length (flat_map (codes_of strings) ws) =
+    one_counted next w.object.description (map (λ e. e.description) (entries_of strings (next + length (code_strings w)) ws)) (length (flat_map (codes_of strings) ws)) (omega (arith, lt)) rest in
+    rw (entry_code strings next w) (all ∙ omega (arith, one, sum))
 
-in_turn_in_order : (ns : List ℕ) (count next : ℕ) → are_in_turn count next ns ≡ true → are_named_in_order next ns ≡ true
+in_turn_in_order : (ns : List ℕ) (next : ℕ) → are_in_turn next ns ≡ true → are_named_in_order next ns ≡ true
 unfolding are_named_in_order are_in_turn
-in_turn_in_order [] count next h = refl
-in_turn_in_order (n ∷ ns) count next h =
-    let t = both_are (eqb n next) (are_in_turn count (next + 1) ns) h in
+in_turn_in_order [] next h = refl
+in_turn_in_order (n ∷ ns) next h =
+    let t = both_are (eqb n next) (are_in_turn (next + 1) ns) h in
     let here : n ≡ next = eqb-true n next t.0 in
     let low : leb n next ≡ true = le-leb _ _ (omega (arith, here)) in
     let up : max next (n + 1) ≡ next + 1 = omega (arith, here) in
-    both (leb n next) (are_named_in_order (max next (n + 1)) ns) low (ap (λ k. are_named_in_order k ns) up ∙ in_turn_in_order ns count (next + 1) t.1)
+    both (leb n next) (are_named_in_order (max next (n + 1)) ns) low (ap (λ k. are_named_in_order k ns) up ∙ in_turn_in_order ns (next + 1) t.1)
 
 pub codes_in_order : (ws : List Worded) → length ws < 65535 → are_named_in_order 0 (codes_named (entries_of (strings_of ws) 0 ws)) ≡ true
-codes_in_order ws lt =
-    let count = length (flat_map (codes_of (strings_of ws)) ws) in
-    in_turn_in_order (codes_named (entries_of (strings_of ws) 0 ws)) count 0 (codes_in_turn (strings_of ws) ws 0 count (omega arith) (omega arith))
+codes_in_order ws lt = in_turn_in_order (codes_named (entries_of (strings_of ws) 0 ws)) 0 (codes_in_turn (strings_of ws) ws 0 (omega arith))

@@ -16,10 +16,11 @@ use Rattle.story_format.specs.Reading.{whole, body_at, body_read, tables_in, tab
 use Rattle.story_format.specs.Refusals.{Holds, IsRefused}
 use Rattle.story_format.specs.Layout.{tables_layout}
 use Rattle.story_format.specs.Checks.{has_no_rules, are_distinct, are_right_objects, are_right_ways, is_right_frame, stand_rightly, are_right}
-use Rattle.story_format.specs.Soundness.{are_sound}
+use Rattle.story_format.specs.Soundness.{AreSound}
 use Rattle.story_format.specs.WorldChecks.{is_right_world}
 use Rattle.story_format.specs.Spells.{magic, head, are_ordered, Spells}
 use Rattle.story_format.proofs.StoryLemmas.{last_of_five, four}
+use Rattle.story_format.proofs.SoundOrNot.{codes_are_bytes, sound_or_not}
 
 -- ---- reading what was put
 
@@ -172,7 +173,7 @@ tables_stand bytes t fits e = holds_at bytes (tables_read bytes) (stage_of bytes
 pub table_fault : (bytes : List ℕ) (t : Tables) → IsBytes bytes → tables_read bytes ≡ Ok t → are_right t ≡ false → IsRefused BadTable bytes
 table_fault bytes t fits e h = (t, tables_stand bytes t fits e, h)
 
-pub code_fault : (bytes : List ℕ) (t : Tables) → IsBytes bytes → tables_read bytes ≡ Ok t → are_right t ≡ true → are_sound t ≡ false → IsRefused BadCode bytes
+pub code_fault : (bytes : List ℕ) (t : Tables) → IsBytes bytes → tables_read bytes ≡ Ok t → are_right t ≡ true → (AreSound t → ⊥) → IsRefused BadCode bytes
 code_fault bytes t fits e right unsound = (t, tables_stand bytes t fits e, right, unsound)
 
 pub memory_fault : (bytes : List ℕ) (t : Tables) → IsBytes bytes → tables_read bytes ≡ Ok t → IsRefused Memory bytes
@@ -199,7 +200,7 @@ spelled_read bytes t h =
 pub same_story : (bytes : List ℕ) (t u : Tables) → Spells bytes t → Spells bytes u → t ≡ u
 same_story bytes t u h k = ok_is t u (sym (spelled_read bytes t h) ∙ spelled_read bytes u k)
 
-pub story_there : (bytes : List ℕ) (t : Tables) → IsBytes bytes → tables_read bytes ≡ Ok t → are_right t ≡ true → are_sound t ≡ true → Spells bytes t
+pub story_there : (bytes : List ℕ) (t : Tables) → IsBytes bytes → tables_read bytes ≡ Ok t → are_right t ≡ true → AreSound t → Spells bytes t
 story_there bytes t fits e right sound =
     let holds = tables_stand bytes t fits e in
     record { story = record { fits = holds.0; right = right; sound = sound; ordered = right_ordered t right }; spelled = holds.1 ∙ ap (λ (body : List ℕ). head ++ body) (append-nil (tables_layout.format.put t)) }
@@ -211,8 +212,8 @@ read_is bytes t u h e = ok_is t u (sym (spelled_read bytes t h) ∙ e)
 pub right_if_spelled : (bytes : List ℕ) (t u : Tables) → Spells bytes t → tables_read bytes ≡ Ok u → are_right u ≡ true
 right_if_spelled bytes t u h e = ap are_right (sym (read_is bytes t u h e)) ∙ h.story.right
 
-pub sound_if_spelled : (bytes : List ℕ) (t u : Tables) → Spells bytes t → tables_read bytes ≡ Ok u → are_sound u ≡ true
-sound_if_spelled bytes t u h e = ap are_sound (sym (read_is bytes t u h e)) ∙ h.story.sound
+pub sound_if_spelled : (bytes : List ℕ) (t u : Tables) → Spells bytes t → tables_read bytes ≡ Ok u → AreSound u
+sound_if_spelled bytes t u h e = subst AreSound (read_is bytes t u h e) h.story.sound
 
 pub only_memory : (bytes : List ℕ) (t : Tables) (fault : LoadFault) → Spells bytes t → FaultGiven fault (tables_read bytes) → fault ≡ Memory
 only_memory bytes t fault h e = sym (given_ok fault t (subst (FaultGiven fault) (spelled_read bytes t h) e))
@@ -223,7 +224,7 @@ story_or_fault : (bytes : List ℕ) (t : Tables) → IsBytes bytes → tables_re
 story_or_fault bytes t fits e =
     elim (either (are_right t)) [
       | inl right ↦
-          elim (either (are_sound t)) [
+          elim (sound_or_not t (codes_are_bytes bytes t [] fits (tables_stand bytes t fits e).1)) [
             | inl sound ↦ inl (t, story_there bytes t fits e right sound)
             | inr unsound ↦ inr (BadCode, λ e. absurd cc, code_fault bytes t fits e right unsound)
           ]
@@ -273,6 +274,6 @@ not_refused bytes t BadTable h (u, holds, wrong) =
     let z : true ≡ false = sym (right_if_spelled bytes t u h read) ∙ wrong in absurd cc
 not_refused bytes t BadCode h (u, holds, right, unsound) =
     let read : tables_read bytes ≡ Ok u = ap tables_read holds.1 ∙ read_whole u [] holds.0 in
-    let z : true ≡ false = sym (sound_if_spelled bytes t u h read) ∙ unsound in absurd cc
+    absurd (unsound (sound_if_spelled bytes t u h read))
 not_refused bytes t BadOrder h (u, holds, right, sound, disordered) = let z : true ≡ false = sym (right_ordered u right) ∙ disordered in absurd cc
 not_refused bytes t Memory h r = refl

@@ -1,5 +1,6 @@
 -- The codes of a tale are sound, and each of its codes and strings is named.
-use Rattle.std.proofs.Common.{◌≡◌, ℕ, ◌<◌, ◌≤◌, true, ltb, List, [], ◌∷◌, ◌++◌, length, map, Option, Some, None, refl, sym, ap, ◌∙◌, arith}
+use Rattle.std.proofs.Common.{◌≡◌, ℕ, ◌<◌, ◌≤◌, true, ltb, List, [], ◌∷◌, ◌++◌, length, map, Option, Some, None, refl, sym, subst, ap, ◌∙◌, arith, length-append}
+use Rattle.std.specs.Prelude.{replicate, slice_get}
 use Rattle.std.specs.List.{list_all, flat_map}
 use Rattle.std.specs.Str.{bytes_eq}
 use Rattle.std.proofs.lemmas.Bool.{lt-ltb}
@@ -9,10 +10,16 @@ use Rattle.world_meaning.proofs.Bools.{both, both_are}
 use Rattle.world_meaning.specs.declared.declared.Declared.{Declared}
 use Rattle.object_words.specs.Mentions.{number_or_none, number_in}
 use Rattle.story_format.specs.Making.{Worded, texts_of, entry_strings, code_strings, strings_of, entries_of, code_of, codes_of, tables_with}
-use Rattle.story_format.specs.Checks.{strings_named}
-use Rattle.story_format.specs.Soundness.{saying, string_said, says_string, are_all_named, strings_read, are_sound}
+use Rattle.play_meaning.specs.declared.operand.Use.TheVariants.{Describing}
+use Rattle.code_table.specs.Strings.{counted_on}
+use Rattle.code_table.specs.Tables.{IsTableOf}
+use Rattle.object_words.proofs.StringLemmas.{length_mapped}
+use Rattle.story_format.specs.Checks.{codes_named, strings_named}
+use Rattle.story_format.specs.Codes.{code_spelled, counts_of, small}
+use Rattle.story_format.specs.Soundness.{AreSound, string_said, strings_read}
+use Rattle.story_format.proofs.PlainCodes.{all_told, plain_table, saying, saying_code, says_string, strings_plain}
 use Rattle.story_format.proofs.Known.{passes_at, is_known, is_told, told_in_strings, text_is_itself}
-use Rattle.story_format.proofs.OrderLemmas.{number_is_place, numbers_named, strings_all_named, codes_in_turn}
+use Rattle.story_format.proofs.OrderLemmas.{at_most_one, codes_counted, codes_in_turn, number_is_place, numbers_named, strings_all_named}
 
 -- ---- the codes of a tale say strings
 
@@ -70,11 +77,31 @@ numbers_read strings ws =
     ∙ ap (λ (ns : List ℕ). map (number_in strings) (flat_map entry_strings ws) ++ ns) (numbers_said strings ws)
     ∙ sym (map-append (number_in strings) (flat_map entry_strings ws) (flat_map code_strings ws))
 
-pub tables_sound : (d : Declared) (ws : List Worded) → length (strings_of ws) < 65535 → length ws ≤ 1000 → are_sound (tables_with d ws) ≡ true
-unfolding are_sound strings_read tables_with
+few_codes : (strings : List (List ℕ)) (ws : List Worded) → length (flat_map (codes_of strings) ws) ≤ length ws
+few_codes strings [] = omega arith
+few_codes strings (w ∷ ws) =
+    omega (arith, few_codes strings ws, at_most_one w.object.description, length_mapped (code_of strings) (code_strings w), length-append (codes_of strings w) (flat_map (codes_of strings) ws))
+
+pub tables_sound : (d : Declared) (ws : List Worded) → length (strings_of ws) < 65535 → length ws ≤ 1000 → AreSound (tables_with d ws)
+unfolding strings_read tables_with counts_of
 tables_sound d ws few short =
     let strings = strings_of ws in
+    let codes = flat_map (codes_of strings) ws in
     let say = codes_say strings ws (told_in_strings ws) few in
-    let turn = codes_in_turn strings ws 0 (length (flat_map (codes_of strings) ws)) (omega arith) (omega (arith, short)) in
-    let named : are_all_named (length strings) 0 (flat_map strings_named (entries_of strings 0 ws) ++ map string_said (flat_map (codes_of strings) ws)) ≡ true = ap (are_all_named (length strings) 0) (numbers_read strings ws) ∙ strings_all_named ws few in
-    rw (say, turn) named
+    let count : small (length strings) ≡ length strings = omega (arith, few) in
+    let number : small (length codes) ≡ length codes = omega (arith, few_codes strings ws, short) in
+    let uses : length (codes_named (entries_of strings 0 ws)) ≡ length codes = codes_counted strings ws 0 (omega (arith, short)) in
+    let plain = plain_table (counts_of (tables_with d ws)) codes (omega (arith, few)) number (ap (λ n. list_all (says_string n) codes) count ∙ say) in
+    record {
+      judged = plain.0;
+      table = subst (λ n. IsTableOf (counts_of (tables_with d ws)) (replicate n Describing) codes plain.0) (sym uses) plain.1;
+      in_turn = codes_in_turn strings ws 0 (omega (arith, short));
+      named =
+          ap (λ ns. counted_on 0 (flat_map strings_named (entries_of strings 0 ws) ++ ns)) (strings_plain (length strings) codes (omega (arith, few)) say)
+          ∙ ap (counted_on 0) (numbers_read strings ws) ∙ strings_all_named ws few;
+    }
+
+-- what the codes are
+pub codes_told : (d : Declared) (ws : List Worded) → length (strings_of ws) < 65535 → (n : ℕ) (code : List ℕ) → slice_get (tables_with d ws).codes n ≡ Some code → code_spelled code ≡ saying_code (string_said code)
+unfolding tables_with
+codes_told d ws few n code at = let strings = strings_of ws in all_told (length strings) n (flat_map (codes_of strings) ws) code (omega (arith, few)) (codes_say strings ws (told_in_strings ws) few) at

@@ -9,6 +9,7 @@ use Rattle.code_table.specs.Tables.{IsTableOf}
 use Rattle.story_code.specs.Fronts.{code_in}
 use Rattle.story_code.specs.Runs.{code_or_none}
 use Rattle.story_code.specs.Soundness.{Judged}
+use Rattle.story_format.specs.Checks.{codes_named}
 use Rattle.story_format.specs.declared.tables.Tables.{Tables}
 
 -- as a number of two bytes
@@ -31,9 +32,9 @@ counts_of t = record {
   own = 0;
 }
 
--- each code of this language describes an object
+-- the first codes describe the objects that name them, and the others are tests
 abbrev pub uses_of : Tables → List Use
-uses_of t = replicate (length t.codes) Describing
+uses_of t = replicate (length (codes_named t.objects)) Describing
 
 -- the codes, judged so
 abbrev pub AreCodesOf : Tables → List Judged → Type 0

@@ -6,7 +6,7 @@ use Rattle.story_format.specs.declared.fault.LoadFault.TheVariants.{BadMagic, Ba
 use Rattle.story_format.specs.declared.tables.Tables.{Tables}
 use Rattle.story_format.specs.Layout.{tables_layout}
 use Rattle.story_format.specs.Checks.{are_right}
-use Rattle.story_format.specs.Soundness.{are_sound}
+use Rattle.story_format.specs.Soundness.{AreSound}
 use Rattle.story_format.specs.Spells.{magic, head, are_ordered}
 
 -- the tables stand behind the version, and rest behind them
@@ -24,6 +24,6 @@ IsRefused BadVersion bytes = (version : ℕ) × (rest : List ℕ) × (version �
 IsRefused Truncated bytes = (take 4 bytes ≡ magic) × IsCut bytes
 IsRefused TooLong bytes = (t : Tables) × (rest : List ℕ) × (rest ≢ []) × Holds bytes t rest
 IsRefused BadTable bytes = (t : Tables) × Holds bytes t [] × (are_right t ≡ false)
-IsRefused BadCode bytes = (t : Tables) × Holds bytes t [] × (are_right t ≡ true) × (are_sound t ≡ false)
-IsRefused BadOrder bytes = (t : Tables) × Holds bytes t [] × (are_right t ≡ true) × (are_sound t ≡ true) × (are_ordered t ≡ false)
+IsRefused BadCode bytes = (t : Tables) × Holds bytes t [] × (are_right t ≡ true) × (AreSound t → ⊥)
+IsRefused BadOrder bytes = (t : Tables) × Holds bytes t [] × (are_right t ≡ true) × AreSound t × (are_ordered t ≡ false)
 IsRefused Memory bytes = (t : Tables) × Holds bytes t []

@@ -1,14 +1,13 @@
--- Which codes are sound, and that each code is named once and each string at all.
-use Rattle.std.specs.Prelude.{ℕ, ◌+◌, max, Bool, ◌&&◌, ◌==◌, nat_le, nat_lt, List, [], ◌∷◌, ◌++◌, length, map}
-use Rattle.std.specs.List.{list_all, flat_map}
-use Rattle.std.specs.Str.{bytes_eq}
-use Rattle.std.specs.Int.{w16, from_be_bytes, to_be_bytes}
+-- Which codes are a story's: the objects name the first of them in turn, behind these are the tests that codes name, and each
+-- string is named.
+use Rattle.std.specs.Prelude.{◌≡◌, ℕ, ◌+◌, ◌==◌, Bool, true, false, ◌&&◌, List, [], ◌∷◌, ◌++◌, length, map, Option, None, Some}
+use Rattle.std.specs.List.{flat_map}
+use Rattle.std.specs.Int.{w16, from_be_bytes}
+use Rattle.code_table.specs.Strings.{counted_on, strings_of}
+use Rattle.story_code.specs.Soundness.{Judged}
 use Rattle.story_format.specs.declared.tables.Tables.{Tables}
 use Rattle.story_format.specs.Checks.{strings_named, codes_named}
-
--- say string n, and be done
-abbrev pub saying : ℕ → List ℕ
-saying n = (34 ∷ to_be_bytes w16 n) ++ 55 ∷ []
+use Rattle.story_format.specs.Codes.{AreCodesOf, code_spelled}
 
 -- the string that a code names, behind its first byte
 abbrev pub string_said : List ℕ → ℕ
@@ -17,24 +16,24 @@ string_said (a ∷ []) = 65535
 string_said (a ∷ b ∷ []) = 65535
 string_said (a ∷ b ∷ c ∷ rest) = from_be_bytes w16 (b ∷ c ∷ [])
 
--- the code says one of so many strings, and does nothing else
-unfoldable pub says_string : ℕ → List ℕ → Bool
-says_string count code = bytes_eq code (saying (string_said code)) && nat_lt (string_said code) count
+-- the numbers are this one, the one behind it, and so on
+unfoldable pub are_in_turn : ℕ → List ℕ → Bool
+are_in_turn next [] = true
+are_in_turn next (n ∷ ns) = (n == next) && are_in_turn (next + 1) ns
 
--- the numbers are next, the one behind it, and so on, until count would come
-unfoldable pub are_in_turn : ℕ → ℕ → List ℕ → Bool
-are_in_turn count next [] = next == count
-are_in_turn count next (n ∷ ns) = (n == next) && are_in_turn count (next + 1) ns
+-- so many are counted
+abbrev pub is_count : ℕ → Option ℕ → Bool
+is_count count None = false
+is_count count (Some n) = n == count
 
--- each number is at most one above those before it, and the highest is one below count
-unfoldable pub are_all_named : ℕ → ℕ → List ℕ → Bool
-are_all_named count next [] = next == count
-are_all_named count next (n ∷ ns) = nat_le n next && are_all_named count (max next (n + 1)) ns
-
--- the strings that the objects name, then those that the codes say
+-- the strings that the objects name, then those that the codes name
 unfoldable pub strings_read : Tables → List ℕ
-strings_read t = flat_map strings_named t.objects ++ map string_said t.codes
+strings_read t = flat_map strings_named t.objects ++ strings_of (map code_spelled t.codes)
 
--- The codes are sound, the objects name each of them once and in order, and each string is named, in order.
-unfoldable pub are_sound : Tables → Bool
-are_sound t = list_all (says_string (length t.strings)) t.codes && are_in_turn (length t.codes) 0 (codes_named t.objects) && are_all_named (length t.strings) 0 (strings_read t)
+-- The codes are a table, of which the objects name the first, each of them once and in order; and each string is named, in
+-- order.
+pub record AreSound (t : Tables) : Type 0 where
+  pub judged : List Judged
+  pub table : AreCodesOf t judged
+  pub in_turn : are_in_turn 0 (codes_named t.objects) ≡ true
+  pub named : counted_on 0 (strings_read t) ≡ Some (length t.strings)

@@ -4,7 +4,7 @@ use Rattle.std.specs.Int.{w16, to_be_bytes}
 use Rattle.story_format.specs.declared.tables.Tables.{Tables}
 use Rattle.story_format.specs.Layout.{tables_layout}
 use Rattle.story_format.specs.Checks.{are_right}
-use Rattle.story_format.specs.Soundness.{are_sound}
+use Rattle.story_format.specs.Soundness.{AreSound}
 
 -- `I7ST`, and the version
 abbrev pub magic : List ℕ
@@ -24,7 +24,7 @@ pub record IsStory (t : Tables) : Type 0 where
   -- tables 1 to 12 say what a story says
   pub right : are_right t ≡ true
   -- the codes are sound, and everything is named
-  pub sound : are_sound t ≡ true
+  pub sound : AreSound t
   -- the books are in order
   pub ordered : are_ordered t ≡ true
 

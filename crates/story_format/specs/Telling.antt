@@ -1,8 +1,15 @@
 -- What a story says, whatever the numbers of its strings and codes are.
-use Rattle.std.specs.Prelude.{◌≡◌, ℕ, List, [], Option, Some, map}
+use Rattle.std.specs.Prelude.{◌≡◌, ℕ, List, [], ◌∷◌, Option, None, Some, map}
+use Rattle.std.specs.Option.{option_map}
+use Rattle.play_meaning.specs.Codes.{Codes, code_of}
+use Rattle.play_meaning.specs.declared.instruction.Instruction.{Instruction}
+use Rattle.play_meaning.specs.declared.instruction.Instruction.TheVariants.{Count, EndStory, Names, Next, Say}
+use Rattle.code_table.specs.Strings.{string_named}
+use Rattle.story_code.specs.Runs.{test_named}
 use Rattle.story_format.specs.declared.tables.Entry.{Entry}
 use Rattle.story_format.specs.declared.tables.Tables.{Tables}
-use Rattle.story_format.specs.Facts.{description_in, text_at}
+use Rattle.story_format.specs.Codes.{codes_told}
+use Rattle.story_format.specs.Facts.{description_code_of, text_at}
 
 -- the object, but for the numbers of its strings and of its code
 abbrev pub unnumbered : Entry → Entry
@@ -22,23 +29,52 @@ unnumbered e = record {
 pub record ToldObject : Type 0 where
   pub name : List ℕ
   pub words : List (List ℕ)
-  pub description : Option (List ℕ)
   pub rest : Entry
 
-abbrev pub told_object : List (List ℕ) → List (List ℕ) → Entry → ToldObject
-told_object strings codes e = record {
-  name = text_at strings e.name;
-  words = map (text_at strings) e.words;
-  description = description_in strings codes (Some e);
-  rest = unnumbered e;
-}
+abbrev pub told_object : List (List ℕ) → Entry → ToldObject
+told_object strings e = record { name = text_at strings e.name; words = map (text_at strings) e.words; rest = unnumbered e }
 
 abbrev pub told_objects : Tables → List ToldObject
-told_objects t = map (told_object t.strings t.codes) t.objects
+told_objects t = map (told_object t.strings) t.objects
 
--- Two stories say the same: each object by its texts, and all else as it is.
+-- ---- codes
+
+-- the instruction, but for the number of a string or a test
+abbrev pub uncoded : Instruction → Instruction
+uncoded (Say string) = Say 0
+uncoded (EndStory string) = EndStory 0
+uncoded (Count k test) = Count k 0
+uncoded (Names naming k test) = Names naming k 0
+uncoded (Next k test exit) = Next k 0 exit
+uncoded i = i
+
+-- the text that it names
+abbrev pub text_named : Codes → Instruction → Option (List ℕ)
+text_named c i = option_map (text_at c.strings) (string_named i)
+
+-- instructions of two stories are the same and name the same text
+pub record IsAlike (c d : Codes) (i j : Instruction) : Type 0 where
+  pub same : uncoded i ≡ uncoded j
+  pub text : text_named c i ≡ text_named d j
+
+-- codes of two stories say the same, instruction by instruction, and name tests that do
+pub data AreAlike (c d : Codes) : List Instruction → List Instruction → Type 0 where
+  ends : AreAlike c d [] []
+  bare : {i j : Instruction} {is js : List Instruction} → IsAlike c d i j → test_named i ≡ None → test_named j ≡ None → AreAlike c d is js → AreAlike c d (i ∷ is) (j ∷ js)
+  tested : {i j : Instruction} {is js : List Instruction} (test other : ℕ × ℕ) → IsAlike c d i j → test_named i ≡ Some test → test_named j ≡ Some other
+      → AreAlike c d (code_of c test.1) (code_of d other.1) → AreAlike c d is js → AreAlike c d (i ∷ is) (j ∷ js)
+
+-- neither is described, or both are, by codes that say the same
+abbrev pub AreDescribedAlike : Codes → Codes → Option ℕ → Option ℕ → Type 0
+AreDescribedAlike c d None None = Unit {0}
+AreDescribedAlike c d None (Some m) = ⊥
+AreDescribedAlike c d (Some n) None = ⊥
+AreDescribedAlike c d (Some n) (Some m) = AreAlike c d (code_of c n) (code_of d m)
+
+-- Two stories say the same: each object by its texts and what its code says, and all else as it is.
 pub record AreToldAlike (t u : Tables) : Type 0 where
   pub objects : told_objects t ≡ told_objects u
+  pub descriptions : (o : ℕ) → AreDescribedAlike (codes_told t) (codes_told u) (description_code_of t o) (description_code_of u o)
   pub world : t.world ≡ u.world
   pub ways : t.ways ≡ u.ways
   pub rules : t.rules ≡ u.rules

@@ -1,12 +1,11 @@
 //! The codes of a story's tables, verified for what they are for.
-ghost use Rattle.std.specs.Prelude.{◌≡◌, true, replicate, IfErr, IfOk};
+ghost use Rattle.std.specs.Prelude.{◌≡◌, replicate, IfOk, MatchOption};
 ghost use Rattle.play_meaning.specs.declared.operand.Use.TheVariants.{Describing};
-ghost use Rattle.story_format.specs.Checks.{are_right};
 ghost use Rattle.story_format.specs.Codes.{AreCodesOf, counts_of, small};
-ghost use Rattle.story_format.specs.Soundness.{are_sound};
-ghost use Rattle.story_format.specs.declared.fault.LoadFault.TheVariants.{Memory};
+ghost use Rattle.story_format.specs.Soundness.{AreSound};
 
-use crate::fault::LoadFault;
+use crate::checks::codes_named;
+use crate::soundness::{are_all_named, are_in_turn};
 use crate::tables::Tables;
 use code_table::table_of;
 use play_meaning::{Counts, Use};
@@ -49,17 +48,22 @@ fn descriptions(alloc: Global, count: usize) -> Result<Vec<Use>, AllocError>
     Ok(uses)
 }
 
-/// The codes of tables whose codes are sound, each verified as a description.
-pub fn codes_of(alloc: Global, tables: &Tables) -> Result<Vec<Verified>, LoadFault>
-    requires right { are_right tables.now ≡ true }
-    requires sound { are_sound tables.now ≡ true }
-    ensures codes { IfOk result (λ codes. AreCodesOf tables.now codes.items) }
-    ensures refused { IfErr result (λ fault. fault ≡ Memory) }
+/// The codes, each verified for what it is for, if they are a table of which the objects name the first in turn, and
+/// everything is named.
+pub fn codes_of(alloc: Global, tables: &Tables) -> Result<Option<Vec<Verified>>, AllocError>
+    ensures { IfOk result (λ found. MatchOption found (AreSound tables.now → ⊥) (λ codes. AreCodesOf tables.now codes.items × AreSound tables.now)) }
 {
-    let codes = tables.codes.as_slice();
-    let uses = descriptions(alloc, codes.len())?;
-    match table_of(alloc, &counts_of(tables), uses.as_slice(), codes)? {
-        Some(codes) => Ok(codes),
-        None => Err(LoadFault::BadCode),
+    let described = codes_named(alloc, tables.objects.as_slice())?;
+    if !are_in_turn(described.as_slice()) {
+        return Ok(None);
     }
+    let uses = descriptions(alloc, described.len())?;
+    let bytes = tables.codes.as_slice();
+    let Some(codes) = table_of(alloc, &counts_of(tables), uses.as_slice(), bytes)? else {
+        return Ok(None);
+    };
+    if !are_all_named(alloc, tables, codes.as_slice())? {
+        return Ok(None);
+    }
+    Ok(Some(codes))
 }

@@ -14,7 +14,6 @@ use crate::codes::codes_of;
 use crate::fault::LoadFault;
 use crate::field::Field;
 use crate::number::number16;
-use crate::soundness::are_sound;
 use crate::story::Story;
 use crate::tables::Tables;
 use crate::writing::{MAGIC, VERSION};
@@ -71,9 +70,8 @@ pub fn load(alloc: Global, bytes: &[u8]) -> Result<Story, LoadFault>
     if !are_right(alloc, &tables)? {
         return Err(LoadFault::BadTable);
     }
-    if !are_sound(alloc, &tables)? {
-        return Err(LoadFault::BadCode);
+    match codes_of(alloc, &tables)? {
+        Some(codes) => Ok(Story::new(tables, codes)),
+        None => Err(LoadFault::BadCode),
     }
-    let codes = codes_of(alloc, &tables)?;
-    Ok(Story::new(tables, codes))
 }

@@ -25,10 +25,10 @@ pub struct Worded<'a> {
 }
 
 /// The byte that says a string.
-pub const SAY: u8 = 0x22;
+const SAY: u8 = 0x22;
 
 /// The byte that ends a code.
-pub const DONE: u8 = 0x37;
+const DONE: u8 = 0x37;
 
 #[tactic(auto, using(object_words::proofs::Folds::fold_both))]
 fn mention_all(alloc: Global, strings: &mut Strings, others: &Strings) -> Result<(), AllocError>

@@ -1,15 +1,17 @@
-//! Whether the codes are sound, and everything is named: each test is named after what it asks.
-ghost use Rattle.std.specs.Prelude.{◌≡◌, IfOk, map};
-ghost use Rattle.std.specs.List.{list_all, flat_map};
+//! Whether codes are named in turn, and everything is named: each test is named after what it asks.
+ghost use Rattle.std.specs.Prelude.{◌≡◌, ◌++◌, IfOk, length, map};
+ghost use Rattle.std.specs.List.{flat_map};
+ghost use Rattle.code_table.specs.Strings.{counted_on, strings_of};
+ghost use Rattle.story_code.specs.Runs.{code_told};
 ghost use Rattle.story_format.specs.Checks.{strings_named};
-ghost use Rattle.story_format.specs.Soundness.{string_said, says_string, are_in_turn, are_all_named, strings_read, are_sound};
+ghost use Rattle.story_format.specs.Soundness.{string_said, are_in_turn, is_count};
 
-use crate::checks::{codes_named, strings_named};
-use crate::making::{DONE, SAY};
+use crate::checks::strings_named;
 use crate::place::NONE;
 use crate::tables::Tables;
+use code_table::strings_counted;
 use std::alloc::{AllocError, Global};
-use world_meaning::TextBytes;
+use story_code::Verified;
 
 /// The string that a code names behind its first byte.
 pub fn string_said(code: &[u8]) -> u16
@@ -21,26 +23,10 @@ pub fn string_said(code: &[u8]) -> u16
     }
 }
 
-/// Whether the code says one of so many strings, and does nothing else.
-#[tactic(auto, unfolding(crate::specs::Soundness::says_string))]
-fn says_string(count: usize, code: &[u8]) -> bool
-    ensures { result ≡ says_string count code.now }
-{
-    let number = string_said(code);
-    let [high, low] = number.to_be_bytes();
-    code == [SAY, high, low, DONE].as_slice() && (number as usize) < count
-}
-
-fn each_says_string(count: usize, codes: &[TextBytes]) -> bool
-    ensures { result ≡ list_all (says_string count) codes.now }
-{
-    codes.iter().all(|code| says_string(count, code.as_slice()))
-}
-
-/// Whether the numbers are those from 0 up to the count.
+/// Whether the numbers are 0, 1 and so on.
 #[tactic(auto, unfolding(crate::specs::Soundness::are_in_turn))]
-fn are_in_turn(count: usize, numbers: &[u16]) -> bool
-    ensures { result ≡ are_in_turn count 0 numbers.now }
+pub fn are_in_turn(numbers: &[u16]) -> bool
+    ensures { result ≡ are_in_turn 0 numbers.now }
 {
     let mut next = 0usize;
     let mut rest = numbers;
@@ -51,52 +37,36 @@ fn are_in_turn(count: usize, numbers: &[u16]) -> bool
         next += 1;
         rest = after;
     }
-    next == count
+    true
 }
 
-/// Whether each number below the count is named, none before a lower one.
-#[tactic(auto, unfolding(crate::specs::Soundness::are_all_named))]
-fn are_all_named(count: usize, numbers: &[u16]) -> bool
-    ensures { result ≡ are_all_named count 0 numbers.now }
+/// How many strings the numbers name, if each is among those so far or is the next.
+fn counted(numbers: &[u16]) -> Option<usize>
+    ensures { result ≡ counted_on 0 numbers.now }
 {
-    let mut named = 0usize;
+    let mut next = 0usize;
     let mut rest = numbers;
     while let [number, after @ ..] = rest {
         let number = *number as usize;
-        if number > named {
-            return false;
+        if number > next {
+            return None;
         }
-        named = named.max(number + 1);
+        next = next.max(number + 1);
         rest = after;
     }
-    named == count
+    Some(next)
 }
 
-/// The strings that the objects name, then those that the codes say.
-#[tactic(auto, unfolding(crate::specs::Soundness::strings_read))]
-fn strings_read(alloc: Global, tables: &Tables) -> Result<Vec<u16>, AllocError>
-    ensures { IfOk result (λ numbers. numbers.items ≡ strings_read tables.now) }
+/// Whether the objects, and then the codes, name each string, in order.
+pub fn are_all_named(alloc: Global, tables: &Tables, codes: &[Verified]) -> Result<bool, AllocError>
+    ensures { IfOk result (λ named. named ≡ is_count (length tables.now.strings) (counted_on 0 (flat_map strings_named tables.now.objects ++ strings_of (map code_told codes.now)))) }
 {
-    let mut numbers = strings_named(alloc, tables.objects.as_slice())?;
-    for code in tables.codes.as_slice() {
-        numbers.push(string_said(code.as_slice()))?;
+    let numbers = strings_named(alloc, tables.objects.as_slice())?;
+    let Some(next) = counted(numbers.as_slice()) else {
+        return Ok(false);
+    };
+    match strings_counted(next, codes) {
+        Some(count) => Ok(count == tables.strings.as_slice().len()),
+        None => Ok(false),
     }
-    Ok(numbers)
-}
-
-/// Whether the codes are sound, each of them named once and each string at all, in order.
-#[tactic(auto, unfolding(crate::specs::Soundness::are_sound))]
-pub fn are_sound(alloc: Global, tables: &Tables) -> Result<bool, AllocError>
-    ensures { IfOk result (λ sound. sound ≡ are_sound tables.now) }
-{
-    let strings = tables.strings.as_slice();
-    let codes = tables.codes.as_slice();
-    Ok(
-        each_says_string(strings.len(), codes)
-            && are_in_turn(
-                codes.len(),
-                codes_named(alloc, tables.objects.as_slice())?.as_slice(),
-            )
-            && are_all_named(strings.len(), strings_read(alloc, tables)?.as_slice()),
-    )
 }

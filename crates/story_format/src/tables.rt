@@ -77,7 +77,7 @@ pub struct Tables {
     pub ways: Table<Exits>,
     /// Tables 8 to 12.
     pub rules: RuleTables,
-    /// Table 13: what the story does, here the descriptions.
+    /// Table 13: what the story does: the descriptions, and the tests that codes name.
     pub codes: Table<TextBytes>,
 }
 

@@ -49,8 +49,8 @@ use Rattle.story_format.proofs.Carried.{exits_found, object_found, tale_carried}
 use Rattle.story_format.proofs.DeclaredLemmas.{declared_parts}
 use Rattle.story_format.proofs.EntryLemmas.{objects_back, objects_in, places_back}
 use Rattle.story_format.proofs.LoadedCodes.{code_within}
-use Rattle.story_format.proofs.PlainCodes.{saying_code, told_in_story}
-use Rattle.story_format.proofs.Stories.{tale_is_story}
+use Rattle.story_format.proofs.PlainCodes.{saying_code}
+use Rattle.story_format.proofs.Stories.{tale_is_story, told_in_tale}
 use Rattle.story_format.proofs.StoryLemmas.{all_at, get_within}
 use Rattle.world_store.specs.StartWorlds.{start_world}
 use Rattle.world_store.specs.StoryGames.{plain_story}
@@ -204,6 +204,10 @@ index_mapped f otherwise [] n x at = absurd cc
 index_mapped f otherwise (y ∷ xs) zero x at = let same : y ≡ x = cc in ap f same
 index_mapped f otherwise (y ∷ xs) (suc n) x at = index_mapped f otherwise xs n x at
 
+-- each code of a story says a string, and is done
+abbrev AreSayings : Tables → Type 0
+AreSayings t = (n : ℕ) (code : List ℕ) → slice_get t.codes n ≡ Some code → code_spelled code ≡ saying_code (string_said code)
+
 module _ (t : Tables) (setting : Setting) (now : ActionNow) (w : World) where
   -- a code that says a string, run
   said_string : (n m : ℕ) → code_of (codes_told t) n ≡ saying_code m → description_said (codes_told t) (undescribed setting) n now w ≡ Ok (text_at t.strings m)
@@ -213,21 +217,21 @@ module _ (t : Tables) (setting : Setting) (now : ActionNow) (w : World) where
   code_there : (n m : ℕ) (code : List ℕ) → slice_get t.codes n ≡ Some code → code_spelled code ≡ saying_code m → code_of (codes_told t) n ≡ saying_code m
   code_there n m code at is = index_mapped code_spelled [] t.codes n code at ∙ is
 
-  by_code : (n : ℕ) (code : Option (List ℕ)) → IsStory t → slice_get t.codes n ≡ code → n < length t.codes
+  by_code : (n : ℕ) (code : Option (List ℕ)) → AreSayings t → slice_get t.codes n ≡ code → n < length t.codes
       → description_said (codes_told t) (undescribed setting) n now w ≡ Ok (bytes_in (said_text t.strings code))
   unfolding bytes_in
-  by_code n None story at within = let there = get_within t.codes n within in let wrong : None ≡ Some there.0 = sym at ∙ there.1 in absurd cc
-  by_code n (Some code) story at within = said_string n (string_said code) (code_there n (string_said code) code at (told_in_story t story n code at))
+  by_code n None told at within = let there = get_within t.codes n within in let wrong : None ≡ Some there.0 = sym at ∙ there.1 in absurd cc
+  by_code n (Some code) told at within = said_string n (string_said code) (code_there n (string_said code) code at (told n code at))
 
   -- what the code of an object says is what its bytes are
-  entry_said : (o : ℕ) (entry : Option Entry) → IsStory t → slice_get t.objects o ≡ entry
+  entry_said : (o : ℕ) (entry : Option Entry) → IsStory t → AreSayings t → slice_get t.objects o ≡ entry
       → said_by_code (codes_told t) setting now w (description_code_in entry) ≡ Ok (bytes_in (description_in t.strings t.codes entry))
   unfolding bytes_in
-  entry_said o None story at = refl
-  entry_said o (Some e) story at =
+  entry_said o None story told at = refl
+  entry_said o (Some e) story told at =
       elim (either (eqb e.description 65535)) [
         | inl none ↦ rw none refl
-        | inr isnt ↦ rw isnt (by_code e.description (slice_get t.codes e.description) story refl (code_within t (Some e) o e.description story.right at (rw isnt refl)))
+        | inr isnt ↦ rw isnt (by_code e.description (slice_get t.codes e.description) told refl (code_within t (Some e) o e.description story.right at (rw isnt refl)))
       ]
 
 -- ---- all of it
@@ -237,7 +241,7 @@ described : (t : Tale) → IsHeld t → setting_of (tables_of t) ≡ told_settin
     → said_by_code (codes_told (tables_of t)) (setting_of (tables_of t)) now w (description_code_of (tables_of t) o) ≡ says (undescribed (told_setting t)) now w (option_map plain (told_description t o))
 described t held setting o now w =
     ap (λ s. said_by_code (codes_told (tables_of t)) s now w (description_code_of (tables_of t) o)) setting
-    ∙ entry_said (tables_of t) (told_setting t) now w o (slice_get (tables_of t).objects o) (tale_is_story t held) refl
+    ∙ entry_said (tables_of t) (told_setting t) now w o (slice_get (tables_of t).objects o) (tale_is_story t held) (told_in_tale t held) refl
     ∙ ap (λ bytes. Ok (bytes_in bytes)) ((tale_carried t held).descriptions o) ∙ said (told_setting t) now w (told_description t o)
 
 pub tables_game : (t : Tale) → IsHeld t → plain_story (tables_of t) ≡ story_of_tale t

@@ -1,4 +1,4 @@
-use Rattle.story_format.proofs.Telling.{told_alike}
+use Rattle.story_format.proofs.ToldStories.{told_alike}
 use Rattle.story_format.proofs.laws.told_alike_are_one.Goals as goal
 
 pub returns : goal.returns

@@ -1,5 +1,8 @@
 use Rattle.std.proofs.Common.{sym, ◌∙◌, arith}
 use Rattle.std.proofs.lemmas.Result.{err_from_is_err_and}
+use Rattle.code_table.proofs.Grown.{found_code}
+use Rattle.story_format.specs.Soundness.{AreSound}
+use Rattle.story_format.proofs.SoundOrNot.{none_found}
 use Rattle.story_format.proofs.ReadingLemmas.{code_fault, memory_fault, only_memory, read_is, refused, right_if_spelled, sound_if_spelled, story_there, table_fault}
 use Rattle.story_format.proofs.loading.load.Goals as goal
 
@@ -27,32 +30,29 @@ pub returns-then-not-branch-clause-refused : goal.returns-then-not-branch-clause
 returns-then-not-branch-clause-refused c =
     table_fault c.args.bytes.now c.in_ok-tables.tables (λ i. omega (arith, c.type_inv.bytes i)) c.in_ok-tables.ensures (sym c.in_ok-are_right.ensures ∙ c.if-not-branch.true)
 
-pub returns-in_err-are_sound-clause-refused : goal.returns-in_err-are_sound-clause-refused
-returns-in_err-are_sound-clause-refused c =
-    let p = err_from_is_err_and c.from_residual-in_err-are_sound.result c.from_residual-in_err-are_sound.ensures.1 in
-    rw (p.1, p.2) (memory_fault c.args.bytes.now c.in_ok-tables.tables (λ i. omega (arith, c.type_inv.bytes i)) c.in_ok-tables.ensures)
-
-pub returns-then-not-branch-2-clause-only : goal.returns-then-not-branch-2-clause-only
-returns-then-not-branch-2-clause-only c = λ tables spells.
-    let sound = sound_if_spelled c.args.bytes.now tables c.in_ok-tables.tables spells c.in_ok-tables.ensures in
-    let z = sym sound ∙ sym c.in_ok-are_sound.ensures ∙ c.if-not-branch-2.true in absurd cc
-
-pub returns-then-not-branch-2-clause-refused : goal.returns-then-not-branch-2-clause-refused
-returns-then-not-branch-2-clause-refused c =
-    code_fault c.args.bytes.now c.in_ok-tables.tables (λ i. omega (arith, c.type_inv.bytes i)) c.in_ok-tables.ensures (sym c.in_ok-are_right.ensures ∙ c.if-not-branch.false) (sym c.in_ok-are_sound.ensures ∙ c.if-not-branch-2.true)
-
-pub new-requires-clause-story : goal.new-requires-clause-story
-new-requires-clause-story c =
-    (story_there c.args.bytes.now c.in_ok-tables.tables (λ i. omega (arith, c.type_inv.bytes i)) c.in_ok-tables.ensures (sym c.in_ok-are_right.ensures ∙ c.if-not-branch.false) (sym c.in_ok-are_sound.ensures ∙ c.if-not-branch-2.false)).story
-
-pub returns-clause-found : goal.returns-clause-found
-returns-clause-found c =
-    rw c.new.ensures (story_there c.args.bytes.now c.in_ok-tables.tables (λ i. omega (arith, c.type_inv.bytes i)) c.in_ok-tables.ensures (sym c.in_ok-are_right.ensures ∙ c.if-not-branch.false) (sym c.in_ok-are_sound.ensures ∙ c.if-not-branch-2.false))
-
-pub returns-clause-only : goal.returns-clause-only
-returns-clause-only c = λ tables spells. c.new.ensures ∙ sym (read_is c.args.bytes.now tables c.in_ok-tables.tables spells c.in_ok-tables.ensures)
-
 pub returns-in_err-codes-clause-refused : goal.returns-in_err-codes-clause-refused
 returns-in_err-codes-clause-refused c =
     let p = err_from_is_err_and c.from_residual-in_err-codes.result c.from_residual-in_err-codes.ensures.1 in
-    rw (p.1, p.2, c.in_err-codes.ensures.refused) (memory_fault c.args.bytes.now c.in_ok-tables.tables (λ i. omega (arith, c.type_inv.bytes i)) c.in_ok-tables.ensures)
+    rw (p.1, p.2) (memory_fault c.args.bytes.now c.in_ok-tables.tables (λ i. omega (arith, c.type_inv.bytes i)) c.in_ok-tables.ensures)
+
+pub new-requires-clause-story : goal.new-requires-clause-story
+new-requires-clause-story c =
+    (story_there c.args.bytes.now c.in_ok-tables.tables (λ i. omega (arith, c.type_inv.bytes i)) c.in_ok-tables.ensures (sym c.in_ok-are_right.ensures ∙ c.if-not-branch.false)
+    (found_code (AreSound c.in_ok-tables.tables → ⊥) _ c.in_ok-codes.field-0 c.in-Some.codes c.in-Some.is c.in_ok-codes.ensures).1).story
+
+pub returns-in-Some-clause-found : goal.returns-in-Some-clause-found
+returns-in-Some-clause-found c =
+    rw c.new.ensures (story_there c.args.bytes.now c.in_ok-tables.tables (λ i. omega (arith, c.type_inv.bytes i)) c.in_ok-tables.ensures (sym c.in_ok-are_right.ensures ∙ c.if-not-branch.false)
+    (found_code (AreSound c.in_ok-tables.tables → ⊥) _ c.in_ok-codes.field-0 c.in-Some.codes c.in-Some.is c.in_ok-codes.ensures).1)
+
+pub returns-in-Some-clause-only : goal.returns-in-Some-clause-only
+returns-in-Some-clause-only c = λ tables spells. c.new.ensures ∙ sym (read_is c.args.bytes.now tables c.in_ok-tables.tables spells c.in_ok-tables.ensures)
+
+pub returns-in-None-clause-only : goal.returns-in-None-clause-only
+returns-in-None-clause-only c = λ tables spells.
+    absurd (none_found _ _ c.in_ok-codes.field-0 c.in-None.is c.in_ok-codes.ensures (sound_if_spelled c.args.bytes.now tables c.in_ok-tables.tables spells c.in_ok-tables.ensures))
+
+pub returns-in-None-clause-refused : goal.returns-in-None-clause-refused
+returns-in-None-clause-refused c =
+    code_fault c.args.bytes.now c.in_ok-tables.tables (λ i. omega (arith, c.type_inv.bytes i)) c.in_ok-tables.ensures (sym c.in_ok-are_right.ensures ∙ c.if-not-branch.false)
+    (none_found _ _ c.in_ok-codes.field-0 c.in-None.is c.in_ok-codes.ensures)

@@ -1,0 +1,232 @@
+-- Stories that say the same are one: each string is named, in order, and each code.
+use Rattle.std.proofs.Common.{◌≡◌, ◌∙◌, ap, sym, subst, refl, ℕ, zero, suc, ◌+◌, ◌<◌, ◌≤◌, true, false, eqb, List, [], ◌∷◌, ◌++◌, length, inl, inr, arith}
+use Rattle.std.specs.Prelude.{filter, map, replicate, slice_get}
+use Rattle.std.specs.List.{AllByRecursion, flat_map, list_all}
+use Rattle.std.proofs.lemmas.Bool.{eqb-false, eqb-true, ltb-true}
+use Rattle.std.proofs.lemmas.List.{length-map, map-append}
+use Rattle.std.proofs.lemmas.List.Folds.{list_all-append}
+use Rattle.std.proofs.lemmas.Simd.{map-map}
+use Rattle.world_meaning.proofs.Bools.{both_are, either}
+use Rattle.object_words.specs.Mentions.{first_mentions}
+use Rattle.play_meaning.specs.Codes.{Codes, code_of}
+use Rattle.play_meaning.specs.declared.operand.Use.TheVariants.{Describing}
+use Rattle.code_table.specs.Strings.{strings_of}
+use Rattle.code_table.proofs.Onward.{table_parts}
+use Rattle.story_code.specs.Runs.{code_told}
+use Rattle.story_code.specs.Soundness.{IsSoundCode, Judged}
+use Rattle.story_code.specs.Spelling.{spelling}
+use Rattle.story_code.proofs.Fetched.{told}
+use Rattle.story_format.specs.declared.tables.Entry.{Entry}
+use Rattle.story_format.specs.declared.tables.Tables.{Tables}
+use Rattle.story_format.specs.Checks.{are_distinct, are_right, are_right_objects, are_right_ways, codes_named, is_right_frame, is_some_code, stand_rightly, strings_named}
+use Rattle.story_format.specs.Codes.{code_spelled, codes_told, counts_of, uses_of}
+use Rattle.story_format.specs.Facts.{description_code_in, text_at}
+use Rattle.story_format.specs.Soundness.{AreSound, are_in_turn, strings_read}
+use Rattle.story_format.specs.Spells.{IsStory}
+use Rattle.story_format.specs.Telling.{AreAlike, AreDescribedAlike, AreToldAlike, ToldObject, told_object, unnumbered}
+use Rattle.story_format.proofs.Naming.{described, next_of, plain}
+use Rattle.story_format.proofs.StoryLemmas.{last_of_five}
+use Rattle.story_format.proofs.Telling.{all_within, is_within, mentioned_on, same_number, same_numbers}
+use Rattle.story_format.proofs.ToldCodes.{AllSame, all_same, all_texts_same, same_codes}
+
+-- ---- objects that are described alike have the same numbers of codes
+
+abbrev description_numbers : List Entry → List ℕ
+description_numbers es = map (λ e. e.description) es
+
+module _ (c d : Codes) where
+  record AreNumberedAlike (next : ℕ) (es fs : List Entry) : Type 0 where
+    numbers : description_numbers es ≡ description_numbers fs
+    heads : (n : ℕ) → next ≤ n → n < next + length (codes_named es) → AreAlike c d (code_of c n) (code_of d n)
+
+  abbrev Described : List Entry → List Entry → Type 0
+  Described es fs = (o : ℕ) → AreDescribedAlike c d (description_code_in (slice_get es o)) (description_code_in (slice_get fs o))
+
+  numbered_alike : (next : ℕ) (es fs : List Entry) → length es ≡ length fs → are_in_turn next (codes_named es) ≡ true → are_in_turn next (codes_named fs) ≡ true → Described es fs → AreNumberedAlike next es fs
+  numbered_alike next [] [] long turn turn_too alike = record { numbers = refl; heads = λ n low high. absurd (omega (arith, low, high)) }
+  numbered_alike next [] (f ∷ fs) long turn turn_too alike = absurd (omega (arith, long))
+  numbered_alike next (e ∷ es) [] long turn turn_too alike = absurd (omega (arith, long))
+  numbered_alike next (e ∷ es) (f ∷ fs) long turn turn_too alike =
+      elim (next_of next e es turn) [
+        | plain none is all later ↦
+            elim (next_of next f fs turn_too) [
+              | plain none_too is_too all_too later_too ↦
+                  let rest = numbered_alike next es fs (omega (arith, long)) later later_too (λ o. alike (suc o)) in
+                  record {
+                    numbers = λ l. (is ∙ sym is_too) l ∷ rest.numbers l;
+                    heads = λ n low high. rest.heads n low (omega (arith, high, ap length all));
+                  }
+              | described some_too is_too all_too later_too ↦ let wrong = alike 0 in absurd (rw (none, some_too) at wrong)
+            ]
+        | described some is all later ↦
+            elim (next_of next f fs turn_too) [
+              | plain none_too is_too all_too later_too ↦ let wrong = alike 0 in absurd (rw (some, none_too) at wrong)
+              | described some_too is_too all_too later_too ↦
+                  let here = alike 0 in
+                  let first : AreAlike c d (code_of c e.description) (code_of d f.description) = rw (some, some_too) at here in
+                  let first_is : AreAlike c d (code_of c next) (code_of d next) = rw (is, is_too) at first in
+                  let rest = numbered_alike (next + 1) es fs (omega (arith, long)) later later_too (λ o. alike (suc o)) in
+                  record {
+                    numbers = λ l. (is ∙ sym is_too) l ∷ rest.numbers l;
+                    heads = λ n low high. elim (either (eqb n next)) [
+                      | inl same ↦ subst_head n (eqb_is n next same) first_is
+                      | inr other ↦ rest.heads n (eqb_isnt n next low other) (omega (arith, high, ap length all))
+                    ];
+                  }
+            ]
+      ]
+    where
+      eqb_is : (n m : ℕ) → eqb n m ≡ true → n ≡ m
+      eqb_is n m h = eqb-true n m h
+
+      eqb_isnt : (n m : ℕ) → m ≤ n → eqb n m ≡ false → m + 1 ≤ n
+      eqb_isnt n m low h = omega (arith, low, eqb-false n m h)
+
+      subst_head : (n : ℕ) → n ≡ next → AreAlike c d (code_of c next) (code_of d next) → AreAlike c d (code_of c n) (code_of d n)
+      subst_head n is first = subst (λ m. AreAlike c d (code_of c m) (code_of d m)) (sym is) first
+
+-- ---- the texts that objects name
+
+abbrev named_texts : ToldObject → List (List ℕ)
+named_texts o = o.name ∷ o.words
+
+texts_of_objects : (strings : List (List ℕ)) (es : List Entry) → map (text_at strings) (flat_map strings_named es) ≡ flat_map named_texts (map (told_object strings) es)
+texts_of_objects strings [] = refl
+texts_of_objects strings (e ∷ es) =
+    map-append (text_at strings) (strings_named e) (flat_map strings_named es) ∙ ap (λ (rest : List (List ℕ)). map (text_at strings) (strings_named e) ++ rest) (texts_of_objects strings es)
+
+-- ---- numbers that tell the same texts are the same
+
+same_entry : (e f : Entry) → e.name ≡ f.name → e.words ≡ f.words → e.description ≡ f.description → unnumbered e ≡ unnumbered f → e ≡ f
+same_entry e f name words description rest =
+    λ i. record {
+      kind = (rest i).kind;
+      name = name i;
+      article = (rest i).article;
+      description = description i;
+      words = words i;
+      relation = (rest i).relation;
+      holder = (rest i).holder;
+      properties = (rest i).properties;
+      numbers = (rest i).numbers;
+    }
+
+same_entries : (strings : List (List ℕ)) (es fs : List Entry) → are_distinct strings ≡ true → list_all (is_within (length strings)) (flat_map strings_named es) ≡ true
+    → list_all (is_within (length strings)) (flat_map strings_named fs) ≡ true → description_numbers es ≡ description_numbers fs → map (told_object strings) es ≡ map (told_object strings) fs → es ≡ fs
+same_entries strings [] [] distinct h k numbers told = refl
+same_entries strings [] (f ∷ fs) distinct h k numbers told = absurd cc
+same_entries strings (e ∷ es) [] distinct h k numbers told = absurd cc
+same_entries strings (e ∷ es) (f ∷ fs) distinct h k numbers told =
+    let within = is_within (length strings) in
+    let a = both_are (list_all within (strings_named e)) (list_all within (flat_map strings_named es)) (sym (list_all-append within (strings_named e) (flat_map strings_named es)) ∙ h) in
+    let b = both_are (list_all within (strings_named f)) (list_all within (flat_map strings_named fs)) (sym (list_all-append within (strings_named f) (flat_map strings_named fs)) ∙ k) in
+    let x = both_are (within e.name) (list_all within e.words) a.0 in
+    let y = both_are (within f.name) (list_all within f.words) b.0 in
+    let head : told_object strings e ≡ told_object strings f = cc in
+    let tail : map (told_object strings) es ≡ map (told_object strings) fs = cc in
+    let description : e.description ≡ f.description = cc in
+    let descriptions : description_numbers es ≡ description_numbers fs = cc in
+    let one : e ≡ f =
+    same_entry e f (same_number strings e.name f.name distinct (ltb-true _ _ x.0) (ltb-true _ _ y.0) (ap (λ (o : ToldObject). o.name) head))
+    (same_numbers strings e.words f.words distinct x.1 y.1 (ap (λ (o : ToldObject). o.words) head)) description (ap (λ (o : ToldObject). o.rest) head) in
+    let others = same_entries strings es fs distinct a.1 b.1 descriptions tail in
+    λ i. one i ∷ others i
+
+-- ---- bytes are the spelling of what they are told to be
+
+bytes_again : (judged : List Judged) → AllByRecursion (λ j. IsSoundCode j.sizes j.bytes) judged → map spelling (map code_told judged) ≡ map (λ j. j.bytes) judged
+bytes_again [] sound = refl
+bytes_again (j ∷ judged) sound =
+    let one : spelling (code_told j) ≡ j.bytes = ap spelling (told j sound.0) ∙ sym sound.0.spells.whole in
+    λ l. one l ∷ bytes_again judged sound.1 l
+
+codes_are : (t : Tables) (sound : AreSound t) → map code_told sound.judged ≡ (codes_told t).codes
+codes_are t sound = sym (map-map code_spelled (λ (j : Judged). j.bytes) sound.judged) ∙ ap (map code_spelled) sound.table.bytes
+
+spelled_again : (t : Tables) → AreSound t → map spelling (codes_told t).codes ≡ t.codes
+spelled_again t sound = ap (map spelling) (sym (codes_are t sound)) ∙ bytes_again sound.judged sound.table.sound ∙ sound.table.bytes
+
+-- ---- all of it
+
+strings_differ : (t : Tables) → are_right t ≡ true → are_distinct t.strings ≡ true
+unfolding are_right
+strings_differ t right =
+    let p = last_of_five (is_right_frame t) (are_distinct t.strings) (are_right_objects t)
+    (stand_rightly t) (are_right_ways t) right in
+    p.1
+
+strings_again : (t : Tables) → IsStory t → first_mentions (map (text_at t.strings) (strings_read t)) ≡ t.strings
+strings_again t story = mentioned_on t.strings 0 (strings_read t) (strings_differ t story.right) story.sound.named
+
+-- the strings that are named are there
+read_within : (t : Tables) → AreSound t → list_all (is_within (length t.strings)) (flat_map strings_named t.objects ++ strings_of (codes_told t).codes) ≡ true
+unfolding strings_read
+read_within t sound = all_within (length t.strings) 0 (strings_read t) sound.named
+
+within_parts : (t : Tables) → AreSound t
+    → (list_all (is_within (length t.strings)) (flat_map strings_named t.objects) ≡ true) × (list_all (is_within (length t.strings)) (strings_of (codes_told t).codes) ≡ true)
+within_parts t sound =
+    let within = is_within (length t.strings) in
+    both_are (list_all within (flat_map strings_named t.objects)) (list_all within (strings_of (codes_told t).codes))
+    (sym (list_all-append within (flat_map strings_named t.objects) (strings_of (codes_told t).codes)) ∙ read_within t sound)
+
+module _ (t u : Tables) (one : IsStory t) (other : IsStory u) (alike : AreToldAlike t u) where
+  c : Codes
+  c = codes_told t
+
+  d : Codes
+  d = codes_told u
+
+  numbers : AreNumberedAlike c d 0 t.objects u.objects
+  unfolding c d
+  numbers =
+      let long : length t.objects ≡ length u.objects = sym (length-map t.objects (told_object t.strings)) ∙ ap length alike.objects ∙ length-map u.objects (told_object u.strings) in
+      numbered_alike (codes_told t) (codes_told u) 0 t.objects u.objects long one.sound.in_turn other.sound.in_turn alike.descriptions
+
+  same_uses : length (uses_of t) ≡ length (uses_of u)
+  same_uses = ap (λ ns. length (replicate (length (filter is_some_code ns)) Describing)) numbers.numbers
+
+  same_told : AllSame c d c.codes d.codes
+  unfolding c d
+  same_told =
+      let here = codes_are t one.sound in
+      let there = codes_are u other.sound in
+      subst (λ l. AllSame (codes_told t) (codes_told u) l (codes_told u).codes) here (subst (λ l. AllSame (codes_told t) (codes_told u) (map code_told one.sound.judged) l) there
+      (all_same (codes_told t) (codes_told u) (counts_of t) (counts_of u) (uses_of t) (uses_of u) 0 t.codes u.codes one.sound.judged other.sound.judged
+      (table_parts (counts_of t) (uses_of t) t.codes one.sound.judged one.sound.table) (table_parts (counts_of u) (uses_of u) u.codes other.sound.judged other.sound.table) same_uses (sym here) (sym there)
+      (λ m low high. numbers.heads m low (omega (arith, high, used (length (codes_named t.objects)))))))
+    where
+      used : (n : ℕ) → length (replicate n Describing) ≡ n
+      used zero = refl
+      used (suc n) = ap suc (used n)
+
+  same_strings : t.strings ≡ u.strings
+  unfolding c d strings_read
+  same_strings =
+      let texts : map (text_at t.strings) (strings_read t) ≡ map (text_at u.strings) (strings_read u) =
+      map-append (text_at t.strings) (flat_map strings_named t.objects) (strings_of (codes_told t).codes)
+      ∙ (λ l. (texts_of_objects t.strings t.objects ∙ ap (flat_map named_texts) alike.objects ∙ sym (texts_of_objects u.strings u.objects)) l
+      ++ all_texts_same (codes_told t) (codes_told u) (codes_told t).codes (codes_told u).codes same_told l)
+      ∙ sym (map-append (text_at u.strings) (flat_map strings_named u.objects) (strings_of (codes_told u).codes)) in
+      sym (strings_again t one) ∙ ap first_mentions texts ∙ strings_again u other
+
+  moved : (list_all (is_within (length t.strings)) (flat_map strings_named u.objects) ≡ true) × (list_all (is_within (length t.strings)) (strings_of (codes_told u).codes) ≡ true)
+  moved =
+      let there = within_parts u other.sound in
+      let count : length t.strings ≡ length u.strings = ap length same_strings in
+      (ap (λ n. list_all (is_within n) (flat_map strings_named u.objects)) count ∙ there.0, ap (λ n. list_all (is_within n) (strings_of (codes_told u).codes)) count ∙ there.1)
+
+  same_bytes : t.codes ≡ u.codes
+  unfolding c d
+  same_bytes =
+      sym (spelled_again t one.sound)
+      ∙ ap (map spelling) (same_codes (codes_told t) (codes_told u) same_strings (strings_differ t one.right) (codes_told t).codes (codes_told u).codes same_told (within_parts t one.sound).1 moved.1)
+      ∙ spelled_again u other.sound
+
+  same_objects : t.objects ≡ u.objects
+  same_objects =
+      same_entries t.strings t.objects u.objects (strings_differ t one.right) (within_parts t one.sound).0 moved.0 numbers.numbers
+      (alike.objects ∙ ap (λ all. map (told_object all) u.objects) (sym same_strings))
+
+  pub told_alike : t ≡ u
+  told_alike = λ i. record { strings = same_strings i; world = alike.world i; objects = same_objects i; ways = alike.ways i; rules = alike.rules i; codes = same_bytes i }
