@@ -11,7 +11,7 @@ import subprocess
 import sys
 import tempfile
 
-from plain_stories import Fault, Untold, crowded, furnished, opening
+from plain_stories import Fault, crowded, furnished, opening
 
 program = pathlib.Path(sys.argv[1]).resolve()
 calls = program.parents[2] / "story_calls/out/story_calls"
@@ -64,11 +64,9 @@ def damaged_more(story):
 
 
 def judged(story):
-    """What a plain reader says of a story: the fault, or what it tells at first; nothing where it doesn't know."""
+    """What a plain reader says of a story: the fault, or what it tells at first."""
     try:
         return opening(story)
-    except Untold:
-        return None
     except Fault as fault:
         return str(fault)
 
@@ -86,7 +84,7 @@ def by_program(path, stories):
         wanted = judged(data)
         if isinstance(wanted, bytes):
             yield name, played(path), (0, wanted, b""), "played"
-        elif wanted is not None:
+        else:
             yield name, played(path), (2, b"", f"{path}: {wanted}\n".encode()), wanted
 
 
@@ -101,7 +99,7 @@ def by_calls(path, stories):
             # the prompt is the player's
             said = wanted.removesuffix(b"\n>").hex()
             yield name, told, f"{said}\t{said}", "played"
-        elif wanted is not None:
+        else:
             yield name, told, wanted, wanted
 
 

@@ -153,6 +153,35 @@ def is_sound(code, role, around, sizes):
     return True
 
 
+def strings_of(code):
+    """The strings that a code names, in order."""
+    return [arguments["S"] for _, _, arguments, _ in cut(code) if "S" in arguments]
+
+
+def tests_of(code, around):
+    """The tests that a code names, in order, each with how many loops are open around it."""
+    found = cut(code)
+    loops = loops_of(found)
+    return [(arguments["C"], around + len(inside(loops, place)) + ("o" in arguments))
+            for place, _, arguments, _ in found if "C" in arguments]
+
+
+def are_table(codes, uses, sizes):
+    """Whether codes are a table: first one for each of these uses, then the tests that codes name, each once and in turn."""
+    wanted = [(use, 0) for use in uses]
+    for number, code in enumerate(codes):
+        if number == len(wanted):
+            return False
+        role, around = wanted[number]
+        if not is_sound(code, role, around, {**sizes, "own": number, "codes": len(codes)}):
+            return False
+        for test, within in tests_of(code, around):
+            if test != len(wanted):
+                return False
+            wanted.append((TEST, within))
+    return len(wanted) == len(codes)
+
+
 class Maker:
     """Makes codes that are sound, or nearly."""
 
