@@ -18,7 +18,7 @@ use Rattle.story_code.specs.SoundlyEmitted.{AreSoundAnywhere, among}
 use Rattle.story_code.specs.declared.emit.EmitFault.{EmitFault}
 use Rattle.story_code.specs.declared.emit.EmitFault.TheVariants as emit
 use Rattle.code_table.specs.Coding.{Adds, AreCoded, IsCoded, fault_at, number_behind}
-use Rattle.code_table.specs.Descriptions.{HaveNoTable, IsTooLong, codes_of_texts, number_from, texts_emitted, texts_from, texts_lent}
+use Rattle.code_table.specs.Descriptions.{HaveNoTable, HaveTable, IsTooLong, codes_of_texts, number_from, texts_emitted, texts_from, texts_lent}
 use Rattle.code_table.proofs.Tabled.{all_fit, coded_long, spelled_long}
 
 pub lent_long : (texts : List (Bor Text)) → length (texts_lent texts) ≡ length texts
@@ -147,6 +147,13 @@ module _ (z : Counts) (string : List ℕ → ℕ) (all : List tree.Text) where
   ends codes tests (one ∷ rest) none way = absurd (omega (arith, none))
   ends codes tests [] none way =
       subst (λ l. AreCoded z string (length all) l codes tests) (sym (way.parts ∙ append-nil way.before)) (so_far codes tests [] way)
+
+  pub have_table : (codes tests : List (List ℕ)) → AreCoded z string (length all) all codes tests → length all + length tests < 65536 → HaveTable z string all
+  have_table codes tests coded few = record {
+    fit = all_fit z string 0 (length all) all codes tests coded;
+    said = coded_said z string (length all) all codes tests coded;
+    few = omega (arith, few, coded_tests z string (length all) all codes tests coded, length-append (map (λ e. e.code) (texts_emitted string all)) (flat_map (λ e. e.tests) (texts_emitted string all)), codes_long (length all) all);
+  }
 
 -- ---- faults
 

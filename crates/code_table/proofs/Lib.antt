@@ -4,6 +4,7 @@ pub mod Counted
 pub mod Decided
 pub mod Grown
 pub mod Lists
+pub mod NoTables
 pub mod Onward
 pub mod Said
 pub mod SaidStrings

@@ -14,9 +14,11 @@ use Rattle.play_meaning.specs.declared.operand.Use.{Use}
 use Rattle.story_code.specs.Emits.{AreSpelled}
 use Rattle.story_code.specs.Runs.{AreSoundTogether, code_told}
 use Rattle.story_code.specs.Soundness.{Judged}
-use Rattle.code_table.specs.Descriptions.{AllFit, codes_of_texts}
+use Rattle.code_table.specs.Descriptions.{AllFit, HaveNoTable, HaveTable, codes_of_texts}
 use Rattle.code_table.specs.Strings.{strings_of}
 use Rattle.code_table.specs.Tables.{IsTableOf}
+use Rattle.code_table.specs.declared.describing.TableFault.{TableFault}
+use Rattle.code_table.specs.declared.describing.TableFault.TheVariants.{Memory}
 
 -- where objects have numbers of two bytes
 abbrev pub TablesAreSoundTogether : Type 0
@@ -43,6 +45,10 @@ TablesAreTold = (z : Counts) (heads : List Use) (bytes : List (List ℕ)) (judge
     → map code_told judged ≡ codes
 
 -- ---- the codes that say texts
+
+-- texts never both have a table and have none, memory aside
+abbrev pub NeverTableAndNone : Type 0
+NeverTableAndNone = (z : Counts) (string : List ℕ → ℕ) (texts : List Text) (fault : TableFault) → HaveTable z string texts → HaveNoTable z string texts fault → fault ≡ Memory
 
 -- among the codes of a story, where each string stands by its number, the code of a text's number says it
 abbrev pub DescriptionsAreSaid : Type 0

@@ -1,5 +1,5 @@
 //! What is known of tables of codes.
-ghost use Rattle.code_table.specs.Laws.{DescriptionsAreSaid, HeadsAreForTheirUses, OneTable, StringsAreInOrder, TableOrNone, TablesAreSoundTogether, TablesAreTold};
+ghost use Rattle.code_table.specs.Laws.{DescriptionsAreSaid, HeadsAreForTheirUses, NeverTableAndNone, OneTable, StringsAreInOrder, TableOrNone, TablesAreSoundTogether, TablesAreTold};
 
 /// The codes of a table are sound together: each is judged by its own number, and each test that one names is one, inside
 /// one loop more than are open there.
@@ -36,4 +36,9 @@ pub fn descriptions_are_said()
 /// The codes of texts name the strings that the texts say, in order.
 pub fn strings_are_in_order()
     ensures { StringsAreInOrder }
+{}
+
+/// Texts never both have a table of codes and have none, memory aside.
+pub fn never_table_and_none()
+    ensures { NeverTableAndNone }
 {}
