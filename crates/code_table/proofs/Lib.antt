@@ -7,6 +7,7 @@ pub mod Lists
 pub mod Onward
 pub mod Said
 pub mod SaidStrings
+pub mod Spoken
 pub mod Tabled
 pub mod Together
 pub mod Turns

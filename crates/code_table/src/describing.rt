@@ -84,6 +84,7 @@ pub fn description_table(
 ) -> Result<Vec<TextBytes>, EmitFault>
     ensures codes { IfOk result (λ codes. AreSpelled codes.items (codes_of_texts (number_in strings.now) (map text_meant texts.now))) }
     ensures fit { OnOk result (AllFit counts.now (number_in strings.now) (map text_meant texts.now)) }
+    ensures said { OnOk result (CanBeSaid (number_in strings.now) (map text_meant texts.now)) }
     ensures table { IfOk result (λ codes. (judged : List Judged) × IsTableOf (record counts.now { codes = length codes.items }) (replicate (length texts.now) role.Describing) codes.items judged) }
     ensures few { IfOk result (λ codes. length codes.items < 65536) }
     ensures too_long { IfErr result (λ fault. fault ≡ EmitFault.TooLong → AllFit counts.now (number_in strings.now) (map text_meant texts.now) → CanBeSaid (number_in strings.now) (map text_meant texts.now) → ⊥) }

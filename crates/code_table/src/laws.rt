@@ -1,5 +1,5 @@
 //! What is known of tables of codes.
-ghost use Rattle.code_table.specs.Laws.{DescriptionsAreSaid, HeadsAreForTheirUses, OneTable, StringsAreInOrder, TableOrNone, TablesAreSoundTogether, TablesAreTold};
+ghost use Rattle.code_table.specs.Laws.{DescriptionsAreSaid, HeadsAreForTheirUses, OneTable, StringsAreInOrder, TableOrNone, TablesAreSoundTogether, TablesAreTold, TextsAreTables};
 
 /// The codes of a table are sound together: each is judged by its own number, and each test that one names is one, inside
 /// one loop more than are open there.
@@ -25,6 +25,11 @@ pub fn heads_are_for_their_uses()
 /// The codes of a table are those that its bytes spell.
 pub fn tables_are_told()
     ensures { TablesAreTold }
+{}
+
+/// Texts that fit, and whose codes bytes can say, are a table: the bytes of all of these.
+pub fn texts_are_tables()
+    ensures { TextsAreTables }
 {}
 
 /// In a story whose codes are those of texts that fit it, and in which each string stands by its number, the code of a

@@ -10,7 +10,7 @@ mod table;
 pub use describing::description_table;
 pub use laws::{
     descriptions_are_said, heads_are_for_their_uses, one_table, strings_are_in_order,
-    table_or_none, tables_are_sound_together, tables_are_told,
+    table_or_none, tables_are_sound_together, tables_are_told, texts_are_tables,
 };
 pub use strings::strings_counted;
 pub use table::table_of;

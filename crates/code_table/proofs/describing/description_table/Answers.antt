@@ -1,10 +1,11 @@
-use Rattle.std.proofs.Common.{◌∙◌, ap, refl, sym, arith, length, length-append}
+use Rattle.std.proofs.Common.{◌∙◌, ◌++◌, ap, refl, sym, arith, length, length-append}
 use Rattle.std.specs.Prelude.{map}
 use Rattle.std.proofs.lemmas.List.{length-map}
 use Rattle.object_words.specs.Mentions.{number_in}
 use Rattle.play_meaning.specs.Meant.{text_meant}
+use Rattle.code_table.specs.Descriptions.{codes_of_texts}
 use Rattle.code_table.proofs.Coded.{ends, grows_on, no_number, number_is, refused_for, too_many}
-use Rattle.code_table.proofs.Tabled.{all_fit, all_spelled, coded_long, table_of_texts}
+use Rattle.code_table.proofs.Tabled.{all_fit, all_said, all_spelled, coded_long, spelled_long, table_of_texts}
 use Rattle.code_table.proofs.describing.description_table.Goals as goal
 
 pub returns-in_default-number_behind-clause-too_long : goal.returns-in_default-number_behind-clause-too_long
@@ -40,6 +41,20 @@ returns-in-Ok-append-clause-fit c =
     let texts = map text_meant c.args.texts.now in
     let coded = ends c.args.counts.now string texts c.loop-rest.codes.items c.loop-rest.tests.items c.loop-rest.rest.now c.in_default.len_below c.loop-rest.invariant in
     all_fit c.args.counts.now string 0 (length texts) texts c.loop-rest.codes.items c.loop-rest.tests.items coded
+
+pub returns-in-Ok-append-clause-said : goal.returns-in-Ok-append-clause-said
+returns-in-Ok-append-clause-said c =
+    let string = number_in c.args.strings.now in
+    let texts = map text_meant c.args.texts.now in
+    let codes = c.loop-rest.codes.items in
+    let tests = c.loop-rest.tests.items in
+    let coded = ends c.args.counts.now string texts codes tests c.loop-rest.rest.now c.in_default.len_below c.loop-rest.invariant in
+    let few = (number_is _ _ _ (sym c.number_behind-2.ensures ∙ c.in-Some-number_behind.is)).1 in
+    let long = spelled_long (codes ++ tests) (codes_of_texts string texts) (all_spelled c.args.counts.now string (length (codes ++ tests)) texts codes tests (codes ++ tests) coded refl refl) in
+    record {
+      each = all_said c.args.counts.now string 0 (length texts) texts codes tests coded;
+      few = omega (arith, few, long, c.len-2.ensures, c.loop-rest.tests.ok, length-map c.args.texts.now text_meant, coded_long c.args.counts.now string 0 (length texts) texts codes tests coded, length-append codes tests);
+    }
 
 pub returns-in-Ok-append-clause-table : goal.returns-in-Ok-append-clause-table
 returns-in-Ok-append-clause-table c =
