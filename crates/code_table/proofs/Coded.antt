@@ -1,6 +1,6 @@
 -- The codes of texts are put together text by text.
 use Rattle.std.proofs.Common.{◌≡◌, ◌∙◌, ap, sym, subst, refl, ℕ, suc, ◌+◌, ◌-◌, ◌<◌, ◌≤◌, nat_lt, Bool, true, false, if◌then◌else◌, List, [], ◌∷◌, ◌++◌, length, drop, take, get_or, append_assoc, append-nil, Some, None, arith, length-append}
-use Rattle.std.specs.List.{AllByRecursion, flat_map}
+use Rattle.std.specs.List.{flat_map}
 use Rattle.std.specs.Borrow.{Bor}
 use Rattle.std.specs.Prelude.{map}
 use Rattle.std.proofs.lemmas.Bool.{ltb-false, ltb-true}
@@ -18,8 +18,8 @@ use Rattle.story_code.specs.SoundlyEmitted.{AreSoundAnywhere, among}
 use Rattle.story_code.specs.declared.emit.EmitFault.{EmitFault}
 use Rattle.story_code.specs.declared.emit.EmitFault.TheVariants as emit
 use Rattle.code_table.specs.Coding.{Adds, AreCoded, IsCoded, fault_at, number_behind}
-use Rattle.code_table.specs.Descriptions.{HaveNoTable, HaveTable, IsTooLong, codes_of_texts, number_from, texts_emitted, texts_from, texts_lent}
-use Rattle.code_table.proofs.Tabled.{all_fit, coded_long, spelled_long}
+use Rattle.code_table.specs.Descriptions.{CanBeSaid, HaveNoTable, IsTooLong, codes_of_texts, number_from, texts_emitted, texts_from, texts_lent}
+use Rattle.code_table.proofs.Tabled.{all_fit, all_said, coded_long, spelled_long}
 
 pub lent_long : (texts : List (Bor Text)) → length (texts_lent texts) ≡ length texts
 lent_long texts = length-map texts (λ text. text_meant text.now)
@@ -37,15 +37,6 @@ coded_tests z string first (text ∷ texts) codes tests coded =
     let number : first + length own ≡ first + length e.tests = ap (λ k. first + k) as_many in
     let rest = coded_tests z string (first + length own) texts coded.1.1.1.0 later coded.1.1.1.1.1.1.1 ∙ ap (λ n. length (flat_map (λ e. e.tests) (texts_from string n texts))) number in
     omega (arith, ap length coded.1.1.1.1.1.1.0, length-append own later, as_many, rest, length-append e.tests (flat_map (λ e. e.tests) (texts_from string (first + length e.tests) texts)))
-
-coded_said : (z : Counts) (string : List ℕ → ℕ) (first : ℕ) (texts : List tree.Text) (codes tests : List (List ℕ)) → AreCoded z string first texts codes tests
-    → AllByRecursion (λ e. can_say_all e ≡ true) (texts_from string first texts)
-coded_said z string first [] codes tests coded = tt
-coded_said z string first (text ∷ texts) codes tests coded =
-    let own = coded.1.0 in
-    let e = description_part string text first 0 in
-    let number : first + length own ≡ first + length e.tests = ap (λ k. first + k) (spelled_long own e.tests coded.1.1.0.emitted.spelled.1) in
-    (coded.1.1.0.emitted.said, subst (λ n. AllByRecursion (λ e. can_say_all e ≡ true) (texts_from string n texts)) number (coded_said z string (first + length own) texts coded.1.1.1.0 coded.1.1.1.1.0 coded.1.1.1.1.1.1.1))
 
 tests_grow : (string : List ℕ → ℕ) (first : ℕ) (texts others : List tree.Text)
     → length (flat_map (λ e. e.tests) (texts_from string first texts)) ≤ length (flat_map (λ e. e.tests) (texts_from string first (texts ++ others)))
@@ -126,7 +117,7 @@ module _ (z : Counts) (string : List ℕ → ℕ) (all : List tree.Text) where
         parts = way.parts;
         place = coded_long z string 0 (length all) way.before codes tests coded;
         fit = all_fit z string 0 (length all) way.before codes tests coded;
-        said = coded_said z string (length all) way.before codes tests coded;
+        said = all_said z string 0 (length all) way.before codes tests coded;
         long = subst (λ (t : Bor Text). ((own count : ℕ) → TextFits (among z own count) role.Describing string 0 (text_meant t.now)) → can_say_all (description_part string (text_meant t.now) (number_from string (length all) way.before) 0) ≡ false) at
             (subst (λ n. ((own count : ℕ) → TextFits (among z own count) role.Describing string 0 (text_meant text.now)) → can_say_all (description_part string (text_meant text.now) n 0) ≡ false) there told);
       }
@@ -148,10 +139,9 @@ module _ (z : Counts) (string : List ℕ → ℕ) (all : List tree.Text) where
   ends codes tests [] none way =
       subst (λ l. AreCoded z string (length all) l codes tests) (sym (way.parts ∙ append-nil way.before)) (so_far codes tests [] way)
 
-  pub have_table : (codes tests : List (List ℕ)) → AreCoded z string (length all) all codes tests → length all + length tests < 65536 → HaveTable z string all
-  have_table codes tests coded few = record {
-    fit = all_fit z string 0 (length all) all codes tests coded;
-    said = coded_said z string (length all) all codes tests coded;
+  pub can_be_said : (codes tests : List (List ℕ)) → AreCoded z string (length all) all codes tests → length all + length tests < 65536 → CanBeSaid string all
+  can_be_said codes tests coded few = record {
+    each = all_said z string 0 (length all) all codes tests coded;
     few = omega (arith, few, coded_tests z string (length all) all codes tests coded, length-append (map (λ e. e.code) (texts_emitted string all)) (flat_map (λ e. e.tests) (texts_emitted string all)), codes_long (length all) all);
   }
 

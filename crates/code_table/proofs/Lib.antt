@@ -8,6 +8,7 @@ pub mod NoTables
 pub mod Onward
 pub mod Said
 pub mod SaidStrings
+pub mod Spoken
 pub mod Tabled
 pub mod Together
 pub mod Turns

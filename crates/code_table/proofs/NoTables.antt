@@ -28,12 +28,12 @@ said_there string first (one ∷ before) behind text said =
         omega (arith, length-append e.tests (flat_map (λ e. e.tests) (texts_from string (first + length e.tests) before)))
 
 pub never_both : NeverTableAndNone
-never_both z string texts (TooLong number) have long =
-    let fit = subst (AllFit z string) long.parts have.fit in
-    let said = subst (λ l. AllByRecursion (λ e. can_say_all e ≡ true) (texts_from string (length texts) l)) long.parts have.said in
+never_both z string texts (TooLong number) fits can long =
+    let fit = subst (AllFit z string) long.parts fits in
+    let said = subst (λ l. AllByRecursion (λ e. can_say_all e ≡ true) (texts_from string (length texts) l)) long.parts can.each in
     let yes = said_there string (length texts) long.before long.behind long.text said in
     let no = long.long (fits_there z string long.before long.behind long.text fit).0 in
     let never : true ≡ false = sym yes ∙ no in
     absurd cc
-never_both z string texts TooMany have many = absurd (omega (arith, many, have.few))
-never_both z string texts Memory have none = refl
+never_both z string texts TooMany fits can many = absurd (omega (arith, many, can.few))
+never_both z string texts Memory fits can none = refl

@@ -1,5 +1,5 @@
 -- The bytes of texts' codes, and behind them those of the tests that these name, are a table.
-use Rattle.std.proofs.Common.{◌≡◌, ◌∙◌, ap, sym, subst, refl, ℕ, zero, suc, ◌+◌, ◌≤◌, List, [], ◌∷◌, ◌++◌, length, append-nil, Option, Some, None, arith, length-append}
+use Rattle.std.proofs.Common.{◌≡◌, ◌∙◌, ap, sym, subst, refl, ℕ, zero, suc, ◌+◌, ◌≤◌, true, List, [], ◌∷◌, ◌++◌, length, append-nil, Option, Some, None, arith, length-append}
 use Rattle.std.specs.List.{AllByRecursion, flat_map}
 use Rattle.std.specs.Prelude.{map, replicate}
 use Rattle.std.proofs.lemmas.List.{map-append}
@@ -11,6 +11,7 @@ use Rattle.play_meaning.specs.declared.operand.Counts.{Counts}
 use Rattle.play_meaning.specs.declared.operand.Use.{Use}
 use Rattle.play_meaning.specs.declared.operand.Use.TheVariants.{Describing}
 use Rattle.story_code.specs.Emits.{AreSpelled}
+use Rattle.story_code.specs.Emitting.{can_say_all}
 use Rattle.story_code.specs.Fronts.{code_in}
 use Rattle.story_code.specs.Runs.{code_or_none, code_told, test_named}
 use Rattle.story_code.specs.Soundness.{Judged}
@@ -194,6 +195,16 @@ module _ (z : Counts) (string : List ℕ → ℕ) (total : ℕ) where
   pub all_fit : (first : ℕ) (texts : List Text) (codes tests : List (List ℕ)) → AreCoded z string first texts codes tests → AllFit z string texts
   all_fit first [] codes tests coded = tt
   all_fit first (text ∷ texts) codes tests coded = (coded.1.1.0.fits, all_fit (first + length coded.1.0) texts coded.1.1.1.0 coded.1.1.1.1.0 coded.1.1.1.1.1.1.1)
+
+  -- bytes said what was put together
+  pub all_said : (first : ℕ) (texts : List Text) (codes tests : List (List ℕ)) → AreCoded z string first texts codes tests → AllByRecursion (λ e. can_say_all e ≡ true) (Emitted_from first texts)
+  all_said first [] codes tests coded = tt
+  all_said first (text ∷ texts) codes tests coded =
+      let own = coded.1.0 in
+      let is = coded.1.1.0 in
+      let e = description_part string text first 0 in
+      let number : first + length own ≡ first + length e.tests = ap (λ k. first + k) (spelled_long own e.tests is.emitted.spelled.1) in
+      (is.emitted.said, subst (λ n. AllByRecursion (λ e. can_say_all e ≡ true) (Emitted_from n texts)) number (all_said (first + length own) texts coded.1.1.1.0 coded.1.1.1.1.0 coded.1.1.1.1.1.1.1))
 
   replicated : (k : ℕ) → length (replicate k Describing) ≡ k
   replicated zero = refl

@@ -39,10 +39,9 @@ codes_of_texts string texts = codes_emitted (texts_emitted string texts)
 abbrev pub AllFit : Counts → (List ℕ → ℕ) → List Text → Type 0
 AllFit z string texts = AllByRecursion (λ text. (own codes : ℕ) → TextFits (among z own codes) role.Describing string 0 text) texts
 
--- texts have a table of codes: each fits, bytes can say their codes and tests, and the numbers of all of these
-pub record HaveTable (z : Counts) (string : List ℕ → ℕ) (texts : List Text) : Type 0 where
-  pub fit : AllFit z string texts
-  pub said : AllByRecursion (λ e. can_say_all e ≡ true) (texts_emitted string texts)
+-- bytes can say their codes and tests, and the numbers of all of these
+pub record CanBeSaid (string : List ℕ → ℕ) (texts : List Text) : Type 0 where
+  pub each : AllByRecursion (λ e. can_say_all e ≡ true) (texts_emitted string texts)
   pub few : length (codes_of_texts string texts) < 65536
 
 -- the text of this number is the first that doesn't fit, or whose code and tests bytes can't say

@@ -1,5 +1,5 @@
 -- What is promised of tables of codes.
-use Rattle.std.specs.Prelude.{◌≡◌, ◌⊎◌, ℕ, ◌<◌, List, [], map, Some, slice_get, slice_index, slice_index_or}
+use Rattle.std.specs.Prelude.{◌≡◌, ◌⊎◌, ℕ, ◌<◌, List, [], length, map, replicate, Some, slice_get, slice_index, slice_index_or}
 use Rattle.std.specs.List.{AllByRecursion, flat_map}
 use Rattle.play_meaning.specs.Codes.{Codes, description_said}
 use Rattle.play_meaning.specs.Saying.{Telling, said_in}
@@ -11,10 +11,12 @@ use Rattle.play_meaning.specs.declared.action.ActionNow.{ActionNow}
 use Rattle.play_meaning.specs.declared.instruction.Instruction.{Instruction}
 use Rattle.play_meaning.specs.declared.operand.Counts.{Counts}
 use Rattle.play_meaning.specs.declared.operand.Use.{Use}
+use Rattle.play_meaning.specs.declared.operand.Use.TheVariants.{Describing}
 use Rattle.story_code.specs.Emits.{AreSpelled}
 use Rattle.story_code.specs.Runs.{AreSoundTogether, code_told}
 use Rattle.story_code.specs.Soundness.{Judged}
-use Rattle.code_table.specs.Descriptions.{AllFit, HaveNoTable, HaveTable, codes_of_texts}
+use Rattle.story_code.specs.Spelling.{spelling}
+use Rattle.code_table.specs.Descriptions.{AllFit, CanBeSaid, HaveNoTable, codes_of_texts}
 use Rattle.code_table.specs.Strings.{strings_of}
 use Rattle.code_table.specs.Tables.{IsTableOf}
 use Rattle.code_table.specs.declared.describing.TableFault.{TableFault}
@@ -46,9 +48,14 @@ TablesAreTold = (z : Counts) (heads : List Use) (bytes : List (List ℕ)) (judge
 
 -- ---- the codes that say texts
 
--- texts never both have a table and have none, memory aside
+-- texts that fit, and that bytes can say, are a table, whose first codes are descriptions
+abbrev pub TextsAreTables : Type 0
+TextsAreTables = (z : Counts) (string : List ℕ → ℕ) (texts : List Text) → AllFit z string texts → CanBeSaid string texts
+    → (judged : List Judged) × IsTableOf (record z { codes = length (map spelling (codes_of_texts string texts)) }) (replicate (length texts) Describing) (map spelling (codes_of_texts string texts)) judged
+
+-- nothing but memory is told of why they have no table
 abbrev pub NeverTableAndNone : Type 0
-NeverTableAndNone = (z : Counts) (string : List ℕ → ℕ) (texts : List Text) (fault : TableFault) → HaveTable z string texts → HaveNoTable z string texts fault → fault ≡ Memory
+NeverTableAndNone = (z : Counts) (string : List ℕ → ℕ) (texts : List Text) (fault : TableFault) → AllFit z string texts → CanBeSaid string texts → HaveNoTable z string texts fault → fault ≡ Memory
 
 -- among the codes of a story, where each string stands by its number, the code of a text's number says it
 abbrev pub DescriptionsAreSaid : Type 0

@@ -10,7 +10,7 @@ ghost use Rattle.story_code.specs.Fitting.{TextFits};
 ghost use Rattle.story_code.specs.SoundlyEmitted.{among};
 ghost use Rattle.story_code.specs.Soundness.{Judged};
 ghost use Rattle.code_table.specs.Coding.{Adds, fault_at, number_behind};
-ghost use Rattle.code_table.specs.Descriptions.{HaveNoTable, HaveTable, codes_of_texts, texts_lent};
+ghost use Rattle.code_table.specs.Descriptions.{AllFit, CanBeSaid, HaveNoTable, codes_of_texts, texts_lent};
 ghost use Rattle.code_table.specs.Tables.{IsTableOf};
 
 use object_words::Strings;
@@ -104,7 +104,8 @@ pub fn description_table(
     texts: &[&Text],
 ) -> Result<Vec<TextBytes>, TableFault>
     ensures codes { IfOk result (λ codes. AreSpelled codes.items (codes_of_texts (number_in strings.now) (texts_lent texts.now))) }
-    ensures one { OnOk result (HaveTable counts.now (number_in strings.now) (texts_lent texts.now)) }
+    ensures fit { OnOk result (AllFit counts.now (number_in strings.now) (texts_lent texts.now)) }
+    ensures said { OnOk result (CanBeSaid (number_in strings.now) (texts_lent texts.now)) }
     ensures table { IfOk result (λ codes. (judged : List Judged) × IsTableOf (record counts.now { codes = length codes.items }) (replicate (length texts.now) role.Describing) codes.items judged) }
     ensures few { IfOk result (λ codes. length codes.items < 65536) }
     ensures none { IfErr result (HaveNoTable counts.now (number_in strings.now) (texts_lent texts.now)) }

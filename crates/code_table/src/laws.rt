@@ -1,5 +1,5 @@
 //! What is known of tables of codes.
-ghost use Rattle.code_table.specs.Laws.{DescriptionsAreSaid, HeadsAreForTheirUses, NeverTableAndNone, OneTable, StringsAreInOrder, TableOrNone, TablesAreSoundTogether, TablesAreTold};
+ghost use Rattle.code_table.specs.Laws.{DescriptionsAreSaid, HeadsAreForTheirUses, NeverTableAndNone, OneTable, StringsAreInOrder, TableOrNone, TablesAreSoundTogether, TablesAreTold, TextsAreTables};
 
 /// The codes of a table are sound together: each is judged by its own number, and each test that one names is one, inside
 /// one loop more than are open there.
@@ -27,6 +27,11 @@ pub fn tables_are_told()
     ensures { TablesAreTold }
 {}
 
+/// Texts that fit, and whose codes bytes can say, are a table: the bytes of all of these.
+pub fn texts_are_tables()
+    ensures { TextsAreTables }
+{}
+
 /// In a story whose codes are those of texts that fit it, and in which each string stands by its number, the code of a
 /// text's number says what the text says, in every world and action, or abandons as it does.
 pub fn descriptions_are_said()
@@ -38,7 +43,7 @@ pub fn strings_are_in_order()
     ensures { StringsAreInOrder }
 {}
 
-/// Texts never both have a table of codes and have none, memory aside.
+/// Texts that have a table of codes have none for no reason but memory.
 pub fn never_table_and_none()
     ensures { NeverTableAndNone }
 {}

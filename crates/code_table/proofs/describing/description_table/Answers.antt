@@ -1,8 +1,8 @@
 use Rattle.std.proofs.Common.{◌≡◌, ◌∙◌, ap, refl, subst, sym, arith, length, length-append}
 use Rattle.object_words.specs.Mentions.{number_in}
 use Rattle.code_table.specs.Descriptions.{HaveNoTable, IsTooLong, texts_lent}
-use Rattle.code_table.proofs.Coded.{ends, grows_on, have_table, is_too_long, lent_long, no_number, none_for, number_is, too_many}
-use Rattle.code_table.proofs.Tabled.{all_spelled, coded_long, table_of_texts}
+use Rattle.code_table.proofs.Coded.{can_be_said, ends, grows_on, is_too_long, lent_long, no_number, none_for, number_is, too_many}
+use Rattle.code_table.proofs.Tabled.{all_fit, all_spelled, coded_long, table_of_texts}
 use Rattle.code_table.proofs.describing.description_table.Goals as goal
 
 pub returns-in_default-number_behind-clause-none : goal.returns-in_default-number_behind-clause-none
@@ -38,14 +38,21 @@ returns-in-Ok-append-clause-codes c =
     let coded = ends c.args.counts.now string texts c.loop-rest.codes.items c.loop-rest.tests.items c.loop-rest.rest.now c.in_default.len_below c.loop-rest.invariant in
     all_spelled c.args.counts.now string (length c.append.new.self.items) texts c.loop-rest.codes.items c.loop-rest.tests.items c.append.new.self.items coded c.in-Ok-append.ensures.items refl
 
-pub returns-in-Ok-append-clause-one : goal.returns-in-Ok-append-clause-one
-returns-in-Ok-append-clause-one c =
+pub returns-in-Ok-append-clause-fit : goal.returns-in-Ok-append-clause-fit
+returns-in-Ok-append-clause-fit c =
+    let string = number_in c.args.strings.now in
+    let texts = texts_lent c.args.texts.now in
+    let coded = ends c.args.counts.now string texts c.loop-rest.codes.items c.loop-rest.tests.items c.loop-rest.rest.now c.in_default.len_below c.loop-rest.invariant in
+    all_fit c.args.counts.now string 0 (length texts) texts c.loop-rest.codes.items c.loop-rest.tests.items coded
+
+pub returns-in-Ok-append-clause-said : goal.returns-in-Ok-append-clause-said
+returns-in-Ok-append-clause-said c =
     let string = number_in c.args.strings.now in
     let texts = texts_lent c.args.texts.now in
     let codes = c.loop-rest.codes.items in
     let tests = c.loop-rest.tests.items in
     let few = (number_is _ _ _ (sym c.number_behind-2.ensures ∙ c.in-Some-number_behind.is)).1 in
-    have_table c.args.counts.now string texts codes tests
+    can_be_said c.args.counts.now string texts codes tests
     (ends c.args.counts.now string texts codes tests c.loop-rest.rest.now c.in_default.len_below c.loop-rest.invariant)
     (omega (arith, few, c.len-2.ensures, c.loop-rest.tests.ok, lent_long c.args.texts.now))
 
