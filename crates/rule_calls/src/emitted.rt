@@ -1,6 +1,7 @@
 //! The codes of a case, as bytes: the body's in front, behind it those of the descriptions and of what the rule's head asks, each
 //! with the tests that it names behind it.
 use crate::meant::MeantBody;
+use crate::strings::plain_description;
 use crate::unplayed::Unplayed;
 use i7_resolution::SourceText;
 use object_words::Strings;
@@ -134,7 +135,7 @@ pub fn emit_case(
 ) -> Result<Emitted, Unplayed> {
     let mut emitted = of_body(alloc, counts, strings, body)?;
     for number in 0..story.object_count() as u16 {
-        let described = match story.description(ObjNo::new(number)) {
+        let described = match plain_description(story, ObjNo::new(number)) {
             Some(told) => Some(emitted.describe(alloc, counts, strings, told, texts)?),
             None => None,
         };

@@ -47,10 +47,19 @@ fn add_rules(alloc: Global, all: &mut Strings, sentences: &[Sentence]) -> Result
     Ok(())
 }
 
+/// What the code of an object's description says, if it says one string and is done.
+pub fn plain_description(story: &Story, object: ObjNo) -> Option<&[u8]> {
+    let number = story.description_code(object)?;
+    match story.codes().get(number as usize)?.bytes() {
+        [0x22, high, low, 0x37] => Some(story.string(u16::from_be_bytes([*high, *low]))),
+        _ => None,
+    }
+}
+
 /// The plain descriptions of a story.
 fn add_descriptions(alloc: Global, all: &mut Strings, story: &Story) -> Result<(), AllocError> {
     for number in 0..story.object_count() as u16 {
-        if let Some(text) = story.description(ObjNo::new(number)) {
+        if let Some(text) = plain_description(story, ObjNo::new(number)) {
             all.mention(alloc, text)?;
         }
     }

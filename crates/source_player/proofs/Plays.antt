@@ -14,13 +14,13 @@ use Rattle.story_format.proofs.ReadingLemmas.{not_refused, same_story}
 use Rattle.story_format.specs.Refusals.{IsRefused as IsNoStory}
 use Rattle.story_format.specs.declared.fault.LoadFault.{LoadFault}
 use Rattle.story_format.specs.declared.fault.LoadFault.TheVariants.{Memory}
-use Rattle.story_format.specs.Making.{tables_of}
+use Rattle.story_format.specs.Making.{plain_descriptions, tables_of}
 use Rattle.story_format.specs.Spells.{Spells}
 use Rattle.story_format.specs.declared.tables.Tables.{Tables}
 use Rattle.story_file.specs.Compilations.{IsCompiled}
 use Rattle.story_file.proofs.Held.{tale_held}
 use Rattle.story_file.proofs.Ranges.{says_ranged}
-use Rattle.world_store.proofs.TaleGames.{tables_game}
+use Rattle.world_store.proofs.TaleGames.{plain_game}
 use Rattle.world_store.specs.StoryGames.{game_of_story}
 use Rattle.source_player.specs.SourceRuns.{BrokeOffGame, LeavesSource, LeavesStory, PlayedGame, PlayedSource, PlayedStory}
 use Rattle.source_player.specs.declared.source_run.SourceRunFault.{SourceRunFault}
@@ -34,9 +34,9 @@ plain_tale t = plain_script (script_of t (plain_texts t)) (record { rules = refl
 -- the story's game is the tale's
 pub same_game : (source bytes : List ℕ) (compiled : IsCompiled source bytes) (story : Tables) → Spells bytes story → game_of_story story ≡ game_of_tale compiled.tale
 same_game source bytes compiled story spells =
-    let same : story ≡ tables_of compiled.tale = same_story bytes story compiled.tables spells compiled.spells ∙ compiled.tables_are in
+    let same : story ≡ tables_of compiled.tale (plain_descriptions compiled.tale.objects) = same_story bytes story compiled.tables spells compiled.spells ∙ compiled.tables_are in
     let held = tale_held compiled.means.sentences compiled.tale (says_ranged source compiled.means.sentences compiled.means.says) compiled.means.meant.tale_is in
-    ap game_of_story same ∙ ap game_of_plain (tables_game compiled.tale held) ∙ sym (plain_tale compiled.tale)
+    ap game_of_story same ∙ ap game_of_plain (plain_game compiled.tale held) ∙ sym (plain_tale compiled.tale)
 
 pub played_source : (source bytes : List ℕ) (echo : Bool) (unread rest held now : Option (List ℕ)) (result : Result Ending SourceRunFault) → IsCompiled source bytes → IfOk result (PlayedStory bytes echo (streams_of unread held) (streams_of rest now)) → IfOk result (PlayedSource source echo (streams_of unread held) (streams_of rest now))
 played_source source bytes echo unread rest held now (Err fault) compiled played = tt

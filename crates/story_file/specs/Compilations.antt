@@ -9,7 +9,7 @@ use Rattle.i7_lexer.specs.declared.token.Token.{Token}
 use Rattle.i7_sentences.specs.Sources.{HasSentences, IsRefused as IsUnread}
 use Rattle.i7_sentences.specs.declared.sentence.Sentence.{Sentence}
 use Rattle.story_format.specs.Carrying.{Carries}
-use Rattle.story_format.specs.Making.{tables_of}
+use Rattle.story_format.specs.Making.{plain_descriptions, tables_of}
 use Rattle.story_format.specs.Spells.{Spells}
 use Rattle.story_format.specs.declared.tables.Tables.{Tables}
 use Rattle.story_file.specs.Meanings.{AreMeant, AreRefused}
@@ -32,8 +32,8 @@ pub record IsCompiled (source bytes : List ℕ) : Type 0 where
   pub tale : Tale
   pub means : Means source tale
   pub tables : Tables
-  pub tables_are : tables ≡ tables_of tale
-  pub carries : Carries tables tale
+  pub tables_are : tables ≡ tables_of tale (plain_descriptions tale.objects)
+  pub carries : Carries tables tale (plain_descriptions tale.objects)
   pub spells : Spells bytes tables
 
 -- A source's tokens are refused.

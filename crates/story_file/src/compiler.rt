@@ -6,7 +6,7 @@ use crate::meaning::tale_meant;
 use i7_lexer::lex;
 use i7_sentences::{Sentence, read};
 use std::alloc::Global;
-use story_format::write;
+use story_format::write_plain;
 use world_meaning::{Fault, Tale};
 
 /// The sentences that the source says.
@@ -37,7 +37,7 @@ pub fn compile(alloc: Global, source: &[u8]) -> Result<Vec<u8>, Fault>
     ensures { MatchResult result (λ bytes. IsCompiled source.now bytes.items) (IsRefused source.now) }
 {
     let tale = tale_of_source(alloc, source)?;
-    match write(alloc, &tale) {
+    match write_plain(alloc, &tale) {
         Ok(bytes) => Ok(bytes),
         Err(_) => Err(Fault::OUT_OF_MEMORY),
     }

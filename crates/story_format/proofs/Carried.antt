@@ -1,10 +1,9 @@
 -- The tables of a tale say of each object what the tale says.
-use Rattle.std.proofs.Common.{◌≡◌, ℕ, zero, suc, ◌+◌, ◌-◌, ◌<◌, Bool, true, false, cond, eqb, List, [], ◌∷◌, ◌++◌, length, map, take, Option, Some, None, refl, sym, ap, ◌∙◌, append_assoc, arith, inl, inr}
-use Rattle.std.specs.Prelude.{min, slice_get, is_none}
-use Rattle.std.specs.List.{list_all, flat_map}
-use Rattle.std.specs.Str.{bytes_eq}
+use Rattle.std.proofs.Common.{◌≡◌, ℕ, zero, suc, ◌+◌, ◌-◌, ◌<◌, ◌==◌, Bool, true, false, cond, eqb, List, [], ◌∷◌, length, map, take, drop, Option, Some, None, refl, sym, subst, ap, ◌∙◌, arith, inl, inr, if◌then◌else◌}
+use Rattle.std.specs.Prelude.{min, slice_get, is_none, is_some}
+use Rattle.std.specs.List.{AllByRecursion, list_all, flat_map}
 use Rattle.std.proofs.lemmas.Bool.{ne_eqb}
-use Rattle.std.proofs.lemmas.List.{length-append}
+use Rattle.std.proofs.lemmas.List.Folds.{list_all-append}
 use Rattle.std.specs.Option.{option_map}
 use Rattle.std.proofs.lemmas.Option.{get_or_from_slice_get, slice_get-map}
 use Rattle.world_meaning.proofs.Bools.{both_are, either}
@@ -20,19 +19,29 @@ use Rattle.world_meaning.specs.declared.tale.Tale.{Tale}
 use Rattle.object_words.specs.Mentions.{number_in}
 use Rattle.object_words.specs.Words.{words_for, words_in as told_words}
 use Rattle.object_words.proofs.StringLemmas.{length_mapped}
+use Rattle.play_meaning.specs.Codes.{Codes}
+use Rattle.play_meaning.specs.Grounds.{said_by_code}
+use Rattle.play_meaning.specs.Scripts.{says, undescribed}
+use Rattle.play_meaning.specs.Settings.{Setting}
+use Rattle.play_meaning.specs.Translation.{strings_of_text}
+use Rattle.play_meaning.specs.Trees.{Text}
+use Rattle.play_meaning.specs.Worlds.{World}
+use Rattle.play_meaning.specs.declared.action.ActionNow.{ActionNow}
+use Rattle.play_meaning.specs.declared.operand.Counts.{Counts}
+use Rattle.code_table.specs.Descriptions.{AllFit, codes_of_texts}
+use Rattle.code_table.proofs.Said.{text_said}
 use Rattle.story_format.specs.Carrying.{Carries}
-use Rattle.story_format.specs.Facts.{description_in, exits_at, holder_in, is_room_in, name_in, rooms_before, said, text_at, way_in, words_in}
-use Rattle.story_format.specs.Holding.{IsHeld}
-use Rattle.story_format.specs.Making.{Worded, worded, worded_at, worded_from, texts_of, code_strings, strings_of, place_holder, code_number, entry_of, entries_of, entry_strings, code_of, codes_of, ways_of, tables_with, tables_of, world_of}
+use Rattle.story_format.specs.Codes.{codes_told, counts_of}
+use Rattle.story_format.specs.Facts.{description_code_in, description_code_of, exits_at, holder_in, is_room_in, name_in, rooms_before, text_at, way_in, words_in}
+use Rattle.story_format.specs.Holding.{AreHeld, IsHeld}
+use Rattle.story_format.specs.Making.{Worded, code_count, code_number, codes_in, entries_of, entry_of, entry_strings, place_holder, strings_of, strings_said, tables_of, tables_with, text_in, text_of, ways_of, worded, worded_at, worded_from, world_of}
 use Rattle.story_format.specs.Placed.{is_room_entry}
-use Rattle.story_format.specs.Soundness.{string_said}
-use Rattle.story_format.proofs.StoryLemmas.{all_at, parts, player_parts}
-use Rattle.story_format.proofs.Known.{any_left, fold_finds, found_by_number, is_known, is_told, told_in_strings}
+use Rattle.story_format.proofs.StoryLemmas.{all_at, get_dropped, get_within, parts, player_parts}
+use Rattle.story_format.proofs.Known.{found_by_number, is_known, said_known}
 use Rattle.story_format.proofs.OrderLemmas.{at_most_one}
-use Rattle.story_format.proofs.SoundLemmas.{said_back}
+use Rattle.story_format.proofs.SoundLemmas.{bytes_told}
 use Rattle.story_format.proofs.EntryLemmas.{counted_more, counted_same, entry_room, objects_back, objects_in}
-use Rattle.story_format.proofs.TableLemmas.{all_known, entries_counted, knows}
-use Rattle.story_format.proofs.Fits.{few_strings}
+use Rattle.story_format.proofs.TableLemmas.{all_known, entries_counted, entry_strings_known, knows}
 use Rattle.story_format.proofs.Stories.{few_objects}
 
 -- ---- names
@@ -40,13 +49,13 @@ use Rattle.story_format.proofs.Stories.{few_objects}
 text_back : (strings : List (List ℕ)) (text : List ℕ) → is_known strings text ≡ true → length strings < 65535 → text_at strings (number_in strings text) ≡ text
 text_back strings text known few = get_or_from_slice_get strings (number_in strings text) text [] (found_by_number strings text known few).1
 
-names_carried : (strings : List (List ℕ)) (ws : List Worded) (next o : ℕ) → list_all (is_told strings) ws ≡ true → length strings < 65535 → name_in strings (slice_get (entries_of strings next ws) o) ≡ told_name (slice_get (objects_in ws) o)
-unfolding entries_of entry_of
+names_carried : (strings : List (List ℕ)) (ws : List Worded) (next o : ℕ) → list_all (knows strings) ws ≡ true → length strings < 65535 → name_in strings (slice_get (entries_of strings next ws) o) ≡ told_name (slice_get (objects_in ws) o)
+unfolding entries_of entry_of entry_strings
 names_carried strings [] next o h few = refl
 names_carried strings (w ∷ ws) next zero h few =
-    let t = both_are (is_told strings w) (list_all (is_told strings) ws) h in
-    text_back strings w.object.name (both_are (is_known strings w.object.name) (list_all (is_known strings) (code_strings w)) t.0).0 few
-names_carried strings (w ∷ ws) next (suc o) h few = names_carried strings ws (next + length (code_strings w)) o (both_are (is_told strings w) (list_all (is_told strings) ws) h).1 few
+    let t = both_are (knows strings w) (list_all (knows strings) ws) h in
+    text_back strings w.object.name (both_are (is_known strings w.object.name) (list_all (is_known strings) w.words) t.0).0 few
+names_carried strings (w ∷ ws) next (suc o) h few = names_carried strings ws (next + code_count w.object.description) o (both_are (knows strings w) (list_all (knows strings) ws) h).1 few
 
 -- ---- words
 
@@ -68,46 +77,92 @@ words_carried strings (object ∷ objects) from next zero h few =
 words_carried strings (object ∷ objects) from next (suc o) h few =
     let t = both_are (knows strings (worded_at from object)) (list_all (knows strings) (worded_from (from + 1) objects)) h in
     let there : (from + 1) + o ≡ from + suc o = omega arith in
-    words_carried strings objects (from + 1) (next + length (code_strings (worded_at from object))) o t.1 few ∙ ap (λ n. told_words n (slice_get objects o)) there
+    words_carried strings objects (from + 1) (next + code_count object.description) o t.1 few ∙ ap (λ n. told_words n (slice_get objects o)) there
 
 none_before : (o : ℕ) → 0 + o ≡ o
 none_before o = omega arith
 
-words_known : (ws : List Worded) → list_all (knows (strings_of ws)) ws ≡ true
-unfolding strings_of
-words_known ws = all_known (strings_of ws) ws (λ text k. fold_finds (flat_map entry_strings ws ++ flat_map code_strings ws) [] text (any_left (bytes_eq text) (flat_map entry_strings ws) (flat_map code_strings ws) k))
+words_known : (ws : List Worded) (texts : List Text) → list_all (knows (strings_of ws texts)) ws ≡ true
+words_known ws texts = all_known (strings_of ws texts) ws (entry_strings_known ws texts)
 
 -- ---- descriptions
 
-get_behind : (front : List (List ℕ)) (x : List ℕ) (ys : List (List ℕ)) → slice_get (front ++ x ∷ ys) (length front) ≡ Some x
-get_behind [] x ys = refl
-get_behind (f ∷ fs) x ys = get_behind fs x ys
+-- the code of this number, if one describes
+abbrev code_told : ℕ → Option ℕ
+code_told n = if n == 65535 then None else Some n
 
-described : (strings codes front rest : List (List ℕ)) (d : Option (List ℕ)) → length strings < 65535 → length front < 65535 → list_all (is_known strings) (texts_of d) ≡ true → codes ≡ front ++ (map (code_of strings) (texts_of d) ++ rest)
-    → cond (eqb (code_number (length front) d) 65535) None (said strings (slice_get codes (code_number (length front) d))) ≡ d
-described strings codes front rest None few short known e = refl
-described strings codes front rest (Some text) few short known e =
-    let next : min (length front) 65535 ≡ length front = omega arith in
-    let told : eqb (length front) 65535 ≡ false = ne_eqb _ _ (λ k. omega (arith, k, short)) in
-    let code : slice_get codes (length front) ≡ Some (code_of strings text) = ap (λ (all : List (List ℕ)). slice_get all (length front)) e ∙ get_behind front (code_of strings text) rest in
-    let back : text_at strings (string_said (code_of strings text)) ≡ text = ap (text_at strings) (said_back strings text) ∙ text_back strings text (both_are (is_known strings text) true known).0 few in
-    rw (next, told, code) (ap (λ (t : List ℕ). Some t) back)
+-- neither is described, or the number of the code is the text's
+abbrev Told : List Text → Option ℕ → Option Text → Type 0
+Told all None None = Unit {0}
+Told all None (Some text) = ⊥
+Told all (Some n) None = ⊥
+Told all (Some n) (Some text) = slice_get all n ≡ Some text
 
-descriptions_carried : (strings codes front : List (List ℕ)) (ws : List Worded) (o : ℕ) → length strings < 65535 → length front + length ws < 65535 → list_all (is_told strings) ws ≡ true → codes ≡ front ++ flat_map (codes_of strings) ws
-    → description_in strings codes (slice_get (entries_of strings (length front) ws) o) ≡ told_description (slice_get (objects_in ws) o)
+entry_told : (all : List Text) (next more : ℕ) (d : Option (List ℕ)) → next < 65535 → length all ≡ next + (code_count d + more) → Told all (code_told (code_number next d)) (if is_some d then slice_get (drop next all) 0 else None)
+entry_told all next more None lt many = tt
+entry_told all next more (Some bytes) lt many =
+    let number : min next 65535 ≡ next = omega (arith, lt) in
+    let told : eqb next 65535 ≡ false = ne_eqb _ _ (λ k. omega (arith, k, lt)) in
+    let there = get_within all next (omega (arith, many)) in
+    let here : slice_get (drop next all) 0 ≡ Some there.0 = get_dropped next 0 next all (omega arith) ∙ there.1 in
+    rw (number, told, here) there.1
+
+none_dropped : {A : Type 0} (n : ℕ) → ◌≡◌ {A = List A} (drop n []) []
+none_dropped zero = refl
+none_dropped (suc n) = refl
+
+dropped : {A : Type 0} (n k : ℕ) (xs : List A) → drop k (drop n xs) ≡ drop (n + k) xs
+dropped zero k xs = let same : k ≡ 0 + k = omega arith in ap (λ m. drop m xs) same
+dropped (suc n) k [] = none_dropped k ∙ sym (none_dropped (suc n + k))
+dropped (suc n) k (x ∷ xs) = let same : suc (n + k) ≡ suc n + k = omega arith in dropped n k xs ∙ ap (λ m. drop m (x ∷ xs)) same
+
+descriptions_told : (strings : List (List ℕ)) (all : List Text) (ws : List Worded) (next o : ℕ) → next + length ws < 65535 → length all ≡ next + codes_in (objects_in ws)
+    → Told all (description_code_in (slice_get (entries_of strings next ws) o)) (text_in (objects_in ws) (drop next all) o)
 unfolding entries_of entry_of
-descriptions_carried strings codes front [] o few short h e = refl
-descriptions_carried strings codes front (w ∷ ws) zero few short h e =
-    let t = both_are (is_told strings w) (list_all (is_told strings) ws) h in
-    let known = (both_are (is_known strings w.object.name) (list_all (is_known strings) (code_strings w)) t.0).1 in
-    described strings codes front (flat_map (codes_of strings) ws) w.object.description few (omega (arith, short)) known e
-descriptions_carried strings codes front (w ∷ ws) (suc o) few short h e =
-    let t = both_are (is_told strings w) (list_all (is_told strings) ws) h in
-    let regrouped : codes ≡ (front ++ codes_of strings w) ++ flat_map (codes_of strings) ws = e ∙ sym (append_assoc front (codes_of strings w) (flat_map (codes_of strings) ws)) in
-    let count : length (front ++ codes_of strings w) ≡ length front + length (code_strings w) = length-append front (codes_of strings w) ∙ ap (λ n. length front + n) (length_mapped (code_of strings) (code_strings w)) in
-    let one = at_most_one w.object.description in
-    let later = descriptions_carried strings codes (front ++ codes_of strings w) ws o few (omega (arith, count, one, short)) t.1 regrouped in
-    ap (λ n. description_in strings codes (slice_get (entries_of strings n ws) o)) (sym count) ∙ later
+descriptions_told strings all [] next o lt many = tt
+descriptions_told strings all (w ∷ ws) next zero lt many = entry_told all next (codes_in (objects_in ws)) w.object.description (omega (arith, lt)) many
+descriptions_told strings all (w ∷ ws) next (suc o) lt many =
+    let count = code_count w.object.description in
+    let bound = at_most_one w.object.description in
+    subst (λ rest. Told all (description_code_in (slice_get (entries_of strings (next + count) ws) o)) (text_in (objects_in ws) rest o)) (sym (dropped next count all))
+    (descriptions_told strings all ws (next + count) o (omega (arith, lt, bound)) (omega (arith, many)))
+
+one_described : (next : ℕ) (d : Option (List ℕ)) → next < 65535 → is_some (code_told (code_number next d)) ≡ is_some d
+one_described next None lt = refl
+one_described next (Some bytes) lt =
+    let number : min next 65535 ≡ next = omega (arith, lt) in
+    let told : eqb next 65535 ≡ false = ne_eqb _ _ (λ k. omega (arith, k, lt)) in
+    rw (number, told) refl
+
+all_described : (strings : List (List ℕ)) (ws : List Worded) (next o : ℕ) → next + length ws < 65535 → is_some (description_code_in (slice_get (entries_of strings next ws) o)) ≡ is_some (told_description (slice_get (objects_in ws) o))
+unfolding entries_of entry_of
+all_described strings [] next o lt = refl
+all_described strings (w ∷ ws) next zero lt = one_described next w.object.description (omega (arith, lt))
+all_described strings (w ∷ ws) next (suc o) lt = let bound = at_most_one w.object.description in all_described strings ws (next + code_count w.object.description) o (omega (arith, lt, bound))
+
+-- the strings that a text says
+text_known : (strings : List (List ℕ)) (texts : List Text) (n : ℕ) (text : Text) → list_all (is_known strings) (strings_said texts) ≡ true → slice_get texts n ≡ Some text → list_all (is_known strings) (strings_of_text text) ≡ true
+text_known strings [] n text h at = absurd cc
+text_known strings (one ∷ texts) n text h at =
+    let known = is_known strings in
+    let t = both_are (list_all known (strings_of_text one)) (list_all known (strings_said texts)) (sym (list_all-append known (strings_of_text one) (strings_said texts)) ∙ h) in
+    by n at t.0 (λ m later. text_known strings texts m text t.1 later)
+  where
+    by : (n : ℕ) → slice_get (one ∷ texts) n ≡ Some text → list_all (is_known strings) (strings_of_text one) ≡ true → ((m : ℕ) → slice_get texts m ≡ Some text → list_all (is_known strings) (strings_of_text text) ≡ true) → list_all (is_known strings) (strings_of_text text) ≡ true
+    by zero at own later = let same : one ≡ text = cc in subst (λ x. list_all (is_known strings) (strings_of_text x) ≡ true) same own
+    by (suc m) at own later = later m at
+
+strings_stand : (strings xs : List (List ℕ)) → list_all (is_known strings) xs ≡ true → length strings < 65535 → AllByRecursion (λ bytes. text_at strings (number_in strings bytes) ≡ bytes) xs
+strings_stand strings [] h few = tt
+strings_stand strings (x ∷ xs) h few = let t = both_are (is_known strings x) (list_all (is_known strings) xs) h in (text_back strings x t.0 few, strings_stand strings xs t.1 few)
+
+module _ (z : Counts) (c : Codes) (string : List ℕ → ℕ) (texts : List Text) (fit : AllFit z string texts) (codes : c.codes ≡ codes_of_texts string texts)
+    (strings : (n : ℕ) (text : Text) → slice_get texts n ≡ Some text → AllByRecursion (λ bytes. text_at c.strings (string bytes) ≡ bytes) (strings_of_text text)) where
+  described_so : (s : Setting) (now : ActionNow) (w : World) (n : Option ℕ) (text : Option Text) → Told texts n text → said_by_code c s now w n ≡ says (undescribed s) now w text
+  described_so s now w None None told = refl
+  described_so s now w None (Some text) told = absurd told
+  described_so s now w (Some n) None told = absurd told
+  described_so s now w (Some n) (Some text) told = text_said string z c texts n text (undescribed s) now w fit codes told (strings n text told)
 
 -- ---- ways
 
@@ -134,7 +189,7 @@ room_same : (parents : List (Option ℕ)) (strings : List (List ℕ)) (ws : List
 unfolding entries_of
 room_same parents strings [] next o = refl
 room_same parents strings (w ∷ ws) next zero = entry_room parents strings next w
-room_same parents strings (w ∷ ws) next (suc o) = room_same parents strings ws (next + length (code_strings w)) o
+room_same parents strings (w ∷ ws) next (suc o) = room_same parents strings ws (next + code_count w.object.description) o
 
 -- a room's ways stand behind those of the rooms before it
 ways_there : (parents : List (Option ℕ)) (strings : List (List ℕ)) (ws : List Worded) (next o : ℕ) (w : Worded) → slice_get ws o ≡ Some w → is_under parents w.object.kind 1 ≡ true
@@ -146,7 +201,7 @@ ways_there parents strings (x ∷ ws) next zero w e room =
     let here : is_under parents x.object.kind 1 ≡ true = ap (λ (y : Worded). is_under parents y.object.kind 1) same ∙ room in
     rw here (ap (λ (y : Worded). Some y.object.exits) same)
 ways_there parents strings (x ∷ ws) next (suc o) w e room =
-    let after = next + length (code_strings x) in
+    let after = next + code_count x.object.description in
     let later = ways_there parents strings ws after o w e room in
     elim (either (is_under parents x.object.kind 1)) [
       | inl is ↦ rw (is, counted_more (is_room_entry parents) (entry_of strings next x) (take o (entries_of strings after ws)) (entry_room parents strings next x ∙ is)) later
@@ -197,23 +252,36 @@ start_carried parents rooms strings (player ∷ others) h =
 
 -- ---- all of it
 
-pub tale_carried : (t : Tale) → IsHeld t → Carries (tables_of t) t
-unfolding tables_with world_of
-tale_carried t held =
-    let ws = worded t.objects in
-    let strings = strings_of ws in
-    let back : objects_in ws ≡ t.objects = objects_back 0 t.objects in
-    let le = few_objects t held in
-    let few = few_strings ws held.words le in
-    let parents = t.declared.kinds in
-    let sorts = sorts_in t in
-    let exits : list_all (has_right_exits parents sorts) (objects_in ws) ≡ true = ap (list_all (has_right_exits parents sorts)) back ∙ held.made.exits in
-    let told = told_in_strings ws in
-    record {
-      count = entries_counted strings 0 ws ∙ sym (length_mapped (λ (w : Worded). w.object) ws) ∙ ap length back;
-      names = λ o. names_carried strings ws 0 o told few ∙ ap (λ (objects : List Object). told_name (slice_get objects o)) back;
-      words = λ o. words_carried strings t.objects 0 0 o (words_known ws) few ∙ ap (λ n. told_words n (slice_get t.objects o)) (none_before o);
-      descriptions = λ o. descriptions_carried strings (flat_map (codes_of strings) ws) [] ws o few (omega (arith, le)) told refl ∙ ap (λ (objects : List Object). told_description (slice_get objects o)) back;
-      ways = λ o direction. ways_found parents sorts strings ws o direction (slice_get ws o) refl exits ∙ ap (λ (objects : List Object). told_way (slice_get objects o) direction) back;
-      start = start_carried parents sorts.rooms strings ws (ap (begin_rightly parents sorts.rooms) back ∙ held.made.begins) ∙ ap (λ (objects : List Object). told_place (slice_get objects 0)) back;
-    }
+module _ (t : Tale) (texts : List Text) (held : IsHeld t) (are : AreHeld t texts) where
+  code_says : (o : ℕ) (s : Setting) (now : ActionNow) (w : World) → said_by_code (codes_told (tables_of t texts)) s now w (description_code_of (tables_of t texts) o) ≡ says (undescribed s) now w (text_of t texts o)
+  unfolding tables_with
+  code_says o s now w =
+      let ws = worded t.objects in
+      let strings = strings_of ws texts in
+      let back : objects_in ws ≡ t.objects = objects_back 0 t.objects in
+      let le = few_objects t held in
+      let many : length texts ≡ 0 + codes_in (objects_in ws) = omega (arith, are.many, ap codes_in back) in
+      described_so (counts_of (tables_of t texts)) (codes_told (tables_of t texts)) (number_in strings) texts are.fit (bytes_told strings texts are.said)
+      (λ n text at. strings_stand strings (strings_of_text text) (text_known strings texts n text (said_known ws texts) at) are.few) s now w (description_code_of (tables_of t texts) o) (text_of t texts o)
+      (subst (λ objects. Told texts (description_code_in (slice_get (entries_of strings 0 ws) o)) (text_in objects texts o)) back (descriptions_told strings texts ws 0 o (omega (arith, le)) many))
+
+  pub tale_carried : Carries (tables_of t texts) t texts
+  unfolding tables_with world_of
+  tale_carried =
+      let ws = worded t.objects in
+      let strings = strings_of ws texts in
+      let back : objects_in ws ≡ t.objects = objects_back 0 t.objects in
+      let le = few_objects t held in
+      let parents = t.declared.kinds in
+      let sorts = sorts_in t in
+      let exits : list_all (has_right_exits parents sorts) (objects_in ws) ≡ true = ap (list_all (has_right_exits parents sorts)) back ∙ held.made.exits in
+      let known = words_known ws texts in
+      record {
+        count = entries_counted strings 0 ws ∙ sym (length_mapped (λ (w : Worded). w.object) ws) ∙ ap length back;
+        names = λ o. names_carried strings ws 0 o known are.few ∙ ap (λ (objects : List Object). told_name (slice_get objects o)) back;
+        words = λ o. words_carried strings t.objects 0 0 o known are.few ∙ ap (λ n. told_words n (slice_get t.objects o)) (none_before o);
+        described = λ o. all_described strings ws 0 o (omega (arith, le)) ∙ ap (λ (objects : List Object). is_some (told_description (slice_get objects o))) back;
+        descriptions = code_says;
+        ways = λ o direction. ways_found parents sorts strings ws o direction (slice_get ws o) refl exits ∙ ap (λ (objects : List Object). told_way (slice_get objects o) direction) back;
+        start = start_carried parents sorts.rooms strings ws (ap (begin_rightly parents sorts.rooms) back ∙ held.made.begins) ∙ ap (λ (objects : List Object). told_place (slice_get objects 0)) back;
+      }

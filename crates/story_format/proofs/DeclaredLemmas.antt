@@ -19,7 +19,7 @@ use Rattle.world_meaning.specs.declared.tale.Object.{Object}
 use Rattle.object_words.proofs.StringLemmas.{length_mapped}
 use Rattle.story_format.specs.Formats.{fits_optional}
 use Rattle.story_format.specs.Layout.{kind_layout, granted_layout, variable_layout, world_layout}
-use Rattle.story_format.specs.Making.{Worded, worded_at, worded_from, code_strings, entry_of, entries_of, numbers_of, variable_of, world_of}
+use Rattle.story_format.specs.Making.{Worded, worded_at, worded_from, code_count, entry_of, entries_of, numbers_of, variable_of, world_of}
 use Rattle.story_format.specs.WorldChecks.{is_right_world, suits_kind}
 use Rattle.story_format.proofs.StoryLemmas.{all_weaker, three}
 
@@ -209,8 +209,8 @@ all_suit d strings [] o next h = refl
 all_suit d strings (object ∷ objects) o next h =
     let t = both_are (object_suits d object) (list_all (object_suits d) objects) h in
     let w = worded_at o object in
-    both (suits_kind (world_of d) (entry_of strings next w)) (list_all (suits_kind (world_of d)) (entries_of strings (next + length (code_strings w)) (worded_from (o + 1) objects))) (entry_suits d strings next w t.0)
-    (all_suit d strings objects (o + 1) (next + length (code_strings w)) t.1)
+    both (suits_kind (world_of d) (entry_of strings next w)) (list_all (suits_kind (world_of d)) (entries_of strings (next + code_count w.object.description) (worded_from (o + 1) objects))) (entry_suits d strings next w t.0)
+    (all_suit d strings objects (o + 1) (next + code_count w.object.description) t.1)
 
 -- ---- which has room in its bytes
 

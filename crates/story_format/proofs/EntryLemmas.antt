@@ -12,7 +12,7 @@ use Rattle.world_meaning.specs.Standing.{lead_rightly}
 use Rattle.world_meaning.specs.WellMade.{has_right_exits, kinds_of, places_of}
 use Rattle.world_meaning.specs.declared.sorts.Sorts.{Sorts}
 use Rattle.world_meaning.specs.declared.tale.Object.{Object}
-use Rattle.story_format.specs.Making.{Worded, worded_from, code_strings, relation_number, place_relation, place_holder, entry_of, entries_of, ways_of}
+use Rattle.story_format.specs.Making.{Worded, worded_from, code_count, relation_number, place_relation, place_holder, entry_of, entries_of, ways_of}
 use Rattle.story_format.specs.Placed.{held_by, is_room_entry, kinds_in, places_in, relation_of}
 
 -- the objects without their words
@@ -63,7 +63,7 @@ pub rooms_counted : (parents : List (Option ℕ)) (strings : List (List ℕ)) (w
 unfolding entries_of
 rooms_counted parents strings [] next = refl
 rooms_counted parents strings (w ∷ ws) next =
-    let later = next + length (code_strings w) in
+    let later = next + code_count w.object.description in
     elim (either (is_under parents w.object.kind 1)) [
       | inl is ↦ rw (is, rooms_counted parents strings ws later, counted_more (is_room_entry parents) (entry_of strings next w) (entries_of strings later ws) (entry_room parents strings next w ∙ is)) refl
       | inr isnt ↦ rw (isnt, rooms_counted parents strings ws later, counted_same (is_room_entry parents) (entry_of strings next w) (entries_of strings later ws) (entry_room parents strings next w ∙ isnt)) refl
@@ -84,11 +84,11 @@ rooms_lead parents sorts (w ∷ ws) h =
 pub kinds_back : (strings : List (List ℕ)) (next : ℕ) (ws : List Worded) → kinds_in (entries_of strings next ws) ≡ kinds_of (objects_in ws)
 unfolding entries_of entry_of
 kinds_back strings next [] = refl
-kinds_back strings next (w ∷ ws) = ap (λ (ks : List ℕ). w.object.kind ∷ ks) (kinds_back strings (next + length (code_strings w)) ws)
+kinds_back strings next (w ∷ ws) = ap (λ (ks : List ℕ). w.object.kind ∷ ks) (kinds_back strings (next + code_count w.object.description) ws)
 
 pub places_back : (strings : List (List ℕ)) (next : ℕ) (ws : List Worded) → places_in (entries_of strings next ws) ≡ places_of (objects_in ws)
 unfolding entries_of entry_of
 places_back strings next [] = refl
 places_back strings next (w ∷ ws) =
-    ap (λ (p : Option Place). p ∷ places_in (entries_of strings (next + length (code_strings w)) ws)) (place_back w.object.place)
-    ∙ ap (λ (ps : List (Option Place)). w.object.place ∷ ps) (places_back strings (next + length (code_strings w)) ws)
+    ap (λ (p : Option Place). p ∷ places_in (entries_of strings (next + code_count w.object.description) ws)) (place_back w.object.place)
+    ∙ ap (λ (ps : List (Option Place)). w.object.place ∷ ps) (places_back strings (next + code_count w.object.description) ws)

@@ -23,17 +23,18 @@ use Rattle.world_meaning.specs.WellMade.{IsWellMade, has_right_exits, kinds_of, 
 use Rattle.world_meaning.specs.declared.declared.Declared.{Declared}
 use Rattle.world_meaning.specs.declared.tale.Object.{Object}
 use Rattle.object_words.specs.Mentions.{mention, number_or_none, number_in}
+use Rattle.play_meaning.specs.Trees.{Text}
 use Rattle.object_words.proofs.StringLemmas.{length_mapped}
 use Rattle.story_format.specs.Formats.{fits_optional}
 use Rattle.story_format.specs.Layout.{entry_layout, way_layout, exits_layout, action_layout, line_layout, rule_layout, book_layout, scene_layout, rules_layout, tables_layout}
-use Rattle.story_format.specs.Making.{Worded, worded, numbers_of, texts_of, entry_strings, code_strings, strings_of, article_number, relation_number, place_relation, place_holder, code_number, entry_of, entries_of, code_of, codes_of, ways_of, tables_with}
+use Rattle.story_format.specs.Making.{Worded, worded, code_bytes, code_count, numbers_of, entry_strings, strings_of, strings_said, article_number, relation_number, place_relation, place_holder, code_number, entry_of, entries_of, ways_of, tables_with}
 use Rattle.story_format.specs.Holding.{has_few_words, has_short_texts, is_short, is_short_or_none}
 use Rattle.story_format.proofs.StoryLemmas.{all_both, all_mapped, all_weaker, few_begin, three}
-use Rattle.story_format.proofs.OrderLemmas.{at_most_one, mention_new, mention_old}
+use Rattle.story_format.proofs.OrderLemmas.{mention_new, mention_old}
 use Rattle.story_format.proofs.DeclaredLemmas.{all_own_fit, are_bytes, declared_parts, few_kinds, fits_own, is_word, world_fits}
 use Rattle.story_format.proofs.WordFacts.{all_mentioned, is_good}
 use Rattle.story_format.proofs.EntryLemmas.{objects_back, objects_in, rooms_lead}
-use Rattle.story_format.proofs.TableLemmas.{all_good_words, codes_few, entries_counted, good_words}
+use Rattle.story_format.proofs.TableLemmas.{all_good_words, entries_counted, good_words}
 
 -- ---- how many strings there are
 
@@ -55,16 +56,12 @@ named_few (w ∷ ws) h =
     let later = named_few ws t.1 in
     omega (arith, le, later, length-append w.words (flat_map entry_strings ws))
 
-said_few : (ws : List Worded) → length (flat_map code_strings ws) ≤ length ws
-said_few [] = omega arith
-said_few (w ∷ ws) = omega (arith, said_few ws, at_most_one w.object.description, length-append (code_strings w) (flat_map code_strings ws))
-
--- at most 34 strings an object
-pub few_strings : (ws : List Worded) → list_all has_few_words ws ≡ true → length ws ≤ 1000 → length (strings_of ws) < 65535
+-- no more than are named and said
+pub few_strings : (ws : List Worded) (texts : List Text) → list_all has_few_words ws ≡ true → length (strings_of ws texts) ≤ 33 * length ws + length (strings_said texts)
 unfolding strings_of
-few_strings ws h few =
-    let all = no_longer (flat_map entry_strings ws ++ flat_map code_strings ws) [] in
-    omega (arith, few, all, named_few ws h, said_few ws, length-append (flat_map entry_strings ws) (flat_map code_strings ws))
+few_strings ws texts h =
+    let all = no_longer (flat_map entry_strings ws ++ strings_said texts) [] in
+    omega (arith, all, named_few ws h, length-append (flat_map entry_strings ws) (strings_said texts))
 
 -- ---- each string is short
 
@@ -81,22 +78,11 @@ names_short (w ∷ ws) h k =
     both (is_short w.object.name) (list_all is_short (w.words ++ flat_map entry_strings ws)) u.0
     (list_all-append is_short w.words (flat_map entry_strings ws) ∙ both (list_all is_short w.words) (list_all is_short (flat_map entry_strings ws)) (words_short w.words v.0) (names_short ws t.1 v.1))
 
-text_short : (d : Option (List ℕ)) → is_short_or_none d ≡ true → list_all is_short (texts_of d) ≡ true
-text_short None h = refl
-text_short (Some text) h = both (is_short text) true h refl
-
-texts_short : (ws : List Worded) → list_all has_short_texts (objects_in ws) ≡ true → list_all is_short (flat_map code_strings ws) ≡ true
-texts_short [] h = refl
-texts_short (w ∷ ws) h =
-    let t = both_are (has_short_texts w.object) (list_all has_short_texts (objects_in ws)) h in
-    let u = both_are (is_short w.object.name) (is_short_or_none w.object.description) t.0 in
-    list_all-append is_short (code_strings w) (flat_map code_strings ws) ∙ both (list_all is_short (code_strings w)) (list_all is_short (flat_map code_strings ws)) (text_short w.object.description u.1) (texts_short ws t.1)
-
-strings_short : (ws : List Worded) → list_all has_short_texts (objects_in ws) ≡ true → list_all good_words ws ≡ true → list_all is_short (strings_of ws) ≡ true
+pub strings_short : (ws : List Worded) (texts : List Text) → list_all has_short_texts (objects_in ws) ≡ true → list_all good_words ws ≡ true → list_all is_short (strings_said texts) ≡ true → list_all is_short (strings_of ws texts) ≡ true
 unfolding strings_of
-strings_short ws h k =
-    all_mentioned is_short (flat_map entry_strings ws ++ flat_map code_strings ws) [] refl
-    (list_all-append is_short (flat_map entry_strings ws) (flat_map code_strings ws) ∙ both (list_all is_short (flat_map entry_strings ws)) (list_all is_short (flat_map code_strings ws)) (names_short ws h k) (texts_short ws h))
+strings_short ws texts h k short =
+    all_mentioned is_short (flat_map entry_strings ws ++ strings_said texts) [] refl
+    (list_all-append is_short (flat_map entry_strings ws) (strings_said texts) ∙ both (list_all is_short (flat_map entry_strings ws)) (list_all is_short (strings_said texts)) (names_short ws h k) short)
 
 -- ---- each entry has room
 
@@ -199,7 +185,7 @@ entries_fit strings next (w ∷ ws) few h k =
     let t = both_are (has_few_words w) (list_all has_few_words ws) few in
     let u = both_are (fits_object w.object) (list_all fits_object (objects_in ws)) h in
     let v = both_are (fits_own w.object) (list_all fits_own (objects_in ws)) k in
-    both (entry_layout.format.fits (entry_of strings next w)) (list_all entry_layout.format.fits (entries_of strings (next + length (code_strings w)) ws)) (entry_fits strings next w t.0 u.0 v.0) (entries_fit strings (next + length (code_strings w)) ws t.1 u.1 v.1)
+    both (entry_layout.format.fits (entry_of strings next w)) (list_all entry_layout.format.fits (entries_of strings (next + code_count w.object.description) ws)) (entry_fits strings next w t.0 u.0 v.0) (entries_fit strings (next + code_count w.object.description) ws t.1 u.1 v.1)
 
 -- ---- each way has room
 
@@ -227,36 +213,26 @@ ways_few parents (w ∷ ws) =
       | inr isnt ↦ rw isnt (omega (arith, ways_few parents ws))
     ]
 
--- ---- each code has room
-
-codes_short : (strings texts : List (List ℕ)) → list_all is_short (map (code_of strings) texts) ≡ true
-codes_short strings [] = refl
-codes_short strings (x ∷ texts) = both (is_short (code_of strings x)) (list_all is_short (map (code_of strings) texts)) refl (codes_short strings texts)
-
-all_codes_short : (strings : List (List ℕ)) (ws : List Worded) → list_all is_short (flat_map (codes_of strings) ws) ≡ true
-all_codes_short strings [] = refl
-all_codes_short strings (w ∷ ws) =
-    list_all-append is_short (codes_of strings w) (flat_map (codes_of strings) ws) ∙ both (list_all is_short (codes_of strings w)) (list_all is_short (flat_map (codes_of strings) ws)) (codes_short strings (code_strings w)) (all_codes_short strings ws)
-
 -- ---- all of it
 
-pub tables_fit : (d : Declared) (objects : List Object) → IsWellMade (record { declared = d; objects = objects }) → list_all has_short_texts objects ≡ true → list_all has_few_words (worded objects) ≡ true → tables_layout.format.fits (tables_with d (worded objects)) ≡ true
+pub tables_fit : (d : Declared) (objects : List Object) (said : List Text) → IsWellMade (record { declared = d; objects = objects }) → list_all has_short_texts objects ≡ true → list_all has_few_words (worded objects) ≡ true
+    → length (strings_of (worded objects) said) < 65535 → list_all is_short (strings_said said) ≡ true → length (code_bytes (strings_of (worded objects) said) said) < 65536 → list_all is_short (code_bytes (strings_of (worded objects) said) said) ≡ true
+    → tables_layout.format.fits (tables_with d (worded objects) said) ≡ true
 unfolding tables_layout tables_with rules_layout action_layout line_layout rule_layout book_layout scene_layout
-tables_fit d objects made texts few_words =
+tables_fit d objects said made texts few_words few short few_codes codes_short =
     let ws = worded objects in
-    let strings = strings_of ws in
+    let strings = strings_of ws said in
     let back : objects_in ws ≡ objects = objects_back 0 objects in
     let count : length ws ≡ length objects = sym (length_mapped (λ (w : Worded). w.object) ws) ∙ ap length back in
     let sorts = sorts_of d.kinds (kinds_of objects) in
     let few_objects = few_begin d.kinds sorts.rooms objects made.begins in
     let few_of_kinds : length (kinds_of objects) ≤ 1000 = omega (arith, few_objects, length_mapped (λ (o : Object). o.kind) objects) in
     let le : length ws ≤ 1000 = omega (arith, few_objects, count) in
-    let few = few_strings ws few_words le in
     let string_count : ltb (length strings) 65536 ≡ true = lt-ltb _ _ (omega (arith, few)) in
-    let strings_fit = strings_short ws (ap (list_all has_short_texts) back ∙ texts) (all_good_words 0 objects texts) in
+    let strings_fit = strings_short ws said (ap (list_all has_short_texts) back ∙ texts) (all_good_words 0 objects texts) short in
     let entry_count : ltb (length (entries_of strings 0 ws)) 65536 ≡ true = lt-ltb _ _ (omega (arith, le, entries_counted strings 0 ws)) in
     let entries = entries_fit strings 0 ws few_words (ap (list_all fits_object) back ∙ objects_fit d objects made) (ap (list_all fits_own) back ∙ all_own_fit d made.declared objects made.suited) in
     let way_count : ltb (length (flat_map (ways_of d.kinds) ws)) 65536 ≡ true = lt-ltb _ _ (omega (arith, le, ways_few d.kinds ws)) in
     let exits = all_weaker (lead_rightly sorts) exits_layout.format.fits (exits_fit d.kinds (kinds_of objects) few_of_kinds) (flat_map (ways_of d.kinds) ws) (rooms_lead d.kinds sorts ws (ap (list_all (has_right_exits d.kinds sorts)) back ∙ made.exits)) in
-    let code_count : ltb (length (flat_map (codes_of strings) ws)) 65536 ≡ true = lt-ltb _ _ (omega (arith, le, codes_few strings ws)) in
-    rw (string_count, strings_fit, world_fits d made.declared, entry_count, entries, way_count, exits, code_count, all_codes_short strings ws) refl
+    let code_few : ltb (length (code_bytes strings said)) 65536 ≡ true = lt-ltb _ _ few_codes in
+    rw (string_count, strings_fit, world_fits d made.declared, entry_count, entries, way_count, exits, code_few, codes_short) refl

@@ -1,5 +1,5 @@
 -- The strings of a tale hold what its objects name and say.
-use Rattle.std.proofs.Common.{◌≡◌, ℕ, suc, ◌+◌, ◌<◌, Bool, true, false, ◌&&◌, ◌||◌, ltb, List, [], ◌∷◌, ◌++◌, length, Some, refl, sym, ap, arith, inl, inr}
+use Rattle.std.proofs.Common.{◌≡◌, ℕ, suc, ◌+◌, ◌<◌, Bool, true, false, ◌||◌, ltb, List, [], ◌∷◌, ◌++◌, length, Some, refl, sym, ap, ◌∙◌, arith, inl, inr}
 use Rattle.std.specs.Prelude.{slice_get, min, fold}
 use Rattle.std.specs.List.{list_any, list_all, flat_map, position_or_len}
 use Rattle.std.specs.Str.{bytes_eq}
@@ -7,9 +7,10 @@ use Rattle.std.proofs.lemmas.Bool.{lt-ltb}
 use Rattle.std.proofs.lemmas.List.Folds.{list_any-append}
 use Rattle.std.proofs.lemmas.Slice.Eq.{bytes_eq-Decides}
 use Rattle.world_meaning.proofs.Bools.{either}
-use Rattle.world_meaning.proofs.Bools.{both}
+use Rattle.world_meaning.proofs.Bools.{both, both_are}
+use Rattle.play_meaning.specs.Trees.{Text}
 use Rattle.object_words.specs.Mentions.{mention, number_in}
-use Rattle.story_format.specs.Making.{Worded, entry_strings, code_strings, strings_of}
+use Rattle.story_format.specs.Making.{Worded, entry_strings, strings_of, strings_said}
 
 pub text_is_itself : (text : List ℕ) → bytes_eq text text ≡ true
 text_is_itself text = (bytes_eq-Decides text text).1 refl
@@ -80,28 +81,30 @@ any_right p xs ys h = rw (list_any-append p xs ys) (or_right (list_any p xs) (li
 abbrev pub is_known : List (List ℕ) → List ℕ → Bool
 is_known strings text = list_any (bytes_eq text) strings
 
--- its name and its description are known
-abbrev pub is_told : List (List ℕ) → Worded → Bool
-is_told strings w = is_known strings w.object.name && list_all (is_known strings) (code_strings w)
-
 pub texts_known : (whole strings : List (List ℕ)) → ((text : List ℕ) → list_any (bytes_eq text) strings ≡ true → is_known whole text ≡ true) → list_all (is_known whole) strings ≡ true
 texts_known whole [] f = refl
 texts_known whole (s ∷ ss) f =
     both (is_known whole s) (list_all (is_known whole) ss) (f s (rw (text_is_itself s) refl)) (texts_known whole ss (λ text h. f text (or_right (bytes_eq text s) (list_any (bytes_eq text) ss) h)))
 
-all_told : (whole : List (List ℕ)) (ws : List Worded) → ((text : List ℕ) → list_any (bytes_eq text) (flat_map entry_strings ws) ≡ true → is_known whole text ≡ true)
-    → ((text : List ℕ) → list_any (bytes_eq text) (flat_map code_strings ws) ≡ true → is_known whole text ≡ true) → list_all (is_told whole) ws ≡ true
-unfolding entry_strings
-all_told whole [] f g = refl
-all_told whole (w ∷ ws) f g =
-    let named : is_known whole w.object.name ≡ true = f w.object.name (any_left (bytes_eq w.object.name) (entry_strings w) (flat_map entry_strings ws) (rw (text_is_itself w.object.name) refl)) in
-    let told : list_all (is_known whole) (code_strings w) ≡ true = texts_known whole (code_strings w) (λ text k. g text (any_left (bytes_eq text) (code_strings w) (flat_map code_strings ws) k)) in
-    both (is_told whole w) (list_all (is_told whole) ws) (both (is_known whole w.object.name) (list_all (is_known whole) (code_strings w)) named told)
-    (all_told whole ws (λ text k. f text (any_right (bytes_eq text) (entry_strings w) (flat_map entry_strings ws) k)) (λ text k. g text (any_right (bytes_eq text) (code_strings w) (flat_map code_strings ws) k)))
+-- a known text is what all strings are
+pub known_too : (p : List ℕ → Bool) (strings : List (List ℕ)) (text : List ℕ) → is_known strings text ≡ true → list_all p strings ≡ true → p text ≡ true
+known_too p [] text known h = absurd cc
+known_too p (s ∷ ss) text known h =
+    let t = both_are (p s) (list_all p ss) h in
+    elim (either (bytes_eq text s)) [
+      | inl is ↦ ap p (same_texts text s is) ∙ t.0
+      | inr isnt ↦ let later : list_any (bytes_eq text) ss ≡ true = rw isnt at known in known_too p ss text later t.1
+    ]
 
-pub told_in_strings : (ws : List Worded) → list_all (is_told (strings_of ws)) ws ≡ true
+pub all_known_too : (p : List ℕ → Bool) (strings texts : List (List ℕ)) → list_all (is_known strings) texts ≡ true → list_all p strings ≡ true → list_all p texts ≡ true
+all_known_too p strings [] known h = refl
+all_known_too p strings (x ∷ texts) known h =
+    let t = both_are (is_known strings x) (list_all (is_known strings) texts) known in
+    both (p x) (list_all p texts) (known_too p strings x t.0 h) (all_known_too p strings texts t.1 h)
+
+-- the strings of a story are those that its texts say, too
+pub said_known : (ws : List Worded) (texts : List Text) → list_all (is_known (strings_of ws texts)) (strings_said texts) ≡ true
 unfolding strings_of
-told_in_strings ws =
-    all_told (strings_of ws) ws
-    (λ text k. fold_finds (flat_map entry_strings ws ++ flat_map code_strings ws) [] text (any_left (bytes_eq text) (flat_map entry_strings ws) (flat_map code_strings ws) k))
-    (λ text k. fold_finds (flat_map entry_strings ws ++ flat_map code_strings ws) [] text (any_right (bytes_eq text) (flat_map entry_strings ws) (flat_map code_strings ws) k))
+said_known ws texts =
+    texts_known (strings_of ws texts) (strings_said texts)
+    (λ text k. fold_finds (flat_map entry_strings ws ++ strings_said texts) [] text (any_right (bytes_eq text) (flat_map entry_strings ws) (strings_said texts) k))

@@ -16,10 +16,12 @@ pub mod Carried
 pub mod RoomLemmas
 pub mod Beginnings
 pub mod Telling
-pub mod PlainCodes
+pub mod Mentioned
+pub mod PlainTexts
 pub mod LoadedCodes
 pub mod Counting
 pub mod Naming
 pub mod SoundOrNot
 pub mod ToldCodes
 pub mod ToldStories
+pub mod CodedTables

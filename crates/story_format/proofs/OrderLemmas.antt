@@ -6,14 +6,15 @@ use Rattle.std.specs.Str.{bytes_eq}
 use Rattle.std.proofs.lemmas.Bool.{lt-ltb, ne_eqb, eq-eqb, eqb-true, le-leb}
 use Rattle.std.proofs.lemmas.List.{length-append, append-nil}
 use Rattle.world_meaning.proofs.Bools.{both, both_are, either}
+use Rattle.play_meaning.specs.Trees.{Text}
 use Rattle.object_words.specs.Mentions.{mention, first_mentions, number_in}
-use Rattle.story_format.specs.Making.{Worded, texts_of, entry_strings, code_strings, strings_of, code_number, entry_of, entries_of, codes_of, code_of}
+use Rattle.story_format.specs.Making.{Worded, code_count, code_number, codes_in, entry_of, entry_strings, entries_of, strings_of, strings_said}
 use Rattle.story_format.specs.Checks.{are_distinct, are_named_in_order, strings_named, codes_named, is_some_code}
 use Rattle.code_table.specs.Strings.{counted_on}
 use Rattle.story_format.specs.Soundness.{are_in_turn}
-use Rattle.object_words.proofs.StringLemmas.{length_mapped}
 use Rattle.object_words.proofs.Folds.{fold_both}
 use Rattle.story_format.proofs.Counting.{counted_rest}
+use Rattle.story_format.proofs.EntryLemmas.{objects_in}
 use Rattle.story_format.proofs.Known.{passes_at, text_is_itself}
 
 -- ---- no string twice
@@ -35,9 +36,9 @@ rebuilt : (strings seen : List (List ℕ)) → first_mentions seen ≡ seen → 
 rebuilt [] seen h = h
 rebuilt (x ∷ strings) seen h = rebuilt strings (mention seen x) (rebuilt_step seen x h)
 
-pub strings_distinct : (ws : List Worded) → are_distinct (strings_of ws) ≡ true
+pub strings_distinct : (ws : List Worded) (texts : List Text) → are_distinct (strings_of ws texts) ≡ true
 unfolding are_distinct strings_of
-strings_distinct ws = eq-eqb _ _ (ap length (rebuilt (flat_map entry_strings ws ++ flat_map code_strings ws) [] refl))
+strings_distinct ws texts = eq-eqb _ _ (ap length (rebuilt (flat_map entry_strings ws ++ strings_said texts) [] refl))
 
 -- ---- strings are named in order
 
@@ -106,12 +107,12 @@ pub numbers_named : (strings : List (List ℕ)) (next : ℕ) (ws : List Worded) 
 unfolding entries_of entry_of entry_strings
 numbers_named strings next [] = refl
 numbers_named strings next (w ∷ ws) =
-    ap (λ (later : List ℕ). number_in strings w.object.name ∷ (map (number_in strings) (w.words) ++ later)) (numbers_named strings (next + length (code_strings w)) ws)
+    ap (λ (later : List ℕ). number_in strings w.object.name ∷ (map (number_in strings) (w.words) ++ later)) (numbers_named strings (next + code_count w.object.description) ws)
     ∙ ap (λ (later : List ℕ). number_in strings w.object.name ∷ later) (sym (map_both (number_in strings) (w.words) (flat_map entry_strings ws)))
 
-pub strings_all_named : (ws : List Worded) → length (strings_of ws) < 65535 → counted_on 0 (map (number_in (strings_of ws)) (flat_map entry_strings ws ++ flat_map code_strings ws)) ≡ Some (length (strings_of ws))
+pub strings_all_named : (ws : List Worded) (texts : List Text) → length (strings_of ws texts) < 65535 → counted_on 0 (map (number_in (strings_of ws texts)) (flat_map entry_strings ws ++ strings_said texts)) ≡ Some (length (strings_of ws texts))
 unfolding strings_of
-strings_all_named ws few = all_ordered (strings_of ws) (flat_map entry_strings ws ++ flat_map code_strings ws) [] refl few
+strings_all_named ws texts few = all_ordered (strings_of ws texts) (flat_map entry_strings ws ++ strings_said texts) [] refl few
 
 -- where all are named in order, those in front are
 in_order_in_front : (ns ms : List ℕ) (count next : ℕ) → counted_on next (ns ++ ms) ≡ Some count → are_named_in_order next ns ≡ true
@@ -121,12 +122,12 @@ in_order_in_front (n ∷ ns) ms count next h =
     let t = counted_rest count next n (ns ++ ms) h in
     both (leb n next) (are_named_in_order (max next (n + 1)) ns) (le-leb _ _ t.0) (in_order_in_front ns ms count (max next (n + 1)) t.1)
 
-pub strings_in_order : (ws : List Worded) → length (strings_of ws) < 65535 → are_named_in_order 0 (flat_map strings_named (entries_of (strings_of ws) 0 ws)) ≡ true
-strings_in_order ws few =
-    let strings = strings_of ws in
-    let parts = map_both (number_in strings) (flat_map entry_strings ws) (flat_map code_strings ws) in
+pub strings_in_order : (ws : List Worded) (texts : List Text) → length (strings_of ws texts) < 65535 → are_named_in_order 0 (flat_map strings_named (entries_of (strings_of ws texts) 0 ws)) ≡ true
+strings_in_order ws texts few =
+    let strings = strings_of ws texts in
+    let parts = map_both (number_in strings) (flat_map entry_strings ws) (strings_said texts) in
     ap (are_named_in_order 0) (numbers_named strings 0 ws)
-    ∙ in_order_in_front (map (number_in strings) (flat_map entry_strings ws)) (map (number_in strings) (flat_map code_strings ws)) (length strings) 0 (sym (ap (counted_on 0) parts) ∙ strings_all_named ws few)
+    ∙ in_order_in_front (map (number_in strings) (flat_map entry_strings ws)) (map (number_in strings) (strings_said texts)) (length strings) 0 (sym (ap (counted_on 0) parts) ∙ strings_all_named ws texts few)
 
 -- ---- codes are named in order
 
@@ -134,11 +135,11 @@ pub entry_code : (strings : List (List ℕ)) (next : ℕ) (w : Worded) → (entr
 unfolding entry_of
 entry_code strings next w = refl
 
-pub at_most_one : (d : Option (List ℕ)) → length (texts_of d) ≤ 1
+pub at_most_one : (d : Option (List ℕ)) → code_count d ≤ 1
 at_most_one None = omega arith
 at_most_one (Some text) = omega arith
 
-one_in_turn : (next : ℕ) (d : Option (List ℕ)) (later : List ℕ) → next < 65535 → are_in_turn (next + length (texts_of d)) (filter is_some_code later) ≡ true → are_in_turn next (filter is_some_code (code_number next d ∷ later)) ≡ true
+one_in_turn : (next : ℕ) (d : Option (List ℕ)) (later : List ℕ) → next < 65535 → are_in_turn (next + code_count d) (filter is_some_code later) ≡ true → are_in_turn next (filter is_some_code (code_number next d ∷ later)) ≡ true
 unfolding are_in_turn
 one_in_turn next None later lt h = let same : next + 0 ≡ next = omega arith in ap (λ k. are_in_turn k (filter is_some_code later)) (sym same) ∙ h
 one_in_turn next (Some text) later lt h =
@@ -151,10 +152,10 @@ unfolding entries_of are_in_turn
 codes_in_turn strings [] next lt = refl
 codes_in_turn strings (w ∷ ws) next lt =
     let bound = at_most_one w.object.description in
-    rw (entry_code strings next w) (one_in_turn next w.object.description (map (λ e. e.description) (entries_of strings (next + length (code_strings w)) ws)) (omega (arith, lt))
-    (codes_in_turn strings ws (next + length (code_strings w)) (omega (arith, bound, lt))))
+    rw (entry_code strings next w) (one_in_turn next w.object.description (map (λ e. e.description) (entries_of strings (next + code_count w.object.description) ws)) (omega (arith, lt))
+    (codes_in_turn strings ws (next + code_count w.object.description) (omega (arith, bound, lt))))
 
-one_counted : (next : ℕ) (d : Option (List ℕ)) (later : List ℕ) (count : ℕ) → next < 65535 → length (filter is_some_code later) ≡ count → length (filter is_some_code (code_number next d ∷ later)) ≡ length (texts_of d) + count
+one_counted : (next : ℕ) (d : Option (List ℕ)) (later : List ℕ) (count : ℕ) → next < 65535 → length (filter is_some_code later) ≡ count → length (filter is_some_code (code_number next d ∷ later)) ≡ code_count d + count
 one_counted next None later count lt h = omega (arith, h)
 one_counted next (Some text) later count lt h =
     let number : min next 65535 ≡ next = omega arith in
@@ -162,17 +163,18 @@ one_counted next (Some text) later count lt h =
     rw (number, told) (omega (arith, h))
 
 -- so many are named as there are
-pub codes_counted : (strings : List (List ℕ)) (ws : List Worded) (next : ℕ) → next + length ws < 65535 → length (codes_named (entries_of strings next ws)) ≡ length (flat_map (codes_of strings) ws)
+pub codes_counted : (strings : List (List ℕ)) (ws : List Worded) (next : ℕ) → next + length ws < 65535 → length (codes_named (entries_of strings next ws)) ≡ codes_in (objects_in ws)
 unfolding entries_of
 codes_counted strings [] next lt = refl
 codes_counted strings (w ∷ ws) next lt =
     let bound = at_most_one w.object.description in
-    let one : length (codes_of strings w) ≡ length (code_strings w) = length_mapped (code_of strings) (code_strings w) in
-    let sum : length (codes_of strings w ++ flat_map (codes_of strings) ws) ≡ length (codes_of strings w) + length (flat_map (codes_of strings) ws) = length-append (codes_of strings w) (flat_map (codes_of strings) ws) in
-    let rest = codes_counted strings ws (next + length (code_strings w)) (omega (arith, bound, lt)) in
-    let all : length (filter is_some_code (code_number next w.object.description ∷ map (λ e. e.description) (entries_of strings (next + length (code_strings w)) ws))) ≡ length (code_strings w) + length (flat_map (codes_of strings) ws) =
-    one_counted next w.object.description (map (λ e. e.description) (entries_of strings (next + length (code_strings w)) ws)) (length (flat_map (codes_of strings) ws)) (omega (arith, lt)) rest in
-    rw (entry_code strings next w) (all ∙ omega (arith, one, sum))
+    let rest = codes_counted strings ws (next + code_count w.object.description) (omega (arith, bound, lt)) in
+    rw (entry_code strings next w) (one_counted next w.object.description (map (λ e. e.description) (entries_of strings (next + code_count w.object.description) ws)) (codes_in (objects_in ws)) (omega (arith, lt)) rest)
+
+-- they are no more than the objects
+pub codes_few : (ws : List Worded) → codes_in (objects_in ws) ≤ length ws
+codes_few [] = omega arith
+codes_few (w ∷ ws) = omega (arith, codes_few ws, at_most_one w.object.description)
 
 in_turn_in_order : (ns : List ℕ) (next : ℕ) → are_in_turn next ns ≡ true → are_named_in_order next ns ≡ true
 unfolding are_named_in_order are_in_turn
@@ -184,5 +186,5 @@ in_turn_in_order (n ∷ ns) next h =
     let up : max next (n + 1) ≡ next + 1 = omega (arith, here) in
     both (leb n next) (are_named_in_order (max next (n + 1)) ns) low (ap (λ k. are_named_in_order k ns) up ∙ in_turn_in_order ns (next + 1) t.1)
 
-pub codes_in_order : (ws : List Worded) → length ws < 65535 → are_named_in_order 0 (codes_named (entries_of (strings_of ws) 0 ws)) ≡ true
-codes_in_order ws lt = in_turn_in_order (codes_named (entries_of (strings_of ws) 0 ws)) 0 (codes_in_turn (strings_of ws) ws 0 (omega arith))
+pub codes_in_order : (strings : List (List ℕ)) (ws : List Worded) → length ws < 65535 → are_named_in_order 0 (codes_named (entries_of strings 0 ws)) ≡ true
+codes_in_order strings ws lt = in_turn_in_order (codes_named (entries_of strings 0 ws)) 0 (codes_in_turn strings ws 0 (omega arith))

@@ -5,7 +5,7 @@ use Rattle.std.specs.List.{list_any, list_all, flat_map}
 use Rattle.std.specs.Str.{bytes_eq}
 use Rattle.std.specs.Option.{option_map}
 use Rattle.std.proofs.lemmas.Bool.{lt-ltb, eq-eqb, ne_eqb, le-leb}
-use Rattle.std.proofs.lemmas.List.{length-append, take-map}
+use Rattle.std.proofs.lemmas.List.{take-map}
 use Rattle.std.proofs.lemmas.Option.{slice_get-map, get_or_from_slice_get}
 use Rattle.std.proofs.lemmas.Slice.Eq.{bytes_eq-Decides}
 use Rattle.world_meaning.proofs.Bools.{both, both_are, either}
@@ -25,11 +25,12 @@ use Rattle.world_meaning.specs.WellMade.{IsWellMade, are_directions, begin_right
 use Rattle.world_meaning.specs.declared.declared.Declared.{Declared}
 use Rattle.world_meaning.specs.declared.tale.Object.{Object}
 use Rattle.object_words.specs.Mentions.{number_in}
+use Rattle.play_meaning.specs.Trees.{Text}
 use Rattle.object_words.specs.Words.{words_for}
 use Rattle.object_words.proofs.StringLemmas.{length_mapped}
 use Rattle.story_format.specs.declared.row.Sizes.{Sizes}
 use Rattle.story_format.specs.declared.tables.Entry.{Entry}
-use Rattle.story_format.specs.Making.{Worded, worded_at, worded_from, worded, texts_of, entry_strings, code_strings, strings_of, article_number, relation_number, place_relation, place_holder, code_number, entry_of, entries_of, code_of, codes_of, ways_of, tables_with, world_of}
+use Rattle.story_format.specs.Making.{Worded, worded_at, worded_from, worded, code_bytes, code_count, codes_in, entry_strings, strings_of, strings_said, article_number, relation_number, place_relation, place_holder, code_number, entry_of, entries_of, ways_of, tables_with, world_of}
 use Rattle.story_format.specs.Holding.{has_few_words, has_short_texts, is_short, is_short_or_none}
 use Rattle.story_format.specs.Sizes.{are_different, is_right_entry}
 use Rattle.story_format.specs.Placed.{is_room_entry, kinds_in, places_in}
@@ -53,14 +54,14 @@ pub or_right : (a b : Bool) → b ≡ true → (a || b) ≡ true
 or_right true b e = refl
 or_right false b e = e
 
-code_there : (next count : ℕ) (d : Option (List ℕ)) → next + length (texts_of d) ≤ count → count < 65535 → ((eqb (code_number next d) 65535) || ltb (code_number next d) count) ≡ true
+code_there : (next count : ℕ) (d : Option (List ℕ)) → next + code_count d ≤ count → next < 65535 → ((eqb (code_number next d) 65535) || ltb (code_number next d) count) ≡ true
 code_there next count None le lt = refl
 code_there next count (Some text) le lt =
     let number : min next 65535 ≡ next = omega (arith, le, lt) in
     let there : ltb next count ≡ true = lt-ltb _ _ (omega (arith, le)) in
     rw number (or_right (eqb next 65535) (ltb next count) there)
 
-plain_entry : (strings : List (List ℕ)) (next n count : ℕ) (w : Worded) → next + length (code_strings w) ≤ count → count < 65535 → has_few_words w ≡ true → are_different (map (number_in strings) w.words) ≡ true → is_below n w.object.kind ≡ true
+plain_entry : (strings : List (List ℕ)) (next n count : ℕ) (w : Worded) → next + code_count w.object.description ≤ count → next < 65535 → has_few_words w ≡ true → are_different (map (number_in strings) w.words) ≡ true → is_below n w.object.kind ≡ true
     → is_right_entry (record { kinds = n; codes = count }) (entry_of strings next w) ≡ true
 unfolding is_right_entry entry_of
 plain_entry strings next n count w le lt few once kind =
@@ -69,19 +70,18 @@ plain_entry strings next n count w le lt few once kind =
 abbrev pub words_once : List (List ℕ) → Worded → Bool
 words_once strings w = has_few_words w && are_different (map (number_in strings) w.words)
 
-plain_from : (strings : List (List ℕ)) (ws : List Worded) (next n count : ℕ) → next + length (flat_map (codes_of strings) ws) ≡ count → count < 65535 → list_all (words_once strings) ws ≡ true → list_all (is_below n) (kinds_of (objects_in ws)) ≡ true
+plain_from : (strings : List (List ℕ)) (ws : List Worded) (next n count : ℕ) → next + codes_in (objects_in ws) ≤ count → next + length ws < 65535 → list_all (words_once strings) ws ≡ true → list_all (is_below n) (kinds_of (objects_in ws)) ≡ true
     → list_all (is_right_entry (record { kinds = n; codes = count })) (entries_of strings next ws) ≡ true
 unfolding entries_of
-plain_from strings [] next n count e lt h kinds = refl
-plain_from strings (w ∷ ws) next n count e lt h kinds =
-    let one : length (codes_of strings w) ≡ length (code_strings w) = length_mapped (code_of strings) (code_strings w) in
-    let count_of : length (codes_of strings w ++ flat_map (codes_of strings) ws) ≡ length (codes_of strings w) + length (flat_map (codes_of strings) ws) = length-append (codes_of strings w) (flat_map (codes_of strings) ws) in
+plain_from strings [] next n count le lt h kinds = refl
+plain_from strings (w ∷ ws) next n count le lt h kinds =
+    let bound = at_most_one w.object.description in
     let sizes : Sizes = record { kinds = n; codes = count } in
     let t = both_are (words_once strings w) (list_all (words_once strings) ws) h in
     let u = both_are (has_few_words w) (are_different (map (number_in strings) w.words)) t.0 in
     let v = both_are (is_below n w.object.kind) (list_all (is_below n) (kinds_of (objects_in ws))) kinds in
-    both (is_right_entry sizes (entry_of strings next w)) (list_all (is_right_entry sizes) (entries_of strings (next + length (code_strings w)) ws))
-    (plain_entry strings next n count w (omega (arith, e, one, count_of)) lt u.0 u.1 v.0) (plain_from strings ws (next + length (code_strings w)) n count (omega (arith, e, one, count_of)) lt t.1 v.1)
+    both (is_right_entry sizes (entry_of strings next w)) (list_all (is_right_entry sizes) (entries_of strings (next + code_count w.object.description) ws))
+    (plain_entry strings next n count w (omega (arith, le)) (omega (arith, lt)) u.0 u.1 v.0) (plain_from strings ws (next + code_count w.object.description) n count (omega (arith, le)) (omega (arith, lt, bound)) t.1 v.1)
 
 -- ---- words
 
@@ -118,8 +118,8 @@ all_words strings [] o next h few = refl
 all_words strings (object ∷ objects) o next h few =
     let w = worded_at o object in
     let t = both_are (knows strings w) (list_all (knows strings) (worded_from (o + 1) objects)) h in
-    both (has_words strings o (entry_of strings next w)) (have_words strings (o + 1) (entries_of strings (next + length (code_strings w)) (worded_from (o + 1) objects))) (words_of_entry strings o next object t.0 few)
-    (all_words strings objects (o + 1) (next + length (code_strings w)) t.1 few)
+    both (has_words strings o (entry_of strings next w)) (have_words strings (o + 1) (entries_of strings (next + code_count w.object.description) (worded_from (o + 1) objects))) (words_of_entry strings o next object t.0 few)
+    (all_words strings objects (o + 1) (next + code_count w.object.description) t.1 few)
 
 -- ---- words in small letters
 
@@ -154,8 +154,8 @@ small_entries strings (w ∷ ws) next h good few =
     let t = both_are (knows strings w) (list_all (knows strings) ws) h in
     let k = both_are (is_known strings w.object.name) (list_all (is_known strings) w.words) t.0 in
     let u = both_are (good_words w) (list_all good_words ws) good in
-    both (has_small_words small (entry_of strings next w)) (list_all (has_small_words small) (entries_of strings (next + length (code_strings w)) ws)) (all_small_named strings w.words k.1 few u.0)
-    (small_entries strings ws (next + length (code_strings w)) t.1 u.1 few)
+    both (has_small_words small (entry_of strings next w)) (list_all (has_small_words small) (entries_of strings (next + code_count w.object.description) ws)) (all_small_named strings w.words k.1 few u.0)
+    (small_entries strings ws (next + code_count w.object.description) t.1 u.1 few)
 
 -- ---- each word once
 
@@ -206,18 +206,18 @@ pub entries_taken : (strings : List (List ℕ)) (n next : ℕ) (ws : List Worded
 unfolding entries_of
 entries_taken strings zero next ws = refl
 entries_taken strings (suc n) next [] = refl
-entries_taken strings (suc n) next (w ∷ ws) = ap (λ (es : List Entry). entry_of strings next w ∷ es) (entries_taken strings n (next + length (code_strings w)) ws)
+entries_taken strings (suc n) next (w ∷ ws) = ap (λ (es : List Entry). entry_of strings next w ∷ es) (entries_taken strings n (next + code_count w.object.description) ws)
 
 pub entries_dropped : (strings : List (List ℕ)) (n next : ℕ) (ws : List Worded) → (later : ℕ) × (drop n (entries_of strings next ws) ≡ entries_of strings later (drop n ws))
 unfolding entries_of
 entries_dropped strings zero next ws = (next, refl)
 entries_dropped strings (suc n) next [] = (next, refl)
-entries_dropped strings (suc n) next (w ∷ ws) = entries_dropped strings n (next + length (code_strings w)) ws
+entries_dropped strings (suc n) next (w ∷ ws) = entries_dropped strings n (next + code_count w.object.description) ws
 
 pub entries_counted : (strings : List (List ℕ)) (next : ℕ) (ws : List Worded) → length (entries_of strings next ws) ≡ length ws
 unfolding entries_of
 entries_counted strings next [] = refl
-entries_counted strings next (w ∷ ws) = ap suc (entries_counted strings (next + length (code_strings w)) ws)
+entries_counted strings next (w ∷ ws) = ap suc (entries_counted strings (next + code_count w.object.description) ws)
 
 no_article : (a : Article) → has_no_article a ≡ true → article_number a ≡ 0
 no_article articles.None h = refl
@@ -269,8 +269,8 @@ direction_entries strings parents next (d ∷ ds) [] h k few = absurd cc
 direction_entries strings parents next (d ∷ ds) (w ∷ ws) h k few =
     let t = both_are (is_direction parents d w.object) (are_directions parents ds (objects_in ws)) h in
     let u = both_are (knows_name strings w) (list_all (knows_name strings) ws) k in
-    both (is_direction_entry strings parents d (entry_of strings next w)) (are_direction_entries strings parents ds (entries_of strings (next + length (code_strings w)) ws)) (direction_entry strings parents next d w t.0 u.0 few)
-    (direction_entries strings parents (next + length (code_strings w)) ds ws t.1 u.1 few)
+    both (is_direction_entry strings parents d (entry_of strings next w)) (are_direction_entries strings parents ds (entries_of strings (next + code_count w.object.description) ws)) (direction_entry strings parents next d w t.0 u.0 few)
+    (direction_entries strings parents (next + code_count w.object.description) ds ws t.1 u.1 few)
 
 pub all_taken : {A : Type 0} (p : A → Bool) (n : ℕ) (xs : List A) → list_all p xs ≡ true → list_all p (take n xs) ≡ true
 all_taken p zero xs h = refl
@@ -285,7 +285,7 @@ entries_in_place strings parents rooms (player ∷ others) h k few =
     let p = parts parents rooms player.object (objects_in others) h in
     let same : length (objects_in others) ≡ length others = length_mapped (λ (w : Worded). w.object) others in
     let u = both_are (knows_name strings player) (list_all (knows_name strings) others) k in
-    let next = 0 + length (code_strings player) in
+    let next = 0 + code_count player.object.description in
     let many_others : leb 12 (length others) ≡ true = le-leb _ _ (omega (arith, p.many, same)) in
     let directions : are_directions parents all_directions (objects_in (take 12 others)) ≡ true = ap (are_directions parents all_directions) (sym (take-map (λ (w : Worded). w.object) 12 others)) ∙ p.directions in
     rw (
@@ -301,26 +301,21 @@ names_known : (strings : List (List ℕ)) (ws : List Worded) → list_all (knows
 unfolding entry_strings
 names_known strings ws h = all_weaker (knows strings) (knows_name strings) (λ w k. (both_are (is_known strings w.object.name) (list_all (is_known strings) w.words) k).0) ws h
 
-pub entry_strings_known : (ws : List Worded) (text : List ℕ) → list_any (bytes_eq text) (flat_map entry_strings ws) ≡ true → is_known (strings_of ws) text ≡ true
+pub entry_strings_known : (ws : List Worded) (texts : List Text) (text : List ℕ) → list_any (bytes_eq text) (flat_map entry_strings ws) ≡ true → is_known (strings_of ws texts) text ≡ true
 unfolding strings_of
-entry_strings_known ws text k = fold_finds (flat_map entry_strings ws ++ flat_map code_strings ws) [] text (any_left (bytes_eq text) (flat_map entry_strings ws) (flat_map code_strings ws) k)
-
-pub codes_few : (strings : List (List ℕ)) (ws : List Worded) → length (flat_map (codes_of strings) ws) ≤ length ws
-codes_few strings [] = omega arith
-codes_few strings (w ∷ ws) =
-    omega (arith, codes_few strings ws, at_most_one w.object.description, length_mapped (code_of strings) (code_strings w), length-append (codes_of strings w) (flat_map (codes_of strings) ws))
+entry_strings_known ws texts text k = fold_finds (flat_map entry_strings ws ++ strings_said texts) [] text (any_left (bytes_eq text) (flat_map entry_strings ws) (strings_said texts) k)
 
 -- what holds of a well made tale's objects holds of its entries
 kinds_of_world : (d : Declared) → (world_of d).kinds ≡ d.kinds
 unfolding world_of
 kinds_of_world d = refl
 
-pub tables_right : (d : Declared) (objects : List Object) → IsWellMade (record { declared = d; objects = objects }) → list_all has_short_texts objects ≡ true → list_all has_few_words (worded objects) ≡ true → length (strings_of (worded objects)) < 65535
-    → are_right (tables_with d (worded objects)) ≡ true
+pub tables_right : (d : Declared) (objects : List Object) (said : List Text) → IsWellMade (record { declared = d; objects = objects }) → list_all has_short_texts objects ≡ true → list_all has_few_words (worded objects) ≡ true → length (strings_of (worded objects) said) < 65535
+    → codes_in objects ≤ length (code_bytes (strings_of (worded objects) said) said) → are_right (tables_with d (worded objects) said) ≡ true
 unfolding are_right is_right_frame are_right_objects stand_rightly are_right_ways tables_with
-tables_right d objects made texts few_words few =
+tables_right d objects said made texts few_words few enough =
     let ws = worded objects in
-    let strings = strings_of ws in
+    let strings = strings_of ws said in
     let back : objects_in ws ≡ objects = objects_back 0 objects in
     let count : length ws ≡ length objects = sym (length_mapped (λ (w : Worded). w.object) ws) ∙ ap length back in
     let parents = d.kinds in
@@ -328,11 +323,11 @@ tables_right d objects made texts few_words few =
     let few_objects = few_begin parents sorts.rooms objects made.begins in
     let entry_count : leb (length (entries_of strings 0 ws)) 1000 ≡ true = le-leb _ _ (omega (arith, few_objects, count, entries_counted strings 0 ws)) in
     let few_strings : ltb (length strings) 65535 ≡ true = lt-ltb _ _ few in
-    let codes_bound = codes_few strings ws in
-    let known = all_known strings ws (entry_strings_known ws) in
+    let same_count : codes_in (objects_in ws) ≡ codes_in objects = ap codes_in back in
+    let known = all_known strings ws (entry_strings_known ws said) in
     let kinds : kinds_in (entries_of strings 0 ws) ≡ kinds_of objects = kinds_back strings 0 ws ∙ ap kinds_of back in
     let places : places_in (entries_of strings 0 ws) ≡ places_of objects = places_back strings 0 ws ∙ ap places_of back in
-    let plain = plain_from strings ws 0 (length parents) (length (flat_map (codes_of strings) ws)) (omega arith) (omega (arith, codes_bound, few_objects, count)) (all_once strings objects 0 known few_words few) (ap (λ (os : List Object). list_all (is_below (length parents)) (kinds_of os)) back ∙ made.kinds) in
+    let plain = plain_from strings ws 0 (length parents) (length (code_bytes strings said)) (omega (arith, enough, same_count)) (omega (arith, few_objects, count)) (all_once strings objects 0 known few_words few) (ap (λ (os : List Object). list_all (is_below (length parents)) (kinds_of os)) back ∙ made.kinds) in
     let in_place = entries_in_place strings parents sorts.rooms ws (ap (begin_rightly parents sorts.rooms) back ∙ made.begins) (names_known strings ws known) few in
     let words = all_words strings objects 0 0 known few in
     let small = small_entries strings ws 0 known (all_good_words 0 objects texts) few in
@@ -344,7 +339,7 @@ tables_right d objects made texts few_words few =
       world_right d made.declared,
       entry_count,
       few_strings,
-      strings_distinct ws,
+      strings_distinct ws said,
       suit,
       kinds_of_world d,
       kinds,
@@ -353,8 +348,8 @@ tables_right d objects made texts few_words few =
       in_place,
       words,
       small,
-      strings_in_order ws few,
-      codes_in_order ws (omega (arith, few_objects, count)),
+      strings_in_order ws said few,
+      codes_in_order strings ws (omega (arith, few_objects, count)),
       made.placed,
       ends,
       counted,

@@ -5,7 +5,6 @@ use Rattle.world_meaning.specs.declared.exits.Exits.{Exits}
 use Rattle.story_format.specs.Placed.{is_room_entry}
 use Rattle.story_format.specs.declared.tables.Entry.{Entry}
 use Rattle.story_format.specs.declared.tables.Tables.{Tables}
-use Rattle.story_format.specs.Soundness.{string_said}
 
 abbrev pub object_count_of : Tables → ℕ
 object_count_of t = length t.objects
@@ -29,19 +28,6 @@ words_in strings (Some entry) = map (text_at strings) entry.words
 -- the words that a command may name an object by
 abbrev pub words_of : Tables → ℕ → List (List ℕ)
 words_of t o = words_in t.strings (slice_get t.objects o)
-
--- the text that a code says
-abbrev pub said : List (List ℕ) → Option (List ℕ) → Option (List ℕ)
-said strings None = None
-said strings (Some code) = Some (text_at strings (string_said code))
-
-abbrev pub description_in : List (List ℕ) → List (List ℕ) → Option Entry → Option (List ℕ)
-description_in strings codes None = None
-description_in strings codes (Some entry) = if entry.description == 65535 then None else said strings (slice_get codes entry.description)
-
--- what is said of an object when it is described
-abbrev pub description_of : Tables → ℕ → Option (List ℕ)
-description_of t o = description_in t.strings t.codes (slice_get t.objects o)
 
 abbrev pub description_code_in : Option Entry → Option ℕ
 description_code_in None = None

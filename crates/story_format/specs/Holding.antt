@@ -1,10 +1,14 @@
--- The tales that a story file holds.
-use Rattle.std.specs.Prelude.{◌≡◌, ℕ, Bool, true, ◌&&◌, nat_lt, nat_le, List, length, Option, Some, None}
+-- The tales that a story file holds, and the texts that it says of their objects.
+use Rattle.std.specs.Prelude.{◌≡◌, ◌<◌, ℕ, Bool, true, ◌&&◌, nat_lt, nat_le, List, length, Option, Some, None}
 use Rattle.std.specs.List.{list_all}
 use Rattle.world_meaning.specs.WellMade.{IsWellMade}
 use Rattle.world_meaning.specs.declared.tale.Object.{Object}
 use Rattle.world_meaning.specs.declared.tale.Tale.{Tale}
-use Rattle.story_format.specs.Making.{Worded, worded}
+use Rattle.object_words.specs.Mentions.{number_in}
+use Rattle.play_meaning.specs.Trees.{Text}
+use Rattle.code_table.specs.Descriptions.{AllFit, CanBeSaid}
+use Rattle.story_format.specs.Codes.{counts_of}
+use Rattle.story_format.specs.Making.{Worded, codes_in, strings_of, strings_said, tables_of, worded}
 
 abbrev pub is_short : List ℕ → Bool
 is_short text = nat_lt (length text) 65536
@@ -26,3 +30,12 @@ pub record IsHeld (t : Tale) : Type 0 where
   pub made : IsWellMade t
   pub texts : list_all has_short_texts t.objects ≡ true
   pub words : list_all has_few_words (worded t.objects) ≡ true
+
+-- The texts of its descriptions, in the order of the objects, that a story file says: strings of 65,535 bytes at most, no more
+-- than two bytes number, of texts that fit what is there and whose codes bytes can say.
+pub record AreHeld (t : Tale) (texts : List Text) : Type 0 where
+  pub many : length texts ≡ codes_in t.objects
+  pub short : list_all is_short (strings_said texts) ≡ true
+  pub few : length (strings_of (worded t.objects) texts) < 65535
+  pub fit : AllFit (counts_of (tables_of t texts)) (number_in (strings_of (worded t.objects) texts)) texts
+  pub said : CanBeSaid (number_in (strings_of (worded t.objects) texts)) texts

@@ -19,6 +19,7 @@ pub mod Reading
 pub mod Refusals
 pub mod Loaded
 pub mod Making
+pub mod Mentioning
 pub mod WordedViews
 pub mod Holding
 pub mod Carrying

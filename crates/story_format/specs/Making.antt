@@ -1,7 +1,8 @@
 -- The tables of a tale.
-use Rattle.std.specs.Prelude.{ℕ, ℤ, ◌+◌, List, [], ◌∷◌, ◌++◌, length, map, min, Option, Some, None, if◌then◌else◌}
+use Rattle.std.specs.Prelude.{ℕ, zero, suc, ℤ, ◌+◌, List, [], ◌∷◌, ◌++◌, drop, is_some, map, min, slice_get, Option, Some, None, if◌then◌else◌}
 use Rattle.std.specs.List.{flat_map}
-use Rattle.std.specs.Int.{w16, w32, cast_unsigned, to_be_bytes}
+use Rattle.std.specs.Int.{w32, cast_unsigned}
+use Rattle.std.specs.Option.{option_map}
 use Rattle.world_meaning.specs.declared.article.Article.{Article}
 use Rattle.world_meaning.specs.declared.article.Article.TheVariants as articles
 use Rattle.world_meaning.specs.declared.place.Rel.{Rel}
@@ -12,6 +13,12 @@ use Rattle.world_meaning.specs.declared.tale.Object.{Object}
 use Rattle.world_meaning.specs.declared.tale.Tale.{Tale}
 use Rattle.world_meaning.specs.declared.declared.Declared.{Declared}
 use Rattle.world_meaning.specs.Kinds.{is_under, room_kind}
+use Rattle.play_meaning.specs.StandardRules.{plain}
+use Rattle.play_meaning.specs.TranslatedScripts.{in_list}
+use Rattle.play_meaning.specs.Translation.{strings_of_text}
+use Rattle.play_meaning.specs.Trees.{Text}
+use Rattle.code_table.specs.Descriptions.{codes_of_texts}
+use Rattle.story_code.specs.Spelling.{spelling}
 use Rattle.story_format.specs.declared.tables.Entry.{Entry}
 use Rattle.story_format.specs.declared.tables.Tables.{Tables}
 use Rattle.story_format.specs.declared.world_tables.Variable.{Variable}
@@ -35,21 +42,27 @@ worded_from o (object ∷ objects) = worded_at o object ∷ worded_from (o + 1) 
 abbrev pub worded : List Object → List Worded
 worded objects = worded_from 0 objects
 
-abbrev pub texts_of : Option (List ℕ) → List (List ℕ)
-texts_of None = []
-texts_of (Some text) = text ∷ []
+-- how many codes a description has
+abbrev pub code_count : Option (List ℕ) → ℕ
+code_count None = 0
+code_count (Some text) = 1
+
+-- how many objects are described
+abbrev pub codes_in : List Object → ℕ
+codes_in [] = 0
+codes_in (object ∷ objects) = code_count object.description + codes_in objects
 
 -- the strings that an object's entry names
 unfoldable pub entry_strings : Worded → List (List ℕ)
 entry_strings w = w.object.name ∷ w.words
 
--- the strings that its code names
-abbrev pub code_strings : Worded → List (List ℕ)
-code_strings w = texts_of w.object.description
+-- the strings that texts say, in order
+abbrev pub strings_said : List Text → List (List ℕ)
+strings_said texts = flat_map strings_of_text texts
 
--- the strings of a story: those that the objects' entries name, then those of the codes
-unfoldable pub strings_of : List Worded → List (List ℕ)
-strings_of ws = first_mentions (flat_map entry_strings ws ++ flat_map code_strings ws)
+-- the strings of a story: those that the objects' entries name, then those that the descriptions say
+unfoldable pub strings_of : List Worded → List Text → List (List ℕ)
+strings_of ws texts = first_mentions (flat_map entry_strings ws ++ strings_said texts)
 
 abbrev pub article_number : Article → ℕ
 article_number articles.None = 0
@@ -97,14 +110,7 @@ entry_of strings next w = record {
 -- an entry for each object; each description has the next code
 unfoldable pub entries_of : List (List ℕ) → ℕ → List Worded → List Entry
 entries_of strings next [] = []
-entries_of strings next (w ∷ ws) = entry_of strings next w ∷ entries_of strings (next + length (code_strings w)) ws
-
--- a description's code: say the text, and be done
-abbrev pub code_of : List (List ℕ) → List ℕ → List ℕ
-code_of strings text = (34 ∷ to_be_bytes w16 (number_in strings text)) ++ 55 ∷ []
-
-abbrev pub codes_of : List (List ℕ) → Worded → List (List ℕ)
-codes_of strings w = map (code_of strings) (code_strings w)
+entries_of strings next (w ∷ ws) = entry_of strings next w ∷ entries_of strings (next + code_count w.object.description) ws
 
 -- the ways of a room
 abbrev pub ways_of : List (Option ℕ) → Worded → List Exits
@@ -117,15 +123,39 @@ variable_of number = record { start = cast_unsigned w32 number }
 unfoldable pub world_of : Declared → WorldTables
 world_of d = record { kinds = d.kinds; flags = d.flags; numbers = d.numbers; variables = map variable_of d.variables }
 
-unfoldable pub tables_with : Declared → List Worded → Tables
-tables_with d ws = record {
-  strings = strings_of ws;
+-- the tables, but for the codes
+abbrev pub tables_but_codes : Declared → List Worded → List (List ℕ) → Tables
+tables_but_codes d ws strings = record {
+  strings = strings;
   world = world_of d;
-  objects = entries_of (strings_of ws) 0 ws;
+  objects = entries_of strings 0 ws;
   ways = flat_map (ways_of d.kinds) ws;
   rules = record { actions = []; grammar = []; rules = []; books = []; scenes = [] };
-  codes = flat_map (codes_of (strings_of ws)) ws;
+  codes = [];
 }
 
-abbrev pub tables_of : Tale → Tables
-tables_of t = tables_with t.declared (worded t.objects)
+-- the bytes of the codes that say texts, each string by its number
+abbrev pub code_bytes : List (List ℕ) → List Text → List (List ℕ)
+code_bytes strings texts = map spelling (codes_of_texts (number_in strings) texts)
+
+unfoldable pub tables_with : Declared → List Worded → List Text → Tables
+tables_with d ws texts = record (tables_but_codes d ws (strings_of ws texts)) { codes = code_bytes (strings_of ws texts) texts }
+
+-- the tables of a tale whose descriptions say these texts, in the order of the objects that are described
+abbrev pub tables_of : Tale → List Text → Tables
+tables_of t texts = tables_with t.declared (worded t.objects) texts
+
+-- ---- what is said of each object
+
+-- where these are the texts of those that are described, in order
+abbrev pub text_in : List Object → List Text → ℕ → Option Text
+text_in [] texts o = None
+text_in (object ∷ objects) texts zero = if is_some object.description then slice_get texts 0 else None
+text_in (object ∷ objects) texts (suc o) = text_in objects (drop (code_count object.description) texts) o
+
+abbrev pub text_of : Tale → List Text → ℕ → Option Text
+text_of t texts o = text_in t.objects texts o
+
+-- the texts of descriptions that say their bytes
+abbrev pub plain_descriptions : List Object → List Text
+plain_descriptions objects = flat_map (λ object. in_list (option_map plain object.description)) objects

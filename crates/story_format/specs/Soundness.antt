@@ -2,19 +2,11 @@
 -- string is named.
 use Rattle.std.specs.Prelude.{◌≡◌, ℕ, ◌+◌, ◌==◌, Bool, true, false, ◌&&◌, List, [], ◌∷◌, ◌++◌, length, map, Option, None, Some}
 use Rattle.std.specs.List.{flat_map}
-use Rattle.std.specs.Int.{w16, from_be_bytes}
 use Rattle.code_table.specs.Strings.{counted_on, strings_of}
 use Rattle.story_code.specs.Soundness.{Judged}
 use Rattle.story_format.specs.declared.tables.Tables.{Tables}
 use Rattle.story_format.specs.Checks.{strings_named, codes_named}
 use Rattle.story_format.specs.Codes.{AreCodesOf, code_spelled}
-
--- the string that a code names, behind its first byte
-abbrev pub string_said : List ℕ → ℕ
-string_said [] = 65535
-string_said (a ∷ []) = 65535
-string_said (a ∷ b ∷ []) = 65535
-string_said (a ∷ b ∷ c ∷ rest) = from_be_bytes w16 (b ∷ c ∷ [])
 
 -- the numbers are this one, the one behind it, and so on
 unfoldable pub are_in_turn : ℕ → List ℕ → Bool

@@ -21,7 +21,7 @@ fn small(count: usize) -> u16
 
 /// How many there are of what codes name.
 #[tactic(auto, unfolding(crate::specs::Codes::counts_of))]
-fn counts_of(tables: &Tables) -> Counts
+pub fn counts_of(tables: &Tables) -> Counts
     ensures { result ≡ counts_of tables.now }
 {
     Counts {

@@ -1,5 +1,6 @@
 //! What holds of stories whatever the bytes are.
 ghost use Rattle.std.specs.Prelude.{◌≡◌, ◌≢◌, ◌⊎◌, ℕ, List, true};
+ghost use Rattle.play_meaning.specs.Trees.{Text};
 ghost use Rattle.world_meaning.specs.Sorts.{is_at};
 ghost use Rattle.world_meaning.specs.Standing.{is_at_or_none};
 ghost use Rattle.world_meaning.specs.declared.tale.Tale.{Tale};
@@ -10,8 +11,8 @@ ghost use Rattle.story_format.specs.Carrying.{Carries};
 ghost use Rattle.story_format.specs.Facts.{start_of, way_of};
 ghost use Rattle.story_format.specs.Formats.{IsBytes};
 ghost use Rattle.story_format.specs.Placed.{sorts_in};
-ghost use Rattle.story_format.specs.Holding.{IsHeld};
-ghost use Rattle.story_format.specs.Making.{tables_of};
+ghost use Rattle.story_format.specs.Holding.{AreHeld, IsHeld};
+ghost use Rattle.story_format.specs.Making.{plain_descriptions, tables_of};
 ghost use Rattle.story_format.specs.Spells.{IsStory, Spells};
 ghost use Rattle.story_format.specs.Refusals.{IsRefused};
 ghost use Rattle.story_format.specs.Telling.{AreToldAlike};
@@ -41,14 +42,19 @@ pub fn spelled_or_refused()
     ensures { (bytes : List ℕ) → IsBytes bytes → ((tables : Tables) × Spells bytes tables) ⊎ ((fault : LoadFault) × (fault ≢ Memory) × IsRefused fault bytes) }
 {}
 
-/// The tables of a tale that a story file holds are a story's.
+/// The tables of a tale that a story file holds, whose descriptions say texts that it says, are a story's.
 pub fn tales_are_stories()
-    ensures { (tale : Tale) → IsHeld tale → IsStory (tables_of tale) }
+    ensures { (tale : Tale) (texts : List Text) → IsHeld tale → AreHeld tale texts → IsStory (tables_of tale texts) }
 {}
 
-/// They say of each object's name, description and ways, and of the start, what the tale says.
+/// They say of each object's name and ways, and of the start, what the tale says, and of each object the text that describes it.
 pub fn story_carries_tale()
-    ensures { (tale : Tale) → IsHeld tale → Carries (tables_of tale) tale }
+    ensures { (tale : Tale) (texts : List Text) → IsHeld tale → AreHeld tale texts → Carries (tables_of tale texts) tale texts }
+{}
+
+/// A story file says descriptions that say their bytes.
+pub fn plain_descriptions_are_held()
+    ensures { (tale : Tale) → IsHeld tale → AreHeld tale (plain_descriptions tale.objects) }
 {}
 
 /// A story begins in one of its rooms, and each way leads to one of them or nowhere.

@@ -1,17 +1,20 @@
-//! The tables of a tale.
+//! The tables of a tale, but for their codes.
 ghost use Rattle.std.specs.Prelude.{◌≡◌, ◌++◌, List, [], ◌∷◌, length, IfOk, OnOk, fold, map};
 ghost use Rattle.std.specs.List.{flat_map};
 ghost use Rattle.object_words.specs.Mentions.{mention, number_in};
 ghost use Rattle.object_words.specs.Words.{words_for};
-ghost use Rattle.story_format.specs.Making.{worded_from, worded, article_number, relation_number, place_relation, place_holder, code_number, entry_strings, code_strings, strings_of, entry_of, entries_of, code_of, codes_of, ways_of, tables_with, tables_of};
+ghost use Rattle.play_meaning.specs.Meant.{text_meant};
+ghost use Rattle.story_format.specs.Making.{worded_from, worded, article_number, relation_number, place_relation, place_holder, code_number, entry_strings, strings_of, entry_of, entries_of, ways_of, tables_but_codes};
 ghost use Rattle.story_format.specs.WordedViews.{worded_of, all_worded};
 
+use crate::mentioning::mention_texts;
 use crate::place::NONE;
 use crate::rule_tables::RuleTables;
 use crate::table::Table;
 use crate::tables::{Entry, Tables};
 use crate::world_making::{numbers_of, world_of};
 use object_words::{Strings, words_for};
+use play_meaning::tree::Text;
 use std::alloc::{AllocError, Global};
 use world_meaning::{
     Article, Declared, Exits, KindNo, Listed, Object, Place, Rel, Tale, TextBytes, is_under,
@@ -23,12 +26,6 @@ pub struct Worded<'a> {
     object: &'a Object,
     words: Strings,
 }
-
-/// The byte that says a string.
-const SAY: u8 = 0x22;
-
-/// The byte that ends a code.
-const DONE: u8 = 0x37;
 
 #[tactic(auto, using(object_words::proofs::Folds::fold_both))]
 fn mention_all(alloc: Global, strings: &mut Strings, others: &Strings) -> Result<(), AllocError>
@@ -84,39 +81,14 @@ fn mention_entries(
     Ok(())
 }
 
-fn mention_code(alloc: Global, strings: &mut Strings, worded: &Worded<'_>) -> Result<(), AllocError>
-    ensures { OnOk result (strings.new ≡ fold mention strings.old (code_strings (worded_of worded.now))) }
-{
-    match &worded.object.description {
-        None => Ok(()),
-        Some(text) => strings.mention(alloc, text.as_slice()),
-    }
-}
-
-#[tactic(auto, using(object_words::proofs::Folds::fold_both))]
-fn mention_codes(
-    alloc: Global,
-    strings: &mut Strings,
-    worded: &[Worded<'_>],
-) -> Result<(), AllocError>
-    ensures { OnOk result (strings.new ≡ fold mention strings.old (flat_map code_strings (all_worded worded.now))) }
-{
-    let mut rest = worded;
-    while let [one, after @ ..] = rest {
-        mention_code(alloc, strings, one)?;
-        rest = after;
-    }
-    Ok(())
-}
-
-/// The strings of a story of these objects.
-#[tactic(auto, unfolding(crate::specs::Making::strings_of), using(object_words::proofs::Folds::fold_both))]
-fn strings_of(alloc: Global, worded: &[Worded<'_>]) -> Result<Strings, AllocError>
-    ensures { IfOk result (λ strings. strings ≡ strings_of (all_worded worded.now)) }
+/// The strings of a story of these objects, whose descriptions say these texts.
+#[tactic(auto, unfolding(crate::specs::Making::strings_of), using(object_words::proofs::Folds::fold_both, crate::proofs::Mentioned::texts_mentioned))]
+fn strings_of(alloc: Global, worded: &[Worded<'_>], texts: &[Text]) -> Result<Strings, AllocError>
+    ensures { IfOk result (λ strings. strings ≡ strings_of (all_worded worded.now) (map text_meant texts.now)) }
 {
     let mut strings = Strings::new(alloc);
     mention_entries(alloc, &mut strings, worded)?;
-    mention_codes(alloc, &mut strings, worded)?;
+    mention_texts(alloc, &mut strings, texts)?;
     Ok(strings)
 }
 
@@ -229,34 +201,6 @@ fn entries_of(
     Ok(Table::new(entries))
 }
 
-fn code_of(alloc: Global, strings: &Strings, text: &TextBytes) -> Result<TextBytes, AllocError>
-    ensures { IfOk result (λ code. code ≡ code_of strings.now text.now) }
-{
-    let mut code = Vec::new(alloc);
-    code.push(SAY)?;
-    code.extend_from_slice(&strings.number_of(text.as_slice()).to_be_bytes())?;
-    code.push(DONE)?;
-    Ok(TextBytes::new(code))
-}
-
-fn codes_of(
-    alloc: Global,
-    strings: &Strings,
-    worded: &[Worded<'_>],
-) -> Result<Table<TextBytes>, AllocError>
-    ensures { IfOk result (λ codes. codes ≡ flat_map (codes_of strings.now) (all_worded worded.now)) }
-{
-    let mut codes = Vec::new(alloc);
-    let mut rest = worded;
-    while let [one, after @ ..] = rest {
-        if let Some(text) = &one.object.description {
-            codes.push(code_of(alloc, strings, text)?)?;
-        }
-        rest = after;
-    }
-    Ok(Table::new(codes))
-}
-
 fn ways_of(
     alloc: Global,
     parents: &[Option<KindNo>],
@@ -293,20 +237,19 @@ fn empty<F: Drop>(alloc: Global) -> Table<F>
     Table::new(Vec::new(alloc))
 }
 
-/// The tables of what is declared and objects with their words.
-#[tactic(auto, unfolding(crate::specs::Making::tables_with))]
-fn tables_with(
+/// The tables of what is declared and objects with their words, but for the codes.
+fn tables_but_codes(
     alloc: Global,
     declared: &Declared,
     worded: &[Worded<'_>],
+    strings: &Strings,
 ) -> Result<Tables, AllocError>
-    ensures { IfOk result (λ tables. tables ≡ tables_with declared.now (all_worded worded.now)) }
+    ensures { IfOk result (λ tables. tables ≡ tables_but_codes declared.now (all_worded worded.now) strings.now) }
 {
-    let strings = strings_of(alloc, worded)?;
     Ok(Tables {
-        strings: table_of(alloc, &strings)?,
+        strings: table_of(alloc, strings)?,
         world: world_of(alloc, declared)?,
-        objects: entries_of(alloc, &strings, worded)?,
+        objects: entries_of(alloc, strings, worded)?,
         ways: ways_of(alloc, declared.kinds.as_slice(), worded)?,
         rules: RuleTables {
             actions: empty(alloc),
@@ -315,14 +258,17 @@ fn tables_with(
             books: empty(alloc),
             scenes: empty(alloc),
         },
-        codes: codes_of(alloc, &strings, worded)?,
+        codes: empty(alloc),
     })
 }
 
-/// The tables of a tale.
-pub fn tables_of(alloc: Global, tale: &Tale) -> Result<Tables, AllocError>
-    ensures { IfOk result (λ tables. tables ≡ tables_of tale.now) }
+/// The tables of a tale but for their codes, and their strings.
+pub fn uncoded(alloc: Global, tale: &Tale, texts: &[Text]) -> Result<(Strings, Tables), AllocError>
+    ensures strings { IfOk result (λ made. made.0 ≡ strings_of (worded tale.now.objects) (map text_meant texts.now)) }
+    ensures tables { IfOk result (λ made. made.1 ≡ tables_but_codes tale.now.declared (worded tale.now.objects) (strings_of (worded tale.now.objects) (map text_meant texts.now))) }
 {
     let worded = with_words(alloc, tale.objects.as_slice())?;
-    tables_with(alloc, &tale.declared, worded.as_slice())
+    let strings = strings_of(alloc, worded.as_slice(), texts)?;
+    let tables = tables_but_codes(alloc, &tale.declared, worded.as_slice(), &strings)?;
+    Ok((strings, tables))
 }

@@ -4,24 +4,13 @@ ghost use Rattle.std.specs.List.{flat_map};
 ghost use Rattle.code_table.specs.Strings.{counted_on, strings_of};
 ghost use Rattle.story_code.specs.Runs.{code_told};
 ghost use Rattle.story_format.specs.Checks.{strings_named};
-ghost use Rattle.story_format.specs.Soundness.{string_said, are_in_turn, is_count};
+ghost use Rattle.story_format.specs.Soundness.{are_in_turn, is_count};
 
 use crate::checks::strings_named;
-use crate::place::NONE;
 use crate::tables::Tables;
 use code_table::strings_counted;
 use std::alloc::{AllocError, Global};
 use story_code::Verified;
-
-/// The string that a code names behind its first byte.
-pub fn string_said(code: &[u8]) -> u16
-    ensures { result ≡ string_said code.now }
-{
-    match code {
-        [_, high, low, ..] => u16::from_be_bytes([*high, *low]),
-        _ => NONE,
-    }
-}
 
 /// Whether the numbers are 0, 1 and so on.
 #[tactic(auto, unfolding(crate::specs::Soundness::are_in_turn))]

@@ -1,15 +1,13 @@
 //! A story that was loaded, and what it says of its objects.
 ghost use Rattle.std.specs.Prelude.{◌≡◌, ◌≤◌, ◌-◌, ℕ, Some, map};
 ghost use Rattle.std.specs.List.{list_any};
-ghost use Rattle.std.specs.Option.{option_map};
-ghost use Rattle.story_format.specs.Facts.{description_code_of, description_of, exits_at, name_of, object_count_of, start_of, text_at, way_of, words_of};
+ghost use Rattle.story_format.specs.Facts.{description_code_of, exits_at, name_of, object_count_of, start_of, text_at, way_of, words_of};
 ghost use Rattle.story_code.specs.Runs.{AreSoundTogether, IsDescription};
 ghost use Rattle.story_format.specs.Codes.{AreCodesOf};
 ghost use Rattle.world_meaning.specs.Spelling.{is_spelled};
 
 use crate::facts::way_in;
 use crate::place::NONE;
-use crate::soundness::string_said;
 use crate::standing::{count_of_rooms, is_room_entry};
 use crate::tables::{Entry, Tables};
 use std::marker::Model;
@@ -131,23 +129,6 @@ impl Story {
             Some(entry) => entry.words.as_slice(),
             None => &[],
         }
-    }
-
-    /// The object's description, if it has one.
-    pub fn description(&self, object: ObjNo) -> Option<&[u8]>
-        ensures { option_map (λ text. text.now) result ≡ description_of self.now object }
-    {
-        let entry = self.tables.objects.as_slice().get(object.get() as usize)?;
-        if entry.description == NONE {
-            return None;
-        }
-        let code = self
-            .tables
-            .codes
-            .as_slice()
-            .get(entry.description as usize)?;
-        let text = string_said(code.as_slice());
-        Some(text_at(self.tables.strings.as_slice(), text))
     }
 
     /// The number of the code that describes the object, if it is described.

@@ -1,16 +1,13 @@
 -- The tables of a tale that a story file holds give the tale's own game.
-use Rattle.std.proofs.Common.{◌≡◌, ℕ, zero, suc, ◌+◌, ◌-◌, Bool, true, false, List, [], ◌∷◌, length, map, Option, Some, None, refl, sym, ap, ◌∙◌, inl, inr, eqb, ◌<◌, Ok}
-use Rattle.std.specs.Prelude.{FitsSigned, is_none, is_some, slice_get, slice_index_or, ℤ, pos, negsuc}
+use Rattle.std.proofs.Common.{◌≡◌, ℕ, zero, suc, ◌+◌, ◌-◌, Bool, true, false, List, [], ◌∷◌, length, map, Option, Some, None, refl, sym, ap, ◌∙◌, inl, inr}
+use Rattle.std.specs.Prelude.{FitsSigned, is_none, slice_get, slice_index_or, ℤ, pos, negsuc}
 use Rattle.std.specs.Int.{w32, cast_signed, cast_unsigned}
 use Rattle.std.specs.List.{flat_map, list_all, range_with_len}
-use Rattle.std.specs.Option.{option_map}
-use Rattle.std.proofs.lemmas.List.{append-nil}
 use Rattle.std.proofs.lemmas.Bool.{ltb-true}
 use Rattle.std.proofs.lemmas.Int.{to_z-of_z}
 use Rattle.world_meaning.proofs.Bools.{both_are, either}
 use Rattle.world_meaning.specs.Declarations.{has_property, is_number, suits_kind}
 use Rattle.world_meaning.specs.Kinds.{is_under}
-use Rattle.world_meaning.specs.Tale.{description_of as told_description}
 use Rattle.world_meaning.specs.WellMade.{are_closed, has_right_exits, is_closed, sorts_in}
 use Rattle.world_meaning.specs.declared.article.Article.{Article}
 use Rattle.world_meaning.specs.declared.article.Article.TheVariants as articles
@@ -22,36 +19,24 @@ use Rattle.world_meaning.specs.declared.tale.Tale.{Tale}
 use Rattle.play_meaning.proofs.Agreement.{one_setting}
 use Rattle.play_meaning.specs.Agreement.{SettingsAgree}
 use Rattle.play_meaning.specs.PlainReading.{reads_plainly}
-use Rattle.play_meaning.specs.Attempts.{Attempt}
-use Rattle.play_meaning.specs.Codes.{code_of, description_said, frame_of, no_inner, start_at, test_of, text_said}
 use Rattle.play_meaning.specs.Grounds.{said_by_code}
-use Rattle.play_meaning.specs.Instructions.{sizes}
-use Rattle.play_meaning.specs.Machines.{does, run}
-use Rattle.play_meaning.specs.Progress.{fresh}
 use Rattle.play_meaning.specs.PlainTales.{script_of, story_of_script, story_of_tale}
-use Rattle.play_meaning.specs.Saying.{said_in}
 use Rattle.play_meaning.specs.Scripts.{says, undescribed}
-use Rattle.play_meaning.specs.Settings.{Setting}
-use Rattle.play_meaning.specs.StandardRules.{plain}
+use Rattle.play_meaning.specs.Trees.{Text}
 use Rattle.play_meaning.specs.Worlds.{World}
 use Rattle.play_meaning.specs.declared.action.ActionNow.{ActionNow}
 use Rattle.play_meaning.specs.Tales.{door_in as told_door, door_on as told_door_on, in_object, is_true_at_start, number_at_start, place_of_number, setting_of as told_setting, start_of}
-use Rattle.story_format.specs.Codes.{code_spelled, codes_told}
-use Rattle.story_format.specs.Facts.{description_code_in, description_code_of, description_in, exits_at, said as said_text, text_at}
-use Rattle.story_format.specs.Holding.{IsHeld}
+use Rattle.story_format.specs.Codes.{codes_told}
+use Rattle.story_format.specs.Facts.{description_code_of, exits_at}
+use Rattle.story_format.specs.Holding.{AreHeld, IsHeld}
 use Rattle.story_format.specs.InPlay.{article_in, article_numbered, door_in, has_in, is_of_in, number_from, start_number, start_numbers, start_flags, start_variable, starts_true}
-use Rattle.story_format.specs.Making.{Worded, article_number, code_strings, entries_of, entry_of, numbers_of, strings_of, tables_of, tables_with, variable_of, ways_of, worded, worded_at, worded_from, world_of}
-use Rattle.story_format.specs.Soundness.{string_said}
-use Rattle.story_format.specs.Spells.{IsStory}
+use Rattle.story_format.specs.Making.{Worded, article_number, code_count, entries_of, entry_of, numbers_of, plain_descriptions, strings_of, tables_of, tables_with, text_of, variable_of, ways_of, worded, worded_at, worded_from, world_of}
 use Rattle.story_format.specs.declared.tables.Entry.{Entry}
-use Rattle.story_format.specs.declared.tables.Tables.{Tables}
 use Rattle.story_format.proofs.Carried.{exits_found, object_found, tale_carried}
 use Rattle.story_format.proofs.DeclaredLemmas.{declared_parts}
 use Rattle.story_format.proofs.EntryLemmas.{objects_back, objects_in, places_back}
-use Rattle.story_format.proofs.LoadedCodes.{code_within}
-use Rattle.story_format.proofs.PlainCodes.{saying_code}
-use Rattle.story_format.proofs.Stories.{tale_is_story, told_in_tale}
-use Rattle.story_format.proofs.StoryLemmas.{all_at, get_within}
+use Rattle.story_format.proofs.PlainTexts.{plain_held, plain_said}
+use Rattle.story_format.proofs.StoryLemmas.{all_at}
 use Rattle.world_store.specs.StartWorlds.{start_world}
 use Rattle.world_store.specs.StoryGames.{plain_story}
 use Rattle.world_store.specs.StorySettings.{setting_of}
@@ -91,7 +76,7 @@ module _ {A : Type 0} (otherwise : A) (told : Option Entry → A) (said : Object
   unfolding entries_of
   said_at strings next from [] o = nobody
   said_at strings next from (object ∷ objects) zero = same strings next (worded_at from object)
-  said_at strings next from (object ∷ objects) (suc o) = said_at strings (next + length (code_strings (worded_at from object))) (from + 1) objects o
+  said_at strings next from (object ∷ objects) (suc o) = said_at strings (next + code_count object.description) (from + 1) objects o
 
 module _ {A : Type 0} (right : Object → Bool) (told : Entry → A) (said : Object → A)
     (same : (strings : List (List ℕ)) (next : ℕ) (w : Worded) → right w.object ≡ true → told (entry_of strings next w) ≡ said w.object) where
@@ -101,7 +86,7 @@ module _ {A : Type 0} (right : Object → Bool) (told : Entry → A) (said : Obj
   said_of_all strings next from [] h = refl
   said_of_all strings next from (object ∷ objects) h =
       let t = both_are (right object) (list_all right objects) h in
-      λ i. same strings next (worded_at from object) t.0 i ∷ said_of_all strings (next + length (code_strings (worded_at from object))) (from + 1) objects t.1 i
+      λ i. same strings next (worded_at from object) t.0 i ∷ said_of_all strings (next + code_count object.description) (from + 1) objects t.1 i
 
 -- ---- doors
 
@@ -128,12 +113,12 @@ doors_found parents sorts strings ws o direction (Some w) e h =
 
 -- ---- what never changes
 
-settings_agree : (t : Tale) → IsHeld t → SettingsAgree (setting_of (tables_of t)) (told_setting t)
+settings_agree : (t : Tale) (texts : List Text) → IsHeld t → AreHeld t texts → SettingsAgree (setting_of (tables_of t texts)) (told_setting t)
 unfolding setting_of told_setting tables_with world_of entry_of
-settings_agree t held =
-    let carries = tale_carried t held in
+settings_agree t texts held said =
+    let carries = tale_carried t texts held said in
     let ws = worded t.objects in
-    let strings = strings_of ws in
+    let strings = strings_of ws texts in
     let parents = t.declared.kinds in
     let back : objects_in ws ≡ t.objects = objects_back 0 t.objects in
     let exits : list_all (has_right_exits parents (sorts_in t)) (objects_in ws) ≡ true = ap (list_all (has_right_exits parents (sorts_in t))) back ∙ held.made.exits in
@@ -147,7 +132,7 @@ settings_agree t held =
       has_number = λ o property. said_at false (has_in parents t.declared.numbers property) (λ object. has_property parents t.declared.numbers object.kind property) refl (λ strings next w. refl) strings 0 0 t.objects o;
       room_beyond = carries.ways;
       door_beyond = λ room direction. doors_found parents (sorts_in t) strings ws room direction (slice_get ws room) refl exits ∙ ap (λ (objects : List Object). in_object None (told_door direction) (slice_get objects room)) back;
-      has_description = λ o. ap is_some (carries.descriptions o);
+      has_description = carries.described;
     }
 
 -- ---- the start
@@ -165,94 +150,46 @@ number_started d property strings next w h =
       | inr isnt ↦ rw isnt refl
     ]
 
-flags_started : (t : Tale) → IsHeld t → (property : ℕ) → start_flags (tables_of t) property ≡ map (is_true_at_start property) t.objects
+flags_started : (t : Tale) (texts : List Text) → IsHeld t → (property : ℕ) → start_flags (tables_of t texts) property ≡ map (is_true_at_start property) t.objects
 unfolding tables_with entry_of
-flags_started t held property = said_of_all (suits_kind t.declared) (starts_true property) (is_true_at_start property) (λ strings next w h. refl) (strings_of (worded t.objects)) 0 0 t.objects held.made.suited
+flags_started t texts held property = said_of_all (suits_kind t.declared) (starts_true property) (is_true_at_start property) (λ strings next w h. refl) (strings_of (worded t.objects) texts) 0 0 t.objects held.made.suited
 
-numbers_started : (t : Tale) → IsHeld t → (property : ℕ) → start_numbers (tables_of t) property ≡ map (number_at_start t.declared property) t.objects
+numbers_started : (t : Tale) (texts : List Text) → IsHeld t → (property : ℕ) → start_numbers (tables_of t texts) property ≡ map (number_at_start t.declared property) t.objects
 unfolding tables_with
-numbers_started t held property = said_of_all (suits_kind t.declared) (start_number (world_of t.declared) property) (number_at_start t.declared property) (number_started t.declared property) (strings_of (worded t.objects)) 0 0 t.objects held.made.suited
+numbers_started t texts held property = said_of_all (suits_kind t.declared) (start_number (world_of t.declared) property) (number_at_start t.declared property) (number_started t.declared property) (strings_of (worded t.objects) texts) 0 0 t.objects held.made.suited
 
-one_start : (t : Tale) → IsHeld t → start_world (tables_of t) ≡ start_of t
+one_start : (t : Tale) (texts : List Text) → IsHeld t → start_world (tables_of t texts) ≡ start_of t
 unfolding start_world start_of tables_with world_of
-one_start t held =
-    let places = places_back (strings_of (worded t.objects)) 0 (worded t.objects) ∙ ap (λ (objects : List Object). map (λ object. object.place) objects) (objects_back 0 t.objects) in
+one_start t texts held =
+    let places = places_back (strings_of (worded t.objects) texts) 0 (worded t.objects) ∙ ap (λ (objects : List Object). map (λ object. object.place) objects) (objects_back 0 t.objects) in
     let variables = variables_back t.declared.variables (declared_parts t.declared held.made.declared).variables in
     λ i. record {
       places = places i;
-      flags = map (λ property. flags_started t held property i) (range_with_len 0 (length t.declared.flags));
-      numbers = map (λ property. numbers_started t held property i) (range_with_len 0 (length t.declared.numbers));
+      flags = map (λ property. flags_started t texts held property i) (range_with_len 0 (length t.declared.flags));
+      numbers = map (λ property. numbers_started t texts held property i) (range_with_len 0 (length t.declared.numbers));
       variables = variables i;
       scenes = [];
       turns = 1;
       ended = None;
     }
 
--- ---- descriptions
-
-bytes_in : Option (List ℕ) → List ℕ
-bytes_in None = []
-bytes_in (Some bytes) = bytes
-
-said : (setting : Setting) (now : ActionNow) (w : World) (bytes : Option (List ℕ)) → ◌≡◌ {A = Attempt (List ℕ)} (Ok (bytes_in bytes)) (says (undescribed setting) now w (option_map plain bytes))
-unfolding bytes_in said_in
-said setting now w None = refl
-said setting now w (Some bytes) = ap Ok (sym (append-nil bytes))
-
-index_mapped : {A B : Type 0} (f : A → B) (otherwise : B) (xs : List A) (n : ℕ) (x : A) → slice_get xs n ≡ Some x → slice_index_or (map f xs) n otherwise ≡ f x
-index_mapped f otherwise [] n x at = absurd cc
-index_mapped f otherwise (y ∷ xs) zero x at = let same : y ≡ x = cc in ap f same
-index_mapped f otherwise (y ∷ xs) (suc n) x at = index_mapped f otherwise xs n x at
-
--- each code of a story says a string, and is done
-abbrev AreSayings : Tables → Type 0
-AreSayings t = (n : ℕ) (code : List ℕ) → slice_get t.codes n ≡ Some code → code_spelled code ≡ saying_code (string_said code)
-
-module _ (t : Tables) (setting : Setting) (now : ActionNow) (w : World) where
-  -- a code that says a string, run
-  said_string : (n m : ℕ) → code_of (codes_told t) n ≡ saying_code m → description_said (codes_told t) (undescribed setting) n now w ≡ Ok (text_at t.strings m)
-  unfolding description_said run does
-  said_string n m is = ap (λ code. text_said (run (frame_of (codes_told t) (undescribed setting) no_inner (test_of (codes_told t) (undescribed setting) now) now) code (sizes code) (start_at [] (fresh w)))) is
-
-  code_there : (n m : ℕ) (code : List ℕ) → slice_get t.codes n ≡ Some code → code_spelled code ≡ saying_code m → code_of (codes_told t) n ≡ saying_code m
-  code_there n m code at is = index_mapped code_spelled [] t.codes n code at ∙ is
-
-  by_code : (n : ℕ) (code : Option (List ℕ)) → AreSayings t → slice_get t.codes n ≡ code → n < length t.codes
-      → description_said (codes_told t) (undescribed setting) n now w ≡ Ok (bytes_in (said_text t.strings code))
-  unfolding bytes_in
-  by_code n None told at within = let there = get_within t.codes n within in let wrong : None ≡ Some there.0 = sym at ∙ there.1 in absurd cc
-  by_code n (Some code) told at within = said_string n (string_said code) (code_there n (string_said code) code at (told n code at))
-
-  -- what the code of an object says is what its bytes are
-  entry_said : (o : ℕ) (entry : Option Entry) → IsStory t → AreSayings t → slice_get t.objects o ≡ entry
-      → said_by_code (codes_told t) setting now w (description_code_in entry) ≡ Ok (bytes_in (description_in t.strings t.codes entry))
-  unfolding bytes_in
-  entry_said o None story told at = refl
-  entry_said o (Some e) story told at =
-      elim (either (eqb e.description 65535)) [
-        | inl none ↦ rw none refl
-        | inr isnt ↦ rw isnt (by_code e.description (slice_get t.codes e.description) told refl (code_within t (Some e) o e.description story.right at (rw isnt refl)))
-      ]
-
 -- ---- all of it
 
--- an object's code says its description's bytes
-described : (t : Tale) → IsHeld t → setting_of (tables_of t) ≡ told_setting t → (o : ℕ) (now : ActionNow) (w : World)
-    → said_by_code (codes_told (tables_of t)) (setting_of (tables_of t)) now w (description_code_of (tables_of t) o) ≡ says (undescribed (told_setting t)) now w (option_map plain (told_description t o))
-described t held setting o now w =
-    ap (λ s. said_by_code (codes_told (tables_of t)) s now w (description_code_of (tables_of t) o)) setting
-    ∙ entry_said (tables_of t) (told_setting t) now w o (slice_get (tables_of t).objects o) (tale_is_story t held) (told_in_tale t held) refl
-    ∙ ap (λ bytes. Ok (bytes_in bytes)) ((tale_carried t held).descriptions o) ∙ said (told_setting t) now w (told_description t o)
-
-pub tables_game : (t : Tale) → IsHeld t → plain_story (tables_of t) ≡ story_of_tale t
+pub tables_game : (t : Tale) (texts : List Text) → IsHeld t → AreHeld t texts → plain_story (tables_of t texts) ≡ story_of_script (script_of t (text_of t texts))
 unfolding plain_story script_of story_of_script
-tables_game t held =
-    let setting = one_setting (setting_of (tables_of t)) (told_setting t) (settings_agree t held) in
-    let start = one_start t held in
-    let carries = tale_carried t held in
+tables_game t texts held said =
+    let setting = one_setting (setting_of (tables_of t texts)) (told_setting t) (settings_agree t texts held said) in
+    let start = one_start t texts held in
+    let carries = tale_carried t texts held said in
+    let described : (o : ℕ) (now : ActionNow) (w : World)
+    → said_by_code (codes_told (tables_of t texts)) (setting_of (tables_of t texts)) now w (description_code_of (tables_of t texts) o) ≡ says (undescribed (told_setting t)) now w (text_of t texts o) =
+    λ o now w. carries.descriptions o (setting_of (tables_of t texts)) now w ∙ ap (λ s. says (undescribed s) now w (text_of t texts o)) setting in
     λ i. record {
       setting = setting i;
       start = start i;
-      describes = λ o now w. described t held setting o now w i;
+      describes = λ o now w. described o now w i;
       reads = reads_plainly (setting i) (λ o. carries.words o i);
     }
+
+pub plain_game : (t : Tale) → IsHeld t → plain_story (tables_of t (plain_descriptions t.objects)) ≡ story_of_tale t
+plain_game t held = tables_game t (plain_descriptions t.objects) held (plain_held t held) ∙ (λ i. story_of_script (script_of t (λ o. plain_said t o i)))

@@ -3,7 +3,7 @@ use Rattle.std.specs.Prelude.{length, is_some}
 use Rattle.play_meaning.specs.Grounds.{Fixed}
 use Rattle.play_meaning.specs.Settings.{Setting}
 use Rattle.play_meaning.specs.Tales.{depth_of}
-use Rattle.story_format.specs.Facts.{description_code_of, description_of, name_of, way_of}
+use Rattle.story_format.specs.Facts.{description_code_of, name_of, way_of}
 use Rattle.story_format.specs.InPlay.{article_of, door_in, exits_of, has_flag, has_number, is_of}
 use Rattle.story_format.specs.declared.tables.Tables.{Tables}
 
@@ -18,7 +18,7 @@ setting_of t = record {
   has_number = has_number t;
   room_beyond = way_of t;
   door_beyond = λ room direction. door_in (exits_of t room) direction;
-  has_description = λ o. is_some (description_of t o);
+  has_description = λ o. is_some (description_code_of t o);
 }
 
 -- with its strings, and the codes of descriptions

@@ -40,7 +40,7 @@ impl Ground for World {
 
     #[tactic(auto, unfolding(crate::specs::StorySettings::setting_of))]
     fn has_description(&self, object: ObjNo) -> bool {
-        self.story().description(object).is_some()
+        self.story().description_code(object).is_some()
     }
 
     fn description(&self, object: ObjNo) -> Option<u16> {

@@ -1,0 +1,72 @@
+-- The tables of a tale are those without codes, with the bytes of what its texts say.
+use Rattle.std.proofs.Common.{◌≡◌, ◌∙◌, ap, sym, subst, ℕ, Bool, true, false, ◌&&◌, nat_lt, List, [], ◌∷◌, length}
+use Rattle.std.specs.Prelude.{OnOk, Result, Ok, Err, map}
+use Rattle.std.specs.List.{list_all}
+use Rattle.std.proofs.lemmas.Bool.{and_parts, lt-ltb, ltb-true}
+use Rattle.world_meaning.proofs.Bools.{both}
+use Rattle.world_meaning.specs.declared.tale.Tale.{Tale}
+use Rattle.object_words.specs.Mentions.{number_in}
+use Rattle.play_meaning.specs.Trees.{Text}
+use Rattle.play_meaning.specs.declared.instruction.Instruction.{Instruction}
+use Rattle.code_table.specs.Descriptions.{AllFit, CanBeSaid}
+use Rattle.story_code.specs.Emits.{AreSpelled}
+use Rattle.story_code.specs.Spelling.{spelling}
+use Rattle.story_format.specs.Codes.{counts_of}
+use Rattle.story_format.specs.Holding.{AreHeld, IsHeld, has_short_texts, is_short}
+use Rattle.story_format.specs.Making.{code_bytes, codes_in, strings_of, strings_said, tables_but_codes, tables_of, tables_with, worded}
+use Rattle.story_format.specs.declared.tables.Tables.{Tables}
+use Rattle.story_format.proofs.EntryLemmas.{objects_back}
+use Rattle.story_format.proofs.Fits.{strings_short}
+use Rattle.story_format.proofs.Known.{all_known_too, said_known}
+use Rattle.story_format.proofs.TableLemmas.{all_good_words}
+
+pub spelled_is : (bytes : List (List ℕ)) (codes : List (List Instruction)) → AreSpelled bytes codes → bytes ≡ map spelling codes
+spelled_is [] [] spelled = λ i. []
+spelled_is [] (code ∷ codes) spelled = absurd spelled
+spelled_is (b ∷ bytes) [] spelled = absurd spelled
+spelled_is (b ∷ bytes) (code ∷ codes) spelled = λ i. spelled.0.whole i ∷ spelled_is bytes codes spelled.1 i
+
+pub on_both : {T E P Q R : Type 0} (r : Result T E) → OnOk r P → OnOk r Q → (P → Q → R) → OnOk r R
+on_both (Ok x) p q f = f p q
+on_both (Err e) p q f = tt
+
+module _ (t : Tale) (texts : List Text) (strings : List (List ℕ)) (tables : Tables) (strings_are : strings ≡ strings_of (worded t.objects) texts)
+    (tables_are : tables ≡ tables_but_codes t.declared (worded t.objects) (strings_of (worded t.objects) texts)) where
+  pub coded_is : (coded : Tables) → coded ≡ record tables { codes = code_bytes strings texts } → coded ≡ tables_of t texts
+  unfolding tables_with
+  coded_is coded is = is ∙ (λ i. record (tables_are i) { codes = code_bytes (strings_are i) texts })
+
+  -- ---- strings that are few and short
+
+  module _ (lent : List (List ℕ)) (lent_are : lent ≡ tables.strings) (b : Bool) (told : b ≡ (nat_lt (length lent) 65535 && list_all is_short lent)) where
+    all_are : lent ≡ strings_of (worded t.objects) texts
+    all_are = lent_are ∙ ap (λ (x : Tables). x.strings) tables_are
+
+    pub too_many : IsHeld t → b ≡ false → AreHeld t texts → ⊥
+    too_many held no_room are =
+        let all = strings_of (worded t.objects) texts in
+        let names : list_all has_short_texts t.objects ≡ true = held.texts in
+        let short = strings_short (worded t.objects) texts (ap (list_all has_short_texts) (objects_back 0 t.objects) ∙ names) (all_good_words 0 t.objects names) are.short in
+        let room : (nat_lt (length all) 65535 && list_all is_short all) ≡ true = both (nat_lt (length all) 65535) (list_all is_short all) (lt-ltb (length all) 65535 are.few) short in
+        let never : true ≡ false = sym room ∙ ap (λ l. nat_lt (length l) 65535 && list_all is_short l) (sym all_are) ∙ sym told ∙ no_room in
+        cc
+
+    pub are_held : length texts ≡ codes_in t.objects → b ≡ true → AllFit (counts_of tables) (number_in strings) texts → CanBeSaid (number_in strings) texts → AreHeld t texts
+    unfolding counts_of tables_with
+    are_held many room fit said =
+        let all = strings_of (worded t.objects) texts in
+        let parts = and_parts (nat_lt (length all) 65535) (list_all is_short all) (ap (λ l. nat_lt (length l) 65535 && list_all is_short l) (sym all_are) ∙ sym told ∙ room) in
+        record {
+          many = many;
+          short = all_known_too is_short all (strings_said texts) (said_known (worded t.objects) texts) parts.1;
+          few = ltb-true (length all) 65535 parts.0;
+          fit = subst (λ (x : Tables). AllFit (counts_of x) (number_in all) texts) tables_are (subst (λ l. AllFit (counts_of tables) (number_in l) texts) strings_are fit);
+          said = subst (λ l. CanBeSaid (number_in l) texts) strings_are said;
+        }
+
+  pub fit_so : AreHeld t texts → AllFit (counts_of tables) (number_in strings) texts
+  unfolding counts_of tables_with
+  fit_so are = subst (λ l. AllFit (counts_of tables) (number_in l) texts) (sym strings_are) (subst (λ (x : Tables). AllFit (counts_of x) (number_in (strings_of (worded t.objects) texts)) texts) (sym tables_are) are.fit)
+
+  pub said_so : AreHeld t texts → CanBeSaid (number_in strings) texts
+  said_so are = subst (λ l. CanBeSaid (number_in l) texts) (sym strings_are) are.said

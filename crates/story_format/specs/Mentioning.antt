@@ -1,0 +1,19 @@
+-- The strings that a text says, as the compiler goes over it.
+use Rattle.std.specs.Prelude.{ℕ, List, [], ◌∷◌, ◌++◌}
+use Rattle.std.specs.List.{flat_map}
+use Rattle.play_meaning.specs.declared.tree.said.Piece.{Piece}
+use Rattle.play_meaning.specs.declared.tree.said.Piece.TheVariants.{Bytes}
+use Rattle.play_meaning.specs.declared.tree.said.Said.{Said}
+use Rattle.play_meaning.specs.declared.tree.said.Said.TheVariants.{If, Plain}
+use Rattle.play_meaning.specs.declared.tree.said.Text.{Text}
+
+abbrev pub piece_strings : Piece → List (List ℕ)
+piece_strings (Bytes bytes) = bytes ∷ []
+piece_strings _ = []
+
+abbrev pub part_strings : Said → List (List ℕ)
+part_strings (Plain piece) = piece_strings piece
+part_strings (If condition pieces others) = flat_map piece_strings pieces.items ++ flat_map piece_strings others.items
+
+abbrev pub text_strings : Text → List (List ℕ)
+text_strings text = flat_map part_strings text.parts.items

@@ -1,0 +1,83 @@
+//! The tables of a tale with the codes of what its descriptions say.
+ghost use Rattle.std.specs.Prelude.{◌≡◌, ◌&&◌, IfErr, IfOk, OnOk, length, map, nat_lt};
+ghost use Rattle.std.specs.List.{list_all};
+ghost use Rattle.object_words.specs.Mentions.{number_in};
+ghost use Rattle.play_meaning.specs.Meant.{text_meant};
+ghost use Rattle.code_table.specs.Descriptions.{AllFit, CanBeSaid};
+ghost use Rattle.story_code.specs.declared.emit.EmitFault.TheVariants.{TooLong};
+ghost use Rattle.story_format.specs.Codes.{counts_of};
+ghost use Rattle.story_format.specs.Holding.{AreHeld, IsHeld, is_short};
+ghost use Rattle.story_format.specs.Making.{code_bytes, codes_in, tables_of};
+
+use crate::codes::counts_of;
+use crate::making::uncoded;
+use crate::table::Table;
+use crate::tables::Tables;
+use code_table::description_table;
+use object_words::Strings;
+use play_meaning::tree::Text;
+use std::alloc::Global;
+use story_code::EmitFault;
+use world_meaning::{Tale, TextBytes};
+
+fn is_short(text: &[u8]) -> bool
+    ensures { result ≡ is_short text.now }
+{
+    text.len() < 65536
+}
+
+fn are_short(strings: &[TextBytes]) -> bool
+    ensures { result ≡ list_all is_short strings.now }
+{
+    strings.iter().all(|string| is_short(string.as_slice()))
+}
+
+/// Whether there are fewer strings than two bytes number, of 65,535 bytes at most.
+fn are_few(strings: &[TextBytes]) -> bool
+    ensures { result ≡ (nat_lt (length strings.now) 65535 && list_all is_short strings.now) }
+{
+    strings.len() < 65535 && are_short(strings)
+}
+
+/// The tables with the codes that say the texts.
+fn with_codes(
+    alloc: Global,
+    strings: &Strings,
+    tables: Tables,
+    texts: &[Text],
+) -> Result<Tables, EmitFault>
+    ensures coded { IfOk result (λ coded. coded ≡ record tables { codes = code_bytes strings.now (map text_meant texts.now) }) }
+    ensures fit { OnOk result (AllFit (counts_of tables) (number_in strings.now) (map text_meant texts.now)) }
+    ensures said { OnOk result (CanBeSaid (number_in strings.now) (map text_meant texts.now)) }
+    ensures too_long { IfErr result (λ fault. fault ≡ TooLong → AllFit (counts_of tables) (number_in strings.now) (map text_meant texts.now) → CanBeSaid (number_in strings.now) (map text_meant texts.now) → ⊥) }
+{
+    match description_table(alloc, &counts_of(&tables), strings, texts) {
+        Ok(codes) => {
+            let mut tables = tables;
+            tables.codes = Table::new(codes);
+            Ok(tables)
+        }
+        Err(fault) => Err(fault),
+    }
+}
+
+/// The tables of a tale whose descriptions say these texts, in the order of the objects.
+///
+/// # Errors
+///
+/// `TooLong` exactly where no story file says the texts, and `Memory`.
+pub fn tables_of(alloc: Global, tale: &Tale, texts: &[Text]) -> Result<Tables, EmitFault>
+    requires held { IsHeld tale.now }
+    requires many { length texts.now ≡ codes_in tale.now.objects }
+    ensures tables { IfOk result (λ tables. tables ≡ tables_of tale.now (map text_meant texts.now)) }
+    ensures said { OnOk result (AreHeld tale.now (map text_meant texts.now)) }
+    ensures too_long { IfErr result (λ fault. fault ≡ TooLong → AreHeld tale.now (map text_meant texts.now) → ⊥) }
+{
+    let Ok((strings, tables)) = uncoded(alloc, tale, texts) else {
+        return Err(EmitFault::Memory);
+    };
+    if !are_few(tables.strings.as_slice()) {
+        return Err(EmitFault::TooLong);
+    }
+    with_codes(alloc, &strings, tables, texts)
+}
