@@ -9,6 +9,7 @@ use Rattle.i7_sentences.specs.TextPieces.{is_text_read, text_pieces}
 use Rattle.i7_sentences.specs.declared.sentence.Sentence.{Sentence}
 use Rattle.play_meaning.specs.Meant.{text_meant}
 use Rattle.play_meaning.specs.Trees.{Text}
+use Rattle.i7_conditions.specs.Scopes.{Scope}
 use Rattle.i7_phrases.specs.Texts.{IsText, text_is_over}
 use Rattle.i7_rules.specs.Knowns.{Known, scope_among}
 use Rattle.i7_resolution.specs.TextList.{TextAt, texts_in}
@@ -16,10 +17,14 @@ use Rattle.i7_resolution.specs.declared.source_texts.SourceText.{SourceText}
 use Rattle.i7_resolution.specs.declared.source_texts.TextsFound.{TextsFound}
 use Rattle.i7_resolution.specs.declared.source_texts.TextsFound.TheVariants as found
 
--- what the bytes of a text say, around which no repeat is open
-pub record Says (k : Known) (bytes : List ℕ) (text : Text) : Type 0 where
+-- what the bytes of a text say where words stand for this
+pub record SaysIn (s : Scope) (bytes : List ℕ) (text : Text) : Type 0 where
   pub is_read : is_text_read bytes ≡ true
-  pub means : IsText (scope_among k []) (text_pieces bytes) text
+  pub means : IsText s (text_pieces bytes) text
+
+-- around which no repeat is open
+abbrev pub Says : Known → List ℕ → Text → Type 0
+Says k bytes text = SaysIn (scope_among k []) bytes text
 
 -- ---- what is wrong with a text, and at which line that is told
 

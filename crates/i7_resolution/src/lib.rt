@@ -8,5 +8,5 @@ mod source_texts;
 mod text_list;
 
 pub use laws::{one_list_of_texts, one_resolution};
-pub use resolution::{Resolution, Resolved, resolution_of};
+pub use resolution::{Resolution, Resolved, resolution_of, text_said};
 pub use source_texts::{SourceText, TextsFound, texts_of};

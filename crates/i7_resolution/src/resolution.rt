@@ -1,13 +1,18 @@
 //! What is resolved of a source, or the refusal that stands.
 ghost use Rattle.std.specs.Prelude.{◌≡◌, ◌+◌, ◌*◌, ◌≤◌, length, map, IfOk};
+ghost use Rattle.i7_conditions.specs.Readings.{IsFoundAs};
+ghost use Rattle.i7_phrases.specs.Texts.{found_text, text_is_over};
 ghost use Rattle.i7_rules.specs.Knowns.{known_of};
+ghost use Rattle.i7_resolution.specs.SourceTexts.{Says};
 ghost use Rattle.i7_resolution.specs.Resolutions.{IsResolution, first_of, goes_before, joined, known_in, refused_with, turn_of};
 
-use crate::source_texts::{SourceText, TextsFound, texts_of};
+use crate::source_texts::{SourceText, TextsFound, found_in, texts_of};
 use i7_actions::standard_actions;
+use i7_conditions::{Found, Scope};
 use i7_names::SourceNames;
 use i7_rules::{Known, RulesFound, SourceRule, rules_of};
 use i7_sentences::Sentence;
+use play_meaning::tree::Text;
 use std::alloc::{AllocError, Global};
 use world_meaning::{Fault, FaultCode, TextBytes};
 
@@ -103,6 +108,18 @@ fn rulebooks_of(alloc: Global, names: &[Vec<u8>]) -> Result<Vec<TextBytes>, Allo
         rest = behind;
     }
     Ok(rulebooks)
+}
+
+/// What a text says that describes, where the names of a source stand for this.
+pub fn text_said(alloc: Global, names: &SourceNames, text: &[u8]) -> Result<Found<Text>, AllocError>
+    ensures { IfOk result (λ found. IsFoundAs (Says (known_in names.now) text.now) text_is_over (found_text found)) }
+{
+    let scope = Scope {
+        names: &names.names,
+        repeats: &[],
+    };
+    let found = found_in(alloc, &scope, text)?;
+    Ok(found)
 }
 
 /// The rules of a source and the texts that describe, where its names stand for this, or the refusal that stands: each code is looked for in

@@ -1,9 +1,10 @@
 //! What the texts of a source say that describe (*Writing with Inform*, 5.1 to 5.7), or why the source is refused for them.
-ghost use Rattle.std.specs.Prelude.{◌≡◌, reverse, IfOk};
+ghost use Rattle.std.specs.Prelude.{◌≡◌, ◌≤◌, length, reverse, IfOk};
 ghost use Rattle.i7_conditions.specs.Readings.{IsFoundAs};
+ghost use Rattle.i7_conditions.specs.Scopes.{scope_of};
 ghost use Rattle.i7_phrases.specs.Texts.{found_text, text_is_over};
 ghost use Rattle.i7_rules.specs.Knowns.{known_of};
-ghost use Rattle.i7_resolution.specs.SourceTexts.{IsTextsFound, Says};
+ghost use Rattle.i7_resolution.specs.SourceTexts.{IsTextsFound, Says, SaysIn};
 ghost use Rattle.i7_resolution.specs.TextList.{text_lent, texts_lent};
 ghost use Rattle.i7_resolution.specs.TextScans.{IsSoFar, kept_of, refused_or, so_far_told, state_of, with_found};
 
@@ -44,6 +45,20 @@ struct SoFar {
     too_many: Option<u32>,
 }
 
+/// What a text says where words stand for this.
+pub fn found_in(alloc: Global, scope: &Scope<'_>, text: &[u8]) -> Result<Found<Text>, AllocError>
+    requires few { length (scope_of scope.now).repeats ≤ 255 }
+    ensures { IfOk result (λ found. IsFoundAs (SaysIn (scope_of scope.now) text.now) text_is_over (found_text found)) }
+{
+    match read_text(alloc, text)? {
+        None => Ok(Found::Unread),
+        Some(pieces) => {
+            let found = text_of(alloc, scope, pieces.as_slice())?;
+            Ok(found)
+        }
+    }
+}
+
 /// What a text says, around which no repeat is open.
 fn found_of(alloc: Global, known: &Known<'_>, text: &TextAt<'_>) -> Result<Found<Text>, AllocError>
     ensures { IfOk result (λ found. IsFoundAs (Says (known_of known.now) (text_lent text.now).text) text_is_over (found_text found)) }
@@ -52,13 +67,8 @@ fn found_of(alloc: Global, known: &Known<'_>, text: &TextAt<'_>) -> Result<Found
         names: known.names,
         repeats: &[],
     };
-    match read_text(alloc, text.text.as_slice())? {
-        None => Ok(Found::Unread),
-        Some(pieces) => {
-            let found = text_of(alloc, &scope, pieces.as_slice())?;
-            Ok(found)
-        }
-    }
+    let found = found_in(alloc, &scope, text.text.as_slice())?;
+    Ok(found)
 }
 
 /// What is kept of a text.

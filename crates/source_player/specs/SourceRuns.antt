@@ -3,14 +3,14 @@ use Rattle.std.specs.Prelude.{◌≡◌, ℕ, Bool, true, false, List, [], Some}
 use Rattle.world_meaning.specs.declared.session.Ending.{Ending}
 use Rattle.world_meaning.specs.declared.tale.Tale.{Tale}
 use Rattle.play_meaning.specs.Games.{Game}
-use Rattle.play_meaning.specs.PlainTales.{game_of_tale}
 use Rattle.play_meaning.specs.Sessions.{State, opened}
 use Rattle.play_meaning.specs.Transcripts.{IsPlay}
+use Rattle.play_meaning.specs.Trees.{Text}
 use Rattle.story_format.specs.Refusals.{IsRefused as IsNoStory}
 use Rattle.story_format.specs.Spells.{Spells}
 use Rattle.story_format.specs.declared.tables.Tables.{Tables}
 use Rattle.story_format.specs.declared.fault.LoadFault.TheVariants as load
-use Rattle.story_file.specs.Compilations.{IsRefused, Means}
+use Rattle.story_file.specs.Compilations.{IsRefused, Means, game_meant}
 use Rattle.story_player.specs.Breaks.{Blames}
 use Rattle.story_player.specs.Runs.{BrokeOff, Played, Streams, streams_of, most_input}
 use Rattle.world_store.specs.StoryGames.{game_of_story}
@@ -42,16 +42,18 @@ pub record BrokeOffStory (fault : RunFault) (bytes : List ℕ) (echo : Bool) (be
   pub spells : Spells bytes story
   pub broke : BrokeOffGame fault (game_of_story story) echo before after
 
--- The headline: a source was played, in the game of the tale that its sentences mean.
+-- The headline: a source was played, in the game of the tale that its sentences mean and of what its descriptions say.
 pub record PlayedSource (source : List ℕ) (echo : Bool) (before after : Streams) (ending : Ending) : Type 0 where
   pub tale : Tale
-  pub means : Means source tale
-  pub played : PlayedGame (game_of_tale tale) echo before after ending
+  pub texts : List Text
+  pub means : Means source tale texts
+  pub played : PlayedGame (game_meant tale texts) echo before after ending
 
 pub record BrokeOffSource (fault : RunFault) (source : List ℕ) (echo : Bool) (before after : Streams) : Type 0 where
   pub tale : Tale
-  pub means : Means source tale
-  pub broke : BrokeOffGame fault (game_of_tale tale) echo before after
+  pub texts : List Text
+  pub means : Means source tale texts
+  pub broke : BrokeOffGame fault (game_meant tale texts) echo before after
 
 -- whether play had begun
 abbrev pub is_of_run : SourceRunFault → Bool
@@ -75,7 +77,8 @@ pub record IsSpelled (bytes : List ℕ) : Type 0 where
 -- a source whose sentences mean a tale
 pub record IsMeant (source : List ℕ) : Type 0 where
   pub tale : Tale
-  pub means : Means source tale
+  pub texts : List Text
+  pub means : Means source tale texts
 
 -- Why bytes aren't played to their end as a story: they are none, memory is refused where the story that they are begins,
 -- or the run broke off.
@@ -96,9 +99,10 @@ LeavesSource (Run fault) source echo before after = BrokeOffSource fault source 
 -- A source was played over bytes of commands: the transcript is the play of all of them.
 pub record PlayedBytes (source commands : List ℕ) (echo : Bool) (transcript : List ℕ) (ending : Ending) : Type 0 where
   pub tale : Tale
-  pub means : Means source tale
+  pub texts : List Text
+  pub means : Means source tale texts
   pub last : State
-  pub play : IsPlay (game_of_tale tale) echo (opened (game_of_tale tale)).state commands transcript last
+  pub play : IsPlay (game_meant tale texts) echo (opened (game_meant tale texts)).state commands transcript last
   pub ended : last.ending ≡ Some ending
 
 -- Why a source isn't played over bytes of commands: what playing it leaves, where the commands are read

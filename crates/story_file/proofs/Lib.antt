@@ -5,3 +5,5 @@ pub mod MadeObjects
 pub mod MadePlaces
 pub mod Outcomes
 pub mod Ranges
+pub mod Texts
+pub mod Understood

@@ -1,3 +1,5 @@
 pub mod Compilations
+pub mod Lines
 pub mod Meanings
+pub mod Texts
 pub mod WorkedRows

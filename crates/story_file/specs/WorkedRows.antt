@@ -4,14 +4,16 @@ use Rattle.world_meaning.specs.declared.direction.Direction.TheVariants.{North}
 use Rattle.world_meaning.specs.declared.fault.Fault.{Fault}
 use Rattle.world_meaning.specs.declared.fault.FaultCode.TheVariants.{NoRoom}
 use Rattle.world_meaning.specs.declared.tale.Tale.{Tale}
-use Rattle.play_meaning.specs.PlainTales.{game_of_tale}
 use Rattle.play_meaning.specs.Rows.{blank, on_lines, typed}
+use Rattle.play_meaning.specs.StandardRules.{plain as plain_text}
 use Rattle.play_meaning.specs.Transcripts.{transcript}
+use Rattle.play_meaning.specs.Trees.{Text}
 use Rattle.i7_sentences.specs.declared.name.Name.{Name}
 use Rattle.i7_sentences.specs.declared.name.NameArticle.TheVariants.{Plain}
 use Rattle.i7_sentences.specs.declared.sentence.Assertion.TheVariants.{Description, Way, Are}
 use Rattle.i7_sentences.specs.declared.sentence.Sentence.{Sentence}
 use Rattle.i7_kinds.specs.Tales.{tale_said}
+use Rattle.story_file.specs.Compilations.{game_meant}
 
 abbrev pub plain : List ℕ → Name
 plain text = record { text = text; article = Plain }
@@ -24,10 +26,14 @@ two_rooms =
     ∷ record { said = Way (record { subject = plain (codes "Garden"); direction = North; room = plain (codes "Hall"); is_room_first = false }); line = 3 }
     ∷ []
 
--- what is written while a tale is played over these lines, each being echoed
-abbrev pub transcript_by : Result Tale Fault → List (List ℕ) → List ℕ
-transcript_by (Err fault) lines = []
-transcript_by (Ok tale) lines = transcript (game_of_tale tale) true [] lines
+-- what its one description says
+abbrev pub two_rooms_texts : List Text
+two_rooms_texts = plain_text (codes "A bare hall.") ∷ []
+
+-- what is written while a tale whose descriptions say these texts is played over these lines, each being echoed
+abbrev pub transcript_by : Result Tale Fault → List Text → List (List ℕ) → List ℕ
+transcript_by (Err fault) texts lines = []
+transcript_by (Ok tale) texts lines = transcript (game_meant tale texts) true [] lines
 
 abbrev pub two_rooms_shown : List (List ℕ)
 two_rooms_shown =
@@ -38,7 +44,7 @@ two_rooms_shown =
 
 -- The two-room source gives its transcript.
 abbrev pub GivesTranscript : Type 0
-GivesTranscript = transcript_by (tale_said two_rooms) (typed two_rooms_shown) ≡ on_lines two_rooms_shown
+GivesTranscript = transcript_by (tale_said two_rooms) two_rooms_texts (typed two_rooms_shown) ≡ on_lines two_rooms_shown
 
 -- The empty source has no room, at line 1.
 abbrev pub IsRefusedEmpty : Type 0

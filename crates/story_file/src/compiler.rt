@@ -1,13 +1,17 @@
 //! The compiler: from a source's bytes to a story's.
-ghost use Rattle.std.specs.Prelude.{IfErr, IfOk, MatchResult};
-ghost use Rattle.story_file.specs.Compilations.{IsCompiled, IsRefused, Means, Says};
+ghost use Rattle.std.specs.Prelude.{◌≡◌, ◌⊎◌, IfErr, IfOk, MatchResult, OnOk};
+ghost use Rattle.code_table.specs.declared.describing.TableFault.TheVariants.{Memory};
+ghost use Rattle.story_file.specs.Compilations.{IsCompiled, IsRefused, IsToldAs, Says};
+ghost use Rattle.world_meaning.specs.Faults.{out_of_memory};
 
+use crate::lines::line_of_description;
 use crate::meaning::tale_meant;
+use code_table::TableFault;
 use i7_lexer::lex;
 use i7_sentences::{Sentence, read};
 use std::alloc::Global;
-use story_format::write_plain;
-use world_meaning::{Fault, Tale};
+use story_format::write;
+use world_meaning::{Fault, FaultCode, Object};
 
 /// The sentences that the source says.
 fn sentences_said(alloc: Global, source: &[u8]) -> Result<Vec<Sentence>, Fault>
@@ -19,26 +23,37 @@ fn sentences_said(alloc: Global, source: &[u8]) -> Result<Vec<Sentence>, Fault>
     Ok(sentences)
 }
 
-/// The tale that the source means.
-fn tale_of_source(alloc: Global, source: &[u8]) -> Result<Tale, Fault>
-    ensures meant { IfOk result (Means source.now) }
-    ensures refused { IfErr result (IsRefused source.now) }
+/// How it is told that no story file says the descriptions of these objects.
+fn fault_told(sentences: &[Sentence], objects: &[Object], fault: TableFault) -> Fault
+    ensures { IsToldAs sentences.now objects.now fault result ⊎ ((fault ≡ Memory) × (result ≡ out_of_memory)) }
 {
-    let sentences = sentences_said(alloc, source)?;
-    let tale = tale_meant(alloc, sentences.as_slice())?;
-    Ok(tale)
+    match fault {
+        TableFault::TooLong(number) => Fault {
+            code: FaultCode::TooMany,
+            line: line_of_description(sentences, objects, number),
+        },
+        TableFault::TooMany => Fault {
+            code: FaultCode::TooMany,
+            line: 1,
+        },
+        TableFault::Memory => Fault::OUT_OF_MEMORY,
+    }
 }
 
 /// The story file of a source, or the refusal that stands: that of the first step that refuses, each
-/// step being the lexer, the reader of sentences, the tale, the rules and the texts that describe, and the look for
-/// sentences that no story holds so far (C5), in this order. Each tale that sentences mean has its story file, so that
-/// writing it is refused for memory alone.
+/// step being the lexer, the reader of sentences, the tale, the rules and the texts that describe, the look for
+/// rules, which no story holds so far (C5), and the story's codes (C12), in this order.
 pub fn compile(alloc: Global, source: &[u8]) -> Result<Vec<u8>, Fault>
     ensures { MatchResult result (λ bytes. IsCompiled source.now bytes.items) (IsRefused source.now) }
 {
-    let tale = tale_of_source(alloc, source)?;
-    match write_plain(alloc, &tale) {
+    let sentences = sentences_said(alloc, source)?;
+    let sentences = sentences.as_slice();
+    let meant = match tale_meant(alloc, sentences) {
+        Ok(meant) => meant,
+        Err(fault) => return Err(fault),
+    };
+    match write(alloc, &meant.tale, meant.texts.as_slice()) {
         Ok(bytes) => Ok(bytes),
-        Err(_) => Err(Fault::OUT_OF_MEMORY),
+        Err(fault) => Err(fault_told(sentences, meant.tale.objects.as_slice(), fault)),
     }
 }

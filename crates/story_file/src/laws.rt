@@ -1,16 +1,27 @@
 //! What holds of every source, by the definitions alone.
 ghost use Rattle.std.specs.Prelude.{◌≡◌, ◌≢◌, ℕ, List};
+ghost use Rattle.play_meaning.specs.Trees.{Text};
 ghost use Rattle.world_meaning.specs.declared.fault.Fault.{Fault};
 ghost use Rattle.world_meaning.specs.declared.fault.FaultCode.TheVariants.{Memory};
 ghost use Rattle.world_meaning.specs.declared.tale.Tale.{Tale};
 ghost use Rattle.story_file.specs.Compilations.{IsCompiled, IsRefused, Means};
 
-/// No source means two tales.
+use i7_phrases::one_text_is_meant;
+use i7_resolution::one_resolution;
+use story_format::never_held_and_not;
+
+/// No source means two tales, or the same with other descriptions.
 pub fn one_tale()
-    ensures { (source : List ℕ) (tale other : Tale) → Means source tale → Means source other → tale ≡ other }
-{}
+    ensures { (source : List ℕ) (tale other : Tale) (texts others : List Text) → Means source tale texts → Means source other others → (tale ≡ other) × (texts ≡ others) }
+{
+    one_text_is_meant();
+}
 
 /// No source has a story file and is refused, memory aside.
 pub fn never_compiled_and_refused()
     ensures { (source bytes : List ℕ) (fault : Fault) → fault.code ≢ Memory → IsCompiled source bytes → IsRefused source fault → ⊥ }
-{}
+{
+    one_text_is_meant();
+    one_resolution();
+    never_held_and_not();
+}

@@ -3,7 +3,9 @@
 
 mod compiler;
 mod laws;
+mod lines;
 mod meaning;
+mod texts;
 mod unheld;
 mod worked_rows;
 

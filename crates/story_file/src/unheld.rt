@@ -1,26 +1,16 @@
-//! The sentences that no story holds so far: rules, and descriptions with something to be worked out.
+//! The sentences that no story holds so far: rules.
 ghost use Rattle.std.specs.Prelude.{◌≡◌};
 ghost use Rattle.i7_sentences.specs.Lowest.{lowest};
-ghost use Rattle.story_file.specs.Meanings.{line_unless, unheld_line};
+ghost use Rattle.story_file.specs.Meanings.{unheld_line};
 
-use i7_sentences::{Assertion, Sentence, is_plain, lower_of};
-
-/// The line, unless a story holds what stands there.
-fn line_unless(is_held: bool, line: u32) -> Option<u32>
-    ensures { result ≡ line_unless is_held line }
-{
-    if is_held { None } else { Some(line) }
-}
+use i7_sentences::{Assertion, Sentence, lower_of};
 
 /// The line of a sentence that no story holds.
 fn unheld_line(sentence: &Sentence) -> Option<u32>
     ensures { result ≡ unheld_line sentence.now }
 {
-    let line = sentence.line;
     match &sentence.said {
-        Assertion::Rule(_) => Some(line),
-        Assertion::Description(text) => line_unless(is_plain(text.as_slice()), line),
-        Assertion::DescriptionOf { text, .. } => line_unless(is_plain(text.as_slice()), line),
+        Assertion::Rule(_) => Some(sentence.line),
         _ => None,
     }
 }
