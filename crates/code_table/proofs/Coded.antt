@@ -1,10 +1,9 @@
 -- The codes of texts are put together text by text.
 use Rattle.std.proofs.Common.{◌≡◌, ◌∙◌, ap, sym, subst, refl, ℕ, suc, ◌+◌, ◌-◌, ◌<◌, ◌≤◌, nat_lt, Bool, true, false, if◌then◌else◌, List, [], ◌∷◌, ◌++◌, length, drop, take, get_or, append_assoc, append-nil, Some, None, arith, length-append}
 use Rattle.std.specs.List.{flat_map}
-use Rattle.std.specs.Borrow.{Bor}
 use Rattle.std.specs.Prelude.{map}
 use Rattle.std.proofs.lemmas.Bool.{ltb-false, ltb-true}
-use Rattle.std.proofs.lemmas.List.{length-map, take_all}
+use Rattle.std.proofs.lemmas.List.{take_all}
 use Rattle.play_meaning.specs.Meant.{text_meant}
 use Rattle.play_meaning.specs.TranslatedScripts.{description_part}
 use Rattle.play_meaning.specs.Trees as tree
@@ -18,11 +17,8 @@ use Rattle.story_code.specs.SoundlyEmitted.{AreSoundAnywhere, among}
 use Rattle.story_code.specs.declared.emit.EmitFault.{EmitFault}
 use Rattle.story_code.specs.declared.emit.EmitFault.TheVariants as emit
 use Rattle.code_table.specs.Coding.{Adds, AreCoded, IsCoded, fault_at, number_behind}
-use Rattle.code_table.specs.Descriptions.{CanBeSaid, HaveNoTable, IsTooLong, codes_of_texts, number_from, texts_emitted, texts_from, texts_lent}
+use Rattle.code_table.specs.Descriptions.{CanBeSaid, HaveNoTable, IsTooLong, codes_of_texts, number_from, texts_emitted, texts_from}
 use Rattle.code_table.proofs.Tabled.{all_fit, all_said, coded_long, spelled_long}
-
-pub lent_long : (texts : List (Bor Text)) → length (texts_lent texts) ≡ length texts
-lent_long texts = length-map texts (λ text. text_meant text.now)
 
 -- ---- what is told of texts that are coded
 
@@ -94,32 +90,32 @@ module _ (z : Counts) (string : List ℕ → ℕ) (all : List tree.Text) where
 
   -- ---- as the loop keeps it
 
-  pub grows_on : (codes tests more_codes more_tests : List (List ℕ)) (first : ℕ) (rest : List (Bor Text)) (text : Bor Text) → 1 ≤ length rest → text ≡ get_or rest 0 text → first ≡ length all + length tests
-      → Adds z string first (text_meant text.now) codes tests more_codes more_tests → IsOnWay codes tests (texts_lent rest) → IsOnWay more_codes more_tests (texts_lent (take (length rest - 1) (drop 1 rest)))
+  pub grows_on : (codes tests more_codes more_tests : List (List ℕ)) (first : ℕ) (rest : List Text) (text : Text) → 1 ≤ length rest → text ≡ get_or rest 0 text → first ≡ length all + length tests
+      → Adds z string first (text_meant text) codes tests more_codes more_tests → IsOnWay codes tests (map text_meant rest) → IsOnWay more_codes more_tests (map text_meant (take (length rest - 1) (drop 1 rest)))
   grows_on codes tests more_codes more_tests first [] text some at number adds way = absurd (omega (arith, some))
   grows_on codes tests more_codes more_tests first (one ∷ rest) text some at number adds way =
       let whole : take (suc (length rest) - 1) rest ≡ rest = take_all _ rest (omega arith) in
-      subst (λ l. IsOnWay more_codes more_tests (texts_lent l)) (sym whole)
-      (grown codes tests more_codes more_tests first (text_meant one.now) (texts_lent rest) number (subst (λ (t : Bor Text). Adds z string first (text_meant t.now) codes tests more_codes more_tests) at adds) way)
+      subst (λ l. IsOnWay more_codes more_tests (map text_meant l)) (sym whole)
+      (grown codes tests more_codes more_tests first (text_meant one) (map text_meant rest) number (subst (λ (t : Text). Adds z string first (text_meant t) codes tests more_codes more_tests) at adds) way)
 
   -- the text in front is too long
-  pub is_too_long : (codes tests : List (List ℕ)) (first : ℕ) (rest : List (Bor Text)) (text : Bor Text) → 1 ≤ length rest → text ≡ get_or rest 0 text → first ≡ length all + length tests
-      → (((own count : ℕ) → TextFits (among z own count) role.Describing string 0 (text_meant text.now)) → can_say_all (description_part string (text_meant text.now) first 0) ≡ false)
-      → IsOnWay codes tests (texts_lent rest) → IsTooLong z string all (length codes)
+  pub is_too_long : (codes tests : List (List ℕ)) (first : ℕ) (rest : List Text) (text : Text) → 1 ≤ length rest → text ≡ get_or rest 0 text → first ≡ length all + length tests
+      → (((own count : ℕ) → TextFits (among z own count) role.Describing string 0 (text_meant text)) → can_say_all (description_part string (text_meant text) first 0) ≡ false)
+      → IsOnWay codes tests (map text_meant rest) → IsTooLong z string all (length codes)
   is_too_long codes tests first [] text some at number told way = absurd (omega (arith, some))
   is_too_long codes tests first (one ∷ rest) text some at number told way =
-      let coded = so_far codes tests (texts_lent (one ∷ rest)) way in
+      let coded = so_far codes tests (map text_meant (one ∷ rest)) way in
       let there : first ≡ number_from string (length all) way.before = omega (arith, number, coded_tests z string (length all) way.before codes tests coded) in
       record {
         before = way.before;
-        text = text_meant one.now;
-        behind = texts_lent rest;
+        text = text_meant one;
+        behind = map text_meant rest;
         parts = way.parts;
         place = coded_long z string 0 (length all) way.before codes tests coded;
         fit = all_fit z string 0 (length all) way.before codes tests coded;
         said = all_said z string 0 (length all) way.before codes tests coded;
-        long = subst (λ (t : Bor Text). ((own count : ℕ) → TextFits (among z own count) role.Describing string 0 (text_meant t.now)) → can_say_all (description_part string (text_meant t.now) (number_from string (length all) way.before) 0) ≡ false) at
-            (subst (λ n. ((own count : ℕ) → TextFits (among z own count) role.Describing string 0 (text_meant text.now)) → can_say_all (description_part string (text_meant text.now) n 0) ≡ false) there told);
+        long = subst (λ (t : Text). ((own count : ℕ) → TextFits (among z own count) role.Describing string 0 (text_meant t)) → can_say_all (description_part string (text_meant t) (number_from string (length all) way.before) 0) ≡ false) at
+            (subst (λ n. ((own count : ℕ) → TextFits (among z own count) role.Describing string 0 (text_meant text)) → can_say_all (description_part string (text_meant text) n 0) ≡ false) there told);
       }
 
   codes_long : (first : ℕ) (texts : List tree.Text) → length (map (λ e. e.code) (texts_from string first texts)) ≡ length texts
@@ -134,7 +130,7 @@ module _ (z : Counts) (string : List ℕ → ℕ) (all : List tree.Text) where
       subst (λ l. length (flat_map (λ e. e.tests) (texts_from string (length all) way.before)) ≤ length (flat_map (λ e. e.tests) (texts_from string (length all) l))) (sym way.parts) (tests_grow string (length all) way.before rest) in
       omega (arith, many, fewer, coded_tests z string (length all) way.before codes tests coded, length-append (map (λ e. e.code) (texts_emitted string all)) (flat_map (λ e. e.tests) (texts_emitted string all)), codes_long (length all) all)
 
-  pub ends : (codes tests : List (List ℕ)) (rest : List (Bor Text)) → length rest < 1 → IsOnWay codes tests (texts_lent rest) → AreCoded z string (length all) all codes tests
+  pub ends : (codes tests : List (List ℕ)) (rest : List Text) → length rest < 1 → IsOnWay codes tests (map text_meant rest) → AreCoded z string (length all) all codes tests
   ends codes tests (one ∷ rest) none way = absurd (omega (arith, none))
   ends codes tests [] none way =
       subst (λ l. AreCoded z string (length all) l codes tests) (sym (way.parts ∙ append-nil way.before)) (so_far codes tests [] way)

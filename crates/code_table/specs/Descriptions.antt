@@ -1,24 +1,17 @@
 -- The codes that say texts: those of all texts in turn, and behind them all tests that they name, in turn.
 use Rattle.std.specs.Prelude.{◌≡◌, ℕ, ◌+◌, ◌<◌, true, false, List, ◌∷◌, ◌++◌, length, map}
-use Rattle.std.specs.Borrow.{Bor}
 use Rattle.std.specs.List.{AllByRecursion, flat_map}
-use Rattle.play_meaning.specs.Meant.{text_meant}
 use Rattle.play_meaning.specs.TranslatedScripts.{codes_emitted, description_part, emitted_in_turn}
 use Rattle.play_meaning.specs.Translation.{Emitted}
 use Rattle.play_meaning.specs.Trees.{Text}
 use Rattle.play_meaning.specs.declared.instruction.Instruction.{Instruction}
 use Rattle.play_meaning.specs.declared.operand.Counts.{Counts}
 use Rattle.play_meaning.specs.declared.operand.Use.TheVariants as role
-use Rattle.play_meaning.specs.declared.tree.said.Text.{Text as Lent}
 use Rattle.story_code.specs.Emitting.{can_say_all}
 use Rattle.story_code.specs.Fitting.{TextFits}
 use Rattle.story_code.specs.SoundlyEmitted.{among}
 use Rattle.code_table.specs.declared.describing.TableFault.{TableFault}
 use Rattle.code_table.specs.declared.describing.TableFault.TheVariants.{TooLong, TooMany, Memory}
-
--- texts as they are lent
-abbrev pub texts_lent : List (Bor Lent) → List Text
-texts_lent texts = map (λ text. text_meant text.now) texts
 
 -- of each text its code and the tests that this names, the first test of this number, each string by its own
 abbrev pub texts_from : (List ℕ → ℕ) → ℕ → List Text → List Emitted

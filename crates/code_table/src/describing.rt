@@ -1,5 +1,5 @@
 //! The codes that say texts, as a table.
-ghost use Rattle.std.specs.Prelude.{◌≡◌, ◌<◌, ◌++◌, drop, take, ℕ, IfErr, IfOk, List, OnOk, length, replicate, false};
+ghost use Rattle.std.specs.Prelude.{◌≡◌, ◌<◌, ◌++◌, drop, take, ℕ, IfErr, IfOk, List, OnOk, length, map, replicate, false};
 ghost use Rattle.object_words.specs.Mentions.{number_in};
 ghost use Rattle.play_meaning.specs.Meant.{text_meant};
 ghost use Rattle.play_meaning.specs.TranslatedScripts.{description_part};
@@ -10,7 +10,7 @@ ghost use Rattle.story_code.specs.Fitting.{TextFits};
 ghost use Rattle.story_code.specs.SoundlyEmitted.{among};
 ghost use Rattle.story_code.specs.Soundness.{Judged};
 ghost use Rattle.code_table.specs.Coding.{Adds, fault_at, number_behind};
-ghost use Rattle.code_table.specs.Descriptions.{AllFit, CanBeSaid, HaveNoTable, codes_of_texts, texts_lent};
+ghost use Rattle.code_table.specs.Descriptions.{AllFit, CanBeSaid, HaveNoTable, codes_of_texts};
 ghost use Rattle.code_table.specs.Tables.{IsTableOf};
 
 use object_words::Strings;
@@ -101,14 +101,14 @@ pub fn description_table(
     alloc: Global,
     counts: &Counts,
     strings: &Strings,
-    texts: &[&Text],
+    texts: &[Text],
 ) -> Result<Vec<TextBytes>, TableFault>
-    ensures codes { IfOk result (λ codes. AreSpelled codes.items (codes_of_texts (number_in strings.now) (texts_lent texts.now))) }
-    ensures fit { OnOk result (AllFit counts.now (number_in strings.now) (texts_lent texts.now)) }
-    ensures said { OnOk result (CanBeSaid (number_in strings.now) (texts_lent texts.now)) }
+    ensures codes { IfOk result (λ codes. AreSpelled codes.items (codes_of_texts (number_in strings.now) (map text_meant texts.now))) }
+    ensures fit { OnOk result (AllFit counts.now (number_in strings.now) (map text_meant texts.now)) }
+    ensures said { OnOk result (CanBeSaid (number_in strings.now) (map text_meant texts.now)) }
     ensures table { IfOk result (λ codes. (judged : List Judged) × IsTableOf (record counts.now { codes = length codes.items }) (replicate (length texts.now) role.Describing) codes.items judged) }
     ensures few { IfOk result (λ codes. length codes.items < 65536) }
-    ensures none { IfErr result (HaveNoTable counts.now (number_in strings.now) (texts_lent texts.now)) }
+    ensures none { IfErr result (HaveNoTable counts.now (number_in strings.now) (map text_meant texts.now)) }
 {
     let mut codes = Vec::new(alloc);
     let mut tests = Vec::new(alloc);

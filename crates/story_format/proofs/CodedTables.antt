@@ -1,5 +1,5 @@
 -- The tables of a tale are those without codes, with the bytes of what its texts say.
-use Rattle.std.proofs.Common.{◌≡◌, ◌∙◌, ap, sym, subst, ℕ, Bool, true, false, ◌&&◌, nat_lt, List, [], ◌∷◌, length}
+use Rattle.std.proofs.Common.{◌≡◌, ◌∙◌, ap, refl, sym, subst, ℕ, Bool, true, false, ◌&&◌, nat_lt, List, [], ◌∷◌, length, arith}
 use Rattle.std.specs.Prelude.{OnOk, Result, Ok, Err, map}
 use Rattle.std.specs.List.{list_all}
 use Rattle.std.proofs.lemmas.Bool.{and_parts, lt-ltb, ltb-true}
@@ -8,11 +8,14 @@ use Rattle.world_meaning.specs.declared.tale.Tale.{Tale}
 use Rattle.object_words.specs.Mentions.{number_in}
 use Rattle.play_meaning.specs.Trees.{Text}
 use Rattle.play_meaning.specs.declared.instruction.Instruction.{Instruction}
-use Rattle.code_table.specs.Descriptions.{AllFit, CanBeSaid}
+use Rattle.code_table.specs.Descriptions.{AllFit, CanBeSaid, HaveNoTable, IsTooLong}
+use Rattle.code_table.specs.Laws.{NeverTableAndNone}
+use Rattle.code_table.specs.declared.describing.TableFault.{TableFault}
+use Rattle.code_table.specs.declared.describing.TableFault.TheVariants.{TooLong, TooMany, Memory}
 use Rattle.story_code.specs.Emits.{AreSpelled}
 use Rattle.story_code.specs.Spelling.{spelling}
 use Rattle.story_format.specs.Codes.{counts_of}
-use Rattle.story_format.specs.Holding.{AreHeld, IsHeld, has_short_texts, is_short}
+use Rattle.story_format.specs.Holding.{AreHeld, AreNotHeld, IsHeld, NeverHeldAndNot, has_short_texts, is_short}
 use Rattle.story_format.specs.Making.{code_bytes, codes_in, strings_of, strings_said, tables_but_codes, tables_of, tables_with, worded}
 use Rattle.story_format.specs.declared.tables.Tables.{Tables}
 use Rattle.story_format.proofs.EntryLemmas.{objects_back}
@@ -70,3 +73,22 @@ module _ (t : Tale) (texts : List Text) (strings : List (List ℕ)) (tables : Ta
 
   pub said_so : AreHeld t texts → CanBeSaid (number_in strings) texts
   said_so are = subst (λ l. CanBeSaid (number_in l) texts) (sym strings_are) are.said
+
+  -- ---- what isn't said
+
+  none_long : (number : ℕ) → IsTooLong (counts_of tables) (number_in strings) texts number → IsTooLong (counts_of (tables_of t texts)) (number_in (strings_of (worded t.objects) texts)) texts number
+  unfolding counts_of tables_with
+  none_long number long =
+      let all = strings_of (worded t.objects) texts in
+      let there = subst (λ (x : Tables). IsTooLong (counts_of x) (number_in all) texts number) tables_are (subst (λ l. IsTooLong (counts_of tables) (number_in l) texts number) strings_are long) in
+      record { before = there.before; text = there.text; behind = there.behind; parts = there.parts; place = there.place; fit = there.fit; said = there.said; long = there.long }
+
+  pub none_so : (fault : TableFault) → HaveNoTable (counts_of tables) (number_in strings) texts fault → AreNotHeld t texts fault
+  none_so (TooLong number) long = none_long number long
+  none_so TooMany many = λ are. let few = (said_so are).few in omega (arith, many, few)
+  none_so Memory none = tt
+
+pub never_both : NeverTableAndNone → NeverHeldAndNot
+never_both law t texts (TooLong number) are long = law (counts_of (tables_of t texts)) (number_in (strings_of (worded t.objects) texts)) texts (TooLong number) are.fit are.said long
+never_both law t texts TooMany are none = absurd (none are)
+never_both law t texts Memory are none = refl

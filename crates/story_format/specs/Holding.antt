@@ -1,12 +1,15 @@
 -- The tales that a story file holds, and the texts that it says of their objects.
-use Rattle.std.specs.Prelude.{◌≡◌, ◌<◌, ℕ, Bool, true, ◌&&◌, nat_lt, nat_le, List, length, Option, Some, None}
+use Rattle.std.specs.Prelude.{◌≡◌, ◌<◌, ℕ, Bool, true, ◌&&◌, nat_lt, nat_le, List, length, map, Option, Some, None}
 use Rattle.std.specs.List.{list_all}
 use Rattle.world_meaning.specs.WellMade.{IsWellMade}
 use Rattle.world_meaning.specs.declared.tale.Object.{Object}
 use Rattle.world_meaning.specs.declared.tale.Tale.{Tale}
 use Rattle.object_words.specs.Mentions.{number_in}
 use Rattle.play_meaning.specs.Trees.{Text}
-use Rattle.code_table.specs.Descriptions.{AllFit, CanBeSaid}
+use Rattle.play_meaning.specs.StandardRules.{plain}
+use Rattle.code_table.specs.Descriptions.{AllFit, CanBeSaid, IsTooLong}
+use Rattle.code_table.specs.declared.describing.TableFault.{TableFault}
+use Rattle.code_table.specs.declared.describing.TableFault.TheVariants.{TooLong, TooMany, Memory}
 use Rattle.story_format.specs.Codes.{counts_of}
 use Rattle.story_format.specs.Making.{Worded, codes_in, strings_of, strings_said, tables_of, worded}
 
@@ -39,3 +42,17 @@ pub record AreHeld (t : Tale) (texts : List Text) : Type 0 where
   pub few : length (strings_of (worded t.objects) texts) < 65535
   pub fit : AllFit (counts_of (tables_of t texts)) (number_in (strings_of (worded t.objects) texts)) texts
   pub said : CanBeSaid (number_in (strings_of (worded t.objects) texts)) texts
+
+-- why a story file doesn't say texts: one is the first whose code is too long, or there is too much of them
+abbrev pub AreNotHeld : Tale → List Text → TableFault → Type 0
+AreNotHeld t texts (TooLong number) = IsTooLong (counts_of (tables_of t texts)) (number_in (strings_of (worded t.objects) texts)) texts number
+AreNotHeld t texts TooMany = AreHeld t texts → ⊥
+AreNotHeld t texts Memory = Unit {0}
+
+-- texts that a story file says aren't among those that it doesn't, memory aside
+abbrev pub NeverHeldAndNot : Type 0
+NeverHeldAndNot = (t : Tale) (texts : List Text) (fault : TableFault) → AreHeld t texts → AreNotHeld t texts fault → fault ≡ Memory
+
+-- texts of bytes alone, at most 65,535, are said
+abbrev pub PlainTextsAreHeld : Type 0
+PlainTextsAreHeld = (t : Tale) (bytes : List (List ℕ)) → IsHeld t → length bytes ≡ codes_in t.objects → list_all is_short bytes ≡ true → AreHeld t (map plain bytes)

@@ -2,7 +2,6 @@
 use Rattle.std.specs.Prelude.{ℕ, zero, suc, ℤ, ◌+◌, List, [], ◌∷◌, ◌++◌, drop, is_some, map, min, slice_get, Option, Some, None, if◌then◌else◌}
 use Rattle.std.specs.List.{flat_map}
 use Rattle.std.specs.Int.{w32, cast_unsigned}
-use Rattle.std.specs.Option.{option_map}
 use Rattle.world_meaning.specs.declared.article.Article.{Article}
 use Rattle.world_meaning.specs.declared.article.Article.TheVariants as articles
 use Rattle.world_meaning.specs.declared.place.Rel.{Rel}
@@ -13,8 +12,6 @@ use Rattle.world_meaning.specs.declared.tale.Object.{Object}
 use Rattle.world_meaning.specs.declared.tale.Tale.{Tale}
 use Rattle.world_meaning.specs.declared.declared.Declared.{Declared}
 use Rattle.world_meaning.specs.Kinds.{is_under, room_kind}
-use Rattle.play_meaning.specs.StandardRules.{plain}
-use Rattle.play_meaning.specs.TranslatedScripts.{in_list}
 use Rattle.play_meaning.specs.Translation.{strings_of_text}
 use Rattle.play_meaning.specs.Trees.{Text}
 use Rattle.code_table.specs.Descriptions.{codes_of_texts}
@@ -155,7 +152,3 @@ text_in (object ∷ objects) texts (suc o) = text_in objects (drop (code_count o
 
 abbrev pub text_of : Tale → List Text → ℕ → Option Text
 text_of t texts o = text_in t.objects texts o
-
--- the texts of descriptions that say their bytes
-abbrev pub plain_descriptions : List Object → List Text
-plain_descriptions objects = flat_map (λ object. in_list (option_map plain object.description)) objects

@@ -3,21 +3,19 @@ ghost use Rattle.std.specs.Prelude.{◌≡◌, ◌&&◌, IfErr, IfOk, OnOk, leng
 ghost use Rattle.std.specs.List.{list_all};
 ghost use Rattle.object_words.specs.Mentions.{number_in};
 ghost use Rattle.play_meaning.specs.Meant.{text_meant};
-ghost use Rattle.code_table.specs.Descriptions.{AllFit, CanBeSaid};
-ghost use Rattle.story_code.specs.declared.emit.EmitFault.TheVariants.{TooLong};
+ghost use Rattle.code_table.specs.Descriptions.{AllFit, CanBeSaid, HaveNoTable};
 ghost use Rattle.story_format.specs.Codes.{counts_of};
-ghost use Rattle.story_format.specs.Holding.{AreHeld, IsHeld, is_short};
+ghost use Rattle.story_format.specs.Holding.{AreHeld, AreNotHeld, IsHeld, is_short};
 ghost use Rattle.story_format.specs.Making.{code_bytes, codes_in, tables_of};
 
 use crate::codes::counts_of;
 use crate::making::uncoded;
 use crate::table::Table;
 use crate::tables::Tables;
-use code_table::description_table;
+use code_table::{TableFault, description_table};
 use object_words::Strings;
 use play_meaning::tree::Text;
 use std::alloc::Global;
-use story_code::EmitFault;
 use world_meaning::{Tale, TextBytes};
 
 fn is_short(text: &[u8]) -> bool
@@ -45,11 +43,11 @@ fn with_codes(
     strings: &Strings,
     tables: Tables,
     texts: &[Text],
-) -> Result<Tables, EmitFault>
+) -> Result<Tables, TableFault>
     ensures coded { IfOk result (λ coded. coded ≡ record tables { codes = code_bytes strings.now (map text_meant texts.now) }) }
     ensures fit { OnOk result (AllFit (counts_of tables) (number_in strings.now) (map text_meant texts.now)) }
     ensures said { OnOk result (CanBeSaid (number_in strings.now) (map text_meant texts.now)) }
-    ensures too_long { IfErr result (λ fault. fault ≡ TooLong → AllFit (counts_of tables) (number_in strings.now) (map text_meant texts.now) → CanBeSaid (number_in strings.now) (map text_meant texts.now) → ⊥) }
+    ensures none { IfErr result (HaveNoTable (counts_of tables) (number_in strings.now) (map text_meant texts.now)) }
 {
     match description_table(alloc, &counts_of(&tables), strings, texts) {
         Ok(codes) => {
@@ -65,19 +63,20 @@ fn with_codes(
 ///
 /// # Errors
 ///
-/// `TooLong` exactly where no story file says the texts, and `Memory`.
-pub fn tables_of(alloc: Global, tale: &Tale, texts: &[Text]) -> Result<Tables, EmitFault>
+/// `TooLong` with the number of the first text whose code is too long, `TooMany` only where there are more codes or strings
+/// than two bytes number, or a string is too long, and `Memory`.
+pub fn tables_of(alloc: Global, tale: &Tale, texts: &[Text]) -> Result<Tables, TableFault>
     requires held { IsHeld tale.now }
     requires many { length texts.now ≡ codes_in tale.now.objects }
     ensures tables { IfOk result (λ tables. tables ≡ tables_of tale.now (map text_meant texts.now)) }
     ensures said { OnOk result (AreHeld tale.now (map text_meant texts.now)) }
-    ensures too_long { IfErr result (λ fault. fault ≡ TooLong → AreHeld tale.now (map text_meant texts.now) → ⊥) }
+    ensures none { IfErr result (AreNotHeld tale.now (map text_meant texts.now)) }
 {
     let Ok((strings, tables)) = uncoded(alloc, tale, texts) else {
-        return Err(EmitFault::Memory);
+        return Err(TableFault::Memory);
     };
     if !are_few(tables.strings.as_slice()) {
-        return Err(EmitFault::TooLong);
+        return Err(TableFault::TooMany);
     }
     with_codes(alloc, &strings, tables, texts)
 }

@@ -11,11 +11,13 @@ ghost use Rattle.story_format.specs.Carrying.{Carries};
 ghost use Rattle.story_format.specs.Facts.{start_of, way_of};
 ghost use Rattle.story_format.specs.Formats.{IsBytes};
 ghost use Rattle.story_format.specs.Placed.{sorts_in};
-ghost use Rattle.story_format.specs.Holding.{AreHeld, IsHeld};
-ghost use Rattle.story_format.specs.Making.{plain_descriptions, tables_of};
+ghost use Rattle.story_format.specs.Holding.{AreHeld, IsHeld, NeverHeldAndNot, PlainTextsAreHeld};
+ghost use Rattle.story_format.specs.Making.{tables_of};
 ghost use Rattle.story_format.specs.Spells.{IsStory, Spells};
 ghost use Rattle.story_format.specs.Refusals.{IsRefused};
 ghost use Rattle.story_format.specs.Telling.{AreToldAlike};
+
+use code_table::never_table_and_none;
 
 /// No story has two spellings.
 pub fn one_spelling()
@@ -52,10 +54,17 @@ pub fn story_carries_tale()
     ensures { (tale : Tale) (texts : List Text) → IsHeld tale → AreHeld tale texts → Carries (tables_of tale texts) tale texts }
 {}
 
-/// A story file says descriptions that say their bytes.
-pub fn plain_descriptions_are_held()
-    ensures { (tale : Tale) → IsHeld tale → AreHeld tale (plain_descriptions tale.objects) }
+/// A story file says descriptions that say bytes alone, at most 65,535 of them.
+pub fn plain_texts_are_held()
+    ensures { PlainTextsAreHeld }
 {}
+
+/// Texts that a story file says are not held for no reason but memory.
+pub fn never_held_and_not()
+    ensures { NeverHeldAndNot }
+{
+    never_table_and_none();
+}
 
 /// A story begins in one of its rooms, and each way leads to one of them or nowhere.
 pub fn stories_lead_to_rooms()

@@ -16,7 +16,6 @@ mod making;
 mod mentioning;
 mod number;
 mod place;
-mod plain;
 mod row;
 mod rule_entry;
 mod rule_tables;
@@ -35,10 +34,10 @@ pub use fact_laws::stories_begin_in_order;
 pub use facts::{door_in, way_in};
 pub use fault::LoadFault;
 pub use laws::{
-    one_fault, one_spelling, one_story, plain_descriptions_are_held, spelled_or_refused,
-    stories_lead_to_rooms, stories_stand, story_carries_tale, tales_are_stories,
-    told_alike_are_one,
+    never_held_and_not, one_fault, one_spelling, one_story, plain_texts_are_held,
+    spelled_or_refused, stories_lead_to_rooms, stories_stand, story_carries_tale,
+    tales_are_stories, told_alike_are_one,
 };
 pub use loading::load;
 pub use story::Story;
-pub use writing::{write, write_plain};
+pub use writing::write;

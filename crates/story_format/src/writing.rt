@@ -1,19 +1,17 @@
 //! Writing a tale as a story.
 ghost use Rattle.std.specs.Prelude.{◌≡◌, IfErr, IfOk, OnOk, ◌++◌, length, map};
 ghost use Rattle.play_meaning.specs.Meant.{text_meant};
-ghost use Rattle.story_code.specs.declared.emit.EmitFault.TheVariants.{TooLong};
-ghost use Rattle.story_format.specs.Holding.{AreHeld, IsHeld};
+ghost use Rattle.story_format.specs.Holding.{AreHeld, AreNotHeld, IsHeld};
 ghost use Rattle.story_format.specs.Layout.{tables_layout};
-ghost use Rattle.story_format.specs.Making.{codes_in, plain_descriptions, tables_of};
+ghost use Rattle.story_format.specs.Making.{codes_in, tables_of};
 ghost use Rattle.story_format.specs.Spells.{IsStory, Spells, head};
 
 use crate::coding::tables_of;
 use crate::field::Field;
-use crate::plain::plain_descriptions;
 use crate::tables::Tables;
+use code_table::TableFault;
 use play_meaning::tree::Text;
 use std::alloc::{AllocError, Global};
-use story_code::EmitFault;
 use world_meaning::Tale;
 
 /// The bytes with which a story begins.
@@ -38,31 +36,20 @@ fn spelling(alloc: Global, tables: &Tables) -> Result<Vec<u8>, AllocError>
 ///
 /// # Errors
 ///
-/// `TooLong` exactly where no story file says the texts, and `Memory`.
-pub fn write(alloc: Global, tale: &Tale, texts: &[Text]) -> Result<Vec<u8>, EmitFault>
+/// `TooLong` with the number of the first text whose code is too long, `TooMany` only where the story would have more than
+/// 65,535 codes or 65,534 strings, or a string of more than 65,535 bytes, and `Memory`.
+pub fn write(alloc: Global, tale: &Tale, texts: &[Text]) -> Result<Vec<u8>, TableFault>
     requires held { IsHeld tale.now }
     requires many { length texts.now ≡ codes_in tale.now.objects }
     ensures spelled { IfOk result (λ bytes. Spells bytes.items (tables_of tale.now (map text_meant texts.now))) }
     ensures said { OnOk result (AreHeld tale.now (map text_meant texts.now)) }
-    ensures too_long { IfErr result (λ fault. fault ≡ TooLong → AreHeld tale.now (map text_meant texts.now) → ⊥) }
+    ensures none { IfErr result (AreNotHeld tale.now (map text_meant texts.now)) }
 {
     match tables_of(alloc, tale, texts) {
         Ok(tables) => match spelling(alloc, &tables) {
             Ok(bytes) => Ok(bytes),
-            Err(_) => Err(EmitFault::Memory),
+            Err(_) => Err(TableFault::Memory),
         },
         Err(fault) => Err(fault),
-    }
-}
-
-/// The bytes of the story of a tale whose descriptions say their bytes, which a story file always says: only memory is refused.
-pub fn write_plain(alloc: Global, tale: &Tale) -> Result<Vec<u8>, AllocError>
-    requires { IsHeld tale.now }
-    ensures { IfOk result (λ bytes. Spells bytes.items (tables_of tale.now (plain_descriptions tale.now.objects))) }
-{
-    let texts = plain_descriptions(alloc, tale.objects.as_slice())?;
-    match write(alloc, tale, texts.as_slice()) {
-        Ok(bytes) => Ok(bytes),
-        Err(_) => Err(AllocError),
     }
 }

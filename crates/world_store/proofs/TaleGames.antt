@@ -20,7 +20,7 @@ use Rattle.play_meaning.proofs.Agreement.{one_setting}
 use Rattle.play_meaning.specs.Agreement.{SettingsAgree}
 use Rattle.play_meaning.specs.PlainReading.{reads_plainly}
 use Rattle.play_meaning.specs.Grounds.{said_by_code}
-use Rattle.play_meaning.specs.PlainTales.{script_of, story_of_script, story_of_tale}
+use Rattle.play_meaning.specs.PlainTales.{script_of, story_of_script}
 use Rattle.play_meaning.specs.Scripts.{says, undescribed}
 use Rattle.play_meaning.specs.Trees.{Text}
 use Rattle.play_meaning.specs.Worlds.{World}
@@ -30,12 +30,11 @@ use Rattle.story_format.specs.Codes.{codes_told}
 use Rattle.story_format.specs.Facts.{description_code_of, exits_at}
 use Rattle.story_format.specs.Holding.{AreHeld, IsHeld}
 use Rattle.story_format.specs.InPlay.{article_in, article_numbered, door_in, has_in, is_of_in, number_from, start_number, start_numbers, start_flags, start_variable, starts_true}
-use Rattle.story_format.specs.Making.{Worded, article_number, code_count, entries_of, entry_of, numbers_of, plain_descriptions, strings_of, tables_of, tables_with, text_of, variable_of, ways_of, worded, worded_at, worded_from, world_of}
+use Rattle.story_format.specs.Making.{Worded, article_number, code_count, entries_of, entry_of, numbers_of, strings_of, tables_of, tables_with, text_of, variable_of, ways_of, worded, worded_at, worded_from, world_of}
 use Rattle.story_format.specs.declared.tables.Entry.{Entry}
 use Rattle.story_format.proofs.Carried.{exits_found, object_found, tale_carried}
 use Rattle.story_format.proofs.DeclaredLemmas.{declared_parts}
 use Rattle.story_format.proofs.EntryLemmas.{objects_back, objects_in, places_back}
-use Rattle.story_format.proofs.PlainTexts.{plain_held, plain_said}
 use Rattle.story_format.proofs.StoryLemmas.{all_at}
 use Rattle.world_store.specs.StartWorlds.{start_world}
 use Rattle.world_store.specs.StoryGames.{plain_story}
@@ -190,6 +189,3 @@ tables_game t texts held said =
       describes = λ o now w. described o now w i;
       reads = reads_plainly (setting i) (λ o. carries.words o i);
     }
-
-pub plain_game : (t : Tale) → IsHeld t → plain_story (tables_of t (plain_descriptions t.objects)) ≡ story_of_tale t
-plain_game t held = tables_game t (plain_descriptions t.objects) held (plain_held t held) ∙ (λ i. story_of_script (script_of t (λ o. plain_said t o i)))

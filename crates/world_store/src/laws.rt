@@ -1,6 +1,6 @@
 //! What holds of every story in play, of its worlds and their changes, and of the dark.
 ghost use Rattle.std.specs.Prelude.{◌≡◌, ◌≢◌, ◌⊎◌, ◌<◌, ℕ, ℤ, Bool, true, false, List, Option, Some, length};
-ghost use Rattle.play_meaning.specs.PlainTales.{script_of, story_of_script, story_of_tale};
+ghost use Rattle.play_meaning.specs.PlainTales.{script_of, story_of_script};
 ghost use Rattle.play_meaning.specs.Seeing.{encloses, has_light, is_visible, root_of};
 ghost use Rattle.play_meaning.specs.Settings.{Setting, direction_kind, thing_kind};
 ghost use Rattle.play_meaning.specs.StoryWorlds.{IsWorldOf};
@@ -8,7 +8,7 @@ ghost use Rattle.play_meaning.specs.Trees.{Text};
 ghost use Rattle.play_meaning.specs.Worlds.{World as PlayWorld, is_true_of, number_of, place_of, scene_of, set_flag, set_number, set_place, set_scene, set_variable, variable_of};
 ghost use Rattle.play_meaning.specs.declared.scene.SceneNow.{SceneNow};
 ghost use Rattle.story_format.specs.Holding.{AreHeld, IsHeld};
-ghost use Rattle.story_format.specs.Making.{plain_descriptions, tables_of, text_of};
+ghost use Rattle.story_format.specs.Making.{tables_of, text_of};
 ghost use Rattle.world_meaning.specs.Sight.{direction};
 ghost use Rattle.world_meaning.specs.declared.place.Place.{Place};
 ghost use Rattle.world_meaning.specs.declared.tale.Tale.{Tale};
@@ -38,8 +38,7 @@ pub fn directions_are_directions(world: &World)
 /// The tables of a tale that a story file holds, whose descriptions say these texts, give the game of the tale with them: the
 /// same setting, start, descriptions and reading of lines.
 pub fn tables_give_their_tales_game()
-    ensures said { (t : Tale) (texts : List Text) → IsHeld t → AreHeld t texts → plain_story (tables_of t texts) ≡ story_of_script (script_of t (text_of t texts)) }
-    ensures plain { (t : Tale) → IsHeld t → plain_story (tables_of t (plain_descriptions t.objects)) ≡ story_of_tale t }
+    ensures { (t : Tale) (texts : List Text) → IsHeld t → AreHeld t texts → plain_story (tables_of t texts) ≡ story_of_script (script_of t (text_of t texts)) }
 {}
 
 /// A change of one thing leaves the others.
