@@ -1,5 +1,5 @@
 -- The rulebooks and the scenes of sentences that mean a tale are few.
-use Rattle.std.proofs.Common.{◌≡◌, ℕ, ◌+◌, ◌*◌, ◌≤◌, List, [], length, Ok, None, arith}
+use Rattle.std.proofs.Common.{◌≡◌, ◌+◌, ◌*◌, ◌≤◌, List, [], length, Ok, None, arith}
 use Rattle.world_meaning.specs.declared.tale.Tale.{Tale}
 use Rattle.i7_claims.specs.Claims.{claims_of}
 use Rattle.i7_claims.specs.Scans.{earlier}

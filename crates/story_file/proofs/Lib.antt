@@ -1,9 +1,10 @@
+pub mod Compiled
 pub mod Counted
+pub mod Gathered
 pub mod Held
 pub mod MadeDeclarations
 pub mod MadeObjects
 pub mod MadePlaces
 pub mod Outcomes
 pub mod Ranges
-pub mod Texts
 pub mod Understood

@@ -16,7 +16,6 @@ use Rattle.i7_sentences.specs.declared.sentence.Sentence.{Sentence}
 use Rattle.i7_sentences.specs.declared.text_piece.TextPiece.{TextPiece}
 use Rattle.i7_phrases.specs.Texts.{IsText}
 use Rattle.i7_rules.specs.Knowns.{Known}
-use Rattle.i7_kinds.specs.Tales.{tale_said}
 use Rattle.i7_resolution.specs.Resolutions.{IsResolution}
 use Rattle.i7_resolution.specs.ResolutionsMeant.{resolution_meant}
 use Rattle.i7_resolution.specs.SourceTexts.{Says as TextSays}

@@ -1,5 +1,5 @@
 -- The numbers of the sentences that a source says are in range.
-use Rattle.std.proofs.Common.{◌≡◌, ℕ, zero, suc, Bool, true, false, ◌≤◌, ◌-ℤ◌, ℤ, pos, negsuc, List, [], ◌∷◌, Option, Some, None, min, refl, sym, subst, arith, inl, inr, ◌⊎◌}
+use Rattle.std.proofs.Common.{◌≡◌, ℕ, zero, suc, Bool, true, false, ◌≤◌, ◌-ℤ◌, ℤ, pos, negsuc, List, [], ◌∷◌, Option, Some, None, min, refl, sym, subst, arith, inl, inr}
 use Rattle.std.specs.Prelude.{if◌then◌else◌}
 use Rattle.std.specs.List.{AllZip}
 use Rattle.std.proofs.lemmas.Bool.{lt-ltb}

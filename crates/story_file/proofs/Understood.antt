@@ -1,5 +1,5 @@
 -- The texts that describe a tale's objects are understood where nothing refuses the texts of its sentences, and say one thing each.
-use Rattle.std.proofs.Common.{◌≡◌, ◌∙◌, ap, refl, subst, sym, ℕ, zero, suc, true, List, [], ◌∷◌, ◌++◌, Ok, Some}
+use Rattle.std.proofs.Common.{◌≡◌, ◌∙◌, ap, refl, subst, sym, ℕ, suc, List, [], ◌∷◌, ◌++◌, Ok, Some}
 use Rattle.std.specs.Prelude.{Option, None, reverse, slice_get}
 use Rattle.std.specs.List.{All}
 use Rattle.std.proofs.lemmas.List.{append_assoc, reverse-append}
@@ -7,12 +7,10 @@ use Rattle.std.proofs.lemmas.Grind.{reverse_onto}
 use Rattle.world_meaning.specs.Tale.{description_in, description_of}
 use Rattle.world_meaning.specs.declared.tale.Object.{Object}
 use Rattle.world_meaning.specs.declared.tale.Tale.{Tale}
-use Rattle.play_meaning.specs.Trees.{Text}
 use Rattle.i7_kinds.specs.Tales.{tale_said}
-use Rattle.i7_kinds.specs.Written.{DescribesWith, DescriptionsAreWritten, IsWritten}
-use Rattle.i7_phrases.specs.Texts.{text_is_over}
+use Rattle.i7_kinds.specs.Written.{DescribesWith, DescriptionsAreWritten}
 use Rattle.i7_resolution.specs.Resolutions.{IsResolution, joined}
-use Rattle.i7_resolution.specs.SourceTexts.{AreTold, IsOver, IsTextsFound, IsUnknown, Says}
+use Rattle.i7_resolution.specs.SourceTexts.{AreTold, IsOver, IsTextsFound, IsUnknown}
 use Rattle.i7_resolution.specs.TextList.{TextAt, texts_in, texts_said}
 use Rattle.i7_resolution.specs.declared.resolution.Resolution.TheVariants.{Says as Understood}
 use Rattle.i7_resolution.specs.declared.resolution.Resolved.{Resolved}
@@ -91,10 +89,13 @@ told_of k sentences (ruled.Says rules) (found.Refused fault) resolved told are =
 told_of k sentences (ruled.Refused fault) (found.Says texts) resolved told are = absurd cc
 told_of k sentences (ruled.Refused fault) (found.Refused other) resolved told are = absurd cc
 
+abbrev Never : (TextAt → ℕ → Type 0) → TextAt → Type 0
+Never Bad t = (line : ℕ) → Bad t line → ⊥
+
 can_be_read : (k : Known) (texts : List TextAt) (told : List SourceText) (bytes : List ℕ) → AreTold k texts told → IsAmong texts bytes → CanBeRead k bytes
 can_be_read k texts told bytes are among =
-    let known = all_there _ among.before among.text among.behind (subst (λ l. All (λ t. (line : ℕ) → IsUnknown k t line → ⊥) l) among.parts are.known) in
-    let within = all_there _ among.before among.text among.behind (subst (λ l. All (λ t. (line : ℕ) → IsOver k t line → ⊥) l) among.parts are.within) in
+    let known = all_there (Never (IsUnknown k)) among.before among.text among.behind (subst (All (Never (IsUnknown k))) among.parts are.known) in
+    let within = all_there (Never (IsOver k)) among.before among.text among.behind (subst (All (Never (IsOver k))) among.parts are.within) in
     subst (CanBeRead k) among.bytes_are (record {
       known = λ unread. known among.text.line (record { unread = unread; line_is = refl });
       within = λ text says over. within among.text.line (record { text = text; says = says; over = over; line_is = refl });
@@ -114,7 +115,7 @@ pub readable : DescriptionsAreWritten → (k : Known) (sentences : List Sentence
 readable law k sentences tale resolved means is =
     let told = told_of k sentences is.rules is.texts resolved is.told_is is.texts_are in
     by_number k tale.objects (λ o object at. readable_by k object.description (λ bytes described.
-      let here : description_of tale o ≡ Some bytes = ap description_in at ∙ described in
-      let written = law sentences tale o bytes means here in
-      can_be_read k (reverse (texts_in sentences)) told.0 bytes told.1
-        (turned (texts_in sentences) bytes (subst (λ l. IsAmong (texts_in l) bytes) (sym written.parts) (among_sentences written.before written.rest written.sentence bytes written.describes)))))
+    let here : description_of tale o ≡ Some bytes = ap description_in at ∙ described in
+    let written = law sentences tale o bytes means here in
+    can_be_read k (reverse (texts_in sentences)) told.0 bytes told.1
+    (turned (texts_in sentences) bytes (subst (λ l. IsAmong (texts_in l) bytes) (sym written.parts) (among_sentences written.before written.rest written.sentence bytes written.describes)))))

@@ -55,11 +55,7 @@ fn refusal_told(told: &Resolution, sentences: &[Sentence]) -> Option<Fault>
 }
 
 /// What the descriptions of a tale say that the sentences mean, or why they are refused.
-fn texts_meant(
-    alloc: Global,
-    sentences: &[Sentence],
-    tale: &Tale,
-) -> Result<Vec<Text>, Fault>
+fn texts_meant(alloc: Global, sentences: &[Sentence], tale: &Tale) -> Result<Vec<Text>, Fault>
     requires { tale_said sentences.now ≡ Said tale.now }
     ensures meant { IfOk result (λ texts. AreMeant sentences.now tale.now (texts_kept texts.items)) }
     ensures refused { IfErr result (λ fault. AreRefused sentences.now fault ⊎ (fault ≡ out_of_memory)) }

@@ -25,7 +25,7 @@ fn add_text(
         return Ok(());
     };
     match text_said(alloc, names, bytes.as_slice())? {
-        Found::Read(text) => texts.push(text),
+        Found::Read(text) => Ok(texts.push(text)?),
         Found::TooMany | Found::Unread => unreachable!(),
     }
 }

@@ -1,6 +1,6 @@
 use Rattle.std.proofs.Common.{length}
 use Rattle.i7_resolution.specs.Resolutions.{known_in}
-use Rattle.story_file.proofs.Texts.{IsOnWay}
+use Rattle.story_file.proofs.Gathered.{IsOnWay}
 use Rattle.story_file.proofs.texts.texts_of.Given as goal
 
 abbrev pub invariant-loop-rest : goal.invariant-loop-rest

@@ -8,6 +8,10 @@ use Rattle.play_meaning.specs.Meant.{text_meant}
 use Rattle.play_meaning.specs.Trees.{Text}
 use Rattle.play_meaning.specs.declared.tree.said.Text.{Text as Kept}
 use Rattle.play_meaning.specs.TranslatedScripts.{in_list}
+use Rattle.i7_conditions.specs.Readings.{IsFoundAs}
+use Rattle.i7_conditions.specs.declared.found.Found.{Found}
+use Rattle.i7_conditions.specs.declared.found.Found.TheVariants.{Read}
+use Rattle.i7_phrases.specs.Texts.{found_text, text_is_over}
 use Rattle.i7_resolution.specs.SourceTexts.{Says}
 use Rattle.i7_rules.specs.Knowns.{Known}
 use Rattle.story_file.specs.Meanings.{AreTexts, descriptions_of}
@@ -51,3 +55,10 @@ module _ (k : Known) (objects : List Object) where
   pub ends : (texts : List Kept) (rest : List Object) → length rest < 1 → IsOnWay texts rest → AreTexts k objects (texts_kept texts)
   ends texts (one ∷ rest) none way = absurd (omega (arith, none))
   ends texts [] none way = subst (λ l. AreTexts k objects l) (append-nil (texts_kept texts)) (way.told [] tt)
+
+-- ---- a description that is read
+
+pub found_says : (k : Known) (bytes slice : List ℕ) (found : Found Kept) (text : Kept) → slice ≡ bytes → IsFoundAs (Says k slice) text_is_over (found_text found) → found ≡ Read text → Says k bytes (text_meant text)
+found_says k bytes slice found text same is e =
+    let there = subst (λ (f : Found Kept). IsFoundAs (Says k slice) text_is_over (found_text f)) e is in
+    subst (λ (b : List ℕ). Says k b (text_meant text)) same there.0
