@@ -7,6 +7,7 @@ use crate::argument::{choice_of, form_of, relation_of, side_of};
 use play_meaning::Instruction;
 
 /// An instruction without arguments.
+#[inline(always)]
 fn plain(byte: u8) -> Option<Instruction>
     ensures { result ≡ first_with byte plain_ones }
 {
@@ -45,6 +46,7 @@ fn plain(byte: u8) -> Option<Instruction>
 }
 
 /// An instruction with a number of one byte.
+#[inline(always)]
 fn numbered(byte: u8, rest: &[u8]) -> Option<Instruction>
     ensures { result ≡ by_byte byte rest.now }
 {
@@ -72,6 +74,7 @@ fn word(high: &u8, low: &u8) -> u16
 }
 
 /// An instruction with a number of two bytes.
+#[inline(always)]
 fn worded(byte: u8, rest: &[u8]) -> Option<Instruction>
     ensures { result ≡ by_word byte rest.now }
 {
@@ -90,6 +93,7 @@ fn worded(byte: u8, rest: &[u8]) -> Option<Instruction>
 }
 
 /// An instruction with a relation.
+#[inline(always)]
 fn related(byte: u8, rest: &[u8]) -> Option<Instruction>
     ensures { result ≡ by_relation byte rest.now }
 {
@@ -208,6 +212,7 @@ fn has_byte(byte: u8) -> bool
 
 /// An instruction without arguments, or with one of a sort that others have.
 #[tactic(auto, unfolding(crate::specs::Fronts::common_in))]
+#[inline(always)]
 fn common(byte: u8, rest: &[u8]) -> Option<Instruction>
     ensures { result ≡ common_in byte rest.now }
 {
@@ -224,6 +229,7 @@ fn common(byte: u8, rest: &[u8]) -> Option<Instruction>
 
 /// The instruction that a byte begins.
 #[tactic(auto, unfolding(crate::specs::Fronts::front_by))]
+#[inline(always)]
 fn front_by(byte: u8, rest: &[u8]) -> Option<Instruction>
     ensures { result ≡ front_by byte rest.now }
 {
@@ -241,6 +247,7 @@ fn front_by(byte: u8, rest: &[u8]) -> Option<Instruction>
 }
 
 /// The instruction at the front, by its byte.
+#[inline(always)]
 pub fn first(bytes: &[u8]) -> Option<Instruction>
     ensures { result ≡ front bytes.now }
 {
