@@ -83,6 +83,7 @@ fn played(alloc: Global, case: &Case<'_>) -> Result<Done, Unplayed> {
         0,
         &mut text,
         Asked::Unplayed,
+        1,
     )?;
     Ok(Done { ended, text, stage })
 }

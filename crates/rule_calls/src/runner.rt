@@ -1,5 +1,6 @@
-//! A body, done once from its beginning.
-ghost use Rattle.std.specs.Prelude.{◌≡◌, IfNone, true};
+//! A body, done from its beginning.
+ghost use Rattle.std.specs.Prelude.{◌≡◌, IfNone, OnOk, true};
+ghost use Rattle.story_code.specs.Runs.{AreDescribedBy, AreSoundTogether, IsBody};
 ghost use Rattle.story_code.specs.Steps.{leads_on};
 
 use crate::unplayed::Unplayed;
@@ -57,15 +58,12 @@ fn over(step: Step, asked: Asked) -> Option<Result<Ended, Unplayed>>
     }
 }
 
-/// Does the body of a number, with no action and no work done so far.
-pub fn run<G: GroundMut>(
-    alloc: Global,
-    ground: &mut G,
-    codes: &[Verified],
-    number: u16,
-    text: &mut Vec<u8>,
-    asked: Asked,
-) -> Result<Ended, Unplayed> {
+/// Finds out whether the body of a number can be done: its code is a body's, and the codes stand rightly together.
+fn check<G: GroundMut>(ground: &G, codes: &[Verified], number: u16) -> Result<(), Unplayed>
+    ensures sound { OnOk result (AreSoundTogether codes.now) }
+    ensures body { OnOk result (IsBody codes.now number) }
+    ensures described { OnOk result (AreDescribedBy codes.now (G.fixed ground.now)) }
+{
     if !are_sound_together(codes) {
         return Err(Unplayed::NotTogether);
     }
@@ -75,6 +73,23 @@ pub fn run<G: GroundMut>(
     if !are_described_by(ground, codes) {
         return Err(Unplayed::Undescribed);
     }
+    Ok(())
+}
+
+/// Does the body of a number once, with no action and no work done so far.
+fn run_once<G: GroundMut>(
+    alloc: Global,
+    ground: &mut G,
+    codes: &[Verified],
+    number: u16,
+    text: &mut Vec<u8>,
+    asked: Asked,
+) -> Result<Ended, Unplayed>
+    requires sound { AreSoundTogether codes.now }
+    requires body { IsBody codes.now number }
+    requires described { AreDescribedBy codes.now (G.fixed ground.old) }
+    ensures { G.fixed ground.new ≡ G.fixed ground.old }
+{
     runs_begin_standing();
     let mut state = RunState::new(number, 0);
     for _ in 0..MANY {
@@ -87,4 +102,24 @@ pub fn run<G: GroundMut>(
         }
     }
     Err(Unplayed::Endless)
+}
+
+/// Does the body of a number as often as this, in the ground as it then stands: what the last run came to, and what that
+/// said. The codes are looked at once, in front of all runs.
+pub fn run<G: GroundMut>(
+    alloc: Global,
+    ground: &mut G,
+    codes: &[Verified],
+    number: u16,
+    text: &mut Vec<u8>,
+    asked: Asked,
+    times: u32,
+) -> Result<Ended, Unplayed> {
+    check(ground, codes, number)?;
+    let mut ended = Err(Unplayed::Endless);
+    for _ in 0..times {
+        text.clear();
+        ended = run_once(alloc, ground, codes, number, text, asked);
+    }
+    ended
 }

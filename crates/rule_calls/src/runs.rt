@@ -168,13 +168,15 @@ impl Bench {
         let world = World::start(alloc, &self.story)?;
         let mut stage = Stage::new(alloc, world, &self.strings, descriptions)?;
         let mut text = Vec::new(alloc);
-        let mut ended = Err(Unplayed::Endless);
-        for _ in 0..way.times {
-            text.clear();
-            let codes = codes.as_slice();
-            ended = run(alloc, &mut stage, codes, number, &mut text, way.asked);
-        }
-        let ended = ended?;
+        let ended = run(
+            alloc,
+            &mut stage,
+            codes.as_slice(),
+            number,
+            &mut text,
+            way.asked,
+            way.times,
+        )?;
         Ok(Done { ended, text, stage })
     }
 

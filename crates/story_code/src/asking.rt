@@ -16,6 +16,7 @@ use play_meaning::{ActionNow, Asked, Ground, Instruction};
 use world_meaning::{KindNo, ObjNo, Rel};
 
 /// A number or a truth, of no operand.
+#[inline(always)]
 pub fn known<G: Ground>(ground: &G, instruction: Instruction) -> i32
     ensures { result ≡ known (G.fixed ground.now).setting (G.world ground.now) instruction }
 {
@@ -37,6 +38,7 @@ fn location<G: Ground>(ground: &G) -> Option<ObjNo>
 }
 
 /// An object, of no operand.
+#[inline(always)]
 pub fn object_known<G: Ground>(
     ground: &G,
     now: &ActionNow,
@@ -136,6 +138,7 @@ fn is_held<G: Ground>(ground: &G, relation: Rel, holder: Option<ObjNo>, object: 
 }
 
 /// A truth, of two numbers or truths.
+#[inline(always)]
 pub fn of_numbers(instruction: Instruction, a: i32, b: i32) -> i32
     ensures { result ≡ of_numbers instruction a b }
 {
@@ -258,6 +261,7 @@ pub fn beyond_in<G: Ground>(
 }
 
 /// A sum, a difference, a product.
+#[inline(always)]
 pub fn calculated(instruction: Instruction, a: i32, b: i32) -> i64
     ensures { result ≡ calculated instruction a b }
 {

@@ -28,6 +28,7 @@ const MOST_WORK: u32 = 10_000;
 
 /// Does an instruction that changes the world, or reads it, or says something.
 #[tactic(auto, unfolding(play_meaning::specs::Machines::does))]
+#[inline(always)]
 fn change<G: GroundMut>(
     alloc: Global,
     ground: &mut G,
@@ -120,6 +121,7 @@ fn turn<G: Ground>(
 
 /// Does an instruction behind which the run goes on.
 #[tactic(auto, unfolding(play_meaning::specs::Machines::does))]
+#[inline(always)]
 fn carry_on<G: GroundMut>(
     alloc: Global,
     ground: &mut G,
@@ -169,6 +171,7 @@ fn carry_on<G: GroundMut>(
 
 /// Does an instruction of a body.
 #[tactic(auto, unfolding(play_meaning::specs::Machines::does))]
+#[inline(always)]
 fn do_in_body<G: GroundMut>(
     alloc: Global,
     ground: &mut G,

@@ -1,12 +1,13 @@
 //! The instruction at the front of bytes.
 ghost use Rattle.std.specs.Prelude.{◌≡◌, MatchOption};
-ghost use Rattle.story_code.specs.Fronts.{by_byte, by_relation, by_word, common_in, count_in, first_with, flag_in, front, front_by, has_byte, has_relation, has_word, integer_in, name_in, names_in, next_in, plain_ones, set_flag_in, try_in, word_of};
+ghost use Rattle.story_code.specs.Fronts.{by_byte, by_relation, by_word, count_in, first_with, flag_in, front, front_by, integer_in, name_in, names_in, next_in, plain_ones, set_flag_in, try_in, word_of};
 ghost use Rattle.story_code.specs.Spelling.{HasNoFront, IsFront};
 
 use crate::argument::{choice_of, form_of, relation_of, side_of};
 use play_meaning::Instruction;
 
 /// An instruction without arguments.
+#[inline(always)]
 fn plain(byte: u8) -> Option<Instruction>
     ensures { result ≡ first_with byte plain_ones }
 {
@@ -45,6 +46,7 @@ fn plain(byte: u8) -> Option<Instruction>
 }
 
 /// An instruction with a number of one byte.
+#[inline(always)]
 fn numbered(byte: u8, rest: &[u8]) -> Option<Instruction>
     ensures { result ≡ by_byte byte rest.now }
 {
@@ -72,6 +74,7 @@ fn word(high: &u8, low: &u8) -> u16
 }
 
 /// An instruction with a number of two bytes.
+#[inline(always)]
 fn worded(byte: u8, rest: &[u8]) -> Option<Instruction>
     ensures { result ≡ by_word byte rest.now }
 {
@@ -90,6 +93,7 @@ fn worded(byte: u8, rest: &[u8]) -> Option<Instruction>
 }
 
 /// An instruction with a relation.
+#[inline(always)]
 fn related(byte: u8, rest: &[u8]) -> Option<Instruction>
     ensures { result ≡ by_relation byte rest.now }
 {
@@ -185,45 +189,9 @@ fn next(rest: &[u8]) -> Option<Instruction>
     Some(Instruction::Next(*number, word(high, low), word(exit_high, exit_low)))
 }
 
-/// Whether the instruction of a byte has a relation.
-fn has_relation(byte: u8) -> bool
-    ensures { result ≡ has_relation byte }
-{
-    matches!(byte, 0x14 | 0x15 | 0x29)
-}
-
-/// Whether the instruction of a byte has one number, of two bytes.
-fn has_word(byte: u8) -> bool
-    ensures { result ≡ has_word byte }
-{
-    matches!(byte, 0x22 | 0x31 | 0x32 | 0x33 | 0x36)
-}
-
-/// Whether the instruction of a byte has one number, of one byte.
-fn has_byte(byte: u8) -> bool
-    ensures { result ≡ has_byte byte }
-{
-    matches!(byte, 0x02 | 0x03 | 0x11 | 0x13 | 0x1A | 0x27 | 0x28 | 0x34)
-}
-
-/// An instruction without arguments, or with one of a sort that others have.
-#[tactic(auto, unfolding(crate::specs::Fronts::common_in))]
-fn common(byte: u8, rest: &[u8]) -> Option<Instruction>
-    ensures { result ≡ common_in byte rest.now }
-{
-    if has_relation(byte) {
-        related(byte, rest)
-    } else if has_word(byte) {
-        worded(byte, rest)
-    } else if has_byte(byte) {
-        numbered(byte, rest)
-    } else {
-        plain(byte)
-    }
-}
-
 /// The instruction that a byte begins.
-#[tactic(auto, unfolding(crate::specs::Fronts::front_by))]
+#[tactic(auto, unfolding(crate::specs::Fronts::front_by, crate::specs::Fronts::common_in))]
+#[inline(always)]
 fn front_by(byte: u8, rest: &[u8]) -> Option<Instruction>
     ensures { result ≡ front_by byte rest.now }
 {
@@ -236,11 +204,18 @@ fn front_by(byte: u8, rest: &[u8]) -> Option<Instruction>
         0x26 => set_flag(rest),
         0x30 => tries(rest),
         0x35 => next(rest),
-        _ => common(byte, rest),
+        0x02 | 0x03 | 0x11 => numbered(byte, rest),
+        0x13 | 0x1A => numbered(byte, rest),
+        0x27 | 0x28 | 0x34 => numbered(byte, rest),
+        0x22 | 0x31 => worded(byte, rest),
+        0x32 | 0x33 | 0x36 => worded(byte, rest),
+        0x14 | 0x15 | 0x29 => related(byte, rest),
+        _ => plain(byte),
     }
 }
 
 /// The instruction at the front, by its byte.
+#[inline(always)]
 pub fn first(bytes: &[u8]) -> Option<Instruction>
     ensures { result ≡ front bytes.now }
 {

@@ -11,6 +11,7 @@ use crate::verified::Verified;
 use play_meaning::Instruction;
 
 /// The instruction at a place of a code where one stands.
+#[inline(always)]
 fn instruction_at(code: &Verified, place: usize) -> Option<Instruction>
     ensures { (i : Instruction) → at_place (code_told code.now) place ≡ Some i → result ≡ Some i }
 {
@@ -37,6 +38,7 @@ pub fn code_at(codes: &[Verified], number: u16) -> Option<&Verified>
 }
 
 /// The instruction at which a run stands.
+#[inline(always)]
 pub fn fetch(codes: &[Verified], state: &RunState) -> Option<Instruction>
     requires sound { AreSoundTogether codes.now }
     requires stands { IsStanding codes.now state.now }

@@ -1,4 +1,7 @@
 //! The codes of a story: how their bytes are read and written, and whether a code is sound.
+//!
+//! What each instruction goes through, from its first byte to what it does, is many small functions, which are marked
+//! `inline(always)`: as one function they decide once what to do, and run a code in half the time.
 #![tactic(auto)]
 
 mod argument;

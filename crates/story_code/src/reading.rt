@@ -18,6 +18,7 @@ use world_meaning::Abandon;
 
 /// Does an instruction that takes no operand and gives a number, a truth or an object.
 #[tactic(auto, unfolding(play_meaning::specs::Machines::does))]
+#[inline(always)]
 fn ask_nothing<G: Ground>(
     ground: &G,
     codes: &[Verified],
@@ -48,6 +49,7 @@ fn ask_nothing<G: Ground>(
 
 /// Does an instruction that takes at most one operand and gives a number, a truth or an object.
 #[tactic(auto, unfolding(play_meaning::specs::Machines::does))]
+#[inline(always)]
 fn ask_one<G: Ground>(
     ground: &G,
     codes: &[Verified],
@@ -92,6 +94,7 @@ fn ask_one<G: Ground>(
 
 /// Does an instruction that gives a number, a truth or an object and runs no test.
 #[tactic(auto, unfolding(play_meaning::specs::Machines::does))]
+#[inline(always)]
 pub fn ask<G: Ground>(
     ground: &G,
     codes: &[Verified],

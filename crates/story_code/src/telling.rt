@@ -19,6 +19,7 @@ use world_meaning::Abandon;
 
 /// Does an instruction that says something, or gives a number, a truth or an object.
 #[tactic(auto, unfolding(play_meaning::specs::Machines::does))]
+#[inline(always)]
 fn tell<G: Ground>(
     alloc: Global,
     ground: &G,
@@ -56,6 +57,7 @@ fn tell<G: Ground>(
 
 /// Does an instruction that changes nothing but what is said, and behind which a run goes on.
 #[tactic(auto, unfolding(play_meaning::specs::Machines::does))]
+#[inline(always)]
 pub fn go_on<G: Ground>(
     alloc: Global,
     ground: &G,

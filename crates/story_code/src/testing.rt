@@ -72,6 +72,7 @@ fn ask_in_test<G: Ground>(
 /// Does an instruction that gives a number, a truth or an object.
 #[cycle(testing)]
 #[tactic(auto, unfolding(play_meaning::specs::Machines::does))]
+#[inline(always)]
 pub fn count_or_ask<G: Ground>(
     ground: &G,
     codes: &[Verified],
