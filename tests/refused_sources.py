@@ -1,7 +1,7 @@
 #!/usr/bin/env python3
 """Compiles the source of each row of tests/refused_sources/*.rows (tests/row_files.py says how a row is written): it is refused as
 its second field says, a line, a code and its name, or `taken`. The sources of tests/bodies are refused as is told there; one of
-which all is understood for its first rule or description with a `[`, since no story holds these so far.
+which all is understood for its first rule, since no story holds one so far.
 
 Use: tests/refused_sources.py PROGRAM"""
 import json

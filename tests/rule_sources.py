@@ -58,9 +58,9 @@ def plain_part(source):
 
 
 def unheld_line(source):
-    """The line of the first sentence that is a rule or describes with brackets."""
+    """The line of the first sentence that is a rule."""
     plain = without_comments(source)
     for start, end in sentences(plain):
-        if RULE.match(plain[start:end]) or DESCRIPTION.search(plain[start:end]):
+        if RULE.match(plain[start:end]):
             return 1 + plain.count("\n", 0, start)
     return None
