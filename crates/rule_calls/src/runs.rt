@@ -151,7 +151,7 @@ impl Bench {
     ) -> Result<Vec<Option<u16>>, AllocError> {
         let mut all = Vec::new(alloc);
         for object in 0..self.story.object_count() as u16 {
-            all.push(match self.story.description(ObjNo::new(object)) {
+            all.push(match self.story.description_code(ObjNo::new(object)) {
                 Some(_) => number,
                 None => None,
             })?;

@@ -77,7 +77,7 @@ impl Ground for Stage {
 
     #[tactic(auto, unfolding(world_store::specs::StorySettings::setting_of))]
     fn has_description(&self, object: ObjNo) -> bool {
-        self.world.story().description(object).is_some()
+        self.world.story().description_code(object).is_some()
     }
 
     fn description(&self, object: ObjNo) -> Option<u16> {
