@@ -1,5 +1,5 @@
 -- The tables of a tale are those without codes, with the bytes of what its texts say.
-use Rattle.std.proofs.Common.{◌≡◌, ◌∙◌, ap, refl, sym, subst, ℕ, Bool, true, false, ◌&&◌, nat_lt, List, [], ◌∷◌, length, arith}
+use Rattle.std.proofs.Common.{◌≡◌, ◌∙◌, ◌<◌, ap, refl, sym, subst, ℕ, Bool, true, false, ◌&&◌, nat_lt, List, [], ◌∷◌, length, arith}
 use Rattle.std.specs.Prelude.{OnOk, Result, Ok, Err, map}
 use Rattle.std.specs.List.{list_all}
 use Rattle.std.proofs.lemmas.Bool.{and_parts, lt-ltb, ltb-true}
@@ -8,14 +8,14 @@ use Rattle.world_meaning.specs.declared.tale.Tale.{Tale}
 use Rattle.object_words.specs.Mentions.{number_in}
 use Rattle.play_meaning.specs.Trees.{Text}
 use Rattle.play_meaning.specs.declared.instruction.Instruction.{Instruction}
-use Rattle.code_table.specs.Descriptions.{AllFit, CanBeSaid, HaveNoTable, IsTooLong}
+use Rattle.code_table.specs.Descriptions.{AllFit, CanBeSaid, HaveNoTable, IsTooLong, codes_of_texts}
 use Rattle.code_table.specs.Laws.{NeverTableAndNone}
 use Rattle.code_table.specs.declared.describing.TableFault.{TableFault}
 use Rattle.code_table.specs.declared.describing.TableFault.TheVariants.{TooLong, TooMany, Memory}
 use Rattle.story_code.specs.Emits.{AreSpelled}
 use Rattle.story_code.specs.Spelling.{spelling}
 use Rattle.story_format.specs.Codes.{counts_of}
-use Rattle.story_format.specs.Holding.{AreHeld, AreNotHeld, IsHeld, NeverHeldAndNot, has_short_texts, is_short}
+use Rattle.story_format.specs.Holding.{AreHeld, AreNotHeld, AreTooMany, IsHeld, NeverHeldAndNot, has_short_texts, is_short}
 use Rattle.story_format.specs.Making.{code_bytes, codes_in, strings_of, strings_said, tables_but_codes, tables_of, tables_with, worded}
 use Rattle.story_format.specs.declared.tables.Tables.{Tables}
 use Rattle.story_format.proofs.EntryLemmas.{objects_back}
@@ -45,14 +45,14 @@ module _ (t : Tale) (texts : List Text) (strings : List (List ℕ)) (tables : Ta
     all_are : lent ≡ strings_of (worded t.objects) texts
     all_are = lent_are ∙ ap (λ (x : Tables). x.strings) tables_are
 
-    pub too_many : IsHeld t → b ≡ false → AreHeld t texts → ⊥
-    too_many held no_room are =
+    pub too_many : IsHeld t → b ≡ false → AreTooMany t texts
+    too_many held no_room few short_said =
         let all = strings_of (worded t.objects) texts in
         let names : list_all has_short_texts t.objects ≡ true = held.texts in
-        let short = strings_short (worded t.objects) texts (ap (list_all has_short_texts) (objects_back 0 t.objects) ∙ names) (all_good_words 0 t.objects names) are.short in
-        let room : (nat_lt (length all) 65535 && list_all is_short all) ≡ true = both (nat_lt (length all) 65535) (list_all is_short all) (lt-ltb (length all) 65535 are.few) short in
+        let short = strings_short (worded t.objects) texts (ap (list_all has_short_texts) (objects_back 0 t.objects) ∙ names) (all_good_words 0 t.objects names) short_said in
+        let room : (nat_lt (length all) 65535 && list_all is_short all) ≡ true = both (nat_lt (length all) 65535) (list_all is_short all) (lt-ltb (length all) 65535 few) short in
         let never : true ≡ false = sym room ∙ ap (λ l. nat_lt (length l) 65535 && list_all is_short l) (sym all_are) ∙ sym told ∙ no_room in
-        cc
+        absurd cc
 
     pub are_held : length texts ≡ codes_in t.objects → b ≡ true → AllFit (counts_of tables) (number_in strings) texts → CanBeSaid (number_in strings) texts → AreHeld t texts
     unfolding counts_of tables_with
@@ -67,13 +67,6 @@ module _ (t : Tale) (texts : List Text) (strings : List (List ℕ)) (tables : Ta
           said = subst (λ l. CanBeSaid (number_in l) texts) strings_are said;
         }
 
-  pub fit_so : AreHeld t texts → AllFit (counts_of tables) (number_in strings) texts
-  unfolding counts_of tables_with
-  fit_so are = subst (λ l. AllFit (counts_of tables) (number_in l) texts) (sym strings_are) (subst (λ (x : Tables). AllFit (counts_of x) (number_in (strings_of (worded t.objects) texts)) texts) (sym tables_are) are.fit)
-
-  pub said_so : AreHeld t texts → CanBeSaid (number_in strings) texts
-  said_so are = subst (λ l. CanBeSaid (number_in l) texts) (sym strings_are) are.said
-
   -- ---- what isn't said
 
   none_long : (number : ℕ) → IsTooLong (counts_of tables) (number_in strings) texts number → IsTooLong (counts_of (tables_of t texts)) (number_in (strings_of (worded t.objects) texts)) texts number
@@ -85,10 +78,10 @@ module _ (t : Tale) (texts : List Text) (strings : List (List ℕ)) (tables : Ta
 
   pub none_so : (fault : TableFault) → HaveNoTable (counts_of tables) (number_in strings) texts fault → AreNotHeld t texts fault
   none_so (TooLong number) long = none_long number long
-  none_so TooMany many = λ are. let few = (said_so are).few in omega (arith, many, few)
+  none_so TooMany many = λ few short. subst (λ l. 65535 < length (codes_of_texts (number_in l) texts)) strings_are many
   none_so Memory none = tt
 
 pub never_both : NeverTableAndNone → NeverHeldAndNot
 never_both law t texts (TooLong number) are long = law (counts_of (tables_of t texts)) (number_in (strings_of (worded t.objects) texts)) texts (TooLong number) are.fit are.said long
-never_both law t texts TooMany are none = absurd (none are)
+never_both law t texts TooMany are none = absurd (omega (arith, none are.few are.short, are.said.few))
 never_both law t texts Memory are none = refl

@@ -7,7 +7,7 @@ use Rattle.world_meaning.specs.declared.tale.Tale.{Tale}
 use Rattle.object_words.specs.Mentions.{number_in}
 use Rattle.play_meaning.specs.Trees.{Text}
 use Rattle.play_meaning.specs.StandardRules.{plain}
-use Rattle.code_table.specs.Descriptions.{AllFit, CanBeSaid, IsTooLong}
+use Rattle.code_table.specs.Descriptions.{AllFit, CanBeSaid, IsTooLong, codes_of_texts}
 use Rattle.code_table.specs.declared.describing.TableFault.{TableFault}
 use Rattle.code_table.specs.declared.describing.TableFault.TheVariants.{TooLong, TooMany, Memory}
 use Rattle.story_format.specs.Codes.{counts_of}
@@ -43,10 +43,16 @@ pub record AreHeld (t : Tale) (texts : List Text) : Type 0 where
   pub fit : AllFit (counts_of (tables_of t texts)) (number_in (strings_of (worded t.objects) texts)) texts
   pub said : CanBeSaid (number_in (strings_of (worded t.objects) texts)) texts
 
+-- unless there are too many strings, or one is too long, there are too many codes
+abbrev pub AreTooMany : Tale → List Text → Type 0
+AreTooMany t texts =
+    length (strings_of (worded t.objects) texts) < 65535 → list_all is_short (strings_said texts) ≡ true
+    → 65535 < length (codes_of_texts (number_in (strings_of (worded t.objects) texts)) texts)
+
 -- why a story file doesn't say texts: one is the first whose code is too long, or there is too much of them
 abbrev pub AreNotHeld : Tale → List Text → TableFault → Type 0
 AreNotHeld t texts (TooLong number) = IsTooLong (counts_of (tables_of t texts)) (number_in (strings_of (worded t.objects) texts)) texts number
-AreNotHeld t texts TooMany = AreHeld t texts → ⊥
+AreNotHeld t texts TooMany = AreTooMany t texts
 AreNotHeld t texts Memory = Unit {0}
 
 -- texts that a story file says aren't among those that it doesn't, memory aside

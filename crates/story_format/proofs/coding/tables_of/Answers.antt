@@ -7,7 +7,7 @@ use Rattle.story_format.proofs.CodedTables.{are_held, coded_is, none_so, on_both
 use Rattle.story_format.proofs.coding.tables_of.Goals as goal
 
 pub returns-then-not-are_few-clause-none : goal.returns-then-not-are_few-clause-none
-returns-then-not-are_few-clause-none c = λ are. too_many c.args.tale.now (map text_meant c.args.texts.now) c.in-Ok.strings c.in-Ok.tables c.in-Ok.ensures.strings c.in-Ok.ensures.tables c.as_slice.result.now c.as_slice.ensures c.are_few.result c.are_few.ensures c.requires.held c.if-not-are_few.true are
+returns-then-not-are_few-clause-none c = too_many c.args.tale.now (map text_meant c.args.texts.now) c.in-Ok.strings c.in-Ok.tables c.in-Ok.ensures.strings c.in-Ok.ensures.tables c.as_slice.result.now c.as_slice.ensures c.are_few.result c.are_few.ensures c.requires.held c.if-not-are_few.true
 
 pub returns-clause-tables : goal.returns-clause-tables
 returns-clause-tables c = IfOk-weaker c.with_codes.result _ _ (λ coded is. coded_is c.args.tale.now (map text_meant c.args.texts.now) c.in-Ok.strings c.in-Ok.tables c.in-Ok.ensures.strings c.in-Ok.ensures.tables coded is) c.with_codes.ensures.coded
