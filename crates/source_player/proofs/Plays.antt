@@ -45,6 +45,7 @@ played_source source bytes echo unread rest held now (Ok ending) compiled played
   tale = compiled.tale;
   texts = compiled.texts;
   means = compiled.means;
+  held = compiled.held;
   played = subst (λ g. PlayedGame g echo (streams_of unread held) (streams_of rest now) ending) (same_game source bytes compiled played.story played.spells) played.played;
 }
 
@@ -55,12 +56,13 @@ story_fault source bytes fault compiled refused = not_refused bytes compiled.tab
 pub left_source : (source bytes : List ℕ) (echo : Bool) (unread rest held now : Option (List ℕ)) (result : Result Ending SourceRunFault) → IsCompiled source bytes → IfErr result (λ fault. LeavesStory fault bytes echo (streams_of unread held) (streams_of rest now)) → IfErr result (λ fault. LeavesSource fault source echo (streams_of unread held) (streams_of rest now))
 left_source source bytes echo unread rest held now (Ok ending) compiled left = tt
 left_source source bytes echo unread rest held now (Err (Source fault)) compiled left = absurd left
-left_source source bytes echo unread rest held now (Err (Story fault)) compiled left = (story_fault source bytes fault compiled left, record { tale = compiled.tale; texts = compiled.texts; means = compiled.means })
-left_source source bytes echo unread rest held now (Err (Start fault)) compiled left = (left.0, record { tale = compiled.tale; texts = compiled.texts; means = compiled.means })
+left_source source bytes echo unread rest held now (Err (Story fault)) compiled left = (story_fault source bytes fault compiled left, record { tale = compiled.tale; texts = compiled.texts; means = compiled.means; held = compiled.held })
+left_source source bytes echo unread rest held now (Err (Start fault)) compiled left = (left.0, record { tale = compiled.tale; texts = compiled.texts; means = compiled.means; held = compiled.held })
 left_source source bytes echo unread rest held now (Err (Run fault)) compiled left = record {
   tale = compiled.tale;
   texts = compiled.texts;
   means = compiled.means;
+  held = compiled.held;
   broke = subst (λ g. BrokeOffGame fault g echo (streams_of unread held) (streams_of rest now)) (same_game source bytes compiled left.story left.spells) left.broke;
 }
 

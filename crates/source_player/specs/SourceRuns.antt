@@ -6,6 +6,7 @@ use Rattle.play_meaning.specs.Games.{Game}
 use Rattle.play_meaning.specs.Sessions.{State, opened}
 use Rattle.play_meaning.specs.Transcripts.{IsPlay}
 use Rattle.play_meaning.specs.Trees.{Text}
+use Rattle.story_format.specs.Holding.{AreHeld}
 use Rattle.story_format.specs.Refusals.{IsRefused as IsNoStory}
 use Rattle.story_format.specs.Spells.{Spells}
 use Rattle.story_format.specs.declared.tables.Tables.{Tables}
@@ -42,17 +43,20 @@ pub record BrokeOffStory (fault : RunFault) (bytes : List ℕ) (echo : Bool) (be
   pub spells : Spells bytes story
   pub broke : BrokeOffGame fault (game_of_story story) echo before after
 
--- The headline: a source was played, in the game of the tale that its sentences mean and of what its descriptions say.
+-- The headline: a source of which there is a story file was played, in the game of the tale that its sentences mean and of what
+-- its descriptions say.
 pub record PlayedSource (source : List ℕ) (echo : Bool) (before after : Streams) (ending : Ending) : Type 0 where
   pub tale : Tale
   pub texts : List Text
   pub means : Means source tale texts
+  pub held : AreHeld tale texts
   pub played : PlayedGame (game_meant tale texts) echo before after ending
 
 pub record BrokeOffSource (fault : RunFault) (source : List ℕ) (echo : Bool) (before after : Streams) : Type 0 where
   pub tale : Tale
   pub texts : List Text
   pub means : Means source tale texts
+  pub held : AreHeld tale texts
   pub broke : BrokeOffGame fault (game_meant tale texts) echo before after
 
 -- whether play had begun
@@ -74,11 +78,12 @@ pub record IsSpelled (bytes : List ℕ) : Type 0 where
   pub story : Tables
   pub spells : Spells bytes story
 
--- a source whose sentences mean a tale
+-- a source whose sentences mean a tale, of which a story file says the descriptions
 pub record IsMeant (source : List ℕ) : Type 0 where
   pub tale : Tale
   pub texts : List Text
   pub means : Means source tale texts
+  pub held : AreHeld tale texts
 
 -- Why bytes aren't played to their end as a story: they are none, memory is refused where the story that they are begins,
 -- or the run broke off.
@@ -101,6 +106,7 @@ pub record PlayedBytes (source commands : List ℕ) (echo : Bool) (transcript : 
   pub tale : Tale
   pub texts : List Text
   pub means : Means source tale texts
+  pub held : AreHeld tale texts
   pub last : State
   pub play : IsPlay (game_meant tale texts) echo (opened (game_meant tale texts)).state commands transcript last
   pub ended : last.ending ≡ Some ending
