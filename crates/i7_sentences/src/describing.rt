@@ -10,7 +10,7 @@ use std::alloc::{AllocError, Global};
 use world_meaning::{TextBytes, is_spelled};
 
 /// Whether a text holds no bracket that opens, so that nothing in it stands for something else.
-pub fn is_plain(text: &[u8]) -> bool
+pub(crate) fn is_plain(text: &[u8]) -> bool
     ensures { result ≡ is_plain text.now }
 {
     text.iter().all(|byte| *byte != b'[')

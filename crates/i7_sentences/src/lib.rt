@@ -54,7 +54,6 @@ pub use body::{PhraseLine, phrases_of};
 pub use body_order::{body_fault, reserved_line};
 pub use class::{Class, PHRASES, State};
 pub use cut::HEADINGS;
-pub use describing::is_plain;
 pub use form::{FORMS, Form, Piece};
 pub use keyword::{ARTICLES, KEYWORDS, Keyword, RESERVED};
 pub use laws::{

@@ -26,6 +26,7 @@ impl<T> Listed<T> {
     }
 
     /// The values, in order.
+    #[inline(always)]
     pub fn as_slice(&self) -> &[T]
         ensures { result.now ≡ self.now }
     {
