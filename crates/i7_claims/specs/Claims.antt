@@ -175,7 +175,7 @@ holding_claims holder relation things line = map (named stands.Object line) (hol
 -- what a sentence declares besides objects
 abbrev pub declares_said : Assertion → ℕ → List Claim
 declares_said (assertion.Rulebook name) line = claimed (Rulebook (lowered name.text)) line ∷ []
-declares_said (assertion.Scene name is_recurring) line = named stands.Scene line name ∷ []
+declares_said (assertion.Scene name is_recurring) line = named (stands.Scene is_recurring) line name ∷ []
 declares_said (assertion.KindOfKind kind parent) line = named stands.Kind line kind ∷ lies kind parent line ∷ []
 declares_said (assertion.EitherOr kind first second) line = either_or kind first second line
 declares_said (assertion.NumberProperty kind property) line = named stands.Number line property ∷ claimed (HasNumber (grant_of kind property)) line ∷ []

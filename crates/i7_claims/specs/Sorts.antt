@@ -42,7 +42,7 @@ abbrev pub is_of : Sort → Standing → Bool
 is_of s (stands.First second) = is_either_or s
 is_of s stands.Number = is_number s
 is_of s stands.Variable = is_variable s
-is_of s stands.Scene = is_scene s
+is_of s (stands.Scene recurs) = is_scene s
 is_of s _ = false
 
 abbrev pub named_if : Bool → List ℕ → Option (List ℕ)

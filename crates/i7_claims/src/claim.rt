@@ -13,7 +13,8 @@ pub enum Standing {
     Second(TextBytes),
     Number,
     Variable,
-    Scene,
+    /// A scene that may happen again, or may not.
+    Scene(bool),
     Object,
 }
 

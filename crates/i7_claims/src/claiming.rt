@@ -222,7 +222,9 @@ pub fn add_declares(
 {
     match said {
         Assertion::Rulebook(name) => add_rulebook(alloc, claims, name, line),
-        Assertion::Scene { name, .. } => add_naming(alloc, claims, name, Standing::Scene, line),
+        Assertion::Scene { name, is_recurring } => {
+            add_naming(alloc, claims, name, Standing::Scene(*is_recurring), line)
+        }
         Assertion::KindOfKind { kind, parent } => add_kind(alloc, claims, kind, parent, line),
         Assertion::EitherOr {
             kind,

@@ -42,7 +42,7 @@ fn is_of(sort: Sort, standing: &Standing) -> bool
         Standing::First(_) => matches!(sort, Sort::EitherOr),
         Standing::Number => matches!(sort, Sort::Number),
         Standing::Variable => matches!(sort, Sort::Variable),
-        Standing::Scene => matches!(sort, Sort::Scene),
+        Standing::Scene(_) => matches!(sort, Sort::Scene),
         _ => false,
     }
 }

@@ -1,6 +1,7 @@
 -- The kinds of a source: the built-in ones, then the author's in the order of their sentences; and which kinds there
 -- may not be.
-use Rattle.std.specs.Prelude.{◌≡◌, ℕ, ◌+◌, ◌≤◌, Bool, true, false, not, nat_le, List, [], ◌∷◌, ◌++◌, length, fold, map, Option, Some, None, ⊤, ℤ, pos, bytes_eq, if◌then◌else◌}
+use Rattle.std.specs.Prelude.{◌≡◌, ℕ, ◌+◌, ◌≤◌, Bool, true, false, not, ◌&&◌, nat_le, List, [], ◌∷◌, ◌++◌, length, fold, map, Option, Some, None, ⊤, ℤ, pos, bytes_eq, if◌then◌else◌}
+use Rattle.std.specs.List.{list_any}
 use Rattle.world_meaning.specs.Kinds.{Under, built_in_parents, is_under}
 use Rattle.world_meaning.specs.declared.declared.Declared.{Declared}
 use Rattle.world_meaning.specs.declared.declared.Granted.{Granted}
@@ -14,7 +15,9 @@ use Rattle.i7_claims.specs.Standings.{has_name}
 use Rattle.i7_claims.specs.Statements.{number_in}
 use Rattle.i7_claims.specs.declared.claim.Claim.{Claim}
 use Rattle.i7_claims.specs.declared.claim.Fact.{Fact}
-use Rattle.i7_claims.specs.declared.claim.Fact.TheVariants.{Lies, CanBe, HasNumber, Demands, Usually, Starts, Unread}
+use Rattle.i7_claims.specs.declared.claim.Fact.TheVariants.{Stands, Lies, CanBe, HasNumber, Demands, Usually, Starts, Unread}
+use Rattle.i7_claims.specs.declared.claim.Standing.{Standing}
+use Rattle.i7_claims.specs.declared.claim.Standing.TheVariants as stands
 
 abbrev pub with_parent : List (List ℕ) → List (Option ℕ) → Fact → List (Option ℕ)
 with_parent names parents (Lies l) = parents ++ Some (number_in names l.parent) ∷ []
@@ -50,6 +53,25 @@ start_of (c ∷ claims) name = start_in name c.fact (start_of claims name)
 abbrev pub starts_of : List Claim → List (List ℕ) → List ℤ
 starts_of claims names = map (start_of claims) names
 
+-- a scene that may happen again
+abbrev pub is_recurring : Standing → Bool
+is_recurring (stands.Scene recurs) = recurs
+is_recurring _ = false
+
+abbrev pub recurs_by : List ℕ → Fact → Bool
+recurs_by name (Stands n) = is_recurring n.standing && bytes_eq name n.name
+recurs_by name _ = false
+
+abbrev pub says_recurring : List ℕ → Claim → Bool
+says_recurring name c = recurs_by name c.fact
+
+-- a scene may happen again if a sentence says so
+abbrev pub is_recurring_by : List Claim → List ℕ → Bool
+is_recurring_by claims name = list_any (says_recurring name) claims
+
+abbrev pub scenes_of : List Claim → List (List ℕ) → List Bool
+scenes_of claims names = map (is_recurring_by claims) names
+
 -- what sentences give to kinds
 abbrev pub givens_by : List Claim → List Given
 givens_by claims = givens_of (property_names claims) (kind_names claims) claims
@@ -69,6 +91,8 @@ declared_by claims = record {
   flags = flags_by claims;
   numbers = numbers_by claims;
   variables = starts_of claims (names_as sort.Variable claims);
+  scenes = scenes_of claims (names_as sort.Scene claims);
+  rulebooks = length (names_as sort.Rulebook claims);
 }
 
 -- ---- refusals

@@ -1,11 +1,11 @@
 //! What a source declares besides objects.
 ghost use Rattle.std.specs.Prelude.{◌≡◌, ◌≤◌, IfOk, length, map};
 ghost use Rattle.i7_kinds.specs.Grants.{built_in_bases};
-ghost use Rattle.i7_kinds.specs.KindClaims.{AreSmallKinds, declared_by, flags_by, givens_by, kind_names, numbers_by, parents_of, start_in, start_of, starts_of};
+ghost use Rattle.i7_kinds.specs.KindClaims.{AreSmallKinds, declared_by, flags_by, givens_by, is_recurring, is_recurring_by, kind_names, numbers_by, parents_of, recurs_by, says_recurring, scenes_of, start_in, start_of, starts_of};
 
 use crate::author_kinds::{kind_nos, parents_of};
 use crate::grants::{Given, flags_from, givens_of};
-use i7_claims::{Claim, Fact, Sort, names_as, property_names};
+use i7_claims::{Claim, Fact, Sort, Standing, names_as, property_names};
 use object_words::Strings;
 use std::alloc::{AllocError, Global};
 use world_meaning::{Declared, Granted, KindNo, Listed, PROPERTIES};
@@ -37,6 +37,46 @@ fn starts_of(alloc: Global, claims: &[Claim], names: &[Vec<u8>]) -> Result<Vec<i
         rest = after;
     }
     Ok(starts)
+}
+
+/// Whether a name stands for a scene that may happen again.
+fn is_recurring(standing: &Standing) -> bool
+    ensures { result ≡ is_recurring standing.now }
+{
+    match standing {
+        Standing::Scene(recurs) => *recurs,
+        _ => false,
+    }
+}
+
+/// Whether a claim says that the scene of this name may happen again.
+fn says_recurring(name: &[u8], claim: &Claim) -> bool
+    ensures { result ≡ says_recurring name.now claim.now }
+{
+    match &claim.fact {
+        Fact::Stands(naming) => is_recurring(&naming.standing) && name == naming.name.as_slice(),
+        _ => false,
+    }
+}
+
+/// Whether the scene of this name may happen again: a sentence says so.
+fn is_recurring_by(claims: &[Claim], name: &[u8]) -> bool
+    ensures { result ≡ is_recurring_by claims.now name.now }
+{
+    claims.iter().any(|claim| says_recurring(name, claim))
+}
+
+/// Which scenes of these names may happen again.
+fn scenes_of(alloc: Global, claims: &[Claim], names: &[Vec<u8>]) -> Result<Vec<bool>, AllocError>
+    ensures { IfOk result (λ scenes. scenes.items ≡ scenes_of claims.now (map (λ name. name.items) names.now)) }
+{
+    let mut scenes = Vec::new(alloc);
+    let mut rest = names;
+    while let [name, after @ ..] = rest {
+        scenes.push(is_recurring_by(claims, name.as_slice()))?;
+        rest = after;
+    }
+    Ok(scenes)
 }
 
 /// What sentences give to kinds of these names.
@@ -103,10 +143,15 @@ pub fn declared_by(alloc: Global, names: &Strings, claims: &[Claim]) -> Result<D
     let numbers = numbers_by(alloc, kinds.as_slice(), givens.as_slice(), first, claims)?;
     let variables = names_as(alloc, Sort::Variable, claims)?;
     let starts = starts_of(alloc, claims, variables.as_slice())?;
+    let scenes = names_as(alloc, Sort::Scene, claims)?;
+    let recurring = scenes_of(alloc, claims, scenes.as_slice())?;
+    let rulebooks = names_as(alloc, Sort::Rulebook, claims)?;
     Ok(Declared {
         kinds: Listed::new(kinds),
         flags: Listed::new(flags),
         numbers: Listed::new(numbers),
         variables: Listed::new(starts),
+        scenes: Listed::new(recurring),
+        rulebooks: rulebooks.len(),
     })
 }

@@ -26,7 +26,7 @@ meaning_as n name (stands.First second) = option_map (quality_on First) (small_n
 meaning_as n name (stands.Second first) = option_map (quality_on Second) (small_number n.qualities first)
 meaning_as n name stands.Number = option_map meaning.Number (small_number n.numbers name)
 meaning_as n name stands.Variable = option_map meaning.Variable (small_number n.variables name)
-meaning_as n name stands.Scene = option_map meaning.Scene (small_number n.scenes name)
+meaning_as n name (stands.Scene recurs) = option_map meaning.Scene (small_number n.scenes name)
 meaning_as n name stands.Object = option_map meaning.Object (object_number n.objects name)
 
 abbrev pub with_naming : Numbering → Known → Naming → Known

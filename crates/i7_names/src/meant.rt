@@ -22,7 +22,7 @@ pub fn meaning_as(numbering: &Numbering<'_>, name: &[u8], standing: &Standing) -
         }
         Standing::Number => Some(Meaning::Number(numbering.number(name)?)),
         Standing::Variable => Some(Meaning::Variable(numbering.variable(name)?)),
-        Standing::Scene => Some(Meaning::Scene(numbering.scene(name)?)),
+        Standing::Scene(_) => Some(Meaning::Scene(numbering.scene(name)?)),
         Standing::Object => Some(Meaning::Object(ObjNo::new(numbering.object(name)?))),
     }
 }

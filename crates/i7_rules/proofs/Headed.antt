@@ -20,7 +20,7 @@ use Rattle.i7_rules.specs.Rules.{AsksSo, Head, IsAsked, IsBook, IsBookFound, IsH
 use Rattle.i7_rules.specs.declared.body.BodyRead.{BodyRead}
 use Rattle.i7_rules.specs.declared.body.BodyRead.TheVariants as body
 use Rattle.i7_rules.specs.declared.rule.RuleFound.{RuleFound}
-use Rattle.i7_rules.specs.declared.rule.RuleHead.{RuleHead as Kept}
+use Rattle.play_meaning.specs.declared.tree.rule.RuleHead.{RuleHead as Kept}
 use Rattle.i7_rules.proofs.ReadOn.{all_understood}
 
 -- ---- heads

@@ -19,7 +19,7 @@ use Rattle.i7_rules.specs.Bodies.{AreLines, AreUnderstood, IsBodyOf, IsLine, IsN
 use Rattle.i7_rules.specs.Knowns.{Known, repeats_around, scope_among}
 use Rattle.i7_rules.specs.Lines.{is_over_behind, stated_in}
 use Rattle.i7_rules.specs.Rules.{HasHead, Head, IsAsked, IsHead, IsOver, IsRuleFound, IsWithin, fault_at, fault_in, head_is_over, heading, is_asked_over}
-use Rattle.i7_rules.specs.declared.rule.MeantRule.{MeantRule}
+use Rattle.play_meaning.specs.declared.tree.rule.MeantRule.{MeantRule}
 use Rattle.i7_rules.specs.declared.rule.RuleFound.{RuleFound}
 use Rattle.i7_rules.specs.declared.rule.RuleFound.TheVariants as found
 use Rattle.i7_rules.proofs.Once.{AreOnce, states_once}

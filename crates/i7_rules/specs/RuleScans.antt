@@ -8,7 +8,7 @@ use Rattle.i7_sentences.specs.Lowest.{IsLowest, IsNowhere, lower_of}
 use Rattle.i7_rules.specs.Knowns.{Known}
 use Rattle.i7_rules.specs.RuleList.{Placed, RuleAt, name_of, placed, standard_names}
 use Rattle.i7_rules.specs.SourceRules.{HoldsTooMuch, IsTold, IsUnknown, IsUnnested}
-use Rattle.i7_rules.specs.declared.rule.MeantRule.{MeantRule}
+use Rattle.play_meaning.specs.declared.tree.rule.MeantRule.{MeantRule}
 use Rattle.i7_rules.specs.declared.rule.RuleFound.{RuleFound}
 use Rattle.i7_rules.specs.declared.rule.RuleFound.TheVariants as found
 use Rattle.i7_rules.specs.declared.source_rules.RulesFound.{RulesFound}

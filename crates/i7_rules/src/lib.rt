@@ -17,5 +17,5 @@ mod step;
 pub use body::{BodyRead, body_of};
 pub use known::Known;
 pub use laws::{one_list_of_rules, one_rule_is_told};
-pub use rule::{MeantRule, RuleFound, RuleHead, rule_of};
+pub use rule::{RuleFound, rule_of};
 pub use source_rules::{RulesFound, SourceRule, rules_of};

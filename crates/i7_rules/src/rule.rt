@@ -10,24 +10,9 @@ use crate::known::Known;
 use i7_actions::own_book_of;
 use i7_conditions::{Found, Scope, condition_of};
 use i7_sentences::{Rule, RuleBook};
-use play_meaning::tree::{Condition, Phrase};
+use play_meaning::tree::{Condition, MeantRule, RuleHead};
 use std::alloc::{AllocError, Global};
 use world_meaning::TextBytes;
-
-/// What the head of a rule says.
-#[derive(Debug, Drop)]
-pub struct RuleHead {
-    /// The rulebook, by its number.
-    pub book: u16,
-    pub condition: Option<Condition>,
-}
-
-/// A rule whose words are resolved.
-#[derive(Debug, Drop)]
-pub struct MeantRule {
-    pub head: RuleHead,
-    pub body: Vec<Phrase>,
-}
 
 /// What a rule of a source is.
 #[derive(Debug, Drop)]

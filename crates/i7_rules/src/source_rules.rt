@@ -7,10 +7,11 @@ ghost use Rattle.i7_rules.specs.SourceRules.{IsRulesFound, most_rules};
 
 use crate::known::Known;
 use crate::laws::one_rule_is_told;
-use crate::rule::{MeantRule, RuleFound, rule_of};
+use crate::rule::{RuleFound, rule_of};
 use crate::rule_list::{RuleAt, line_behind, rules_in};
 use crate::rule_names::{name_of, name_twice};
 use i7_sentences::{Sentence, lower_of};
+use play_meaning::tree::MeantRule;
 use std::alloc::{AllocError, Global};
 use world_meaning::{Fault, FaultCode, TextBytes};
 

@@ -71,6 +71,8 @@ declared_in k = record {
   flags = map (λ property. granted property.kinds) built_in_properties;
   numbers = map granted k.numbers;
   variables = k.variables;
+  scenes = map (λ scene. scene.recurs) k.scenes;
+  rulebooks = 0;
 }
 
 abbrev pub leads_from : ℕ → ℕ → Exit → Bool
@@ -113,7 +115,7 @@ abbrev pub setting_in : Sketch → Setting
 setting_in k = record (setting_of (tale_of k)) { has_description = λ o. is_some (description_at k o) }
 
 unfoldable pub start_in : Sketch → World
-start_in k = record (start_of (tale_of k)) { scenes = map (λ scene. record { happens = false; has_begun = false }) k.scenes }
+start_in k = start_of (tale_of k)
 
 -- the words of its name, and those that it goes by besides
 abbrev pub words_in : Option Item → List (List ℕ)

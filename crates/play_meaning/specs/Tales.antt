@@ -10,7 +10,7 @@ use Rattle.world_meaning.specs.declared.exits.Way.{Way}
 use Rattle.world_meaning.specs.declared.tale.Object.{Object}
 use Rattle.world_meaning.specs.declared.tale.Tale.{Tale}
 use Rattle.play_meaning.specs.Settings.{Setting}
-use Rattle.play_meaning.specs.Worlds.{World}
+use Rattle.play_meaning.specs.Worlds.{World, not_begun}
 
 -- what is said of an object; this, where there is none
 abbrev pub in_object : {A : Type 0} → A → (Object → A) → Option Object → A
@@ -76,7 +76,7 @@ start_of t = record {
   flags = map (λ property. map (is_true_at_start property) t.objects) (range_with_len 0 (length t.declared.flags));
   numbers = map (λ property. map (number_at_start t.declared property) t.objects) (range_with_len 0 (length t.declared.numbers));
   variables = t.declared.variables;
-  scenes = [];
+  scenes = map (λ recurs. not_begun) t.declared.scenes;
   turns = 1;
   ended = None;
 }

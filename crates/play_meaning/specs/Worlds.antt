@@ -36,8 +36,12 @@ number_of w property o = slice_index_or (slice_index_or w.numbers property []) o
 abbrev pub variable_of : World → ℕ → ℤ
 variable_of w v = slice_index_or w.variables v (pos 0)
 
+-- as play begins, and as long as nothing begins it
+abbrev pub not_begun : SceneNow
+not_begun = record { happens = false; has_begun = false }
+
 abbrev pub scene_of : World → ℕ → SceneNow
-scene_of w s = slice_index_or w.scenes s (record { happens = false; has_begun = false })
+scene_of w s = slice_index_or w.scenes s not_begun
 
 abbrev pub holder_in : Option Place → Option ℕ
 holder_in None = None

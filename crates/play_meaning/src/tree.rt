@@ -4,10 +4,12 @@ mod condition;
 mod number;
 mod object;
 mod phrase;
+mod rule;
 mod said;
 
 pub use condition::{Basic, Clause, Condition, Conjunction};
 pub use number::{Joined, Number, Operator, Term};
 pub use object::{Adjective, Description, Held, Quality, Referent, Side};
 pub use phrase::{Branch, Phrase, Simple};
+pub use rule::{MeantRule, RuleHead};
 pub use said::{Piece, Said, Text};

@@ -36,7 +36,8 @@ pub enum EmitFault {
 
 /// The bytes of the code of a rule's body, and behind it those of the tests that it names, which are numbered from `first`
 /// on. Each string goes by its number among `strings`. By what there is in `counts` they are sound codes, whatever number the
-/// body's code has in front of `first`, and however many codes there are that hold all of them.
+/// body's code has in front of `first`, and however many codes there are that hold all of them. Codes are given only of a
+/// body that fits, whatever number its code has and however many codes there are; and so of a condition and a description.
 ///
 /// # Errors
 ///
@@ -49,6 +50,7 @@ pub fn body_codes(
     body: &[Phrase],
 ) -> Result<Vec<TextBytes>, EmitFault>
     ensures codes { IfOk result (λ codes. AreEmitted (whole_body (number_in strings.now) (body_meant body.now) first 0) codes.items) }
+    ensures fits { OnOk result ((own codes : ℕ) → BodyFits (among counts.now own codes) (number_in strings.now) 0 (body_meant body.now)) }
     ensures sound { IfOk result (λ codes. AreSoundAnywhere counts.now role.Body first (whole_body (number_in strings.now) (body_meant body.now) first 0) codes.items) }
     ensures too_long { IfErr result (λ fault. fault ≡ EmitFault.TooLong → BodyFits counts.now (number_in strings.now) 0 (body_meant body.now)
         → can_say_all (whole_body (number_in strings.now) (body_meant body.now) first 0) ≡ false) }
@@ -75,6 +77,7 @@ pub fn condition_codes(
     condition: &Condition,
 ) -> Result<Vec<TextBytes>, EmitFault>
     ensures codes { IfOk result (λ codes. AreEmitted (test_part (condition_meant condition.now) first 0) codes.items) }
+    ensures fits { OnOk result ((own codes : ℕ) → ConditionFits (among counts.now own codes) 0 0 (condition_meant condition.now)) }
     ensures sound { IfOk result (λ codes. AreSoundAnywhere counts.now (role.Test 0) first (test_part (condition_meant condition.now) first 0) codes.items) }
     ensures too_long { IfErr result (λ fault. fault ≡ EmitFault.TooLong → ConditionFits counts.now 0 0 (condition_meant condition.now)
         → can_say_all (test_part (condition_meant condition.now) first 0) ≡ false) }
@@ -89,8 +92,7 @@ pub fn condition_codes(
 }
 
 /// The bytes of the code that says a description, and behind it those of the tests that it names, which are numbered from
-/// `first` on: sound codes, as a body's are. Each string goes by its number among `strings`. Codes are given only of a text
-/// that fits, whatever number its code has and however many codes there are.
+/// `first` on: sound codes, as a body's are. Each string goes by its number among `strings`.
 ///
 /// # Errors
 ///

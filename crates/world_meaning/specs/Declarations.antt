@@ -10,7 +10,7 @@ use Rattle.world_meaning.specs.declared.tale.Object.{Object}
 
 -- the built-in kinds and properties alone
 unfoldable pub built_in_declared : Declared
-built_in_declared = record { kinds = built_in_parents; flags = map (λ p. record { kinds = p.kinds }) built_in_properties; numbers = []; variables = [] }
+built_in_declared = record { kinds = built_in_parents; flags = map (λ p. record { kinds = p.kinds }) built_in_properties; numbers = []; variables = []; scenes = []; rulebooks = 0 }
 
 -- each number is above the one before it, and the first is not below next
 unfoldable pub are_rising : ℕ → List ℕ → Bool
@@ -74,11 +74,11 @@ is_number (negsuc n) = nat_lt n 2147483648
 
 -- ---- all of it
 
--- the built-in kinds and properties with the author's, and 100 variables at most
+-- the built-in kinds and properties with the author's, 100 variables, 50 scenes and 100 rulebooks at most
 unfoldable pub is_well_declared : Declared → Bool
 is_well_declared d =
     are_right_kinds d.kinds && begin_with_properties d.flags built_in_properties && are_right_grants (length d.kinds) d.flags && are_right_grants (length d.kinds) d.numbers
-    && nat_le (length d.variables) 100 && list_all is_number d.variables
+    && nat_le (length d.variables) 100 && list_all is_number d.variables && nat_le (length d.scenes) 50 && nat_le d.rulebooks 100
 
 -- ---- what an object has
 

@@ -1,4 +1,4 @@
-//! What a source declares besides its objects: kinds, properties and variables.
+//! What a source declares besides its objects: kinds, properties, variables, scenes and rulebooks.
 ghost use Rattle.std.specs.Prelude.{◌≡◌, [], IfOk, map};
 ghost use Rattle.world_meaning.specs.Declarations.{built_in_declared};
 
@@ -23,6 +23,10 @@ pub struct Declared {
     pub numbers: Listed<Granted>,
     /// What each variable is as the story begins.
     pub variables: Listed<i32>,
+    /// Of each scene, by number, whether it may happen again.
+    pub scenes: Listed<bool>,
+    /// How many rulebooks there are of the author's own.
+    pub rulebooks: usize,
 }
 
 fn granted_to(alloc: Global, kinds: &[u8]) -> Result<Granted, AllocError>
@@ -63,5 +67,7 @@ pub fn built_in_declared(alloc: Global) -> Result<Declared, AllocError>
         flags: granted_by(alloc, &PROPERTIES)?,
         numbers: none(alloc),
         variables: none(alloc),
+        scenes: none(alloc),
+        rulebooks: 0,
     })
 }

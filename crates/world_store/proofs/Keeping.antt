@@ -29,7 +29,7 @@ use Rattle.story_format.specs.declared.tables.Tables.{Tables}
 use Rattle.story_format.proofs.Beginnings.{holders_there, player_in_room, stories_few, stories_tree}
 use Rattle.story_format.proofs.RoomLemmas.{story_starts}
 use Rattle.world_store.specs.Rows.{AreColumns}
-use Rattle.world_store.specs.StartWorlds.{not_begun, start_world}
+use Rattle.world_store.specs.StartWorlds.{start_world}
 use Rattle.world_store.specs.StoryWorlds.{IsKept}
 
 -- ---- the start

@@ -1,15 +1,10 @@
 -- The world with which a loaded story begins, read from its tables.
-use Rattle.std.specs.Prelude.{false, length, map, None, replicate}
+use Rattle.std.specs.Prelude.{length, map, None, replicate}
 use Rattle.std.specs.List.{range_with_len}
-use Rattle.play_meaning.specs.Worlds.{World}
-use Rattle.play_meaning.specs.declared.scene.SceneNow.{SceneNow}
+use Rattle.play_meaning.specs.Worlds.{World, not_begun}
 use Rattle.story_format.specs.InPlay.{start_flags, start_numbers, start_variables}
 use Rattle.story_format.specs.Placed.{places_in}
 use Rattle.story_format.specs.declared.tables.Tables.{Tables}
-
--- a scene that never began
-abbrev pub not_begun : SceneNow
-not_begun = record { happens = false; has_begun = false }
 
 unfoldable pub start_world : Tables → World
 start_world t = record {

@@ -13,6 +13,11 @@ returns-then-not-body_fits-clause-too_long c = λ told fits.
 pub returns-clause-codes : goal.returns-clause-codes
 returns-clause-codes c = c.finish.ensures.codes c.args.first (whole_body (number_in c.args.strings.now) (body_meant c.args.body.now)) c.in-Ok.ensures
 
+pub returns-clause-fits : goal.returns-clause-fits
+returns-clause-fits c =
+    IfOk-weaker c.finish.result _ _ (λ codes emitted own count. (c.body_fits.ensures own count).0 c.if-not-body_fits.false)
+    (c.finish.ensures.codes c.args.first (whole_body (number_in c.args.strings.now) (body_meant c.args.body.now)) c.in-Ok.ensures)
+
 pub returns-clause-sound : goal.returns-clause-sound
 returns-clause-sound c =
     IfOk-weaker c.finish.result _ _ (λ codes. body_anywhere c.args.counts.now c.args.first c.body_fits.result c.if-not-body_fits.false codes.items (number_in c.args.strings.now) (body_meant c.args.body.now) c.body_fits.ensures)

@@ -12,6 +12,11 @@ returns-then-not-condition_fits-clause-too_long c = λ told fits.
 pub returns-clause-codes : goal.returns-clause-codes
 returns-clause-codes c = c.finish.ensures.codes c.args.first (test_part (condition_meant c.args.condition.now)) c.in-Ok.ensures
 
+pub returns-clause-fits : goal.returns-clause-fits
+returns-clause-fits c =
+    IfOk-weaker c.finish.result _ _ (λ codes emitted own count. (c.condition_fits.ensures own count).0 c.if-not-condition_fits.false)
+    (c.finish.ensures.codes c.args.first (test_part (condition_meant c.args.condition.now)) c.in-Ok.ensures)
+
 pub returns-clause-sound : goal.returns-clause-sound
 returns-clause-sound c =
     IfOk-weaker c.finish.result _ _ (λ codes. condition_anywhere c.args.counts.now c.args.first c.condition_fits.result c.if-not-condition_fits.false codes.items (condition_meant c.args.condition.now) c.condition_fits.ensures)

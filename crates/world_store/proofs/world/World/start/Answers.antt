@@ -1,6 +1,6 @@
 use Rattle.std.proofs.Common.{◌∙◌, ap, sym}
 use Rattle.std.specs.Prelude.{replicate}
-use Rattle.world_store.specs.StartWorlds.{not_begun}
+use Rattle.play_meaning.specs.Worlds.{not_begun}
 use Rattle.world_store.proofs.Keeping.{kept_begun}
 use Rattle.world_store.proofs.world.World.start.Goals as goal
 
