@@ -1,7 +1,7 @@
 -- The trees that the words of a source mean: lists joined one by one as the language joins them.
 use Rattle.std.specs.Prelude.{ℕ, Bool, true, false, List, [], ◌∷◌, Option, None, Some, map, fold}
 use Rattle.std.specs.Option.{option_map}
-use Rattle.play_meaning.specs.Rules.{Anything, InOrder, Rule}
+use Rattle.play_meaning.specs.Rules.{AuthorRule}
 use Rattle.play_meaning.specs.Trees as tree
 use Rattle.play_meaning.specs.declared.tree.object.Adjective.{Adjective}
 use Rattle.play_meaning.specs.declared.tree.object.Description.{Description}
@@ -188,16 +188,5 @@ abbrev pub branches_meant : List Branch → tree.Body → tree.Body
 branches_meant [] others = others
 branches_meant (branch ∷ branches) others = tree.Then (tree.If (condition_meant branch.condition) (body_meant branch.phrases.items) (branches_meant branches others)) tree.End
 
--- a rule of the author's is about nothing yet but its condition, and stands in the order of its book
-abbrev pub rule_meant : MeantRule → Rule
-rule_meant rule = record {
-  book = rule.head.book;
-  action = None;
-  noun = Anything;
-  second = Anything;
-  place = Anything;
-  scene = None;
-  condition = option_map condition_meant rule.head.condition;
-  body = body_meant rule.body.items;
-  listed = InOrder;
-}
+abbrev pub rule_meant : MeantRule → AuthorRule
+rule_meant rule = record { book = rule.head.book; condition = option_map condition_meant rule.head.condition; body = body_meant rule.body.items }
