@@ -14,7 +14,9 @@ use Rattle.world_meaning.specs.Standing.{are_well_placed, have_ends, is_well_pla
 use Rattle.world_meaning.specs.declared.place.Place.{Place}
 use Rattle.world_meaning.specs.declared.place.Rel.{Rel}
 use Rattle.world_meaning.specs.declared.place.Rel.TheVariants.{In, On, Carried, Worn, Part}
-use Rattle.story_format.specs.Checks.{are_direction_entries, are_distinct, are_in_place, are_right, are_right_objects, are_right_ways, has_no_rules, is_named, is_player_entry, is_right_frame, stand_rightly}
+use Rattle.story_format.specs.Counts.{counts_of}
+use Rattle.story_format.specs.RuleChecks.{are_right_rules}
+use Rattle.story_format.specs.Checks.{are_direction_entries, are_distinct, are_in_place, are_right, are_right_objects, are_right_ways, is_named, is_player_entry, is_right_frame, stand_rightly}
 use Rattle.story_format.specs.Facts.{holder_in, start_of}
 use Rattle.story_format.specs.Placed.{held_by, kinds_in, place_of, places_in, relation_of, sorts_in}
 use Rattle.story_format.specs.Spells.{IsStory}
@@ -34,7 +36,7 @@ stands t right = (last_of_five (is_right_frame t) (are_distinct t.strings) (are_
 
 frame_few : (t : Tables) → is_right_frame t ≡ true → length t.objects ≤ 1000
 unfolding is_right_frame
-frame_few t frame = leb-true _ _ (four (is_right_world t.world) (has_no_rules t.rules) (leb (length t.objects) 1000) (ltb (length t.strings) 65535) frame).2
+frame_few t frame = leb-true _ _ (four (is_right_world t.world) (are_right_rules (counts_of t) t.rules) (leb (length t.objects) 1000) (ltb (length t.strings) 65535) frame).2
 
 pub stories_few : (t : Tables) → IsStory t → length t.objects ≤ 1000
 stories_few t story = frame_few t (frame_of t story.right)

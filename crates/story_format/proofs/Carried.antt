@@ -1,8 +1,9 @@
 -- The tables of a tale say of each object what the tale says.
 use Rattle.std.proofs.Common.{◌≡◌, ℕ, zero, suc, ◌+◌, ◌-◌, ◌<◌, ◌==◌, Bool, true, false, cond, eqb, List, [], ◌∷◌, length, map, take, drop, Option, Some, None, refl, sym, subst, ap, ◌∙◌, arith, inl, inr, if◌then◌else◌}
 use Rattle.std.specs.Prelude.{min, slice_get, is_none, is_some}
-use Rattle.std.specs.List.{AllByRecursion, list_all, flat_map}
+use Rattle.std.specs.List.{AllByRecursion, AllZip, list_all, flat_map}
 use Rattle.std.proofs.lemmas.Bool.{ne_eqb}
+use Rattle.std.proofs.lemmas.List.{length-append, length-map}
 use Rattle.std.proofs.lemmas.List.Folds.{list_all-append}
 use Rattle.std.specs.Option.{option_map}
 use Rattle.std.proofs.lemmas.Option.{get_or_from_slice_get, slice_get-map}
@@ -23,26 +24,30 @@ use Rattle.play_meaning.specs.Codes.{Codes}
 use Rattle.play_meaning.specs.Grounds.{said_by_code}
 use Rattle.play_meaning.specs.Scripts.{says, undescribed}
 use Rattle.play_meaning.specs.Settings.{Setting}
-use Rattle.play_meaning.specs.Translation.{strings_of_text}
+use Rattle.play_meaning.specs.Rules.{AuthorRule}
 use Rattle.play_meaning.specs.Trees.{Text}
 use Rattle.play_meaning.specs.Worlds.{World}
 use Rattle.play_meaning.specs.declared.action.ActionNow.{ActionNow}
 use Rattle.play_meaning.specs.declared.operand.Counts.{Counts}
-use Rattle.code_table.specs.Descriptions.{AllFit, codes_of_texts}
+use Rattle.code_table.specs.Emitted.{AllFit, codes_of_origins}
+use Rattle.code_table.specs.Origins.{Describes, Origin, origins_of, strings_of_origin}
 use Rattle.code_table.proofs.Said.{text_said}
-use Rattle.story_format.specs.Carrying.{Carries}
+use Rattle.story_format.specs.Carrying.{Carries, CarriesRule}
 use Rattle.story_format.specs.Codes.{codes_told, counts_of}
 use Rattle.story_format.specs.Facts.{description_code_in, description_code_of, exits_at, holder_in, is_room_in, name_in, rooms_before, text_at, way_in, words_in}
 use Rattle.story_format.specs.Holding.{AreHeld, IsHeld}
-use Rattle.story_format.specs.Making.{Worded, code_count, code_number, codes_in, entries_of, entry_of, entry_strings, place_holder, strings_of, strings_said, tables_of, tables_with, text_in, text_of, ways_of, worded, worded_at, worded_from, world_of}
+use Rattle.story_format.specs.RuleMaking.{rules_of}
+use Rattle.story_format.specs.Making.{Worded, code_count, code_number, codes_in, described_in, entries_of, entry_of, entry_strings, place_holder, strings_of, strings_said, tables_of, tables_with, text_in, text_of, ways_of, worded, worded_at, worded_from, world_of}
 use Rattle.story_format.specs.Placed.{is_room_entry}
-use Rattle.story_format.proofs.StoryLemmas.{all_at, get_dropped, get_within, parts, player_parts}
+use Rattle.story_format.proofs.StoryLemmas.{all_at, get_dropped, get_front, get_within, parts, player_parts}
 use Rattle.story_format.proofs.Known.{found_by_number, is_known, said_known}
 use Rattle.story_format.proofs.OrderLemmas.{at_most_one}
-use Rattle.story_format.proofs.SoundLemmas.{bytes_told}
+use Rattle.story_format.proofs.RuleLemmas.{origins_in}
+use Rattle.story_format.proofs.RulesCarried.{rules_carried}
+use Rattle.story_format.proofs.SoundLemmas.{bytes_enough, bytes_few, bytes_told}
 use Rattle.story_format.proofs.EntryLemmas.{counted_more, counted_same, entry_room, objects_back, objects_in}
 use Rattle.story_format.proofs.TableLemmas.{all_known, entries_counted, entry_strings_known, knows}
-use Rattle.story_format.proofs.Stories.{few_objects}
+use Rattle.story_format.proofs.Stories.{described_back, few_objects}
 
 -- ---- names
 
@@ -82,8 +87,8 @@ words_carried strings (object ∷ objects) from next (suc o) h few =
 none_before : (o : ℕ) → 0 + o ≡ o
 none_before o = omega arith
 
-words_known : (ws : List Worded) (texts : List Text) → list_all (knows (strings_of ws texts)) ws ≡ true
-words_known ws texts = all_known (strings_of ws texts) ws (entry_strings_known ws texts)
+words_known : (ws : List Worded) (origins : List Origin) → list_all (knows (strings_of ws origins)) ws ≡ true
+words_known ws origins = all_known (strings_of ws origins) ws (entry_strings_known ws origins)
 
 -- ---- descriptions
 
@@ -140,29 +145,40 @@ all_described strings [] next o lt = refl
 all_described strings (w ∷ ws) next zero lt = one_described next w.object.description (omega (arith, lt))
 all_described strings (w ∷ ws) next (suc o) lt = let bound = at_most_one w.object.description in all_described strings ws (next + code_count w.object.description) o (omega (arith, lt, bound))
 
--- the strings that a text says
-text_known : (strings : List (List ℕ)) (texts : List Text) (n : ℕ) (text : Text) → list_all (is_known strings) (strings_said texts) ≡ true → slice_get texts n ≡ Some text → list_all (is_known strings) (strings_of_text text) ≡ true
-text_known strings [] n text h at = absurd cc
-text_known strings (one ∷ texts) n text h at =
+-- the strings that an origin says
+origin_known : (strings : List (List ℕ)) (origins : List Origin) (n : ℕ) (origin : Origin) → list_all (is_known strings) (strings_said origins) ≡ true → slice_get origins n ≡ Some origin
+    → list_all (is_known strings) (strings_of_origin origin) ≡ true
+origin_known strings [] n origin h at = absurd cc
+origin_known strings (one ∷ origins) n origin h at =
     let known = is_known strings in
-    let t = both_are (list_all known (strings_of_text one)) (list_all known (strings_said texts)) (sym (list_all-append known (strings_of_text one) (strings_said texts)) ∙ h) in
-    by n at t.0 (λ m later. text_known strings texts m text t.1 later)
+    let t = both_are (list_all known (strings_of_origin one)) (list_all known (strings_said origins)) (sym (list_all-append known (strings_of_origin one) (strings_said origins)) ∙ h) in
+    by n at t.0 (λ m later. origin_known strings origins m origin t.1 later)
   where
-    by : (n : ℕ) → slice_get (one ∷ texts) n ≡ Some text → list_all (is_known strings) (strings_of_text one) ≡ true → ((m : ℕ) → slice_get texts m ≡ Some text → list_all (is_known strings) (strings_of_text text) ≡ true) → list_all (is_known strings) (strings_of_text text) ≡ true
-    by zero at own later = let same : one ≡ text = cc in subst (λ x. list_all (is_known strings) (strings_of_text x) ≡ true) same own
+    by : (n : ℕ) → slice_get (one ∷ origins) n ≡ Some origin → list_all (is_known strings) (strings_of_origin one) ≡ true
+        → ((m : ℕ) → slice_get origins m ≡ Some origin → list_all (is_known strings) (strings_of_origin origin) ≡ true) → list_all (is_known strings) (strings_of_origin origin) ≡ true
+    by zero at own later = let same : one ≡ origin = cc in subst (λ x. list_all (is_known strings) (strings_of_origin x) ≡ true) same own
     by (suc m) at own later = later m at
 
 strings_stand : (strings xs : List (List ℕ)) → list_all (is_known strings) xs ≡ true → length strings < 65535 → AllByRecursion (λ bytes. text_at strings (number_in strings bytes) ≡ bytes) xs
 strings_stand strings [] h few = tt
 strings_stand strings (x ∷ xs) h few = let t = both_are (is_known strings x) (list_all (is_known strings) xs) h in (text_back strings x t.0 few, strings_stand strings xs t.1 few)
 
-module _ (z : Counts) (c : Codes) (string : List ℕ → ℕ) (texts : List Text) (fit : AllFit z string texts) (codes : c.codes ≡ codes_of_texts string texts)
-    (strings : (n : ℕ) (text : Text) → slice_get texts n ≡ Some text → AllByRecursion (λ bytes. text_at c.strings (string bytes) ≡ bytes) (strings_of_text text)) where
+origins_stand : (ws : List Worded) (origins : List Origin) → length (strings_of ws origins) < 65535 → (n : ℕ) (origin : Origin) → slice_get origins n ≡ Some origin
+    → AllByRecursion (λ bytes. text_at (strings_of ws origins) (number_in (strings_of ws origins) bytes) ≡ bytes) (strings_of_origin origin)
+origins_stand ws origins few n origin at = let strings = strings_of ws origins in strings_stand strings (strings_of_origin origin) (origin_known strings origins n origin (said_known ws origins) at) few
+
+described_at : (texts : List Text) (rules : List AuthorRule) (n : ℕ) (text : Text) → slice_get texts n ≡ Some text → slice_get (origins_of texts rules) n ≡ Some (Describes text)
+described_at texts rules n text at = get_front (map Describes texts) (origins_in rules) n (Describes text) (slice_get-map Describes texts n ∙ ap (option_map Describes) at)
+
+module _ (z : Counts) (c : Codes) (string : List ℕ → ℕ) (texts : List Text) (rules : List AuthorRule) (fit : AllFit z string (origins_of texts rules)) (codes : c.codes ≡ codes_of_origins string (origins_of texts rules))
+    (strings : (n : ℕ) (origin : Origin) → slice_get (origins_of texts rules) n ≡ Some origin → AllByRecursion (λ bytes. text_at c.strings (string bytes) ≡ bytes) (strings_of_origin origin)) where
   described_so : (s : Setting) (now : ActionNow) (w : World) (n : Option ℕ) (text : Option Text) → Told texts n text → said_by_code c s now w n ≡ says (undescribed s) now w text
   described_so s now w None None told = refl
   described_so s now w None (Some text) told = absurd told
   described_so s now w (Some n) None told = absurd told
-  described_so s now w (Some n) (Some text) told = text_said string z c texts n text (undescribed s) now w fit codes told (strings n text told)
+  described_so s now w (Some n) (Some text) told =
+      let at = described_at texts rules n text told in
+      text_said string z c (origins_of texts rules) n text (undescribed s) now w fit codes at (strings n (Describes text) at)
 
 -- ---- ways
 
@@ -252,30 +268,41 @@ start_carried parents rooms strings (player ∷ others) h =
 
 -- ---- all of it
 
-module _ (t : Tale) (texts : List Text) (held : IsHeld t) (are : AreHeld t texts) where
-  code_says : (o : ℕ) (s : Setting) (now : ActionNow) (w : World) → said_by_code (codes_told (tables_of t texts)) s now w (description_code_of (tables_of t texts) o) ≡ says (undescribed s) now w (text_of t texts o)
+module _ (t : Tale) (texts : List Text) (rules : List AuthorRule) (held : IsHeld t) (are : AreHeld t texts rules) where
+  code_says : (o : ℕ) (s : Setting) (now : ActionNow) (w : World) → said_by_code (codes_told (tables_of t texts rules)) s now w (description_code_of (tables_of t texts rules) o) ≡ says (undescribed s) now w (text_of t texts o)
   unfolding tables_with
   code_says o s now w =
       let ws = worded t.objects in
-      let strings = strings_of ws texts in
+      let origins = origins_of texts rules in
+      let strings = strings_of ws origins in
       let back : objects_in ws ≡ t.objects = objects_back 0 t.objects in
       let le = few_objects t held in
-      let many : length texts ≡ 0 + codes_in (objects_in ws) = omega (arith, are.many, ap codes_in back) in
-      described_so (counts_of (tables_of t texts)) (codes_told (tables_of t texts)) (number_in strings) texts are.fit (bytes_told strings texts are.said)
-      (λ n text at. strings_stand strings (strings_of_text text) (text_known strings texts n text (said_known ws texts) at) are.few) s now w (description_code_of (tables_of t texts) o) (text_of t texts o)
+      let many : length texts ≡ 0 + codes_in (objects_in ws) = omega (arith, are.are_of.many, ap codes_in back) in
+      described_so (counts_of (tables_of t texts rules)) (codes_told (tables_of t texts rules)) (number_in strings) texts rules are.fit (bytes_told strings origins are.said) (origins_stand ws origins are.few) s now w
+      (description_code_of (tables_of t texts rules) o) (text_of t texts o)
       (subst (λ objects. Told texts (description_code_in (slice_get (entries_of strings 0 ws) o)) (text_in objects texts o)) back (descriptions_told strings texts ws 0 o (omega (arith, le)) many))
 
-  pub tale_carried : Carries (tables_of t texts) t texts
+  rules_so : AllZip (CarriesRule (codes_told (tables_of t texts rules))) (tables_of t texts rules).rules.rules rules
+  unfolding tables_with rules_of
+  rules_so =
+      let ws = worded t.objects in
+      let origins = origins_of texts rules in
+      let strings = strings_of ws origins in
+      let next : described_in ws ≡ length (map Describes texts) = described_back t ∙ sym are.are_of.many ∙ sym (length-map texts Describes) in
+      rules_carried (counts_of (tables_of t texts rules)) (codes_told (tables_of t texts rules)) (number_in strings) origins are.fit (bytes_told strings origins are.said) (origins_stand ws origins are.few) rules (map Describes texts)
+      (described_in ws) next refl (omega (arith, next, length-append (map Describes texts) (origins_in rules), bytes_enough strings origins, bytes_few strings origins are.said))
+
+  pub tale_carried : Carries (tables_of t texts rules) t texts rules
   unfolding tables_with world_of
   tale_carried =
       let ws = worded t.objects in
-      let strings = strings_of ws texts in
+      let strings = strings_of ws (origins_of texts rules) in
       let back : objects_in ws ≡ t.objects = objects_back 0 t.objects in
       let le = few_objects t held in
       let parents = t.declared.kinds in
       let sorts = sorts_in t in
       let exits : list_all (has_right_exits parents sorts) (objects_in ws) ≡ true = ap (list_all (has_right_exits parents sorts)) back ∙ held.made.exits in
-      let known = words_known ws texts in
+      let known = words_known ws (origins_of texts rules) in
       record {
         count = entries_counted strings 0 ws ∙ sym (length_mapped (λ (w : Worded). w.object) ws) ∙ ap length back;
         names = λ o. names_carried strings ws 0 o known are.few ∙ ap (λ (objects : List Object). told_name (slice_get objects o)) back;
@@ -284,4 +311,5 @@ module _ (t : Tale) (texts : List Text) (held : IsHeld t) (are : AreHeld t texts
         descriptions = code_says;
         ways = λ o direction. ways_found parents sorts strings ws o direction (slice_get ws o) refl exits ∙ ap (λ (objects : List Object). told_way (slice_get objects o) direction) back;
         start = start_carried parents sorts.rooms strings ws (ap (begin_rightly parents sorts.rooms) back ∙ held.made.begins) ∙ ap (λ (objects : List Object). told_place (slice_get objects 0)) back;
+        rules_are = rules_so;
       }

@@ -31,6 +31,8 @@ pub record Parts (d : Declared) : Type 0 where
   pub numbers : are_right_grants (length d.kinds) d.numbers ≡ true
   pub few : leb (length d.variables) 100 ≡ true
   pub variables : list_all is_number d.variables ≡ true
+  pub scenes : length d.scenes ≤ 50
+  pub rulebooks : d.rulebooks ≤ 100
 
 pub declared_parts : (d : Declared) → is_well_declared d ≡ true → Parts d
 unfolding is_well_declared
@@ -40,11 +42,14 @@ declared_parts d h =
     let flags = are_right_grants (length d.kinds) d.flags in
     let numbers = are_right_grants (length d.kinds) d.numbers in
     let few = leb (length d.variables) 100 in
-    let a = both_are (kinds && first && flags && numbers && few) (list_all is_number d.variables) h in
+    let are_numbers = list_all is_number d.variables in
+    let r = both_are (kinds && first && flags && numbers && few && are_numbers && leb (length d.scenes) 50) (leb d.rulebooks 100) h in
+    let s = both_are (kinds && first && flags && numbers && few && are_numbers) (leb (length d.scenes) 50) r.0 in
+    let a = both_are (kinds && first && flags && numbers && few) are_numbers s.0 in
     let b = both_are (kinds && first && flags && numbers) few a.0 in
     let c = both_are (kinds && first && flags) numbers b.0 in
     let e = three kinds first flags c.0 in
-    record { kinds = e.0; first = e.1; flags = e.2; numbers = c.1; few = b.1; variables = a.1 }
+    record { kinds = e.0; first = e.1; flags = e.2; numbers = c.1; few = b.1; variables = a.1; scenes = leb-true _ _ s.1; rulebooks = leb-true _ _ r.1 }
 
 pub world_right : (d : Declared) → is_well_declared d ≡ true → is_right_world (world_of d) ≡ true
 unfolding is_right_world world_of

@@ -23,17 +23,20 @@ use Rattle.world_meaning.specs.WellMade.{IsWellMade, has_right_exits, kinds_of, 
 use Rattle.world_meaning.specs.declared.declared.Declared.{Declared}
 use Rattle.world_meaning.specs.declared.tale.Object.{Object}
 use Rattle.object_words.specs.Mentions.{mention, number_or_none, number_in}
-use Rattle.play_meaning.specs.Trees.{Text}
+use Rattle.code_table.specs.Origins.{Origin}
+use Rattle.play_meaning.specs.Rules.{AuthorRule}
 use Rattle.object_words.proofs.StringLemmas.{length_mapped}
 use Rattle.story_format.specs.Formats.{fits_optional}
-use Rattle.story_format.specs.Layout.{entry_layout, way_layout, exits_layout, action_layout, line_layout, rule_layout, book_layout, scene_layout, rules_layout, tables_layout}
-use Rattle.story_format.specs.Making.{Worded, worded, code_bytes, code_count, numbers_of, entry_strings, strings_of, strings_said, article_number, relation_number, place_relation, place_holder, code_number, entry_of, entries_of, ways_of, tables_with}
-use Rattle.story_format.specs.Holding.{has_few_words, has_short_texts, is_short, is_short_or_none}
+use Rattle.story_format.specs.Layout.{entry_layout, way_layout, exits_layout, tables_layout}
+use Rattle.story_format.specs.Making.{Worded, worded, code_bytes, code_count, described_in, numbers_of, entry_strings, strings_of, strings_said, article_number, relation_number, place_relation, place_holder, code_number, entry_of, entries_of, ways_of, tables_with}
+use Rattle.story_format.specs.RuleMaking.{book_count}
+use Rattle.story_format.specs.Holding.{books_of, has_few_words, has_short_texts, is_short, is_short_or_none}
 use Rattle.story_format.proofs.StoryLemmas.{all_both, all_mapped, all_weaker, few_begin, three}
 use Rattle.story_format.proofs.OrderLemmas.{mention_new, mention_old}
 use Rattle.story_format.proofs.DeclaredLemmas.{all_own_fit, are_bytes, declared_parts, few_kinds, fits_own, is_word, world_fits}
 use Rattle.story_format.proofs.WordFacts.{all_mentioned, is_good}
 use Rattle.story_format.proofs.EntryLemmas.{objects_back, objects_in, rooms_lead}
+use Rattle.story_format.proofs.RuleLemmas.{rule_tables_fit}
 use Rattle.story_format.proofs.TableLemmas.{all_good_words, entries_counted, good_words}
 
 -- ---- how many strings there are
@@ -57,11 +60,11 @@ named_few (w ∷ ws) h =
     omega (arith, le, later, length-append w.words (flat_map entry_strings ws))
 
 -- no more than are named and said
-pub few_strings : (ws : List Worded) (texts : List Text) → list_all has_few_words ws ≡ true → length (strings_of ws texts) ≤ 33 * length ws + length (strings_said texts)
+pub few_strings : (ws : List Worded) (origins : List Origin) → list_all has_few_words ws ≡ true → length (strings_of ws origins) ≤ 33 * length ws + length (strings_said origins)
 unfolding strings_of
-few_strings ws texts h =
-    let all = no_longer (flat_map entry_strings ws ++ strings_said texts) [] in
-    omega (arith, all, named_few ws h, length-append (flat_map entry_strings ws) (strings_said texts))
+few_strings ws origins h =
+    let all = no_longer (flat_map entry_strings ws ++ strings_said origins) [] in
+    omega (arith, all, named_few ws h, length-append (flat_map entry_strings ws) (strings_said origins))
 
 -- ---- each string is short
 
@@ -78,11 +81,11 @@ names_short (w ∷ ws) h k =
     both (is_short w.object.name) (list_all is_short (w.words ++ flat_map entry_strings ws)) u.0
     (list_all-append is_short w.words (flat_map entry_strings ws) ∙ both (list_all is_short w.words) (list_all is_short (flat_map entry_strings ws)) (words_short w.words v.0) (names_short ws t.1 v.1))
 
-pub strings_short : (ws : List Worded) (texts : List Text) → list_all has_short_texts (objects_in ws) ≡ true → list_all good_words ws ≡ true → list_all is_short (strings_said texts) ≡ true → list_all is_short (strings_of ws texts) ≡ true
+pub strings_short : (ws : List Worded) (origins : List Origin) → list_all has_short_texts (objects_in ws) ≡ true → list_all good_words ws ≡ true → list_all is_short (strings_said origins) ≡ true → list_all is_short (strings_of ws origins) ≡ true
 unfolding strings_of
-strings_short ws texts h k short =
-    all_mentioned is_short (flat_map entry_strings ws ++ strings_said texts) [] refl
-    (list_all-append is_short (flat_map entry_strings ws) (strings_said texts) ∙ both (list_all is_short (flat_map entry_strings ws)) (list_all is_short (strings_said texts)) (names_short ws h k) short)
+strings_short ws origins h k short =
+    all_mentioned is_short (flat_map entry_strings ws ++ strings_said origins) [] refl
+    (list_all-append is_short (flat_map entry_strings ws) (strings_said origins) ∙ both (list_all is_short (flat_map entry_strings ws)) (list_all is_short (strings_said origins)) (names_short ws h k) short)
 
 -- ---- each entry has room
 
@@ -215,11 +218,11 @@ ways_few parents (w ∷ ws) =
 
 -- ---- all of it
 
-pub tables_fit : (d : Declared) (objects : List Object) (said : List Text) → IsWellMade (record { declared = d; objects = objects }) → list_all has_short_texts objects ≡ true → list_all has_few_words (worded objects) ≡ true
-    → length (strings_of (worded objects) said) < 65535 → list_all is_short (strings_said said) ≡ true → length (code_bytes (strings_of (worded objects) said) said) < 65536 → list_all is_short (code_bytes (strings_of (worded objects) said) said) ≡ true
-    → tables_layout.format.fits (tables_with d (worded objects) said) ≡ true
-unfolding tables_layout tables_with rules_layout action_layout line_layout rule_layout book_layout scene_layout
-tables_fit d objects said made texts few_words few short few_codes codes_short =
+pub tables_fit : (d : Declared) (objects : List Object) (rules : List AuthorRule) (said : List Origin) → IsWellMade (record { declared = d; objects = objects }) → list_all has_short_texts objects ≡ true → list_all has_few_words (worded objects) ≡ true
+    → length rules ≤ 2000 → list_all (is_below (book_count d)) (books_of rules) ≡ true → length (strings_of (worded objects) said) < 65535 → list_all is_short (strings_said said) ≡ true → length (code_bytes (strings_of (worded objects) said) said) < 65536 → list_all is_short (code_bytes (strings_of (worded objects) said) said) ≡ true
+    → tables_layout.format.fits (tables_with d (worded objects) rules said) ≡ true
+unfolding tables_layout tables_with
+tables_fit d objects rules said made texts few_words few_rules books few short few_codes codes_short =
     let ws = worded objects in
     let strings = strings_of ws said in
     let back : objects_in ws ≡ objects = objects_back 0 objects in
@@ -235,4 +238,6 @@ tables_fit d objects said made texts few_words few short few_codes codes_short =
     let way_count : ltb (length (flat_map (ways_of d.kinds) ws)) 65536 ≡ true = lt-ltb _ _ (omega (arith, le, ways_few d.kinds ws)) in
     let exits = all_weaker (lead_rightly sorts) exits_layout.format.fits (exits_fit d.kinds (kinds_of objects) few_of_kinds) (flat_map (ways_of d.kinds) ws) (rooms_lead d.kinds sorts ws (ap (list_all (has_right_exits d.kinds sorts)) back ∙ made.exits)) in
     let code_few : ltb (length (code_bytes strings said)) 65536 ≡ true = lt-ltb _ _ few_codes in
-    rw (string_count, strings_fit, world_fits d made.declared, entry_count, entries, way_count, exits, code_few, codes_short) refl
+    let declared = declared_parts d made.declared in
+    let rules_so = rule_tables_fit d rules (described_in ws) declared.scenes declared.rulebooks few_rules books in
+    rw (string_count, strings_fit, world_fits d made.declared, entry_count, entries, way_count, exits, rules_so, code_few, codes_short) refl

@@ -14,7 +14,9 @@ use Rattle.story_format.specs.declared.row.Sizes.{Sizes}
 use Rattle.story_format.specs.declared.tables.Entry.{Entry}
 use Rattle.story_format.specs.declared.tables.Tables.{Tables}
 use Rattle.story_format.specs.declared.world_tables.WorldTables.{WorldTables}
-use Rattle.story_format.specs.Checks.{has_no_rules, is_right_frame}
+use Rattle.story_format.specs.Checks.{is_right_frame}
+use Rattle.story_format.specs.Counts.{counts_of}
+use Rattle.story_format.specs.RuleChecks.{are_right_rules}
 use Rattle.story_format.specs.KindTables.{all_had, count_told, had_by, had_from, is_told, is_told_had, suits_told}
 use Rattle.story_format.specs.Placed.{is_place}
 use Rattle.story_format.specs.Sizes.{are_different, is_right_entry}
@@ -80,7 +82,7 @@ all_told sizes w (e ∷ es) same h =
 pub frame_few : (t : Tables) → is_right_frame t ≡ true → length t.world.kinds ≤ 100
 unfolding is_right_frame is_right_world
 frame_few t h =
-    let p = four (is_right_world t.world) (has_no_rules t.rules) (leb (length t.objects) 1000) (ltb (length t.strings) 65535) h in
+    let p = four (is_right_world t.world) (are_right_rules (counts_of t) t.rules) (leb (length t.objects) 1000) (ltb (length t.strings) 65535) h in
     let kinds = t.world.kinds in
     let q =
     last_of_five (are_right_kinds kinds) (begin_with_properties t.world.flags built_in_properties) (are_right_grants (length kinds) t.world.flags) (are_right_grants (length kinds) t.world.numbers) (leb (length t.world.variables) 100) p.0 in

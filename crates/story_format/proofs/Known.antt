@@ -8,7 +8,7 @@ use Rattle.std.proofs.lemmas.List.Folds.{list_any-append}
 use Rattle.std.proofs.lemmas.Slice.Eq.{bytes_eq-Decides}
 use Rattle.world_meaning.proofs.Bools.{either}
 use Rattle.world_meaning.proofs.Bools.{both, both_are}
-use Rattle.play_meaning.specs.Trees.{Text}
+use Rattle.code_table.specs.Origins.{Origin}
 use Rattle.object_words.specs.Mentions.{mention, number_in}
 use Rattle.story_format.specs.Making.{Worded, entry_strings, strings_of, strings_said}
 
@@ -69,7 +69,7 @@ fold_finds (s ∷ ss) seen text h =
 pub any_left : (p : List ℕ → Bool) (xs ys : List (List ℕ)) → list_any p xs ≡ true → list_any p (xs ++ ys) ≡ true
 any_left p xs ys h = rw (list_any-append p xs ys, h) refl
 
-or_right : (a b : Bool) → b ≡ true → (a || b) ≡ true
+pub or_right : (a b : Bool) → b ≡ true → (a || b) ≡ true
 or_right true b e = refl
 or_right false b e = e
 
@@ -102,9 +102,9 @@ all_known_too p strings (x ∷ texts) known h =
     let t = both_are (is_known strings x) (list_all (is_known strings) texts) known in
     both (p x) (list_all p texts) (known_too p strings x t.0 h) (all_known_too p strings texts t.1 h)
 
--- the strings of a story are those that its texts say, too
-pub said_known : (ws : List Worded) (texts : List Text) → list_all (is_known (strings_of ws texts)) (strings_said texts) ≡ true
+-- the strings of a story are those that its descriptions and rules say, too
+pub said_known : (ws : List Worded) (origins : List Origin) → list_all (is_known (strings_of ws origins)) (strings_said origins) ≡ true
 unfolding strings_of
-said_known ws texts =
-    texts_known (strings_of ws texts) (strings_said texts)
-    (λ text k. fold_finds (flat_map entry_strings ws ++ strings_said texts) [] text (any_right (bytes_eq text) (flat_map entry_strings ws) (strings_said texts) k))
+said_known ws origins =
+    texts_known (strings_of ws origins) (strings_said origins)
+    (λ text k. fold_finds (flat_map entry_strings ws ++ strings_said origins) [] text (any_right (bytes_eq text) (flat_map entry_strings ws) (strings_said origins) k))

@@ -10,10 +10,11 @@ use Rattle.play_meaning.specs.declared.operand.Use.TheVariants.{Describing}
 use Rattle.code_table.proofs.Together.{head_there, sound_together}
 use Rattle.story_code.specs.Runs.{AreSoundTogether, IsDescription, code_told}
 use Rattle.story_code.specs.Soundness.{Judged}
-use Rattle.story_format.specs.Checks.{are_in_place, are_named_in_order, are_right, are_right_objects, codes_named, has_small_words, have_words, is_small, strings_named}
+use Rattle.story_format.specs.Checks.{are_in_place, are_named_in_order, are_right, are_right_objects, codes_named, heads_named, has_small_words, have_words, is_small, strings_named}
 use Rattle.story_format.specs.Codes.{AreCodesOf, code_spelled, codes_told, counts_of, uses_of}
 use Rattle.story_format.specs.Facts.{description_code_in, description_code_of}
 use Rattle.story_format.specs.Loaded.{IsLoaded}
+use Rattle.story_format.specs.RuleChecks.{codes_in_rules, uses_in_rules}
 use Rattle.story_format.specs.Sizes.{are_different, is_right_entry, sizes_of}
 use Rattle.story_format.specs.Placed.{is_place, sorts_in}
 use Rattle.story_format.specs.WorldChecks.{suits_kind}
@@ -22,7 +23,8 @@ use Rattle.story_format.specs.declared.tables.Entry.{Entry}
 use Rattle.story_format.specs.declared.tables.Tables.{Tables}
 use Rattle.story_format.proofs.Naming.{named_within}
 use Rattle.story_format.proofs.RoomLemmas.{right_parts}
-use Rattle.story_format.proofs.StoryLemmas.{all_at, last_of_five, three}
+use Rattle.story_format.proofs.RuleLemmas.{turn_parted}
+use Rattle.story_format.proofs.StoryLemmas.{all_at, get_front, last_of_five, three}
 
 pub loaded_sound : (t : Tables) (judged : List Judged) → AreCodesOf t judged → AreSoundTogether judged
 unfolding counts_of
@@ -51,7 +53,7 @@ entries_right t right =
     let placed = are_in_place t.strings t.world.kinds (sorts_in t).rooms t.objects in
     let worded = have_words t.strings 0 t.objects in
     let p =
-    last_of_five (entries && placed && worded) (list_all (has_small_words (map is_small t.strings)) t.objects) (are_named_in_order 0 (flat_map strings_named t.objects)) (are_named_in_order 0 (codes_named t.objects))
+    last_of_five (entries && placed && worded) (list_all (has_small_words (map is_small t.strings)) t.objects) (are_named_in_order 0 (flat_map strings_named t.objects)) (are_named_in_order 0 (heads_named t))
     (list_all (suits_kind t.world) t.objects) (right_parts t right).0 in
     (three entries placed worded p.0).0
 
@@ -73,7 +75,10 @@ all_described (suc count) (suc n) lt = all_described count n (omega (arith, lt))
 
 pub loaded_described : (t : Tables) (judged : List Judged) → IsLoaded t judged → (o n : ℕ) → description_code_of t o ≡ Some n → IsDescription judged n
 loaded_described t judged loaded o n is =
-    head_there (counts_of t) (uses_of t) t.codes judged loaded.codes n Describing (all_described (length (codes_named t.objects)) n (omega (arith, named_within 0 t.objects o n loaded.story.sound.in_turn is)))
+    let named = codes_named t.objects in
+    let turn = (turn_parted named (codes_in_rules t.rules.rules) 0 loaded.story.sound.in_turn).0 in
+    head_there (counts_of t) (uses_of t) t.codes judged loaded.codes n Describing
+    (get_front (replicate (length named) Describing) (uses_in_rules t.rules.rules) n Describing (all_described (length named) n (omega (arith, named_within 0 t.objects o n turn is))))
 
 -- ---- what they are
 

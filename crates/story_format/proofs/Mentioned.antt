@@ -1,17 +1,25 @@
--- The strings that are mentioned of a text are those that it says.
-use Rattle.std.proofs.Common.{◌≡◌, ◌∙◌, ap, refl, List, [], ◌∷◌, ◌++◌}
+-- The strings that are mentioned of texts and rules are those that they say.
+use Rattle.std.proofs.Common.{◌≡◌, ◌∙◌, ap, sym, refl, ℕ, List, [], ◌∷◌, ◌++◌, Option, None, Some}
+use Rattle.std.proofs.lemmas.Grind.{flat_map-append}
+use Rattle.std.proofs.lemmas.List.{append-nil}
 use Rattle.std.specs.List.{flat_map}
-use Rattle.std.specs.Prelude.{map}
-use Rattle.play_meaning.specs.Meant.{parts_meant, piece_meant, pieces_meant, said_meant, text_meant}
-use Rattle.play_meaning.specs.Translation.{strings_of_text}
+use Rattle.std.specs.Prelude.{fold, map}
+use Rattle.object_words.specs.Mentions.{mention}
+use Rattle.object_words.proofs.Folds.{fold_both}
+use Rattle.play_meaning.specs.Meant.{parts_meant, piece_meant, pieces_meant, rule_meant, said_meant, text_meant}
+use Rattle.play_meaning.specs.Rules.{AuthorRule}
+use Rattle.play_meaning.specs.Translation.{strings_of_body, strings_of_text}
 use Rattle.play_meaning.specs.Trees as tree
+use Rattle.play_meaning.specs.Trees.{Condition}
 use Rattle.play_meaning.specs.declared.tree.said.Piece.{Piece}
 use Rattle.play_meaning.specs.declared.tree.said.Piece.TheVariants as piece
 use Rattle.play_meaning.specs.declared.tree.said.Said.{Said}
 use Rattle.play_meaning.specs.declared.tree.said.Said.TheVariants as said
+use Rattle.play_meaning.specs.declared.tree.rule.MeantRule.{MeantRule}
 use Rattle.play_meaning.specs.declared.tree.said.Text.{Text}
+use Rattle.code_table.specs.Origins.{Describes, origins_meant, origins_of_rule, strings_of_origin}
 use Rattle.story_format.specs.Making.{strings_said}
-use Rattle.story_format.specs.Mentioning.{part_strings, piece_strings, text_strings}
+use Rattle.story_format.specs.Mentioning.{part_strings, piece_strings, rule_strings, text_strings}
 
 piece_mentioned : (p : Piece) (more : tree.Text) → strings_of_text (piece_meant p more) ≡ piece_strings p ++ strings_of_text more
 piece_mentioned (piece.Bytes bytes) more = refl
@@ -32,6 +40,28 @@ parts_mentioned : (parts : List Said) → strings_of_text (parts_meant parts) �
 parts_mentioned [] = refl
 parts_mentioned (s ∷ parts) = part_mentioned s (parts_meant parts) ∙ ap (λ l. part_strings s ++ l) (parts_mentioned parts)
 
-pub texts_mentioned : (texts : List Text) → strings_said (map text_meant texts) ≡ flat_map text_strings texts
+pub text_mentioned : (text : Text) → strings_of_text (text_meant text) ≡ text_strings text
+text_mentioned text = parts_mentioned text.parts.items
+
+texts_mentioned : (texts : List Text) → flat_map strings_of_origin (map Describes (map text_meant texts)) ≡ flat_map text_strings texts
 texts_mentioned [] = refl
-texts_mentioned (text ∷ texts) = λ i. parts_mentioned text.parts.items i ++ texts_mentioned texts i
+texts_mentioned (text ∷ texts) = λ i. text_mentioned text i ++ texts_mentioned texts i
+
+rule_mentioned : (rule : AuthorRule) (c : Option Condition) → rule.condition ≡ c → flat_map strings_of_origin (origins_of_rule rule) ≡ strings_of_body rule.body
+rule_mentioned rule None is = rw is (append-nil (strings_of_body rule.body))
+rule_mentioned rule (Some condition) is = rw is (append-nil (strings_of_body rule.body))
+
+rules_mentioned : (rules : List MeantRule) → flat_map strings_of_origin (flat_map origins_of_rule (map rule_meant rules)) ≡ flat_map rule_strings rules
+rules_mentioned [] = refl
+rules_mentioned (rule ∷ rules) =
+    flat_map-append strings_of_origin (origins_of_rule (rule_meant rule)) (flat_map origins_of_rule (map rule_meant rules))
+    ∙ (λ i. rule_mentioned (rule_meant rule) (rule_meant rule).condition refl i ++ rules_mentioned rules i)
+
+-- mentioned one behind the other
+pub mentioned_on : (all a b c s t u v : List (List ℕ)) → s ≡ [] → t ≡ fold mention s a → u ≡ fold mention t b → v ≡ fold mention u c → all ≡ b ++ c → v ≡ fold mention [] (a ++ all)
+mentioned_on all a b c s t u v none one two three is =
+    three ∙ ap (λ x. fold mention x c) two ∙ sym (fold_both mention t b c) ∙ ap (fold mention t) (sym is) ∙ ap (λ x. fold mention x all) (one ∙ ap (λ x. fold mention x a) none) ∙ sym (fold_both mention [] a all)
+
+pub all_mentioned : (texts : List Text) (rules : List MeantRule) → strings_said (origins_meant texts rules) ≡ flat_map text_strings texts ++ flat_map rule_strings rules
+all_mentioned texts rules =
+    flat_map-append strings_of_origin (map Describes (map text_meant texts)) (flat_map origins_of_rule (map rule_meant rules)) ∙ (λ i. texts_mentioned texts i ++ rules_mentioned rules i)

@@ -6,7 +6,7 @@ use Rattle.std.specs.Str.{bytes_eq}
 use Rattle.std.proofs.lemmas.Bool.{lt-ltb, ne_eqb, eq-eqb, eqb-true, le-leb}
 use Rattle.std.proofs.lemmas.List.{length-append, append-nil}
 use Rattle.world_meaning.proofs.Bools.{both, both_are, either}
-use Rattle.play_meaning.specs.Trees.{Text}
+use Rattle.code_table.specs.Origins.{Origin}
 use Rattle.object_words.specs.Mentions.{mention, first_mentions, number_in}
 use Rattle.story_format.specs.Making.{Worded, code_count, code_number, codes_in, entry_of, entry_strings, entries_of, strings_of, strings_said}
 use Rattle.story_format.specs.Checks.{are_distinct, are_named_in_order, strings_named, codes_named, is_some_code}
@@ -36,9 +36,9 @@ rebuilt : (strings seen : List (List ℕ)) → first_mentions seen ≡ seen → 
 rebuilt [] seen h = h
 rebuilt (x ∷ strings) seen h = rebuilt strings (mention seen x) (rebuilt_step seen x h)
 
-pub strings_distinct : (ws : List Worded) (texts : List Text) → are_distinct (strings_of ws texts) ≡ true
+pub strings_distinct : (ws : List Worded) (origins : List Origin) → are_distinct (strings_of ws origins) ≡ true
 unfolding are_distinct strings_of
-strings_distinct ws texts = eq-eqb _ _ (ap length (rebuilt (flat_map entry_strings ws ++ strings_said texts) [] refl))
+strings_distinct ws origins = eq-eqb _ _ (ap length (rebuilt (flat_map entry_strings ws ++ strings_said origins) [] refl))
 
 -- ---- strings are named in order
 
@@ -110,9 +110,9 @@ numbers_named strings next (w ∷ ws) =
     ap (λ (later : List ℕ). number_in strings w.object.name ∷ (map (number_in strings) (w.words) ++ later)) (numbers_named strings (next + code_count w.object.description) ws)
     ∙ ap (λ (later : List ℕ). number_in strings w.object.name ∷ later) (sym (map_both (number_in strings) (w.words) (flat_map entry_strings ws)))
 
-pub strings_all_named : (ws : List Worded) (texts : List Text) → length (strings_of ws texts) < 65535 → counted_on 0 (map (number_in (strings_of ws texts)) (flat_map entry_strings ws ++ strings_said texts)) ≡ Some (length (strings_of ws texts))
+pub strings_all_named : (ws : List Worded) (origins : List Origin) → length (strings_of ws origins) < 65535 → counted_on 0 (map (number_in (strings_of ws origins)) (flat_map entry_strings ws ++ strings_said origins)) ≡ Some (length (strings_of ws origins))
 unfolding strings_of
-strings_all_named ws texts few = all_ordered (strings_of ws texts) (flat_map entry_strings ws ++ strings_said texts) [] refl few
+strings_all_named ws origins few = all_ordered (strings_of ws origins) (flat_map entry_strings ws ++ strings_said origins) [] refl few
 
 -- where all are named in order, those in front are
 in_order_in_front : (ns ms : List ℕ) (count next : ℕ) → counted_on next (ns ++ ms) ≡ Some count → are_named_in_order next ns ≡ true
@@ -122,12 +122,12 @@ in_order_in_front (n ∷ ns) ms count next h =
     let t = counted_rest count next n (ns ++ ms) h in
     both (leb n next) (are_named_in_order (max next (n + 1)) ns) (le-leb _ _ t.0) (in_order_in_front ns ms count (max next (n + 1)) t.1)
 
-pub strings_in_order : (ws : List Worded) (texts : List Text) → length (strings_of ws texts) < 65535 → are_named_in_order 0 (flat_map strings_named (entries_of (strings_of ws texts) 0 ws)) ≡ true
-strings_in_order ws texts few =
-    let strings = strings_of ws texts in
-    let parts = map_both (number_in strings) (flat_map entry_strings ws) (strings_said texts) in
+pub strings_in_order : (ws : List Worded) (origins : List Origin) → length (strings_of ws origins) < 65535 → are_named_in_order 0 (flat_map strings_named (entries_of (strings_of ws origins) 0 ws)) ≡ true
+strings_in_order ws origins few =
+    let strings = strings_of ws origins in
+    let parts = map_both (number_in strings) (flat_map entry_strings ws) (strings_said origins) in
     ap (are_named_in_order 0) (numbers_named strings 0 ws)
-    ∙ in_order_in_front (map (number_in strings) (flat_map entry_strings ws)) (map (number_in strings) (strings_said texts)) (length strings) 0 (sym (ap (counted_on 0) parts) ∙ strings_all_named ws texts few)
+    ∙ in_order_in_front (map (number_in strings) (flat_map entry_strings ws)) (map (number_in strings) (strings_said origins)) (length strings) 0 (sym (ap (counted_on 0) parts) ∙ strings_all_named ws origins few)
 
 -- ---- codes are named in order
 
@@ -176,7 +176,7 @@ pub codes_few : (ws : List Worded) → codes_in (objects_in ws) ≤ length ws
 codes_few [] = omega arith
 codes_few (w ∷ ws) = omega (arith, codes_few ws, at_most_one w.object.description)
 
-in_turn_in_order : (ns : List ℕ) (next : ℕ) → are_in_turn next ns ≡ true → are_named_in_order next ns ≡ true
+pub in_turn_in_order : (ns : List ℕ) (next : ℕ) → are_in_turn next ns ≡ true → are_named_in_order next ns ≡ true
 unfolding are_named_in_order are_in_turn
 in_turn_in_order [] next h = refl
 in_turn_in_order (n ∷ ns) next h =
@@ -185,6 +185,3 @@ in_turn_in_order (n ∷ ns) next h =
     let low : leb n next ≡ true = le-leb _ _ (omega (arith, here)) in
     let up : max next (n + 1) ≡ next + 1 = omega (arith, here) in
     both (leb n next) (are_named_in_order (max next (n + 1)) ns) low (ap (λ k. are_named_in_order k ns) up ∙ in_turn_in_order ns (next + 1) t.1)
-
-pub codes_in_order : (strings : List (List ℕ)) (ws : List Worded) → length ws < 65535 → are_named_in_order 0 (codes_named (entries_of strings 0 ws)) ≡ true
-codes_in_order strings ws lt = in_turn_in_order (codes_named (entries_of strings 0 ws)) 0 (codes_in_turn strings ws 0 (omega arith))

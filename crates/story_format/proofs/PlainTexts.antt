@@ -7,11 +7,11 @@ use Rattle.std.proofs.lemmas.List.{length-append, length-map}
 use Rattle.world_meaning.proofs.Bools.{both_are}
 use Rattle.object_words.specs.Mentions.{number_in, number_or_none}
 use Rattle.play_meaning.specs.StandardRules.{plain}
-use Rattle.play_meaning.specs.TranslatedScripts.{description_part, emitted_in_turn}
+use Rattle.play_meaning.specs.TranslatedScripts.{emitted_in_turn}
 use Rattle.play_meaning.specs.Translation.{Emitted, seq, text_part}
-use Rattle.play_meaning.specs.Trees.{Text}
 use Rattle.play_meaning.specs.declared.operand.Counts.{Counts}
-use Rattle.code_table.specs.Descriptions.{AllFit, CanBeSaid}
+use Rattle.code_table.specs.Emitted.{AllFit, CanBeSaid}
+use Rattle.code_table.specs.Origins.{Origin, origins_of, part_of}
 use Rattle.story_code.specs.Emitting.{can_say_all}
 use Rattle.story_format.specs.Codes.{counts_of, small}
 use Rattle.story_format.specs.Holding.{PlainTextsAreHeld, is_short}
@@ -24,8 +24,8 @@ use Rattle.story_format.proofs.Stories.{few_objects}
 
 -- ---- texts that say bytes
 
-abbrev Plain : List (List ℕ) → List Text
-Plain xs = map plain xs
+abbrev Plain : List (List ℕ) → List Origin
+Plain xs = origins_of (map plain xs) []
 
 strings_plain : (xs : List (List ℕ)) → strings_said (Plain xs) ≡ xs
 strings_plain [] = refl
@@ -37,7 +37,7 @@ module _ (string : List ℕ → ℕ) where
   fit_plain z (x ∷ xs) there = (λ own codes. (there.0, tt), fit_plain z xs there.1)
 
   abbrev Emitted_from : ℕ → List (List ℕ) → List Emitted
-  Emitted_from first xs = emitted_in_turn first (map (description_part string) (Plain xs))
+  Emitted_from first xs = emitted_in_turn first (map (part_of string) (Plain xs))
 
   said_plain : (first : ℕ) (xs : List (List ℕ)) → ((x : List ℕ) → string x < 65536) → AllByRecursion (λ e. can_say_all e ≡ true) (Emitted_from first xs)
   unfolding can_say_all seq text_part
@@ -90,19 +90,20 @@ pub plain_held : PlainTextsAreHeld
 unfolding tables_with counts_of
 plain_held t xs held many short =
     let ws = worded t.objects in
-    let texts = Plain xs in
-    let said : strings_said texts ≡ xs = strings_plain xs in
-    let strings = strings_of ws texts in
+    let texts = map plain xs in
+    let origins = Plain xs in
+    let said : strings_said origins ≡ xs = strings_plain xs in
+    let strings = strings_of ws origins in
     let le = few_objects t held in
     let back : codes_in (objects_in ws) ≡ codes_in t.objects = ap codes_in (objects_back 0 t.objects) in
     let few_codes = codes_few ws in
     let few_bytes : length xs ≤ 1000 = omega (arith, many, back, few_codes, le) in
-    let few : length strings < 65535 = omega (arith, few_strings ws texts held.words, ap length said, few_bytes, le) in
-    let known : list_all (is_known strings) xs ≡ true = ap (list_all (is_known strings)) (sym said) ∙ said_known ws texts in
+    let few : length strings < 65535 = omega (arith, few_strings ws origins held.words, ap length said, few_bytes, le) in
+    let known : list_all (is_known strings) xs ≡ true = ap (list_all (is_known strings)) (sym said) ∙ said_known ws origins in
     record {
-      many = length-map xs plain ∙ many;
+      are_of = record { many = length-map xs plain ∙ many; few = omega arith; books = refl };
       short = ap (list_all is_short) said ∙ short;
       few = few;
-      fit = fit_plain (number_in strings) (counts_of (tables_of t texts)) xs (all_within strings xs (small (length strings)) (omega (arith, few)) known few);
+      fit = fit_plain (number_in strings) (counts_of (tables_of t texts [])) xs (all_within strings xs (small (length strings)) (omega (arith, few)) known few);
       said = can_be_said (number_in strings) xs (named_small strings) few_bytes;
     }

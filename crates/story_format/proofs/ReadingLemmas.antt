@@ -1,5 +1,6 @@
 -- What is known of bytes whose tables were read, and of bytes that were refused.
-use Rattle.std.proofs.Common.{◌≡◌, ◌≢◌, ℕ, ◌+◌, ◌<◌, ◌≤◌, Bool, true, false, cond, ltb, leb, eqb, List, [], ◌∷◌, ◌++◌, length, take, drop, Option, Some, None, Result, Ok, Err, refl, sym, ap, subst, ◌∙◌, arith, inl, inr, ◌⊎◌}
+use Rattle.std.proofs.Common.{◌≡◌, ◌≢◌, ℕ, ◌+◌, ◌<◌, ◌≤◌, Bool, true, false, ◌&&◌, cond, ltb, leb, eqb, List, [], ◌∷◌, ◌++◌, length, take, drop, Option, Some, None, Result, Ok, Err, refl, sym, ap, subst, ◌∙◌, arith, inl, inr, ◌⊎◌}
+use Rattle.std.specs.List.{list_all}
 use Rattle.std.specs.Str.{bytes_eq}
 use Rattle.std.specs.Int.{w16, to_be_bytes, from_be_bytes}
 use Rattle.std.proofs.Math.Dec.{eqb-suc-zero}
@@ -15,11 +16,14 @@ use Rattle.story_format.specs.FormatLaws.{number16_lawful, IsBytes-drop}
 use Rattle.story_format.specs.Reading.{whole, body_at, body_read, tables_in, tables_read, FaultGiven}
 use Rattle.story_format.specs.Refusals.{Holds, IsRefused}
 use Rattle.story_format.specs.Layout.{tables_layout}
-use Rattle.story_format.specs.Checks.{has_no_rules, are_distinct, are_right_objects, are_right_ways, is_right_frame, stand_rightly, are_right}
+use Rattle.story_format.specs.Checks.{are_distinct, are_right_objects, are_right_ways, is_right_frame, stand_rightly, are_right}
+use Rattle.story_format.specs.Counts.{counts_of}
+use Rattle.story_format.specs.RuleChecks.{are_right_books, are_right_rules, are_right_scenes, are_same_actions, is_right_rule, lists_none}
+use Rattle.story_format.specs.RuleMaking.{action_entries, first_own_book}
 use Rattle.story_format.specs.Soundness.{AreSound}
 use Rattle.story_format.specs.WorldChecks.{is_right_world}
 use Rattle.story_format.specs.Spells.{magic, head, are_ordered, Spells}
-use Rattle.story_format.proofs.StoryLemmas.{last_of_five, four}
+use Rattle.story_format.proofs.StoryLemmas.{last_of_five, four, three}
 use Rattle.story_format.proofs.SoundOrNot.{codes_are_bytes, sound_or_not}
 
 -- ---- reading what was put
@@ -181,17 +185,20 @@ memory_fault bytes t fits e = (t, tables_stand bytes t fits e)
 
 -- ---- stories
 
--- right tables have no books, so none out of order
-no_books : (t : Tables) → are_right t ≡ true → eqb (length t.rules.books) 0 ≡ true
-unfolding are_right is_right_frame
-no_books t right =
+-- no book of right tables lists a rule, so none is out of order
+none_listed : (t : Tables) → are_right t ≡ true → list_all lists_none t.rules.books ≡ true
+unfolding are_right is_right_frame are_right_rules are_right_books
+none_listed t right =
     let p = last_of_five (is_right_frame t) (are_distinct t.strings) (are_right_objects t) (stand_rightly t) (are_right_ways t) right in
-    let q = four (is_right_world t.world) (has_no_rules t.rules) (leb (length t.objects) 1000) (ltb (length t.strings) 65535) p.0 in
-    (last_of_five (eqb (length t.rules.actions) 0) (eqb (length t.rules.grammar) 0) (eqb (length t.rules.rules) 0) (eqb (length t.rules.books) 0) (eqb (length t.rules.scenes) 0) q.1).3
+    let z = counts_of t in
+    let r = t.rules in
+    let q = four (is_right_world t.world) (are_right_rules z r) (leb (length t.objects) 1000) (ltb (length t.strings) 65535) p.0 in
+    let books = (last_of_five (are_right_scenes r.scenes) (are_right_books (length r.scenes) r.books) (are_same_actions r.actions action_entries) (eqb (length r.grammar) 0) (leb (length r.rules) 2000 && list_all (is_right_rule z) r.rules) q.1).1 in
+    (three (leb (first_own_book (length r.scenes)) (length r.books)) (leb (length r.books) (first_own_book (length r.scenes) + 100)) (list_all lists_none r.books) books).2
 
 pub right_ordered : (t : Tables) → are_right t ≡ true → are_ordered t ≡ true
 unfolding are_ordered
-right_ordered t right = no_books t right
+right_ordered t right = none_listed t right
 
 pub spelled_read : (bytes : List ℕ) (t : Tables) → Spells bytes t → tables_read bytes ≡ Ok t
 spelled_read bytes t h =

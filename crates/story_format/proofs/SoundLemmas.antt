@@ -1,4 +1,4 @@
--- The codes of texts that bytes can say are sound, and each string is named.
+-- The codes of texts and rules that bytes can say are sound, and each string is named.
 use Rattle.std.proofs.Common.{◌≡◌, ℕ, suc, ◌+◌, ◌<◌, ◌≤◌, true, ◌&&◌, nat_lt, List, [], ◌∷◌, ◌++◌, length, map, refl, sym, subst, ap, ◌∙◌, arith, length-append}
 use Rattle.std.specs.Prelude.{replicate}
 use Rattle.std.specs.List.{AllByRecursion, flat_map, list_all}
@@ -9,16 +9,18 @@ use Rattle.world_meaning.proofs.Bools.{both}
 use Rattle.world_meaning.specs.declared.declared.Declared.{Declared}
 use Rattle.object_words.specs.Mentions.{number_in}
 use Rattle.play_meaning.specs.Instructions.{sizes}
-use Rattle.play_meaning.specs.TranslatedScripts.{description_part, emitted_in_turn}
+use Rattle.play_meaning.specs.TranslatedScripts.{emitted_in_turn}
 use Rattle.play_meaning.specs.Translation.{Emitted}
+use Rattle.play_meaning.specs.Rules.{AuthorRule}
 use Rattle.play_meaning.specs.Trees.{Text}
+use Rattle.code_table.specs.Origins.{Describes, Origin, origins_of, part_of, use_for}
 use Rattle.play_meaning.specs.declared.instruction.Instruction.{Instruction}
 use Rattle.play_meaning.specs.declared.operand.Use.TheVariants.{Describing}
-use Rattle.code_table.specs.Descriptions.{AllFit, CanBeSaid, codes_of_texts, texts_emitted}
+use Rattle.code_table.specs.Emitted.{AllFit, CanBeSaid, codes_of_origins, origins_emitted}
 use Rattle.code_table.specs.Strings.{counted_on, strings_of as strings_in_codes}
 use Rattle.code_table.specs.Tables.{IsTableOf}
 use Rattle.code_table.proofs.SaidStrings.{strings_in_order as said_in_order}
-use Rattle.code_table.proofs.Spoken.{codes_spelled, texts_table}
+use Rattle.code_table.proofs.Spoken.{codes_spelled, origins_table}
 use Rattle.story_code.specs.Emits.{AreSpelled}
 use Rattle.story_code.specs.Emitting.{can_say_all, can_say_code, opens_few}
 use Rattle.story_code.specs.Runs.{code_or_none}
@@ -27,10 +29,12 @@ use Rattle.story_code.proofs.Exact.{spelling_size, spells_in}
 use Rattle.story_format.specs.Checks.{codes_named, strings_named}
 use Rattle.story_format.specs.Codes.{code_spelled, counts_of, small}
 use Rattle.story_format.specs.Holding.{is_short}
-use Rattle.story_format.specs.Making.{Worded, code_bytes, codes_in, entries_of, entry_strings, strings_of, strings_said, tables_with}
+use Rattle.story_format.specs.Making.{Worded, code_bytes, described_in, entries_of, entry_strings, strings_of, strings_said, tables_with}
 use Rattle.story_format.specs.Soundness.{AreSound, strings_read}
-use Rattle.story_format.proofs.EntryLemmas.{objects_in}
-use Rattle.story_format.proofs.OrderLemmas.{codes_counted, codes_in_turn, numbers_named, strings_all_named}
+use Rattle.story_format.specs.RuleChecks.{uses_in_rules}
+use Rattle.story_format.specs.RuleMaking.{rule_entries, rules_of}
+use Rattle.story_format.proofs.OrderLemmas.{codes_counted, numbers_named, strings_all_named}
+use Rattle.story_format.proofs.RuleLemmas.{heads_in_turn, origins_in, rules_used}
 
 -- ---- bytes can say each code
 
@@ -46,9 +50,9 @@ tests_say (e ∷ es) said =
     list_all-append can_say_code e.tests (flat_map (λ e. e.tests) es)
     ∙ both (list_all can_say_code e.tests) (list_all can_say_code (flat_map (λ e. e.tests) es)) (and_parts (can_say_code e.code) (list_all can_say_code e.tests) said.0).1 (tests_say es said.1)
 
-pub all_say : (string : List ℕ → ℕ) (texts : List Text) → CanBeSaid string texts → list_all can_say_code (codes_of_texts string texts) ≡ true
-all_say string texts said =
-    let es = texts_emitted string texts in
+pub all_say : (string : List ℕ → ℕ) (origins : List Origin) → CanBeSaid string origins → list_all can_say_code (codes_of_origins string origins) ≡ true
+all_say string origins said =
+    let es = origins_emitted string origins in
     list_all-append can_say_code (map (λ e. e.code) es) (flat_map (λ e. e.tests) es)
     ∙ both (list_all can_say_code (map (λ e. e.code) es)) (list_all can_say_code (flat_map (λ e. e.tests) es)) (codes_say es said.each) (tests_say es said.each)
 
@@ -60,23 +64,23 @@ all_short (code ∷ codes) say =
     both (is_short (spelling code)) (list_all is_short (map spelling codes)) (lt-ltb (length (spelling code)) 65536 (omega (arith, size, spelling_size code))) (all_short codes both_say.1)
 
 -- the bytes are short
-pub bytes_short : (strings : List (List ℕ)) (texts : List Text) → CanBeSaid (number_in strings) texts → list_all is_short (code_bytes strings texts) ≡ true
-bytes_short strings texts said = all_short (codes_of_texts (number_in strings) texts) (all_say (number_in strings) texts said)
+pub bytes_short : (strings : List (List ℕ)) (origins : List Origin) → CanBeSaid (number_in strings) origins → list_all is_short (code_bytes strings origins) ≡ true
+bytes_short strings origins said = all_short (codes_of_origins (number_in strings) origins) (all_say (number_in strings) origins said)
 
 -- and few
-pub bytes_few : (strings : List (List ℕ)) (texts : List Text) → CanBeSaid (number_in strings) texts → length (code_bytes strings texts) < 65536
-bytes_few strings texts said = omega (arith, said.few, length-map (codes_of_texts (number_in strings) texts) spelling)
+pub bytes_few : (strings : List (List ℕ)) (origins : List Origin) → CanBeSaid (number_in strings) origins → length (code_bytes strings origins) < 65536
+bytes_few strings origins said = omega (arith, said.few, length-map (codes_of_origins (number_in strings) origins) spelling)
 
-emitted_long : (string : List ℕ → ℕ) (first : ℕ) (texts : List Text) → length (map (λ e. e.code) (emitted_in_turn first (map (description_part string) texts))) ≡ length texts
+emitted_long : (string : List ℕ → ℕ) (first : ℕ) (origins : List Origin) → length (map (λ e. e.code) (emitted_in_turn first (map (part_of string) origins))) ≡ length origins
 emitted_long string first [] = refl
-emitted_long string first (text ∷ texts) = ap suc (emitted_long string (first + length (description_part string text first 0).tests) texts)
+emitted_long string first (text ∷ origins) = ap suc (emitted_long string (first + length (part_of string text first 0).tests) origins)
 
 -- there is one at least for each text
-pub bytes_enough : (strings : List (List ℕ)) (texts : List Text) → length texts ≤ length (code_bytes strings texts)
-bytes_enough strings texts =
+pub bytes_enough : (strings : List (List ℕ)) (origins : List Origin) → length origins ≤ length (code_bytes strings origins)
+bytes_enough strings origins =
     let string = number_in strings in
-    let es = texts_emitted string texts in
-    omega (arith, emitted_long string (length texts) texts, length-append (map (λ e. e.code) es) (flat_map (λ e. e.tests) es), length-map (codes_of_texts string texts) spelling)
+    let es = origins_emitted string origins in
+    omega (arith, emitted_long string (length origins) origins, length-append (map (λ e. e.code) es) (flat_map (λ e. e.tests) es), length-map (codes_of_origins string origins) spelling)
 
 -- ---- they tell what they spell
 
@@ -86,31 +90,49 @@ told_again [] (code ∷ codes) spelled = absurd spelled
 told_again (b ∷ bytes) [] spelled = absurd spelled
 told_again (b ∷ bytes) (code ∷ codes) spelled = λ i. code_or_none (spells_in b code spelled.0 i) ∷ told_again bytes codes spelled.1 i
 
-pub bytes_told : (strings : List (List ℕ)) (texts : List Text) → CanBeSaid (number_in strings) texts → map code_spelled (code_bytes strings texts) ≡ codes_of_texts (number_in strings) texts
-bytes_told strings texts said =
-    let codes = codes_of_texts (number_in strings) texts in
-    told_again (map spelling codes) codes (codes_spelled codes (all_say (number_in strings) texts said))
+pub bytes_told : (strings : List (List ℕ)) (origins : List Origin) → CanBeSaid (number_in strings) origins → map code_spelled (code_bytes strings origins) ≡ codes_of_origins (number_in strings) origins
+bytes_told strings origins said =
+    let codes = codes_of_origins (number_in strings) origins in
+    told_again (map spelling codes) codes (codes_spelled codes (all_say (number_in strings) origins said))
+
+-- ---- what they are for
+
+described_used : (texts : List Text) → map use_for (map Describes texts) ≡ replicate (length texts) Describing
+described_used [] = refl
+described_used (text ∷ texts) = ap (λ uses. Describing ∷ uses) (described_used texts)
+
+origins_used : (texts : List Text) (rules : List AuthorRule) → map use_for (origins_of texts rules) ≡ replicate (length texts) Describing ++ map use_for (origins_in rules)
+origins_used texts rules = map-append use_for (map Describes texts) (origins_in rules) ∙ ap (λ uses. uses ++ map use_for (origins_in rules)) (described_used texts)
+
+pub origins_counted : (texts : List Text) (rules : List AuthorRule) → length (origins_of texts rules) ≡ length texts + length (origins_in rules)
+origins_counted texts rules = length-append (map Describes texts) (origins_in rules) ∙ ap (λ n. n + length (origins_in rules)) (length-map texts Describes)
 
 -- ---- the codes of a tale
 
-pub tables_sound : (d : Declared) (ws : List Worded) (texts : List Text) → length (strings_of ws texts) < 65535 → length ws ≤ 1000 → length texts ≡ codes_in (objects_in ws)
-    → AllFit (counts_of (tables_with d ws texts)) (number_in (strings_of ws texts)) texts → CanBeSaid (number_in (strings_of ws texts)) texts → AreSound (tables_with d ws texts)
-unfolding strings_read tables_with counts_of
-tables_sound d ws texts few short many fit said =
-    let strings = strings_of ws texts in
-    let bytes = code_bytes strings texts in
-    let z = counts_of (tables_with d ws texts) in
-    let found = texts_table z (number_in strings) texts fit said in
-    let count : length bytes ≡ small (length bytes) = omega (arith, bytes_few strings texts said) in
-    let uses : length texts ≡ length (codes_named (entries_of strings 0 ws)) = many ∙ sym (codes_counted strings ws 0 (omega (arith, short))) in
+pub tables_sound : (d : Declared) (ws : List Worded) (texts : List Text) (rules : List AuthorRule) → length (strings_of ws (origins_of texts rules)) < 65535 → length ws ≤ 1000 → length texts ≡ described_in ws
+    → AllFit (counts_of (tables_with d ws rules (origins_of texts rules))) (number_in (strings_of ws (origins_of texts rules))) (origins_of texts rules) → CanBeSaid (number_in (strings_of ws (origins_of texts rules))) (origins_of texts rules)
+    → AreSound (tables_with d ws rules (origins_of texts rules))
+unfolding strings_read tables_with counts_of rules_of
+tables_sound d ws texts rules few short many fit said =
+    let origins = origins_of texts rules in
+    let strings = strings_of ws origins in
+    let bytes = code_bytes strings origins in
+    let z = counts_of (tables_with d ws rules origins) in
+    let found = origins_table z (number_in strings) origins fit said in
+    let count : length bytes ≡ small (length bytes) = omega (arith, bytes_few strings origins said) in
+    let all = origins_counted texts rules in
+    let room : described_in ws + length (origins_in rules) ≤ 65535 = omega (arith, all, many, bytes_enough strings origins, bytes_few strings origins said) in
+    let described : length texts ≡ length (codes_named (entries_of strings 0 ws)) = many ∙ sym (codes_counted strings ws 0 (omega (arith, short))) in
+    let uses : map use_for origins ≡ replicate (length (codes_named (entries_of strings 0 ws))) Describing ++ uses_in_rules (rule_entries (described_in ws) rules) =
+    origins_used texts rules ∙ (λ i. replicate (described i) Describing ++ rules_used rules (described_in ws) room (~ i)) in
     record {
       judged = found.0;
-      table = subst (λ n. IsTableOf (record z { codes = small (length bytes) }) (replicate n Describing) bytes found.0) uses (subst (λ n. IsTableOf (record z { codes = n }) (replicate (length texts) Describing) bytes found.0) count found.1);
-      in_turn = codes_in_turn strings ws 0 (omega (arith, short));
+      table = subst (λ us. IsTableOf (record z { codes = small (length bytes) }) us bytes found.0) uses (subst (λ n. IsTableOf (record z { codes = n }) (map use_for origins) bytes found.0) count found.1);
+      in_turn = heads_in_turn strings ws rules short room;
       named =
-          ap (λ codes. counted_on 0 (flat_map strings_named (entries_of strings 0 ws) ++ strings_in_codes codes)) (bytes_told strings texts said)
+          ap (λ codes. counted_on 0 (flat_map strings_named (entries_of strings 0 ws) ++ strings_in_codes codes)) (bytes_told strings origins said)
           ∙ ap (counted_on 0) (
-          (λ i. numbers_named strings 0 ws i ++ said_in_order (number_in strings) texts i)
-          ∙ sym (map-append (number_in strings) (flat_map entry_strings ws) (strings_said texts)))
-          ∙ strings_all_named ws texts few;
+          (λ i. numbers_named strings 0 ws i ++ said_in_order (number_in strings) origins i)
+          ∙ sym (map-append (number_in strings) (flat_map entry_strings ws) (strings_said origins)))
+          ∙ strings_all_named ws origins few;
     }

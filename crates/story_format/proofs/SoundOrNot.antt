@@ -11,7 +11,7 @@ use Rattle.code_table.specs.Tables.{IsTableOf}
 use Rattle.code_table.proofs.Decided.{table_or_none}
 use Rattle.story_code.specs.Runs.{code_told}
 use Rattle.story_code.specs.Soundness.{Judged}
-use Rattle.story_format.specs.Checks.{codes_named, strings_named}
+use Rattle.story_format.specs.Checks.{heads_named, strings_named}
 use Rattle.story_format.specs.Codes.{AreCodesOf, code_spelled, counts_of, uses_of}
 use Rattle.story_format.specs.Formats.{IsBytes, number, text}
 use Rattle.story_format.specs.FormatLaws.{IsBytes-rest}
@@ -60,7 +60,7 @@ codes_are_bytes bytes t rest fits is =
 
 pub sound_or_not : (t : Tables) → AllByRecursion IsBytes t.codes → AreSound t ⊎ (AreSound t → ⊥)
 sound_or_not t fit =
-    elim (either (are_in_turn 0 (codes_named t.objects))) [
+    elim (either (are_in_turn 0 (heads_named t))) [
       | inl turn ↦
           elim (either (is_count (length t.strings) (counted_on 0 (strings_read t)))) [
             | inl named ↦ by turn (count_is (length t.strings) (counted_on 0 (strings_read t)) named) (table_or_none (counts_of t) (uses_of t) t.codes fit)
@@ -69,7 +69,7 @@ sound_or_not t fit =
       | inr out ↦ inr (λ sound. let no : true ≡ false = sym sound.in_turn ∙ out in cc)
     ]
   where
-    by : are_in_turn 0 (codes_named t.objects) ≡ true → counted_on 0 (strings_read t) ≡ Some (length t.strings)
+    by : are_in_turn 0 (heads_named t) ≡ true → counted_on 0 (strings_read t) ≡ Some (length t.strings)
         → ((judged : List Judged) × IsTableOf (counts_of t) (uses_of t) t.codes judged) ⊎ ((judged : List Judged) → IsTableOf (counts_of t) (uses_of t) t.codes judged → ⊥) → AreSound t ⊎ (AreSound t → ⊥)
     by turn named (inl found) = inl (record { judged = found.0; table = found.1; in_turn = turn; named = named })
     by turn named (inr never) = inr (λ sound. never sound.judged sound.table)
@@ -92,7 +92,7 @@ module _ (t : Tables) (judged : List Judged) (z : Counts) (uses : List Use) (byt
   pub unsound : b ≡ false → AreSound t → ⊥
   unsound other sound = is_counted (length t.strings) (counted_on 0 (strings_read t)) sound.named (ap (λ ns. is_count (length t.strings) (counted_on 0 ns)) (sym read) ∙ sym told ∙ other)
 
-  pub sound : b ≡ true → are_in_turn 0 (codes_named t.objects) ≡ true → AreCodesOf t judged × AreSound t
+  pub sound : b ≡ true → are_in_turn 0 (heads_named t) ≡ true → AreCodesOf t judged × AreSound t
   sound is turn =
       let named : counted_on 0 (strings_read t) ≡ Some (length t.strings) = count_is (length t.strings) (counted_on 0 (strings_read t)) (ap (λ ns. is_count (length t.strings) (counted_on 0 ns)) (sym read) ∙ sym told ∙ is) in
       (table_is, record { judged = judged; table = table_is; in_turn = turn; named = named })

@@ -1,5 +1,5 @@
 -- What is known of the objects of a tale that a story file can hold.
-use Rattle.std.proofs.Common.{◌≡◌, ℕ, zero, suc, ◌+◌, ◌<◌, ◌≤◌, Bool, true, false, ◌&&◌, leb, List, [], ◌∷◌, length, map, take, drop, Option, Some, refl, arith}
+use Rattle.std.proofs.Common.{◌≡◌, ℕ, zero, suc, ◌+◌, ◌<◌, ◌≤◌, Bool, true, false, ◌&&◌, leb, List, [], ◌∷◌, ◌++◌, length, map, take, drop, Option, Some, refl, arith}
 use Rattle.std.specs.Prelude.{slice_get, is_none, codes}
 use Rattle.std.specs.List.{list_all}
 use Rattle.std.specs.Str.{bytes_eq}
@@ -30,6 +30,11 @@ pub get_within : {A : Type 0} (xs : List A) (i : ℕ) → i < length xs → (x :
 get_within [] i lt = absurd (omega arith)
 get_within (x ∷ xs) zero lt = (x, refl)
 get_within (x ∷ xs) (suc i) lt = get_within xs i (omega arith)
+
+pub get_front : {A : Type 0} (xs ys : List A) (n : ℕ) (x : A) → slice_get xs n ≡ Some x → slice_get (xs ++ ys) n ≡ Some x
+get_front [] ys n x at = absurd cc
+get_front (y ∷ xs) ys zero x at = at
+get_front (y ∷ xs) ys (suc n) x at = get_front xs ys n x at
 
 pub last_of_five : (a b c d e : Bool) → (a && b && c && d && e) ≡ true → (a ≡ true) × (b ≡ true) × (c ≡ true) × (d ≡ true) × (e ≡ true)
 last_of_five true true true true true h = (refl, refl, refl, refl, refl)

@@ -25,21 +25,26 @@ use Rattle.world_meaning.specs.WellMade.{IsWellMade, are_directions, begin_right
 use Rattle.world_meaning.specs.declared.declared.Declared.{Declared}
 use Rattle.world_meaning.specs.declared.tale.Object.{Object}
 use Rattle.object_words.specs.Mentions.{number_in}
-use Rattle.play_meaning.specs.Trees.{Text}
+use Rattle.code_table.specs.Origins.{Origin}
+use Rattle.play_meaning.specs.Rules.{AuthorRule}
 use Rattle.object_words.specs.Words.{words_for}
 use Rattle.object_words.proofs.StringLemmas.{length_mapped}
 use Rattle.story_format.specs.declared.row.Sizes.{Sizes}
 use Rattle.story_format.specs.declared.tables.Entry.{Entry}
-use Rattle.story_format.specs.Making.{Worded, worded_at, worded_from, worded, code_bytes, code_count, codes_in, entry_strings, strings_of, strings_said, article_number, relation_number, place_relation, place_holder, code_number, entry_of, entries_of, ways_of, tables_with, world_of}
-use Rattle.story_format.specs.Holding.{has_few_words, has_short_texts, is_short, is_short_or_none}
+use Rattle.story_format.specs.Making.{Worded, worded_at, worded_from, worded, code_bytes, code_count, codes_in, described_in, entry_strings, strings_of, strings_said, article_number, relation_number, place_relation, place_holder, code_number, entry_of, entries_of, ways_of, tables_with, world_of}
+use Rattle.story_format.specs.Counts.{counts_of}
+use Rattle.story_format.specs.RuleChecks.{are_right_rules}
+use Rattle.story_format.specs.RuleMaking.{book_count, rules_of}
+use Rattle.story_format.specs.Holding.{books_of, has_few_words, has_short_texts, is_short, is_short_or_none}
 use Rattle.story_format.specs.Sizes.{are_different, is_right_entry}
 use Rattle.story_format.specs.Placed.{is_room_entry, kinds_in, places_in}
-use Rattle.story_format.specs.Checks.{is_named, begin_with, has_words, have_words, is_small, is_small_at, has_small_words, is_player_entry, is_direction_entry, are_direction_entries, are_in_place, are_right_objects, are_right_ways, is_right_frame, stand_rightly, are_right}
+use Rattle.story_format.specs.Checks.{are_named_in_order, heads_named, is_named, begin_with, has_words, have_words, is_small, is_small_at, has_small_words, is_player_entry, is_direction_entry, are_direction_entries, are_in_place, are_right_objects, are_right_ways, is_right_frame, stand_rightly, are_right}
 use Rattle.story_format.proofs.StoryLemmas.{all_weaker, few_begin, parts, player_parts, direction_parts}
 use Rattle.story_format.proofs.EntryLemmas.{kinds_back, objects_back, objects_in, place_there, places_back, rooms_counted, rooms_lead}
-use Rattle.story_format.proofs.Known.{text_is_itself, found_by_number, is_known, texts_known, any_left, any_right, fold_finds}
-use Rattle.story_format.proofs.OrderLemmas.{at_most_one, strings_distinct, strings_in_order, codes_in_order}
-use Rattle.story_format.proofs.DeclaredLemmas.{all_suit, world_right}
+use Rattle.story_format.proofs.Known.{or_right, text_is_itself, found_by_number, is_known, texts_known, any_left, any_right, fold_finds}
+use Rattle.story_format.proofs.OrderLemmas.{at_most_one, in_turn_in_order, strings_distinct, strings_in_order}
+use Rattle.story_format.proofs.RuleLemmas.{empty_book, heads_by, heads_in_turn, length_replicated, origins_in, rule_tables_right}
+use Rattle.story_format.proofs.DeclaredLemmas.{all_suit, declared_parts, world_right}
 use Rattle.story_format.proofs.WordFacts.{differ, is_good, words_differ, words_good}
 
 -- ---- each entry is plain
@@ -49,10 +54,6 @@ article_small articles.None = refl
 article_small articles.A = refl
 article_small articles.An = refl
 article_small articles.Some = refl
-
-pub or_right : (a b : Bool) → b ≡ true → (a || b) ≡ true
-or_right true b e = refl
-or_right false b e = e
 
 code_there : (next count : ℕ) (d : Option (List ℕ)) → next + code_count d ≤ count → next < 65535 → ((eqb (code_number next d) 65535) || ltb (code_number next d) count) ≡ true
 code_there next count None le lt = refl
@@ -301,19 +302,39 @@ names_known : (strings : List (List ℕ)) (ws : List Worded) → list_all (knows
 unfolding entry_strings
 names_known strings ws h = all_weaker (knows strings) (knows_name strings) (λ w k. (both_are (is_known strings w.object.name) (list_all (is_known strings) w.words) k).0) ws h
 
-pub entry_strings_known : (ws : List Worded) (texts : List Text) (text : List ℕ) → list_any (bytes_eq text) (flat_map entry_strings ws) ≡ true → is_known (strings_of ws texts) text ≡ true
+pub entry_strings_known : (ws : List Worded) (origins : List Origin) (text : List ℕ) → list_any (bytes_eq text) (flat_map entry_strings ws) ≡ true → is_known (strings_of ws origins) text ≡ true
 unfolding strings_of
-entry_strings_known ws texts text k = fold_finds (flat_map entry_strings ws ++ strings_said texts) [] text (any_left (bytes_eq text) (flat_map entry_strings ws) (strings_said texts) k)
+entry_strings_known ws origins text k = fold_finds (flat_map entry_strings ws ++ strings_said origins) [] text (any_left (bytes_eq text) (flat_map entry_strings ws) (strings_said origins) k)
 
 -- what holds of a well made tale's objects holds of its entries
 kinds_of_world : (d : Declared) → (world_of d).kinds ≡ d.kinds
 unfolding world_of
 kinds_of_world d = refl
 
-pub tables_right : (d : Declared) (objects : List Object) (said : List Text) → IsWellMade (record { declared = d; objects = objects }) → list_all has_short_texts objects ≡ true → list_all has_few_words (worded objects) ≡ true → length (strings_of (worded objects) said) < 65535
-    → codes_in objects ≤ length (code_bytes (strings_of (worded objects) said) said) → are_right (tables_with d (worded objects) said) ≡ true
+-- ---- how many there are
+
+module _ (d : Declared) (ws : List Worded) (rules : List AuthorRule) (said : List Origin) where
+  books_counted : length d.scenes ≤ 50 → d.rulebooks ≤ 100 → (counts_of (tables_with d ws rules said)).books ≡ book_count d
+  unfolding counts_of tables_with rules_of
+  books_counted few few_own = omega (arith, length_replicated empty_book (book_count d), few, few_own)
+
+  codes_counted : length (code_bytes (strings_of ws said) said) < 65536 → (counts_of (tables_with d ws rules said)).codes ≡ length (code_bytes (strings_of ws said) said)
+  unfolding counts_of tables_with
+  codes_counted few = omega (arith, few)
+
+  rules_told : are_right_rules (counts_of (tables_with d ws rules said)) (rules_of d (described_in ws) rules) ≡ true → are_right_rules (counts_of (tables_with d ws rules said)) (tables_with d ws rules said).rules ≡ true
+  unfolding tables_with
+  rules_told h = h
+
+  heads_told : are_named_in_order 0 (heads_by (strings_of ws said) ws rules) ≡ true → are_named_in_order 0 (heads_named (tables_with d ws rules said)) ≡ true
+  unfolding tables_with rules_of
+  heads_told h = h
+
+pub tables_right : (d : Declared) (objects : List Object) (rules : List AuthorRule) (said : List Origin) → IsWellMade (record { declared = d; objects = objects }) → list_all has_short_texts objects ≡ true → list_all has_few_words (worded objects) ≡ true
+    → length rules ≤ 2000 → list_all (is_below (book_count d)) (books_of rules) ≡ true → length (strings_of (worded objects) said) < 65535 → length (code_bytes (strings_of (worded objects) said) said) < 65536
+    → described_in (worded objects) + length (origins_in rules) ≤ length (code_bytes (strings_of (worded objects) said) said) → are_right (tables_with d (worded objects) rules said) ≡ true
 unfolding are_right is_right_frame are_right_objects stand_rightly are_right_ways tables_with
-tables_right d objects said made texts few_words few enough =
+tables_right d objects rules said made texts few_words few_rules books few few_codes enough =
     let ws = worded objects in
     let strings = strings_of ws said in
     let back : objects_in ws ≡ objects = objects_back 0 objects in
@@ -321,13 +342,19 @@ tables_right d objects said made texts few_words few enough =
     let parents = d.kinds in
     let sorts = sorts_of parents (kinds_of objects) in
     let few_objects = few_begin parents sorts.rooms objects made.begins in
+    let z = counts_of (tables_with d ws rules said) in
+    let declared = declared_parts d made.declared in
+    let all_codes = codes_counted d ws rules said few_codes in
+    let rules_so : are_right_rules z (rules_of d (described_in ws) rules) ≡ true =
+    rule_tables_right d z rules (described_in ws) declared.scenes declared.rulebooks few_rules (books_counted d ws rules said declared.scenes declared.rulebooks) books (omega (arith, enough, all_codes)) (omega (arith, few_codes, all_codes)) in
+    let order : are_named_in_order 0 (heads_named (tables_with d ws rules said)) ≡ true =
+    heads_told d ws rules said (in_turn_in_order (heads_by strings ws rules) 0 (heads_in_turn strings ws rules (omega (arith, few_objects, count)) (omega (arith, enough, few_codes)))) in
     let entry_count : leb (length (entries_of strings 0 ws)) 1000 ≡ true = le-leb _ _ (omega (arith, few_objects, count, entries_counted strings 0 ws)) in
     let few_strings : ltb (length strings) 65535 ≡ true = lt-ltb _ _ few in
-    let same_count : codes_in (objects_in ws) ≡ codes_in objects = ap codes_in back in
     let known = all_known strings ws (entry_strings_known ws said) in
     let kinds : kinds_in (entries_of strings 0 ws) ≡ kinds_of objects = kinds_back strings 0 ws ∙ ap kinds_of back in
     let places : places_in (entries_of strings 0 ws) ≡ places_of objects = places_back strings 0 ws ∙ ap places_of back in
-    let plain = plain_from strings ws 0 (length parents) (length (code_bytes strings said)) (omega (arith, enough, same_count)) (omega (arith, few_objects, count)) (all_once strings objects 0 known few_words few) (ap (λ (os : List Object). list_all (is_below (length parents)) (kinds_of os)) back ∙ made.kinds) in
+    let plain = plain_from strings ws 0 (length parents) (length (code_bytes strings said)) (omega (arith, enough)) (omega (arith, few_objects, count)) (all_once strings objects 0 known few_words few) (ap (λ (os : List Object). list_all (is_below (length parents)) (kinds_of os)) back ∙ made.kinds) in
     let in_place = entries_in_place strings parents sorts.rooms ws (ap (begin_rightly parents sorts.rooms) back ∙ made.begins) (names_known strings ws known) few in
     let words = all_words strings objects 0 0 known few in
     let small = small_entries strings ws 0 known (all_good_words 0 objects texts) few in
@@ -337,6 +364,7 @@ tables_right d objects said made texts few_words few enough =
     let ends : have_ends (places_of objects) ≡ true = (walks_decide (places_of objects)).1 made.tree in
     rw (
       world_right d made.declared,
+      rules_so,
       entry_count,
       few_strings,
       strings_distinct ws said,
@@ -349,7 +377,7 @@ tables_right d objects said made texts few_words few enough =
       words,
       small,
       strings_in_order ws said few,
-      codes_in_order strings ws (omega (arith, few_objects, count)),
+      order,
       made.placed,
       ends,
       counted,

@@ -1,9 +1,9 @@
 -- Stories that say the same are one: each string is named, in order, and each code.
-use Rattle.std.proofs.Common.{◌≡◌, ◌∙◌, ap, sym, subst, refl, ℕ, zero, suc, ◌+◌, ◌<◌, ◌≤◌, true, false, eqb, List, [], ◌∷◌, ◌++◌, length, inl, inr, arith}
+use Rattle.std.proofs.Common.{◌≡◌, ◌∙◌, ap, sym, subst, refl, ℕ, zero, suc, ◌+◌, ◌<◌, ◌≤◌, true, false, eqb, ltb, List, [], ◌∷◌, ◌++◌, length, inl, inr, arith}
 use Rattle.std.specs.Prelude.{filter, map, replicate, slice_get}
 use Rattle.std.specs.List.{AllByRecursion, flat_map, list_all}
-use Rattle.std.proofs.lemmas.Bool.{eqb-false, eqb-true, ltb-true}
-use Rattle.std.proofs.lemmas.List.{length-map, map-append}
+use Rattle.std.proofs.lemmas.Bool.{eqb-false, eqb-true, ltb-false, ltb-true}
+use Rattle.std.proofs.lemmas.List.{length-append, length-map, map-append}
 use Rattle.std.proofs.lemmas.List.Folds.{list_all-append}
 use Rattle.std.proofs.lemmas.Simd.{map-map}
 use Rattle.world_meaning.proofs.Bools.{both_are, either}
@@ -16,17 +16,21 @@ use Rattle.story_code.specs.Runs.{code_told}
 use Rattle.story_code.specs.Soundness.{IsSoundCode, Judged}
 use Rattle.story_code.specs.Spelling.{spelling}
 use Rattle.story_code.proofs.Fetched.{told}
+use Rattle.story_format.specs.declared.rule_tables.RuleTables.{RuleTables}
 use Rattle.story_format.specs.declared.tables.Entry.{Entry}
 use Rattle.story_format.specs.declared.tables.Tables.{Tables}
+use Rattle.story_format.specs.RuleChecks.{codes_in_rules, uses_in_rules}
 use Rattle.story_format.specs.Checks.{are_distinct, are_right, are_right_objects, are_right_ways, codes_named, is_right_frame, is_some_code, stand_rightly, strings_named}
 use Rattle.story_format.specs.Codes.{code_spelled, codes_told, counts_of, uses_of}
 use Rattle.story_format.specs.Facts.{description_code_in, text_at}
 use Rattle.story_format.specs.Soundness.{AreSound, are_in_turn, strings_read}
 use Rattle.story_format.specs.Spells.{IsStory}
-use Rattle.story_format.specs.Telling.{AreAlike, AreDescribedAlike, AreToldAlike, ToldObject, told_object, unnumbered}
+use Rattle.story_format.specs.Telling.{AreAlike, AreCodedAlike, AreDescribedAlike, AreToldAlike, ToldObject, told_object, unnumbered}
 use Rattle.story_format.proofs.Naming.{described, next_of, plain}
+use Rattle.story_format.proofs.RuleLemmas.{length_replicated, turn_parted, uses_counted}
 use Rattle.story_format.proofs.StoryLemmas.{last_of_five}
 use Rattle.story_format.proofs.Telling.{all_within, is_within, mentioned_on, same_number, same_numbers}
+use Rattle.story_format.proofs.ToldRules.{at_each, rules_again}
 use Rattle.story_format.proofs.ToldCodes.{AllSame, all_same, all_texts_same, same_codes}
 
 -- ---- objects that are described alike have the same numbers of codes
@@ -177,14 +181,45 @@ module _ (t u : Tables) (one : IsStory t) (other : IsStory u) (alike : AreToldAl
   d : Codes
   d = codes_told u
 
+  -- the codes that objects name, and then those that rules name, are in turn
+  turns : (x : Tables) → AreSound x → (are_in_turn 0 (codes_named x.objects) ≡ true) × (are_in_turn (length (codes_named x.objects)) (codes_in_rules x.rules.rules) ≡ true)
+  turns x sound = turn_parted (codes_named x.objects) (codes_in_rules x.rules.rules) 0 sound.in_turn
+
   numbers : AreNumberedAlike c d 0 t.objects u.objects
   unfolding c d
   numbers =
       let long : length t.objects ≡ length u.objects = sym (length-map t.objects (told_object t.strings)) ∙ ap length alike.objects ∙ length-map u.objects (told_object u.strings) in
-      numbered_alike (codes_told t) (codes_told u) 0 t.objects u.objects long one.sound.in_turn other.sound.in_turn alike.descriptions
+      numbered_alike (codes_told t) (codes_told u) 0 t.objects u.objects long (turns t one.sound).0 (turns u other.sound).0 alike.descriptions
 
-  same_uses : length (uses_of t) ≡ length (uses_of u)
-  same_uses = ap (λ ns. length (replicate (length (filter is_some_code ns)) Describing)) numbers.numbers
+  described_same : length (codes_named t.objects) ≡ length (codes_named u.objects)
+  described_same = ap (λ ns. length (filter is_some_code ns)) numbers.numbers
+
+  same_rules : t.rules.rules ≡ u.rules.rules
+  same_rules =
+      let there : are_in_turn (length (codes_named t.objects)) (codes_in_rules u.rules.rules) ≡ true = ap (λ n. are_in_turn n (codes_in_rules u.rules.rules)) described_same ∙ (turns u other.sound).1 in
+      rules_again t.rules.rules u.rules.rules (length (codes_named t.objects)) (ap (λ (r : RuleTables). r.rules) alike.rules) (turns t one.sound).1 there
+
+  all_rules : t.rules ≡ u.rules
+  all_rules = λ i. record { actions = (alike.rules i).actions; grammar = (alike.rules i).grammar; rules = same_rules i; books = (alike.rules i).books; scenes = (alike.rules i).scenes }
+
+  same_uses : uses_of t ≡ uses_of u
+  same_uses = λ i. replicate (described_same i) Describing ++ uses_in_rules (same_rules i)
+
+  -- the codes of rules that are told alike, by number
+  rules_alike : (n : ℕ) → length (codes_named t.objects) ≤ n → n < length (codes_named t.objects) + length (codes_in_rules t.rules.rules) → AreAlike c d (code_of c n) (code_of d n)
+  unfolding c d
+  rules_alike n low high =
+      at_each (λ n m. AreAlike (codes_told t) (codes_told u) (code_of (codes_told t) n) (code_of (codes_told u) m)) (codes_in_rules t.rules.rules) (length (codes_named t.objects)) (turns t one.sound).1
+      (subst (λ rs. AreCodedAlike (codes_told t) (codes_told u) (codes_in_rules t.rules.rules) (codes_in_rules rs)) (sym same_rules) alike.rule_codes) n low high
+
+  heads_alike : (n : ℕ) → n < length (uses_of t) → AreAlike c d (code_of c n) (code_of d n)
+  heads_alike n high =
+      let described = length (codes_named t.objects) in
+      let count = length-append (replicate described Describing) (uses_in_rules t.rules.rules) in
+      elim (either (ltb n described)) [
+        | inl is ↦ numbers.heads n (omega arith) (omega (arith, ltb-true n described is))
+        | inr isnt ↦ rules_alike n (omega (arith, ltb-false n described isnt)) (omega (arith, high, count, length_replicated Describing described, uses_counted t.rules.rules))
+      ]
 
   same_told : AllSame c d c.codes d.codes
   unfolding c d
@@ -193,12 +228,8 @@ module _ (t u : Tables) (one : IsStory t) (other : IsStory u) (alike : AreToldAl
       let there = codes_are u other.sound in
       subst (λ l. AllSame (codes_told t) (codes_told u) l (codes_told u).codes) here (subst (λ l. AllSame (codes_told t) (codes_told u) (map code_told one.sound.judged) l) there
       (all_same (codes_told t) (codes_told u) (counts_of t) (counts_of u) (uses_of t) (uses_of u) 0 t.codes u.codes one.sound.judged other.sound.judged
-      (table_parts (counts_of t) (uses_of t) t.codes one.sound.judged one.sound.table) (table_parts (counts_of u) (uses_of u) u.codes other.sound.judged other.sound.table) same_uses (sym here) (sym there)
-      (λ m low high. numbers.heads m low (omega (arith, high, used (length (codes_named t.objects)))))))
-    where
-      used : (n : ℕ) → length (replicate n Describing) ≡ n
-      used zero = refl
-      used (suc n) = ap suc (used n)
+      (table_parts (counts_of t) (uses_of t) t.codes one.sound.judged one.sound.table) (table_parts (counts_of u) (uses_of u) u.codes other.sound.judged other.sound.table) (ap length same_uses) (sym here) (sym there)
+      (λ m low high. heads_alike m high)))
 
   same_strings : t.strings ≡ u.strings
   unfolding c d strings_read
@@ -229,4 +260,4 @@ module _ (t u : Tables) (one : IsStory t) (other : IsStory u) (alike : AreToldAl
       (alike.objects ∙ ap (λ all. map (told_object all) u.objects) (sym same_strings))
 
   pub told_alike : t ≡ u
-  told_alike = λ i. record { strings = same_strings i; world = alike.world i; objects = same_objects i; ways = alike.ways i; rules = alike.rules i; codes = same_bytes i }
+  told_alike = λ i. record { strings = same_strings i; world = alike.world i; objects = same_objects i; ways = alike.ways i; rules = all_rules i; codes = same_bytes i }

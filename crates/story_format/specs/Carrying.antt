@@ -1,22 +1,66 @@
--- Tables that carry a tale: they say of each object's name, words and ways, and of the start, what the tale says, and its
--- description's code says its text.
-use Rattle.std.specs.Prelude.{◌≡◌, ℕ, is_some, length, List}
+-- Tables that carry a tale: they say of each object's name, words and ways, and of the start, what the tale says; its
+-- description's code says its text; and its rules' codes answer their conditions and do their bodies.
+use Rattle.std.specs.Prelude.{◌≡◌, ℕ, [], is_some, length, List, Option, None, Some, if◌then◌else◌, ◌==◌}
+use Rattle.std.specs.List.{AllZip}
+use Rattle.play_meaning.specs.Codes.{Codes, RunsTo, test_of}
+use Rattle.play_meaning.specs.Doing.{Inner, do_body}
 use Rattle.play_meaning.specs.Grounds.{said_by_code}
-use Rattle.play_meaning.specs.Scripts.{says, undescribed}
+use Rattle.play_meaning.specs.Progress.{Progress}
+use Rattle.play_meaning.specs.Rules.{AuthorRule}
+use Rattle.play_meaning.specs.Saying.{Telling}
+use Rattle.play_meaning.specs.Scripts.{says, scope_of, undescribed}
 use Rattle.play_meaning.specs.Settings.{Setting}
-use Rattle.play_meaning.specs.Trees.{Text}
+use Rattle.play_meaning.specs.Trees.{Body, Condition, Text}
+use Rattle.play_meaning.specs.Truth.{truth_in}
 use Rattle.play_meaning.specs.Worlds.{World}
 use Rattle.play_meaning.specs.declared.action.ActionNow.{ActionNow}
 use Rattle.world_meaning.specs.Tale.{description_of as told_description, name_of as told_name, start_of as told_start, way_of as told_way}
 use Rattle.world_meaning.specs.declared.tale.Tale.{Tale}
 use Rattle.object_words.specs.Words.{words_of as told_words}
+use Rattle.story_format.specs.declared.rule_entry.Aspect.TheVariants.{Anything}
+use Rattle.story_format.specs.declared.rule_entry.RuleBody.{RuleBody}
+use Rattle.story_format.specs.declared.rule_entry.RuleBody.TheVariants.{Code}
+use Rattle.story_format.specs.declared.rule_entry.RuleEntry.{RuleEntry}
 use Rattle.story_format.specs.declared.tables.Tables.{Tables}
 use Rattle.story_format.specs.Codes.{codes_told}
 use Rattle.story_format.specs.Facts.{description_code_of, name_of, object_count_of, start_of, way_of, words_of}
 use Rattle.story_format.specs.Making.{text_of}
 
--- where these texts are said of the objects that are described, in order
-pub record Carries (tables : Tables) (tale : Tale) (texts : List Text) : Type 0 where
+-- ---- rules
+
+-- neither is there, or the code answers what the condition is, in every action and world, or abandons as it does
+abbrev pub IsAnsweredBy : Codes → Option ℕ → Option Condition → Type 0
+IsAnsweredBy c None None = Unit {0}
+IsAnsweredBy c None (Some condition) = ⊥
+IsAnsweredBy c (Some n) None = ⊥
+IsAnsweredBy c (Some n) (Some condition) = (t : Telling) (now : ActionNow) (w : World) → test_of c t now n [] w ≡ truth_in t.setting (scope_of now) w condition
+
+-- it is a code, and a run of it does what the body means, whatever the actions that it tries and the books that it follows do
+abbrev pub IsDoneBy : Codes → RuleBody → Body → Type 0
+IsDoneBy c (Code n) body = (t : Telling) (inner : Inner) (now : ActionNow) (p : Progress) → RunsTo c t inner n now p (do_body t inner body (scope_of now) p)
+IsDoneBy c _ body = ⊥
+
+abbrev pub code_if_some : ℕ → Option ℕ
+code_if_some n = if n == 65535 then None else Some n
+
+-- about nothing but its condition
+pub record IsBare (r : RuleEntry) : Type 0 where
+  pub action : r.action ≡ 255
+  pub noun : r.noun ≡ Anything
+  pub second : r.second ≡ Anything
+  pub place : r.place ≡ Anything
+  pub scene : r.scene ≡ 255
+
+pub record CarriesRule (c : Codes) (r : RuleEntry) (rule : AuthorRule) : Type 0 where
+  pub book : r.book ≡ rule.book
+  pub bare : IsBare r
+  pub condition : IsAnsweredBy c (code_if_some r.condition) rule.condition
+  pub body : IsDoneBy c r.body rule.body
+
+-- ---- all of it
+
+-- where these texts are said of the objects that are described, in order, and these are the rules
+pub record Carries (tables : Tables) (tale : Tale) (texts : List Text) (rules : List AuthorRule) : Type 0 where
   pub count : object_count_of tables ≡ length tale.objects
   pub names : (o : ℕ) → name_of tables o ≡ told_name tale o
   pub words : (o : ℕ) → words_of tables o ≡ told_words tale o
@@ -25,3 +69,4 @@ pub record Carries (tables : Tables) (tale : Tale) (texts : List Text) : Type 0 
   pub descriptions : (o : ℕ) (s : Setting) (now : ActionNow) (w : World) → said_by_code (codes_told tables) s now w (description_code_of tables o) ≡ says (undescribed s) now w (text_of tale texts o)
   pub ways : (o direction : ℕ) → way_of tables o direction ≡ told_way tale o direction
   pub start : start_of tables ≡ told_start tale
+  pub rules_are : AllZip (CarriesRule (codes_told tables)) tables.rules.rules rules

@@ -1,5 +1,5 @@
 -- What tables 1 to 12 of a story say together, test by test, whatever the codes are.
-use Rattle.std.specs.Prelude.{ℕ, ◌+◌, max, Bool, true, false, not, ◌&&◌, ◌==◌, nat_le, nat_lt, List, [], ◌∷◌, length, take, slice_get, slice_index_or, Option, Some, None, codes, count_by, filter, map}
+use Rattle.std.specs.Prelude.{ℕ, ◌+◌, max, Bool, true, false, not, ◌&&◌, ◌==◌, nat_le, nat_lt, List, [], ◌∷◌, ◌++◌, length, take, slice_get, slice_index_or, Option, Some, None, codes, count_by, filter, map}
 use Rattle.std.specs.List.{list_all, flat_map}
 use Rattle.std.specs.Str.{bytes_eq}
 use Rattle.std.specs.Char.{to_ascii_lowercase}
@@ -10,16 +10,13 @@ use Rattle.world_meaning.specs.Sorts.{is_at, kinds_told}
 use Rattle.world_meaning.specs.Standing.{are_well_placed, have_ends, lead_rightly}
 use Rattle.object_words.specs.Mentions.{first_mentions}
 use Rattle.object_words.specs.Words.{words_for}
-use Rattle.story_format.specs.declared.rule_tables.RuleTables.{RuleTables}
 use Rattle.story_format.specs.declared.tables.Entry.{Entry}
 use Rattle.story_format.specs.declared.tables.Tables.{Tables}
+use Rattle.story_format.specs.Counts.{counts_of}
 use Rattle.story_format.specs.Placed.{is_room_entry, places_in, sorts_in}
+use Rattle.story_format.specs.RuleChecks.{are_right_rules, codes_in_rules}
 use Rattle.story_format.specs.Sizes.{is_right_entry, sizes_of}
 use Rattle.story_format.specs.WorldChecks.{is_right_world, suits_kind}
-
--- this language has no actions, grammar, rules and scenes of its own
-abbrev pub has_no_rules : RuleTables → Bool
-has_no_rules r = (length r.actions == 0) && (length r.grammar == 0) && (length r.rules == 0) && (length r.books == 0) && (length r.scenes == 0)
 
 -- no string twice
 unfoldable pub are_distinct : List (List ℕ) → Bool
@@ -98,11 +95,15 @@ is_some_code n = not (n == 65535)
 abbrev pub codes_named : List Entry → List ℕ
 codes_named entries = filter is_some_code (map (λ e. e.description) entries)
 
+-- the codes that objects name, and then those that rules name
+abbrev pub heads_named : Tables → List ℕ
+heads_named t = codes_named t.objects ++ codes_in_rules t.rules.rules
+
 -- the objects are those of a story, and named in order
 unfoldable pub are_right_objects : Tables → Bool
 are_right_objects t =
     list_all (is_right_entry (sizes_of t)) t.objects && are_in_place t.strings t.world.kinds (sorts_in t).rooms t.objects && have_words t.strings 0 t.objects && list_all (has_small_words (map is_small t.strings)) t.objects
-    && are_named_in_order 0 (flat_map strings_named t.objects) && are_named_in_order 0 (codes_named t.objects) && list_all (suits_kind t.world) t.objects
+    && are_named_in_order 0 (flat_map strings_named t.objects) && are_named_in_order 0 (heads_named t) && list_all (suits_kind t.world) t.objects
 
 -- each object is where it may be, and none stands in itself
 unfoldable pub stand_rightly : Tables → Bool
@@ -114,7 +115,7 @@ are_right_ways t = (length t.ways == count_by (is_room_entry t.world.kinds) t.ob
 
 -- what else has no other place in a story, and how much there is
 unfoldable pub is_right_frame : Tables → Bool
-is_right_frame t = is_right_world t.world && has_no_rules t.rules && nat_le (length t.objects) 1000 && nat_lt (length t.strings) 65535
+is_right_frame t = is_right_world t.world && are_right_rules (counts_of t) t.rules && nat_le (length t.objects) 1000 && nat_lt (length t.strings) 65535
 
 -- Tables 1 to 12 are those of a story.
 unfoldable pub are_right : Tables → Bool

@@ -1,8 +1,7 @@
 -- The codes of a story's tables: what they are judged by, what they are for, and what they say.
-use Rattle.std.specs.Prelude.{ℕ, List, length, map, min, replicate}
+use Rattle.std.specs.Prelude.{ℕ, List, ◌++◌, length, map, replicate}
 use Rattle.play_meaning.specs.Codes.{Codes}
 use Rattle.play_meaning.specs.declared.instruction.Instruction.{Instruction}
-use Rattle.play_meaning.specs.declared.operand.Counts.{Counts}
 use Rattle.play_meaning.specs.declared.operand.Use.{Use}
 use Rattle.play_meaning.specs.declared.operand.Use.TheVariants.{Describing}
 use Rattle.code_table.specs.Tables.{IsTableOf}
@@ -10,31 +9,13 @@ use Rattle.story_code.specs.Fronts.{code_in}
 use Rattle.story_code.specs.Runs.{code_or_none}
 use Rattle.story_code.specs.Soundness.{Judged}
 use Rattle.story_format.specs.Checks.{codes_named}
+pub use Rattle.story_format.specs.Counts.{counts_of, small}
+use Rattle.story_format.specs.RuleChecks.{uses_in_rules}
 use Rattle.story_format.specs.declared.tables.Tables.{Tables}
 
--- as a number of two bytes
-abbrev pub small : ℕ → ℕ
-small count = min count 65535
-
--- how many there are of what codes name
-unfoldable pub counts_of : Tables → Counts
-counts_of t = record {
-  objects = small (length t.objects);
-  kinds = small (length t.world.kinds);
-  flags = small (length t.world.flags);
-  numbers = small (length t.world.numbers);
-  variables = small (length t.world.variables);
-  scenes = small (length t.rules.scenes);
-  strings = small (length t.strings);
-  codes = small (length t.codes);
-  actions = small (length t.rules.actions);
-  books = small (length t.rules.books);
-  own = 0;
-}
-
--- the first codes describe the objects that name them, and the others are tests
+-- the first codes describe the objects that name them, those behind them are the rules', and the others are tests
 abbrev pub uses_of : Tables → List Use
-uses_of t = replicate (length (codes_named t.objects)) Describing
+uses_of t = replicate (length (codes_named t.objects)) Describing ++ uses_in_rules t.rules.rules
 
 -- the codes, judged so
 abbrev pub AreCodesOf : Tables → List Judged → Type 0

@@ -1,17 +1,21 @@
--- The tales that a story file holds, and the texts that it says of their objects.
-use Rattle.std.specs.Prelude.{◌≡◌, ◌<◌, ℕ, Bool, true, ◌&&◌, nat_lt, nat_le, List, length, map, Option, Some, None}
+-- The tales that a story file holds, and the texts and rules that it says of them.
+use Rattle.std.specs.Prelude.{◌≡◌, ◌<◌, ◌≤◌, ℕ, Bool, true, ◌&&◌, nat_lt, nat_le, List, [], length, map, Option, Some, None}
 use Rattle.std.specs.List.{list_all}
+use Rattle.world_meaning.specs.Declarations.{is_below}
 use Rattle.world_meaning.specs.WellMade.{IsWellMade}
 use Rattle.world_meaning.specs.declared.tale.Object.{Object}
 use Rattle.world_meaning.specs.declared.tale.Tale.{Tale}
 use Rattle.object_words.specs.Mentions.{number_in}
+use Rattle.play_meaning.specs.Rules.{AuthorRule}
 use Rattle.play_meaning.specs.Trees.{Text}
 use Rattle.play_meaning.specs.StandardRules.{plain}
-use Rattle.code_table.specs.Descriptions.{AllFit, CanBeSaid, IsTooLong, codes_of_texts}
-use Rattle.code_table.specs.declared.describing.TableFault.{TableFault}
-use Rattle.code_table.specs.declared.describing.TableFault.TheVariants.{TooLong, TooMany, Memory}
+use Rattle.code_table.specs.Emitted.{AllFit, CanBeSaid, IsLongRule, IsLongText, codes_of_origins}
+use Rattle.code_table.specs.Origins.{Origin, origins_of}
+use Rattle.code_table.specs.declared.fault.TableFault.{TableFault}
+use Rattle.code_table.specs.declared.fault.TableFault.TheVariants.{LongText, LongRule, TooMany, Memory}
 use Rattle.story_format.specs.Codes.{counts_of}
 use Rattle.story_format.specs.Making.{Worded, codes_in, strings_of, strings_said, tables_of, worded}
+use Rattle.story_format.specs.RuleMaking.{book_count}
 
 abbrev pub is_short : List ℕ → Bool
 is_short text = nat_lt (length text) 65536
@@ -34,31 +38,44 @@ pub record IsHeld (t : Tale) : Type 0 where
   pub texts : list_all has_short_texts t.objects ≡ true
   pub words : list_all has_few_words (worded t.objects) ≡ true
 
--- The texts of its descriptions, in the order of the objects, that a story file says: strings of 65,535 bytes at most, no more
--- than two bytes number, of texts that fit what is there and whose codes bytes can say.
-pub record AreHeld (t : Tale) (texts : List Text) : Type 0 where
+abbrev pub books_of : List AuthorRule → List ℕ
+books_of rules = map (λ rule. rule.book) rules
+
+-- What may be said of a tale: a text of each description, and rules, 2,000 at most, each in a book that there is.
+pub record AreOf (t : Tale) (texts : List Text) (rules : List AuthorRule) : Type 0 where
   pub many : length texts ≡ codes_in t.objects
-  pub short : list_all is_short (strings_said texts) ≡ true
-  pub few : length (strings_of (worded t.objects) texts) < 65535
-  pub fit : AllFit (counts_of (tables_of t texts)) (number_in (strings_of (worded t.objects) texts)) texts
-  pub said : CanBeSaid (number_in (strings_of (worded t.objects) texts)) texts
+  pub few : length rules ≤ 2000
+  pub books : list_all (is_below (book_count t.declared)) (books_of rules) ≡ true
+
+abbrev pub strings_in : Tale → List Origin → List (List ℕ)
+strings_in t origins = strings_of (worded t.objects) origins
+
+-- The texts of its descriptions, in the order of the objects, and the rules that a story file says: strings of 65,535 bytes at
+-- most, no more than two bytes number, of texts and rules that fit what is there and whose codes bytes can say.
+pub record AreHeld (t : Tale) (texts : List Text) (rules : List AuthorRule) : Type 0 where
+  pub are_of : AreOf t texts rules
+  pub short : list_all is_short (strings_said (origins_of texts rules)) ≡ true
+  pub few : length (strings_in t (origins_of texts rules)) < 65535
+  pub fit : AllFit (counts_of (tables_of t texts rules)) (number_in (strings_in t (origins_of texts rules))) (origins_of texts rules)
+  pub said : CanBeSaid (number_in (strings_in t (origins_of texts rules))) (origins_of texts rules)
 
 -- unless there are too many strings, or one is too long, there are too many codes
-abbrev pub AreTooMany : Tale → List Text → Type 0
-AreTooMany t texts =
-    length (strings_of (worded t.objects) texts) < 65535 → list_all is_short (strings_said texts) ≡ true
-    → 65535 < length (codes_of_texts (number_in (strings_of (worded t.objects) texts)) texts)
+abbrev pub AreTooMany : Tale → List Origin → Type 0
+AreTooMany t origins = length (strings_in t origins) < 65535 → list_all is_short (strings_said origins) ≡ true → 65535 < length (codes_of_origins (number_in (strings_in t origins)) origins)
 
--- why a story file doesn't say texts: one is the first whose code is too long, or there is too much of them
-abbrev pub AreNotHeld : Tale → List Text → TableFault → Type 0
-AreNotHeld t texts (TooLong number) = IsTooLong (counts_of (tables_of t texts)) (number_in (strings_of (worded t.objects) texts)) texts number
-AreNotHeld t texts TooMany = AreTooMany t texts
-AreNotHeld t texts Memory = Unit {0}
+-- why a story file doesn't say texts and rules: one is the first whose code is too long, or there is too much of them
+abbrev pub AreNotHeld : Tale → List Text → List AuthorRule → TableFault → Type 0
+AreNotHeld t texts rules (LongText number) =
+    IsLongText (counts_of (tables_of t texts rules)) (number_in (strings_in t (origins_of texts rules))) (length (origins_of texts rules)) texts number
+AreNotHeld t texts rules (LongRule number) =
+    IsLongRule (counts_of (tables_of t texts rules)) (number_in (strings_in t (origins_of texts rules))) (length (origins_of texts rules)) texts rules number
+AreNotHeld t texts rules TooMany = AreTooMany t (origins_of texts rules)
+AreNotHeld t texts rules Memory = Unit {0}
 
--- texts that a story file says aren't among those that it doesn't, memory aside
+-- what a story file says isn't among what it doesn't, memory aside
 abbrev pub NeverHeldAndNot : Type 0
-NeverHeldAndNot = (t : Tale) (texts : List Text) (fault : TableFault) → AreHeld t texts → AreNotHeld t texts fault → fault ≡ Memory
+NeverHeldAndNot = (t : Tale) (texts : List Text) (rules : List AuthorRule) (fault : TableFault) → AreHeld t texts rules → AreNotHeld t texts rules fault → fault ≡ Memory
 
 -- texts of bytes alone, at most 65,535, are said
 abbrev pub PlainTextsAreHeld : Type 0
-PlainTextsAreHeld = (t : Tale) (bytes : List (List ℕ)) → IsHeld t → length bytes ≡ codes_in t.objects → list_all is_short bytes ≡ true → AreHeld t (map plain bytes)
+PlainTextsAreHeld = (t : Tale) (bytes : List (List ℕ)) → IsHeld t → length bytes ≡ codes_in t.objects → list_all is_short bytes ≡ true → AreHeld t (map plain bytes) []

@@ -6,6 +6,9 @@ pub mod Codes
 pub mod KindTables
 pub mod Layout
 pub mod Sizes
+pub mod Counts
+pub mod RuleMaking
+pub mod RuleChecks
 pub mod WorldChecks
 pub mod Checks
 pub mod Soundness

@@ -12,10 +12,12 @@ use Rattle.world_meaning.specs.declared.tale.Object.{Object}
 use Rattle.world_meaning.specs.declared.tale.Tale.{Tale}
 use Rattle.world_meaning.specs.declared.declared.Declared.{Declared}
 use Rattle.world_meaning.specs.Kinds.{is_under, room_kind}
-use Rattle.play_meaning.specs.Translation.{strings_of_text}
+use Rattle.play_meaning.specs.Rules.{AuthorRule}
 use Rattle.play_meaning.specs.Trees.{Text}
-use Rattle.code_table.specs.Descriptions.{codes_of_texts}
+use Rattle.code_table.specs.Emitted.{codes_of_origins}
+use Rattle.code_table.specs.Origins.{Origin, origins_of, strings_of_origin}
 use Rattle.story_code.specs.Spelling.{spelling}
+use Rattle.story_format.specs.RuleMaking.{rules_of}
 use Rattle.story_format.specs.declared.tables.Entry.{Entry}
 use Rattle.story_format.specs.declared.tables.Tables.{Tables}
 use Rattle.story_format.specs.declared.world_tables.Variable.{Variable}
@@ -53,13 +55,13 @@ codes_in (object ∷ objects) = code_count object.description + codes_in objects
 unfoldable pub entry_strings : Worded → List (List ℕ)
 entry_strings w = w.object.name ∷ w.words
 
--- the strings that texts say, in order
-abbrev pub strings_said : List Text → List (List ℕ)
-strings_said texts = flat_map strings_of_text texts
+-- the strings that descriptions and bodies say, in order
+abbrev pub strings_said : List Origin → List (List ℕ)
+strings_said origins = flat_map strings_of_origin origins
 
--- the strings of a story: those that the objects' entries name, then those that the descriptions say
-unfoldable pub strings_of : List Worded → List Text → List (List ℕ)
-strings_of ws texts = first_mentions (flat_map entry_strings ws ++ strings_said texts)
+-- the strings of a story: those that the objects' entries name, then those that its descriptions and rules say
+unfoldable pub strings_of : List Worded → List Origin → List (List ℕ)
+strings_of ws origins = first_mentions (flat_map entry_strings ws ++ strings_said origins)
 
 abbrev pub article_number : Article → ℕ
 article_number articles.None = 0
@@ -120,27 +122,31 @@ variable_of number = record { start = cast_unsigned w32 number }
 unfoldable pub world_of : Declared → WorldTables
 world_of d = record { kinds = d.kinds; flags = d.flags; numbers = d.numbers; variables = map variable_of d.variables }
 
+-- how many of the objects are described
+abbrev pub described_in : List Worded → ℕ
+described_in ws = codes_in (map (λ w. w.object) ws)
+
 -- the tables, but for the codes
-abbrev pub tables_but_codes : Declared → List Worded → List (List ℕ) → Tables
-tables_but_codes d ws strings = record {
+abbrev pub tables_but_codes : Declared → List Worded → List AuthorRule → List (List ℕ) → Tables
+tables_but_codes d ws rules strings = record {
   strings = strings;
   world = world_of d;
   objects = entries_of strings 0 ws;
   ways = flat_map (ways_of d.kinds) ws;
-  rules = record { actions = []; grammar = []; rules = []; books = []; scenes = [] };
+  rules = rules_of d (described_in ws) rules;
   codes = [];
 }
 
--- the bytes of the codes that say texts, each string by its number
-abbrev pub code_bytes : List (List ℕ) → List Text → List (List ℕ)
-code_bytes strings texts = map spelling (codes_of_texts (number_in strings) texts)
+-- the bytes of the codes of descriptions and rules, each string by its number
+abbrev pub code_bytes : List (List ℕ) → List Origin → List (List ℕ)
+code_bytes strings origins = map spelling (codes_of_origins (number_in strings) origins)
 
-unfoldable pub tables_with : Declared → List Worded → List Text → Tables
-tables_with d ws texts = record (tables_but_codes d ws (strings_of ws texts)) { codes = code_bytes (strings_of ws texts) texts }
+unfoldable pub tables_with : Declared → List Worded → List AuthorRule → List Origin → Tables
+tables_with d ws rules origins = record (tables_but_codes d ws rules (strings_of ws origins)) { codes = code_bytes (strings_of ws origins) origins }
 
--- the tables of a tale whose descriptions say these texts, in the order of the objects that are described
-abbrev pub tables_of : Tale → List Text → Tables
-tables_of t texts = tables_with t.declared (worded t.objects) texts
+-- the tables of a tale whose descriptions say these texts, in the order of the objects that are described, and whose rules are these
+abbrev pub tables_of : Tale → List Text → List AuthorRule → Tables
+tables_of t texts rules = tables_with t.declared (worded t.objects) rules (origins_of texts rules)
 
 -- ---- what is said of each object
 

@@ -1,11 +1,11 @@
--- Which codes are a story's: the objects name the first of them in turn, behind these are the tests that codes name, and each
--- string is named.
+-- Which codes are a story's: the objects and the rules name the first of them in turn, behind these are the tests that codes
+-- name, and each string is named.
 use Rattle.std.specs.Prelude.{◌≡◌, ℕ, ◌+◌, ◌==◌, Bool, true, false, ◌&&◌, List, [], ◌∷◌, ◌++◌, length, map, Option, None, Some}
 use Rattle.std.specs.List.{flat_map}
 use Rattle.code_table.specs.Strings.{counted_on, strings_of}
 use Rattle.story_code.specs.Soundness.{Judged}
 use Rattle.story_format.specs.declared.tables.Tables.{Tables}
-use Rattle.story_format.specs.Checks.{strings_named, codes_named}
+use Rattle.story_format.specs.Checks.{heads_named, strings_named}
 use Rattle.story_format.specs.Codes.{AreCodesOf, code_spelled}
 
 -- the numbers are this one, the one behind it, and so on
@@ -22,10 +22,10 @@ is_count count (Some n) = n == count
 unfoldable pub strings_read : Tables → List ℕ
 strings_read t = flat_map strings_named t.objects ++ strings_of (map code_spelled t.codes)
 
--- The codes are a table, of which the objects name the first, each of them once and in order; and each string is named, in
--- order.
+-- The codes are a table, of which the objects and then the rules name the first, each of them once and in order; and each
+-- string is named, in order.
 pub record AreSound (t : Tables) : Type 0 where
   pub judged : List Judged
   pub table : AreCodesOf t judged
-  pub in_turn : are_in_turn 0 (codes_named t.objects) ≡ true
+  pub in_turn : are_in_turn 0 (heads_named t) ≡ true
   pub named : counted_on 0 (strings_read t) ≡ Some (length t.strings)

@@ -1,9 +1,11 @@
 -- What a story's bytes are.
-use Rattle.std.specs.Prelude.{◌≡◌, ℕ, Bool, true, ◌==◌, List, [], ◌∷◌, ◌++◌, length}
+use Rattle.std.specs.Prelude.{◌≡◌, ℕ, Bool, true, List, [], ◌∷◌, ◌++◌}
+use Rattle.std.specs.List.{list_all}
 use Rattle.std.specs.Int.{w16, to_be_bytes}
 use Rattle.story_format.specs.declared.tables.Tables.{Tables}
 use Rattle.story_format.specs.Layout.{tables_layout}
 use Rattle.story_format.specs.Checks.{are_right}
+use Rattle.story_format.specs.RuleChecks.{lists_none}
 use Rattle.story_format.specs.Soundness.{AreSound}
 
 -- `I7ST`, and the version
@@ -13,9 +15,9 @@ magic = 73 ∷ 55 ∷ 83 ∷ 84 ∷ []
 abbrev pub head : List ℕ
 head = magic ++ to_be_bytes w16 1
 
--- this language has no books, so that none is out of order
+-- no book lists a rule so far, so that none is out of order
 unfoldable pub are_ordered : Tables → Bool
-are_ordered t = length t.rules.books == 0
+are_ordered t = list_all lists_none t.rules.books
 
 -- The tables are a story's.
 pub record IsStory (t : Tables) : Type 0 where

@@ -1,14 +1,20 @@
 -- What a story says, whatever the numbers of its strings and codes are.
-use Rattle.std.specs.Prelude.{◌≡◌, ℕ, List, [], ◌∷◌, Option, None, Some, map}
+use Rattle.std.specs.Prelude.{◌≡◌, ℕ, ◌==◌, List, [], ◌∷◌, Option, None, Some, map, if◌then◌else◌}
+use Rattle.std.specs.List.{AllZip}
 use Rattle.std.specs.Option.{option_map}
 use Rattle.play_meaning.specs.Codes.{Codes, code_of}
 use Rattle.play_meaning.specs.declared.instruction.Instruction.{Instruction}
 use Rattle.play_meaning.specs.declared.instruction.Instruction.TheVariants.{Count, EndStory, Names, Next, Say}
 use Rattle.code_table.specs.Strings.{string_named}
 use Rattle.story_code.specs.Runs.{test_named}
+use Rattle.story_format.specs.declared.rule_entry.RuleBody.{RuleBody}
+use Rattle.story_format.specs.declared.rule_entry.RuleBody.TheVariants.{Code}
+use Rattle.story_format.specs.declared.rule_entry.RuleEntry.{RuleEntry}
+use Rattle.story_format.specs.declared.rule_tables.RuleTables.{RuleTables}
 use Rattle.story_format.specs.declared.tables.Entry.{Entry}
 use Rattle.story_format.specs.declared.tables.Tables.{Tables}
 use Rattle.story_format.specs.Codes.{codes_told}
+use Rattle.story_format.specs.RuleChecks.{codes_in_rules}
 use Rattle.story_format.specs.Facts.{description_code_of, text_at}
 
 -- the object, but for the numbers of its strings and of its code
@@ -71,10 +77,30 @@ AreDescribedAlike c d None (Some m) = ⊥
 AreDescribedAlike c d (Some n) None = ⊥
 AreDescribedAlike c d (Some n) (Some m) = AreAlike c d (code_of c n) (code_of d m)
 
--- Two stories say the same: each object by its texts and what its code says, and all else as it is.
+-- ---- rules
+
+-- what a rule does, but for the number of its code
+abbrev pub uncoded_body : RuleBody → RuleBody
+uncoded_body (Code n) = Code 0
+uncoded_body body = body
+
+-- a rule, but for the numbers of its codes
+abbrev pub uncoded_rule : RuleEntry → RuleEntry
+uncoded_rule r = record r { condition = if r.condition == 65535 then 65535 else 0; body = uncoded_body r.body }
+
+abbrev pub uncoded_rules : RuleTables → RuleTables
+uncoded_rules r = record r { rules = map uncoded_rule r.rules }
+
+-- the codes that rules of two stories name, in turn, say the same
+abbrev pub AreCodedAlike : Codes → Codes → List ℕ → List ℕ → Type 0
+AreCodedAlike c d ns ms = AllZip (λ n m. AreAlike c d (code_of c n) (code_of d m)) ns ms
+
+-- Two stories say the same: each object by its texts and what its code says, each rule by what its codes say, and all else as it
+-- is.
 pub record AreToldAlike (t u : Tables) : Type 0 where
   pub objects : told_objects t ≡ told_objects u
   pub descriptions : (o : ℕ) → AreDescribedAlike (codes_told t) (codes_told u) (description_code_of t o) (description_code_of u o)
   pub world : t.world ≡ u.world
   pub ways : t.ways ≡ u.ways
-  pub rules : t.rules ≡ u.rules
+  pub rules : uncoded_rules t.rules ≡ uncoded_rules u.rules
+  pub rule_codes : AreCodedAlike (codes_told t) (codes_told u) (codes_in_rules t.rules.rules) (codes_in_rules u.rules.rules)

@@ -3,12 +3,14 @@ ghost use Rattle.std.specs.Prelude.{◌≡◌, ◌≤◌, IfOk, length, map};
 ghost use Rattle.std.specs.List.{list_all, flat_map};
 ghost use Rattle.story_format.specs.Placed.{sorts_in};
 ghost use Rattle.story_format.specs.Sizes.{sizes_of};
-ghost use Rattle.story_format.specs.Checks.{has_no_rules, are_distinct, is_named, begin_with, has_words, have_words, is_small_byte, is_small, is_small_at, has_small_words, is_player_entry, is_direction_entry, are_direction_entries, are_in_place, are_named_in_order, strings_named, codes_named, are_right_objects, is_right_frame, are_right};
+ghost use Rattle.story_format.specs.Checks.{are_distinct, is_named, begin_with, has_words, have_words, is_small_byte, is_small, is_small_at, has_small_words, is_player_entry, is_direction_entry, are_direction_entries, are_in_place, are_named_in_order, strings_named, codes_named, heads_named, are_right_objects, is_right_frame, are_right};
 
+use crate::counts::counts_of;
 use crate::kind_tables::suit_kinds;
 use crate::place::NONE;
 use crate::row::{Sizes, are_right_entries};
-use crate::rule_tables::RuleTables;
+use crate::rule_checks::are_right_rules;
+use crate::rule_codes::add_codes;
 use crate::standing::{are_right_ways, sorts_in, stand_rightly};
 use crate::tables::{Entry, Tables};
 use crate::world_checks::is_right_world;
@@ -24,16 +26,6 @@ fn sizes_of(tables: &Tables) -> Sizes
         kinds: tables.world.kinds.as_slice().len(),
         codes: tables.codes.as_slice().len(),
     }
-}
-
-fn has_no_rules(rules: &RuleTables) -> bool
-    ensures { result ≡ has_no_rules rules.now }
-{
-    rules.actions.as_slice().is_empty()
-        && rules.grammar.as_slice().is_empty()
-        && rules.rules.as_slice().is_empty()
-        && rules.books.as_slice().is_empty()
-        && rules.scenes.as_slice().is_empty()
 }
 
 /// Whether no string stands twice.
@@ -274,6 +266,15 @@ pub fn codes_named(alloc: Global, entries: &[Entry]) -> Result<Vec<u16>, AllocEr
     Ok(numbers)
 }
 
+/// The codes that objects name, and then those that rules name.
+pub fn heads_named(alloc: Global, tables: &Tables) -> Result<Vec<u16>, AllocError>
+    ensures { IfOk result (λ numbers. numbers.items ≡ heads_named tables.now) }
+{
+    let mut numbers = codes_named(alloc, tables.objects.as_slice())?;
+    add_codes(&mut numbers, tables.rules.rules.as_slice())?;
+    Ok(numbers)
+}
+
 /// Whether the objects are those of a story, and name strings and codes in order.
 #[tactic(auto, unfolding(crate::specs::Checks::are_right_objects))]
 fn are_right_objects(alloc: Global, tables: &Tables, sorts: &Sorts) -> Result<bool, AllocError>
@@ -290,7 +291,7 @@ fn are_right_objects(alloc: Global, tables: &Tables, sorts: &Sorts) -> Result<bo
             && have_words(alloc, strings, entries)?
             && have_small_words(smallness(alloc, strings)?.as_slice(), entries)
             && are_named_in_order(strings_named(alloc, entries)?.as_slice())
-            && are_named_in_order(codes_named(alloc, entries)?.as_slice())
+            && are_named_in_order(heads_named(alloc, tables)?.as_slice())
             && suit_kinds(alloc, sizes_of(tables), &tables.world, entries)?,
     )
 }
@@ -302,7 +303,7 @@ fn is_right_frame(alloc: Global, tables: &Tables) -> Result<bool, AllocError>
 {
     Ok(
         is_right_world(alloc, &tables.world)?
-            && has_no_rules(&tables.rules)
+            && are_right_rules(alloc, &counts_of(tables), &tables.rules)?
             && tables.objects.as_slice().len() <= 1000
             && tables.strings.as_slice().len() < 65535,
     )

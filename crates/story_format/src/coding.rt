@@ -1,20 +1,21 @@
-//! The tables of a tale with the codes of what its descriptions say.
+//! The tables of a tale with the codes of what its descriptions and its rules say.
 ghost use Rattle.std.specs.Prelude.{◌≡◌, ◌&&◌, IfErr, IfOk, OnOk, length, map, nat_lt};
 ghost use Rattle.std.specs.List.{list_all};
 ghost use Rattle.object_words.specs.Mentions.{number_in};
-ghost use Rattle.play_meaning.specs.Meant.{text_meant};
-ghost use Rattle.code_table.specs.Descriptions.{AllFit, CanBeSaid, HaveNoTable};
+ghost use Rattle.play_meaning.specs.Meant.{rule_meant, text_meant};
+ghost use Rattle.code_table.specs.Emitted.{AllFit, CanBeSaid, HaveNoTable};
+ghost use Rattle.code_table.specs.Origins.{origins_meant};
 ghost use Rattle.story_format.specs.Codes.{counts_of};
-ghost use Rattle.story_format.specs.Holding.{AreHeld, AreNotHeld, IsHeld, is_short};
-ghost use Rattle.story_format.specs.Making.{code_bytes, codes_in, tables_of};
+ghost use Rattle.story_format.specs.Holding.{AreHeld, AreNotHeld, AreOf, IsHeld, is_short};
+ghost use Rattle.story_format.specs.Making.{code_bytes, tables_of};
 
-use crate::codes::counts_of;
+use crate::counts::counts_of;
 use crate::making::uncoded;
 use crate::table::Table;
 use crate::tables::Tables;
-use code_table::{TableFault, description_table};
+use code_table::{TableFault, code_table};
 use object_words::Strings;
-use play_meaning::tree::Text;
+use play_meaning::tree::{MeantRule, Text};
 use std::alloc::Global;
 use world_meaning::{Tale, TextBytes};
 
@@ -37,19 +38,20 @@ fn are_few(strings: &[TextBytes]) -> bool
     strings.len() < 65535 && are_short(strings)
 }
 
-/// The tables with the codes that say the texts.
+/// The tables with the codes of the texts and of the rules.
 fn with_codes(
     alloc: Global,
     strings: &Strings,
     tables: Tables,
     texts: &[Text],
+    rules: &[MeantRule],
 ) -> Result<Tables, TableFault>
-    ensures coded { IfOk result (λ coded. coded ≡ record tables { codes = code_bytes strings.now (map text_meant texts.now) }) }
-    ensures fit { OnOk result (AllFit (counts_of tables) (number_in strings.now) (map text_meant texts.now)) }
-    ensures said { OnOk result (CanBeSaid (number_in strings.now) (map text_meant texts.now)) }
-    ensures none { IfErr result (HaveNoTable (counts_of tables) (number_in strings.now) (map text_meant texts.now)) }
+    ensures coded { IfOk result (λ coded. coded ≡ record tables { codes = code_bytes strings.now (origins_meant texts.now rules.now) }) }
+    ensures fit { OnOk result (AllFit (counts_of tables) (number_in strings.now) (origins_meant texts.now rules.now)) }
+    ensures said { OnOk result (CanBeSaid (number_in strings.now) (origins_meant texts.now rules.now)) }
+    ensures none { IfErr result (HaveNoTable (counts_of tables) (number_in strings.now) (map text_meant texts.now) (map rule_meant rules.now)) }
 {
-    match description_table(alloc, &counts_of(&tables), strings, texts) {
+    match code_table(alloc, &counts_of(&tables), strings, texts, rules) {
         Ok(codes) => {
             let mut tables = tables;
             tables.codes = Table::new(codes);
@@ -59,24 +61,30 @@ fn with_codes(
     }
 }
 
-/// The tables of a tale whose descriptions say these texts, in the order of the objects.
+/// The tables of a tale whose descriptions say these texts, in the order of the objects, and whose rules are these.
 ///
 /// # Errors
 ///
-/// `TooLong` with the number of the first text whose code is too long, `TooMany` only where there are more codes or strings
-/// than two bytes number, or a string is too long, and `Memory`.
-pub fn tables_of(alloc: Global, tale: &Tale, texts: &[Text]) -> Result<Tables, TableFault>
+/// `LongText` with the number of the first text whose code is too long, `LongRule` with that of the first rule of whose
+/// codes one is, `TooMany` only where there are more codes or strings than two bytes number, or a string is too long, and
+/// `Memory`.
+pub fn tables_of(
+    alloc: Global,
+    tale: &Tale,
+    texts: &[Text],
+    rules: &[MeantRule],
+) -> Result<Tables, TableFault>
     requires held { IsHeld tale.now }
-    requires many { length texts.now ≡ codes_in tale.now.objects }
-    ensures tables { IfOk result (λ tables. tables ≡ tables_of tale.now (map text_meant texts.now)) }
-    ensures said { OnOk result (AreHeld tale.now (map text_meant texts.now)) }
-    ensures none { IfErr result (AreNotHeld tale.now (map text_meant texts.now)) }
+    requires are_of { AreOf tale.now (map text_meant texts.now) (map rule_meant rules.now) }
+    ensures tables { IfOk result (λ tables. tables ≡ tables_of tale.now (map text_meant texts.now) (map rule_meant rules.now)) }
+    ensures said { OnOk result (AreHeld tale.now (map text_meant texts.now) (map rule_meant rules.now)) }
+    ensures none { IfErr result (AreNotHeld tale.now (map text_meant texts.now) (map rule_meant rules.now)) }
 {
-    let Ok((strings, tables)) = uncoded(alloc, tale, texts) else {
+    let Ok((strings, tables)) = uncoded(alloc, tale, texts, rules) else {
         return Err(TableFault::Memory);
     };
     if !are_few(tables.strings.as_slice()) {
         return Err(TableFault::TooMany);
     }
-    with_codes(alloc, &strings, tables, texts)
+    with_codes(alloc, &strings, tables, texts, rules)
 }

@@ -2,9 +2,11 @@
 //! its tables, each put into bytes by a format that is known to lose nothing.
 #![tactic(auto)]
 
+mod actions;
 mod checks;
 mod codes;
 mod coding;
+mod counts;
 mod fact_laws;
 mod facts;
 mod fault;
@@ -14,10 +16,14 @@ mod laws;
 mod loading;
 mod making;
 mod mentioning;
+mod mentioning_rules;
 mod number;
 mod place;
 mod row;
+mod rule_checks;
+mod rule_codes;
 mod rule_entry;
+mod rule_making;
 mod rule_tables;
 mod soundness;
 mod standing;

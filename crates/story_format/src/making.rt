@@ -1,20 +1,22 @@
 //! The tables of a tale, but for their codes.
-ghost use Rattle.std.specs.Prelude.{◌≡◌, ◌++◌, List, [], ◌∷◌, length, IfOk, OnOk, fold, map};
+ghost use Rattle.std.specs.Prelude.{◌≡◌, ◌≤◌, ◌++◌, List, [], ◌∷◌, length, IfOk, OnOk, fold, map};
 ghost use Rattle.std.specs.List.{flat_map};
 ghost use Rattle.object_words.specs.Mentions.{mention, number_in};
 ghost use Rattle.object_words.specs.Words.{words_for};
-ghost use Rattle.play_meaning.specs.Meant.{text_meant};
-ghost use Rattle.story_format.specs.Making.{worded_from, worded, article_number, relation_number, place_relation, place_holder, code_number, entry_strings, strings_of, entry_of, entries_of, ways_of, tables_but_codes};
+ghost use Rattle.code_table.specs.Origins.{origins_meant};
+ghost use Rattle.play_meaning.specs.Meant.{rule_meant};
+ghost use Rattle.story_format.specs.Making.{worded_from, worded, article_number, relation_number, place_relation, place_holder, code_number, entry_strings, strings_of, entry_of, entries_of, ways_of, described_in, tables_but_codes};
 ghost use Rattle.story_format.specs.WordedViews.{worded_of, all_worded};
 
 use crate::mentioning::mention_texts;
+use crate::mentioning_rules::mention_rules;
 use crate::place::NONE;
-use crate::rule_tables::RuleTables;
+use crate::rule_making::rules_of;
 use crate::table::Table;
 use crate::tables::{Entry, Tables};
 use crate::world_making::{numbers_of, world_of};
 use object_words::{Strings, words_for};
-use play_meaning::tree::Text;
+use play_meaning::tree::{MeantRule, Text};
 use std::alloc::{AllocError, Global};
 use world_meaning::{
     Article, Declared, Exits, KindNo, Listed, Object, Place, Rel, Tale, TextBytes, is_under,
@@ -81,14 +83,19 @@ fn mention_entries(
     Ok(())
 }
 
-/// The strings of a story of these objects, whose descriptions say these texts.
-#[tactic(auto, unfolding(crate::specs::Making::strings_of), using(object_words::proofs::Folds::fold_both, crate::proofs::Mentioned::texts_mentioned))]
-fn strings_of(alloc: Global, worded: &[Worded<'_>], texts: &[Text]) -> Result<Strings, AllocError>
-    ensures { IfOk result (λ strings. strings ≡ strings_of (all_worded worded.now) (map text_meant texts.now)) }
+/// The strings of a story of these objects, whose descriptions say these texts, and of these rules.
+fn strings_of(
+    alloc: Global,
+    worded: &[Worded<'_>],
+    texts: &[Text],
+    rules: &[MeantRule],
+) -> Result<Strings, AllocError>
+    ensures { IfOk result (λ strings. strings ≡ strings_of (all_worded worded.now) (origins_meant texts.now rules.now)) }
 {
     let mut strings = Strings::new(alloc);
     mention_entries(alloc, &mut strings, worded)?;
     mention_texts(alloc, &mut strings, texts)?;
+    mention_rules(alloc, &mut strings, rules)?;
     Ok(strings)
 }
 
@@ -237,38 +244,62 @@ fn empty<F: Drop>(alloc: Global) -> Table<F>
     Table::new(Vec::new(alloc))
 }
 
-/// The tables of what is declared and objects with their words, but for the codes.
+/// How many of the objects are described.
+fn described_in(worded: &[Worded<'_>]) -> usize
+    ensures { result ≡ described_in (all_worded worded.now) }
+{
+    let mut count = 0usize;
+    let mut rest = worded;
+    while let [one, after @ ..] = rest {
+        if one.object.description.is_some() {
+            count += 1;
+        }
+        rest = after;
+    }
+    count
+}
+
+/// The tables of what is declared, objects with their words, and rules, but for the codes.
 fn tables_but_codes(
     alloc: Global,
     declared: &Declared,
     worded: &[Worded<'_>],
+    rules: &[MeantRule],
     strings: &Strings,
 ) -> Result<Tables, AllocError>
-    ensures { IfOk result (λ tables. tables ≡ tables_but_codes declared.now (all_worded worded.now) strings.now) }
+    requires few { described_in (all_worded worded.now) ≤ 1000 }
+    requires few_rules { length rules.now ≤ 2000 }
+    requires few_scenes { length declared.now.scenes ≤ 50 }
+    requires few_books { declared.now.rulebooks ≤ 100 }
+    ensures { IfOk result (λ tables. tables ≡ tables_but_codes declared.now (all_worded worded.now) (map rule_meant rules.now) strings.now) }
 {
     Ok(Tables {
         strings: table_of(alloc, strings)?,
         world: world_of(alloc, declared)?,
         objects: entries_of(alloc, strings, worded)?,
         ways: ways_of(alloc, declared.kinds.as_slice(), worded)?,
-        rules: RuleTables {
-            actions: empty(alloc),
-            grammar: empty(alloc),
-            rules: empty(alloc),
-            books: empty(alloc),
-            scenes: empty(alloc),
-        },
+        rules: rules_of(alloc, declared, described_in(worded), rules)?,
         codes: empty(alloc),
     })
 }
 
 /// The tables of a tale but for their codes, and their strings.
-pub fn uncoded(alloc: Global, tale: &Tale, texts: &[Text]) -> Result<(Strings, Tables), AllocError>
-    ensures strings { IfOk result (λ made. made.0 ≡ strings_of (worded tale.now.objects) (map text_meant texts.now)) }
-    ensures tables { IfOk result (λ made. made.1 ≡ tables_but_codes tale.now.declared (worded tale.now.objects) (strings_of (worded tale.now.objects) (map text_meant texts.now))) }
+pub fn uncoded(
+    alloc: Global,
+    tale: &Tale,
+    texts: &[Text],
+    rules: &[MeantRule],
+) -> Result<(Strings, Tables), AllocError>
+    requires few { described_in (worded tale.now.objects) ≤ 1000 }
+    requires few_rules { length rules.now ≤ 2000 }
+    requires few_scenes { length tale.now.declared.scenes ≤ 50 }
+    requires few_books { tale.now.declared.rulebooks ≤ 100 }
+    ensures strings { IfOk result (λ made. made.0 ≡ strings_of (worded tale.now.objects) (origins_meant texts.now rules.now)) }
+    ensures tables { IfOk result (λ made. made.1 ≡ tables_but_codes tale.now.declared (worded tale.now.objects) (map rule_meant rules.now) (strings_of (worded tale.now.objects) (origins_meant texts.now rules.now))) }
 {
     let worded = with_words(alloc, tale.objects.as_slice())?;
-    let strings = strings_of(alloc, worded.as_slice(), texts)?;
-    let tables = tables_but_codes(alloc, &tale.declared, worded.as_slice(), &strings)?;
+    let worded = worded.as_slice();
+    let strings = strings_of(alloc, worded, texts, rules)?;
+    let tables = tables_but_codes(alloc, &tale.declared, worded, rules, &strings)?;
     Ok((strings, tables))
 }

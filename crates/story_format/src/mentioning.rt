@@ -42,8 +42,9 @@ fn mention_part(alloc: Global, strings: &mut Strings, part: &Said) -> Result<(),
     }
 }
 
+/// Mentions the strings that a text says.
 #[tactic(auto, using(object_words::proofs::Folds::fold_both))]
-fn mention_text(alloc: Global, strings: &mut Strings, text: &Text) -> Result<(), AllocError>
+pub fn mention_text(alloc: Global, strings: &mut Strings, text: &Text) -> Result<(), AllocError>
     ensures { OnOk result (strings.new ≡ fold mention strings.old (text_strings text.now)) }
 {
     let mut rest = text.parts.as_slice();

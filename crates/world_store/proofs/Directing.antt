@@ -9,7 +9,9 @@ use Rattle.world_meaning.specs.Kinds.{Under, above, built_in_parents, direction_
 use Rattle.world_meaning.specs.Properties.{built_in_properties}
 use Rattle.world_meaning.specs.Sight.{direction}
 use Rattle.play_meaning.specs.Seeing.{root_of}
-use Rattle.story_format.specs.Checks.{are_distinct, are_right, are_right_objects, are_right_ways, has_no_rules, is_right_frame, stand_rightly}
+use Rattle.story_format.specs.Counts.{counts_of}
+use Rattle.story_format.specs.RuleChecks.{are_right_rules}
+use Rattle.story_format.specs.Checks.{are_distinct, are_right, are_right_objects, are_right_ways, is_right_frame, stand_rightly}
 use Rattle.story_format.specs.InPlay.{is_of_in}
 use Rattle.story_format.specs.Spells.{IsStory}
 use Rattle.story_format.specs.WorldChecks.{is_right_world}
@@ -39,7 +41,7 @@ frame_right t story = (last_of_five (is_right_frame t) (are_distinct t.strings) 
 
 world_right : (t : Tables) → IsStory t → is_right_world t.world ≡ true
 unfolding is_right_frame
-world_right t story = (four (is_right_world t.world) (has_no_rules t.rules) (leb (length t.objects) 1000) (ltb (length t.strings) 65535) (frame_right t story)).0
+world_right t story = (four (is_right_world t.world) (are_right_rules (counts_of t) t.rules) (leb (length t.objects) 1000) (ltb (length t.strings) 65535) (frame_right t story)).0
 
 kinds_right : (t : Tables) → IsStory t → are_right_kinds t.world.kinds ≡ true
 unfolding is_right_world

@@ -1,0 +1,265 @@
+-- The rules of a tale: their codes are named in turn, each for its use, and their tables are a story's.
+use Rattle.std.proofs.Common.{◌≡◌, ℕ, zero, suc, ◌+◌, ◌*◌, ◌<◌, ◌≤◌, Bool, true, false, cond, ◌&&◌, ◌||◌, ltb, leb, eqb, List, [], ◌∷◌, ◌++◌, length, map, Option, Some, None, refl, sym, ap, ◌∙◌, arith, inl, inr, length-append}
+use Rattle.std.specs.Prelude.{min, replicate}
+use Rattle.std.specs.List.{flat_map, list_all}
+use Rattle.std.proofs.lemmas.Bool.{lt-ltb, ltb-true, le-leb, ne_eqb, eq-eqb}
+use Rattle.std.proofs.lemmas.List.{length-map, map-append}
+use Rattle.world_meaning.proofs.Bools.{both, both_are, either}
+use Rattle.world_meaning.specs.Declarations.{is_below}
+use Rattle.world_meaning.specs.declared.declared.Declared.{Declared}
+use Rattle.play_meaning.specs.Rules.{AuthorRule}
+use Rattle.play_meaning.specs.StandardActions.{standard_needs}
+use Rattle.play_meaning.specs.TranslatedScripts.{in_list}
+use Rattle.play_meaning.specs.Trees.{Condition, Body as RuleText}
+use Rattle.play_meaning.specs.declared.operand.Counts.{Counts}
+use Rattle.play_meaning.specs.declared.operand.Use.{Use}
+use Rattle.play_meaning.specs.declared.operand.Use.TheVariants.{Body, Test}
+use Rattle.code_table.specs.Origins.{Asks, Does, Origin, origins_of_rule, use_for}
+use Rattle.story_format.specs.Checks.{codes_named}
+use Rattle.story_format.specs.Holding.{books_of}
+use Rattle.story_format.specs.Layout.{action_layout, aspect_layout, body_layout, book_layout, rule_layout, rules_layout, scene_layout}
+use Rattle.story_format.specs.Making.{Worded, described_in, entries_of}
+use Rattle.story_format.specs.RuleChecks.{are_right_books, are_right_rules, are_right_scenes, are_same_actions, code_of_body, codes_in_rule, codes_in_rules, is_right_aspect, is_right_body, is_right_rule, is_right_scene, lists_none, use_in_body, uses_in_rule, uses_in_rules}
+use Rattle.story_format.specs.RuleMaking.{action_entries, book_count, condition_count, condition_number, first_own_book, rule_count, rule_entries, rule_entry, rules_of, scene_entry}
+use Rattle.story_format.specs.Soundness.{are_in_turn}
+use Rattle.story_format.specs.declared.rule_entry.RuleBody.{RuleBody}
+use Rattle.story_format.specs.declared.rule_entry.RuleBody.TheVariants.{Code, Standard, Unknown}
+use Rattle.story_format.specs.declared.rule_entry.RuleEntry.{RuleEntry}
+use Rattle.story_format.specs.declared.rule_tables.Book.{Book}
+use Rattle.story_format.proofs.EntryLemmas.{objects_in}
+use Rattle.story_format.proofs.Known.{or_right}
+use Rattle.story_format.proofs.OrderLemmas.{codes_counted, codes_in_turn}
+
+-- ---- numbers in turn
+
+pub turn_joined : (ns ms : List ℕ) (next : ℕ) → are_in_turn next ns ≡ true → are_in_turn (next + length ns) ms ≡ true → are_in_turn next (ns ++ ms) ≡ true
+unfolding are_in_turn
+turn_joined [] ms next h k = let same : next ≡ next + 0 = omega arith in ap (λ n. are_in_turn n ms) same ∙ k
+turn_joined (n ∷ ns) ms next h k =
+    let t = both_are (eqb n next) (are_in_turn (next + 1) ns) h in
+    let there : (next + 1) + length ns ≡ next + suc (length ns) = omega arith in
+    both (eqb n next) (are_in_turn (next + 1) (ns ++ ms)) t.0 (turn_joined ns ms (next + 1) t.1 (ap (λ m. are_in_turn m ms) there ∙ k))
+
+pub turn_parted : (ns ms : List ℕ) (next : ℕ) → are_in_turn next (ns ++ ms) ≡ true → (are_in_turn next ns ≡ true) × (are_in_turn (next + length ns) ms ≡ true)
+unfolding are_in_turn
+turn_parted [] ms next h = let same : next + 0 ≡ next = omega arith in (refl, ap (λ n. are_in_turn n ms) same ∙ h)
+turn_parted (n ∷ ns) ms next h =
+    let t = both_are (eqb n next) (are_in_turn (next + 1) (ns ++ ms)) h in
+    let later = turn_parted ns ms (next + 1) t.1 in
+    let there : next + suc (length ns) ≡ (next + 1) + length ns = omega arith in
+    (both (eqb n next) (are_in_turn (next + 1) ns) t.0 later.0, ap (λ m. are_in_turn m ms) there ∙ later.1)
+
+-- ---- the codes of a rule
+
+abbrev codes_by : ℕ → Option Condition → List ℕ
+codes_by next None = next ∷ []
+codes_by next (Some condition) = next ∷ (next + 1) ∷ []
+
+codes_are : (next : ℕ) (rule : AuthorRule) (c : Option Condition) → rule.condition ≡ c → next + condition_count c < 65535 → codes_in_rule (rule_entry next rule) ≡ codes_by next c
+codes_are next rule None is lt =
+    let own : min (next + 0) 65535 ≡ next = omega (arith, lt) in
+    rw (is, own) refl
+codes_are next rule (Some condition) is lt =
+    let first : min next 65535 ≡ next = omega (arith, lt) in
+    let own : min (next + 1) 65535 ≡ next + 1 = omega (arith, lt) in
+    let told : eqb next 65535 ≡ false = ne_eqb _ _ (λ k. omega (arith, k, lt)) in
+    rw (is, first, own, told) refl
+
+uses_are : (next : ℕ) (rule : AuthorRule) (c : Option Condition) → rule.condition ≡ c → next + condition_count c < 65535 → uses_in_rule (rule_entry next rule) ≡ map use_for (origins_of_rule rule)
+uses_are next rule None is lt = rw is refl
+uses_are next rule (Some condition) is lt =
+    let first : min next 65535 ≡ next = omega (arith, lt) in
+    let told : eqb next 65535 ≡ false = ne_eqb _ _ (λ k. omega (arith, k, lt)) in
+    rw (is, first, told) refl
+
+by_turn : (next : ℕ) (c : Option Condition) → are_in_turn next (codes_by next c) ≡ true
+unfolding are_in_turn
+by_turn next None = rw (eq-eqb next next refl) refl
+by_turn next (Some condition) = rw (eq-eqb next next refl, eq-eqb (next + 1) (next + 1) refl) refl
+
+by_count : (next : ℕ) (c : Option Condition) → length (codes_by next c) ≡ condition_count c + 1
+by_count next None = refl
+by_count next (Some condition) = refl
+
+-- each origin has a code
+origin_count : (rule : AuthorRule) (c : Option Condition) → rule.condition ≡ c → length (origins_of_rule rule) ≡ condition_count c + 1
+origin_count rule None is = rw is refl
+origin_count rule (Some condition) is = rw is refl
+
+abbrev pub origins_in : List AuthorRule → List Origin
+origins_in rules = flat_map origins_of_rule rules
+
+pub counted : (rule : AuthorRule) → length (origins_of_rule rule) ≡ rule_count rule
+counted rule = origin_count rule rule.condition refl
+
+pub counted_more : (rule : AuthorRule) (rules : List AuthorRule) → length (origins_in (rule ∷ rules)) ≡ rule_count rule + length (origins_in rules)
+counted_more rule rules = length-append (origins_of_rule rule) (origins_in rules) ∙ ap (λ n. n + length (origins_in rules)) (counted rule)
+
+pub rules_in_turn : (rules : List AuthorRule) (next : ℕ) → next + length (origins_in rules) ≤ 65535 → are_in_turn next (codes_in_rules (rule_entries next rules)) ≡ true
+unfolding rule_entries are_in_turn
+rules_in_turn [] next le = refl
+rules_in_turn (rule ∷ rules) next le =
+    let more = counted_more rule rules in
+    let own : codes_in_rule (rule_entry next rule) ≡ codes_by next rule.condition = codes_are next rule rule.condition refl (omega (arith, le, more)) in
+    let long : length (codes_in_rule (rule_entry next rule)) ≡ rule_count rule = ap length own ∙ by_count next rule.condition in
+    turn_joined (codes_in_rule (rule_entry next rule)) (codes_in_rules (rule_entries (next + rule_count rule) rules)) next (ap (are_in_turn next) own ∙ by_turn next rule.condition)
+    (ap (λ n. are_in_turn (next + n) (codes_in_rules (rule_entries (next + rule_count rule) rules))) long ∙ rules_in_turn rules (next + rule_count rule) (omega (arith, le, more)))
+
+pub rules_used : (rules : List AuthorRule) (next : ℕ) → next + length (origins_in rules) ≤ 65535 → uses_in_rules (rule_entries next rules) ≡ map use_for (origins_in rules)
+unfolding rule_entries
+rules_used [] next le = refl
+rules_used (rule ∷ rules) next le =
+    let more = counted_more rule rules in
+    (λ i. uses_are next rule rule.condition refl (omega (arith, le, more)) i ++ rules_used rules (next + rule_count rule) (omega (arith, le, more)) i)
+    ∙ sym (map-append use_for (origins_of_rule rule) (origins_in rules))
+
+-- the codes that the entries of objects and rules name
+abbrev pub heads_by : List (List ℕ) → List Worded → List AuthorRule → List ℕ
+heads_by strings ws rules = codes_named (entries_of strings 0 ws) ++ codes_in_rules (rule_entries (described_in ws) rules)
+
+pub heads_in_turn : (strings : List (List ℕ)) (ws : List Worded) (rules : List AuthorRule) → length ws ≤ 1000 → described_in ws + length (origins_in rules) ≤ 65535 → are_in_turn 0 (heads_by strings ws rules) ≡ true
+heads_in_turn strings ws rules few le =
+    let described = codes_counted strings ws 0 (omega (arith, few)) in
+    let there : 0 + length (codes_named (entries_of strings 0 ws)) ≡ described_in ws = omega (arith, described) in
+    turn_joined (codes_named (entries_of strings 0 ws)) (codes_in_rules (rule_entries (described_in ws) rules)) 0 (codes_in_turn strings ws 0 (omega (arith, few)))
+    (ap (λ n. are_in_turn n (codes_in_rules (rule_entries (described_in ws) rules))) there ∙ rules_in_turn rules (described_in ws) le)
+
+uses_counted_one : (n : ℕ) (b : RuleBody) → length (cond (eqb n 65535) [] (Test 0 ∷ []) ++ use_in_body b) ≡ length (cond (eqb n 65535) [] (n ∷ []) ++ code_of_body b)
+uses_counted_one n b =
+    elim (either (eqb n 65535)) [
+      | inl none ↦ rw none (by b)
+      | inr some ↦ rw some (ap suc (by b))
+    ]
+  where
+    by : (b : RuleBody) → length (use_in_body b) ≡ length (code_of_body b)
+    by (Code n) = refl
+    by (Standard n) = refl
+    by (Unknown n) = refl
+
+-- each code that rules name has its use
+pub uses_counted : (rules : List RuleEntry) → length (uses_in_rules rules) ≡ length (codes_in_rules rules)
+uses_counted [] = refl
+uses_counted (r ∷ rules) =
+    length-append (uses_in_rule r) (uses_in_rules rules) ∙ (λ i. uses_counted_one r.condition r.body i + uses_counted rules i) ∙ sym (length-append (codes_in_rule r) (codes_in_rules rules))
+
+-- ---- a rule's entry is right
+
+condition_right : (next count : ℕ) (c : Option Condition) → next + condition_count c < count → count ≤ 65535 → ((eqb (condition_number next c) 65535) || ltb (condition_number next c) count) ≡ true
+condition_right next count None lt le = refl
+condition_right next count (Some condition) lt le =
+    let first : min next 65535 ≡ next = omega (arith, lt, le) in
+    let there : ltb next count ≡ true = lt-ltb _ _ (omega (arith, lt)) in
+    rw first (or_right (eqb next 65535) (ltb next count) there)
+
+rule_right : (z : Counts) (next : ℕ) (rule : AuthorRule) → rule.book < z.books → next + condition_count rule.condition < z.codes → z.codes ≤ 65535 → is_right_rule z (rule_entry next rule) ≡ true
+unfolding is_right_rule is_right_aspect is_right_body
+rule_right z next rule book lt le =
+    let own : min (next + condition_count rule.condition) 65535 ≡ next + condition_count rule.condition = omega (arith, lt, le) in
+    rw (lt-ltb _ _ book, condition_right next z.codes rule.condition lt le, own, lt-ltb _ _ lt) refl
+
+pub rules_right : (z : Counts) (rules : List AuthorRule) (next : ℕ) → list_all (is_below z.books) (books_of rules) ≡ true → next + length (origins_in rules) ≤ z.codes → z.codes ≤ 65535 → list_all (is_right_rule z) (rule_entries next rules) ≡ true
+unfolding rule_entries
+rules_right z [] next books le few = refl
+rules_right z (rule ∷ rules) next books le few =
+    let more = counted_more rule rules in
+    let t = both_are (is_below z.books rule.book) (list_all (is_below z.books) (books_of rules)) books in
+    both (is_right_rule z (rule_entry next rule)) (list_all (is_right_rule z) (rule_entries (next + rule_count rule) rules))
+    (rule_right z next rule (ltb-true _ _ t.0) (omega (arith, le, more)) few) (rules_right z rules (next + rule_count rule) t.1 (omega (arith, le, more)) few)
+
+-- ---- books and scenes
+
+abbrev pub empty_book : Book
+empty_book = record { rules = [] }
+
+replicated : {A : Type 0} (p : A → Bool) (a : A) (n : ℕ) → p a ≡ true → list_all p (replicate n a) ≡ true
+replicated p a zero h = refl
+replicated p a (suc n) h = both (p a) (list_all p (replicate n a)) h (replicated p a n h)
+
+pub length_replicated : {A : Type 0} (a : A) (n : ℕ) → length (replicate n a) ≡ n
+length_replicated a zero = refl
+length_replicated a (suc n) = ap suc (length_replicated a n)
+
+books_right : (scenes own : ℕ) → own ≤ 100 → are_right_books scenes (replicate (first_own_book scenes + own) empty_book) ≡ true
+unfolding are_right_books
+books_right scenes own le =
+    let count = length_replicated empty_book (first_own_book scenes + own) in
+    rw (le-leb (first_own_book scenes) (length (replicate (first_own_book scenes + own) empty_book)) (omega (arith, count)), le-leb (length (replicate (first_own_book scenes + own) empty_book)) (first_own_book scenes + 100) (omega (arith, count, le)))
+    (replicated lists_none empty_book (first_own_book scenes + own) refl)
+
+scene_right : (recurs : Bool) → is_right_scene (scene_entry recurs) ≡ true
+unfolding is_right_scene
+scene_right true = refl
+scene_right false = refl
+
+each_scene_right : (scenes : List Bool) → list_all is_right_scene (map scene_entry scenes) ≡ true
+each_scene_right [] = refl
+each_scene_right (recurs ∷ scenes) = both (is_right_scene (scene_entry recurs)) (list_all is_right_scene (map scene_entry scenes)) (scene_right recurs) (each_scene_right scenes)
+
+actions_same : are_same_actions action_entries action_entries ≡ true
+unfolding are_same_actions action_entries standard_needs
+actions_same = refl
+
+pub length_entries : (rules : List AuthorRule) (next : ℕ) → length (rule_entries next rules) ≡ length rules
+unfolding rule_entries
+length_entries [] next = refl
+length_entries (rule ∷ rules) next = ap suc (length_entries rules (next + rule_count rule))
+
+-- tables 8 to 12 are right, where there are so many codes and these books
+pub rule_tables_right : (d : Declared) (z : Counts) (rules : List AuthorRule) (next : ℕ) → length d.scenes ≤ 50 → d.rulebooks ≤ 100 → length rules ≤ 2000 → z.books ≡ book_count d → list_all (is_below (book_count d)) (books_of rules) ≡ true
+    → next + length (origins_in rules) ≤ z.codes → z.codes ≤ 65535 → are_right_rules z (rules_of d next rules) ≡ true
+unfolding are_right_rules rules_of
+rule_tables_right d z rules next few_scenes few_own few all books le codes =
+    let count : length (map scene_entry d.scenes) ≡ length d.scenes = length-map d.scenes scene_entry in
+    let scenes : leb (length (map scene_entry d.scenes)) 50 ≡ true = le-leb _ _ (omega (arith, count, few_scenes)) in
+    let own_books : are_right_books (length (map scene_entry d.scenes)) (replicate (book_count d) empty_book) ≡ true = ap (λ n. are_right_books n (replicate (book_count d) empty_book)) count ∙ books_right (length d.scenes) d.rulebooks few_own in
+    let few_entries : leb (length (rule_entries next rules)) 2000 ≡ true = le-leb _ _ (omega (arith, length_entries rules next, few)) in
+    rw (scenes, each_scene_right d.scenes, own_books, actions_same, few_entries) (rules_right z rules next (ap (λ n. list_all (is_below n) (books_of rules)) all ∙ books) le codes)
+
+-- ---- there is room for each in its bytes
+
+action_count : ltb (length action_entries) 65536 ≡ true
+unfolding action_entries standard_needs
+action_count = refl
+
+actions_fit : list_all action_layout.format.fits action_entries ≡ true
+unfolding action_layout action_entries standard_needs
+actions_fit = refl
+
+condition_fits : (next : ℕ) (c : Option Condition) → ltb (condition_number next c) 65536 ≡ true
+condition_fits next None = refl
+condition_fits next (Some condition) = lt-ltb _ _ (omega arith)
+
+rule_fits : (next : ℕ) (rule : AuthorRule) → rule.book < 65536 → rule_layout.format.fits (rule_entry next rule) ≡ true
+unfolding rule_layout aspect_layout body_layout
+rule_fits next rule lt =
+    let own : ltb (min (next + condition_count rule.condition) 65535) 65536 ≡ true = lt-ltb _ _ (omega arith) in
+    rw (lt-ltb _ _ lt, condition_fits next rule.condition, own) refl
+
+rules_fit : (rules : List AuthorRule) (next count : ℕ) → count ≤ 65536 → list_all (is_below count) (books_of rules) ≡ true → list_all rule_layout.format.fits (rule_entries next rules) ≡ true
+unfolding rule_entries
+rules_fit [] next count le books = refl
+rules_fit (rule ∷ rules) next count le books =
+    let t = both_are (is_below count rule.book) (list_all (is_below count) (books_of rules)) books in
+    let low : rule.book < count = ltb-true _ _ t.0 in
+    both (rule_layout.format.fits (rule_entry next rule)) (list_all rule_layout.format.fits (rule_entries (next + rule_count rule) rules)) (rule_fits next rule (omega (arith, low, le))) (rules_fit rules (next + rule_count rule) count le t.1)
+
+scene_fits : (recurs : Bool) → scene_layout.format.fits (scene_entry recurs) ≡ true
+unfolding scene_layout
+scene_fits true = refl
+scene_fits false = refl
+
+scenes_fit : (scenes : List Bool) → list_all scene_layout.format.fits (map scene_entry scenes) ≡ true
+scenes_fit [] = refl
+scenes_fit (recurs ∷ scenes) = both (scene_layout.format.fits (scene_entry recurs)) (list_all scene_layout.format.fits (map scene_entry scenes)) (scene_fits recurs) (scenes_fit scenes)
+
+book_fits : book_layout.format.fits empty_book ≡ true
+unfolding book_layout
+book_fits = refl
+
+pub rule_tables_fit : (d : Declared) (rules : List AuthorRule) (next : ℕ) → length d.scenes ≤ 50 → d.rulebooks ≤ 100 → length rules ≤ 2000 → list_all (is_below (book_count d)) (books_of rules) ≡ true → rules_layout.format.fits (rules_of d next rules) ≡ true
+unfolding rules_layout rules_of
+rule_tables_fit d rules next few_scenes few_own few books =
+    let scene_count : ltb (length (map scene_entry d.scenes)) 65536 ≡ true = lt-ltb _ _ (omega (arith, length-map d.scenes scene_entry, few_scenes)) in
+    let all : ltb (length (replicate (book_count d) empty_book)) 65536 ≡ true = lt-ltb _ _ (omega (arith, length_replicated empty_book (book_count d), few_scenes, few_own)) in
+    let rule_few : ltb (length (rule_entries next rules)) 65536 ≡ true = lt-ltb _ _ (omega (arith, length_entries rules next, few)) in
+    rw (action_count, actions_fit, rule_few, rules_fit rules next (book_count d) (omega (arith, few_scenes, few_own)) books, all, replicated book_layout.format.fits empty_book (book_count d) book_fits, scene_count) (scenes_fit d.scenes)

@@ -1,0 +1,87 @@
+-- The codes of a tale's rules answer their conditions and do their bodies.
+use Rattle.std.proofs.Common.{◌≡◌, ◌∙◌, ap, sym, refl, ℕ, zero, suc, ◌+◌, ◌<◌, ◌≤◌, false, eqb, List, [], ◌∷◌, ◌++◌, length, Option, Some, None, append_assoc, length-append, arith}
+use Rattle.std.specs.Prelude.{min, slice_get}
+use Rattle.std.specs.List.{AllByRecursion, AllZip}
+use Rattle.std.proofs.lemmas.Bool.{ne_eqb}
+use Rattle.play_meaning.specs.Codes.{Codes, RunsTo, test_of}
+use Rattle.play_meaning.specs.Doing.{Inner, do_body}
+use Rattle.play_meaning.specs.Progress.{Progress}
+use Rattle.play_meaning.specs.Rules.{AuthorRule}
+use Rattle.play_meaning.specs.Saying.{Telling}
+use Rattle.play_meaning.specs.Scripts.{scope_of}
+use Rattle.play_meaning.specs.Trees.{Body, Condition}
+use Rattle.play_meaning.specs.Truth.{truth_in}
+use Rattle.play_meaning.specs.Worlds.{World}
+use Rattle.play_meaning.specs.declared.action.ActionNow.{ActionNow}
+use Rattle.play_meaning.specs.declared.operand.Counts.{Counts}
+use Rattle.code_table.specs.Emitted.{AllFit, codes_of_origins}
+use Rattle.code_table.specs.Origins.{Asks, Does, Origin, origins_of_rule, strings_of_origin}
+use Rattle.code_table.proofs.Said.{body_done, condition_answered}
+use Rattle.story_format.specs.Carrying.{CarriesRule, IsAnsweredBy, IsDoneBy, code_if_some}
+use Rattle.story_format.specs.Facts.{text_at}
+use Rattle.story_format.specs.RuleMaking.{condition_count, condition_number, rule_count, rule_entries, rule_entry}
+use Rattle.story_format.specs.declared.rule_entry.RuleBody.TheVariants.{Code}
+use Rattle.story_format.proofs.RuleLemmas.{counted, counted_more, origins_in}
+
+-- ---- places in lists
+
+behind_there : {A : Type 0} (front xs : List A) (k : ℕ) (x : A) → slice_get xs k ≡ Some x → slice_get (front ++ xs) (length front + k) ≡ Some x
+behind_there [] xs k x at = let same : 0 + k ≡ k = omega arith in ap (slice_get xs) same ∙ at
+behind_there (y ∷ front) xs k x at = behind_there front xs k x at
+
+-- a rule's condition, if there is one, stands first, and then its body
+condition_first : (rule : AuthorRule) (more : List Origin) (condition : Condition) → rule.condition ≡ Some condition → slice_get (origins_of_rule rule ++ more) 0 ≡ Some (Asks condition)
+condition_first rule more condition is = rw is refl
+
+body_behind : (rule : AuthorRule) (more : List Origin) (c : Option Condition) → rule.condition ≡ c → slice_get (origins_of_rule rule ++ more) (condition_count c) ≡ Some (Does rule.body)
+body_behind rule more None is = rw is refl
+body_behind rule more (Some condition) is = rw is refl
+
+-- ---- one rule
+
+answered_so : (c : Codes) (next : ℕ) (asked : Option Condition) → next + condition_count asked < 65535
+    → ((condition : Condition) → asked ≡ Some condition → (t : Telling) (now : ActionNow) (w : World) → test_of c t now next [] w ≡ truth_in t.setting (scope_of now) w condition)
+    → IsAnsweredBy c (code_if_some (condition_number next asked)) asked
+answered_so c next None lt f = tt
+answered_so c next (Some condition) lt f =
+    let first : min next 65535 ≡ next = omega (arith, lt) in
+    let told : eqb next 65535 ≡ false = ne_eqb _ _ (λ k. omega (arith, k, lt)) in
+    rw (first, told) (f condition refl)
+
+done_so : (c : Codes) (n : ℕ) (body : Body) → n < 65535 → ((t : Telling) (inner : Inner) (now : ActionNow) (p : Progress) → RunsTo c t inner n now p (do_body t inner body (scope_of now) p)) → IsDoneBy c (Code (min n 65535)) body
+done_so c n body lt f = let own : min n 65535 ≡ n = omega (arith, lt) in rw own f
+
+-- ---- all of them
+
+module _ (z : Counts) (c : Codes) (string : List ℕ → ℕ) (origins : List Origin) (fit : AllFit z string origins) (codes : c.codes ≡ codes_of_origins string origins)
+    (strings : (n : ℕ) (origin : Origin) → slice_get origins n ≡ Some origin → AllByRecursion (λ bytes. text_at c.strings (string bytes) ≡ bytes) (strings_of_origin origin)) where
+  one_carried : (front : List Origin) (rule : AuthorRule) (more : List Origin) → origins ≡ front ++ (origins_of_rule rule ++ more) → length front + condition_count rule.condition < 65535 → CarriesRule c (rule_entry (length front) rule) rule
+  one_carried front rule more parts lt = record {
+    book = refl;
+    bare = record { action = refl; noun = refl; second = refl; place = refl; scene = refl };
+    condition = answered_so c (length front) rule.condition lt (λ condition is t now w. condition_answered string z c origins (length front) condition t now w fit codes (first condition is));
+    body =
+        let n = length front + condition_count rule.condition in
+        done_so c n rule.body lt (λ t inner now p. body_done string z c origins n rule.body t inner now p fit codes own (strings n (Does rule.body) own));
+  }
+    where
+      own : slice_get origins (length front + condition_count rule.condition) ≡ Some (Does rule.body)
+      own = ap (λ os. slice_get os (length front + condition_count rule.condition)) parts ∙ behind_there front (origins_of_rule rule ++ more) (condition_count rule.condition) (Does rule.body) (body_behind rule more rule.condition refl)
+
+      first : (condition : Condition) → rule.condition ≡ Some condition → slice_get origins (length front) ≡ Some (Asks condition)
+      first condition is =
+          let place : length front ≡ length front + 0 = omega arith in
+          ap (λ os. slice_get os (length front)) parts ∙ ap (slice_get (front ++ (origins_of_rule rule ++ more))) place
+          ∙ behind_there front (origins_of_rule rule ++ more) 0 (Asks condition) (condition_first rule more condition is)
+
+  pub rules_carried : (rules : List AuthorRule) (front : List Origin) (next : ℕ) → next ≡ length front → origins ≡ front ++ origins_in rules → next + length (origins_in rules) ≤ 65535 → AllZip (CarriesRule c) (rule_entries next rules) rules
+  unfolding rule_entries
+  rules_carried [] front next is parts le = tt
+  rules_carried (rule ∷ rules) front next is parts le =
+      let more = counted_more rule rules in
+      let later : next + rule_count rule ≡ length (front ++ origins_of_rule rule) = omega (arith, is, length-append front (origins_of_rule rule), counted rule) in
+      let here = one_carried front rule (origins_in rules) parts (omega (arith, is, le, more)) in
+      (ap_rule here, rules_carried rules (front ++ origins_of_rule rule) (next + rule_count rule) later (parts ∙ sym (append_assoc front (origins_of_rule rule) (origins_in rules))) (omega (arith, le, more)))
+    where
+      ap_rule : CarriesRule c (rule_entry (length front) rule) rule → CarriesRule c (rule_entry next rule) rule
+      ap_rule h = rw is h

@@ -1,0 +1,13 @@
+use Rattle.std.specs.List.{flat_map}
+use Rattle.code_table.specs.Origins.{origins_meant}
+use Rattle.story_format.specs.Making.{entry_strings, strings_of, strings_said}
+use Rattle.story_format.specs.Mentioning.{rule_strings, text_strings}
+use Rattle.story_format.specs.WordedViews.{all_worded}
+use Rattle.story_format.proofs.Mentioned.{all_mentioned, mentioned_on}
+use Rattle.story_format.proofs.making.strings_of.Goals as goal
+
+pub returns : goal.returns
+unfolding strings_of
+returns c =
+    mentioned_on (strings_said (origins_meant c.args.texts.now c.args.rules.now)) (flat_map entry_strings (all_worded c.args.worded.now)) (flat_map text_strings c.args.texts.now) (flat_map rule_strings c.args.rules.now) _ _ _ _
+    c.new-strings.ensures c.in_ok-mention_entries.ensures c.in_ok-mention_texts.ensures c.in_ok-mention_rules.ensures (all_mentioned c.args.texts.now c.args.rules.now)

@@ -1,0 +1,100 @@
+-- What tables 8 to 12 of a story say, where there are so many of what they name.
+use Rattle.std.specs.Prelude.{ℕ, ◌+◌, Bool, true, false, ◌&&◌, ◌||◌, ◌==◌, nat_le, nat_lt, List, [], ◌∷◌, ◌++◌, length, if◌then◌else◌}
+use Rattle.std.specs.List.{flat_map, list_all}
+use Rattle.play_meaning.specs.declared.operand.Counts.{Counts}
+use Rattle.play_meaning.specs.declared.operand.Use.{Use}
+use Rattle.play_meaning.specs.declared.operand.Use.TheVariants.{Body, Test}
+use Rattle.story_format.specs.RuleMaking.{action_entries, first_own_book}
+use Rattle.story_format.specs.declared.rule_entry.Aspect.{Aspect}
+use Rattle.story_format.specs.declared.rule_entry.Aspect.TheVariants as aspects
+use Rattle.story_format.specs.declared.rule_entry.PropertySide.{PropertySide}
+use Rattle.story_format.specs.declared.rule_entry.RuleBody.{RuleBody}
+use Rattle.story_format.specs.declared.rule_entry.RuleBody.TheVariants as bodies
+use Rattle.story_format.specs.declared.rule_entry.RuleEntry.{RuleEntry}
+use Rattle.story_format.specs.declared.rule_tables.ActionEntry.{ActionEntry}
+use Rattle.story_format.specs.declared.rule_tables.Book.{Book}
+use Rattle.story_format.specs.declared.rule_tables.RuleTables.{RuleTables}
+use Rattle.story_format.specs.declared.rule_tables.SceneEntry.{SceneEntry}
+
+-- ---- table 8: the sixteen actions
+
+abbrev pub is_same_action : ActionEntry → ActionEntry → Bool
+is_same_action a b = (a.nouns == b.nouns) && (a.noun == b.noun) && (a.second == b.second) && (a.marks == b.marks)
+
+unfoldable pub are_same_actions : List ActionEntry → List ActionEntry → Bool
+are_same_actions [] [] = true
+are_same_actions [] (b ∷ others) = false
+are_same_actions (a ∷ actions) [] = false
+are_same_actions (a ∷ actions) (b ∷ others) = is_same_action a b && are_same_actions actions others
+
+-- ---- table 10: rules
+
+-- one of so many, or none
+abbrev pub is_number_or_none : ℕ → ℕ → ℕ → Bool
+is_number_or_none none count n = (n == none) || nat_lt n count
+
+abbrev pub is_right_side : ℕ → PropertySide → Bool
+is_right_side flags side = nat_lt side.property flags && nat_le side.side 3
+
+unfoldable pub is_right_aspect : Counts → Aspect → Bool
+is_right_aspect z aspects.Anything = true
+is_right_aspect z (aspects.Object o) = nat_lt o z.objects
+is_right_aspect z (aspects.Kind k) = nat_lt k.kind z.kinds && list_all (is_right_side z.flags) k.properties
+is_right_aspect z (aspects.Unknown tag) = false
+
+-- a code, or one of the sixty-one standard rules, from 1
+unfoldable pub is_right_body : ℕ → RuleBody → Bool
+is_right_body count (bodies.Code code) = nat_lt code count
+is_right_body count (bodies.Standard rule) = nat_le 1 rule && nat_le rule 61
+is_right_body count (bodies.Unknown tag) = false
+
+unfoldable pub is_right_rule : Counts → RuleEntry → Bool
+is_right_rule z r =
+    nat_lt r.book z.books && is_number_or_none 255 z.actions r.action && is_right_aspect z r.noun && is_right_aspect z r.second && is_right_aspect z r.place
+    && is_number_or_none 255 z.scenes r.scene && is_number_or_none 65535 z.codes r.condition && is_right_body z.codes r.body
+
+-- ---- the codes that rules name: of each the test of its condition, if it has one, and its body, if that is a code
+
+abbrev pub code_of_body : RuleBody → List ℕ
+code_of_body (bodies.Code code) = code ∷ []
+code_of_body _ = []
+
+abbrev pub codes_in_rule : RuleEntry → List ℕ
+codes_in_rule r = (if r.condition == 65535 then [] else r.condition ∷ []) ++ code_of_body r.body
+
+abbrev pub codes_in_rules : List RuleEntry → List ℕ
+codes_in_rules rules = flat_map codes_in_rule rules
+
+abbrev pub use_in_body : RuleBody → List Use
+use_in_body (bodies.Code code) = Body ∷ []
+use_in_body _ = []
+
+-- what they are for
+abbrev pub uses_in_rule : RuleEntry → List Use
+uses_in_rule r = (if r.condition == 65535 then [] else Test 0 ∷ []) ++ use_in_body r.body
+
+abbrev pub uses_in_rules : List RuleEntry → List Use
+uses_in_rules rules = flat_map uses_in_rule rules
+
+-- ---- tables 11 and 12: books without rules, scenes without codes
+
+abbrev pub lists_none : Book → Bool
+lists_none book = length book.rules == 0
+
+-- the author's own are 100 at most
+unfoldable pub are_right_books : ℕ → List Book → Bool
+are_right_books scenes books = nat_le (first_own_book scenes) (length books) && nat_le (length books) (first_own_book scenes + 100) && list_all lists_none books
+
+unfoldable pub is_right_scene : SceneEntry → Bool
+is_right_scene scene = nat_le scene.recurring 1 && (scene.begins == 65535) && (scene.ends == 65535)
+
+abbrev pub are_right_scenes : List SceneEntry → Bool
+are_right_scenes scenes = nat_le (length scenes) 50 && list_all is_right_scene scenes
+
+-- ---- all of it
+
+-- tables 8 to 12 are those of a story: no grammar so far, 2,000 rules and 50 scenes at most
+unfoldable pub are_right_rules : Counts → RuleTables → Bool
+are_right_rules z r =
+    are_right_scenes r.scenes && are_right_books (length r.scenes) r.books && are_same_actions r.actions action_entries && (length r.grammar == 0)
+    && (nat_le (length r.rules) 2000 && list_all (is_right_rule z) r.rules)

@@ -1,0 +1,185 @@
+//! What tables 8 to 12 of a story say, where there are so many of what they name.
+ghost use Rattle.std.specs.Prelude.{◌≡◌, IfOk, nat_le, true};
+ghost use Rattle.std.specs.List.{list_all};
+ghost use Rattle.story_format.specs.RuleChecks.{are_right_books, are_right_rules, are_right_scenes, are_same_actions, is_number_or_none, is_right_aspect, is_right_body, is_right_rule, is_right_scene, is_right_side, is_same_action, lists_none};
+ghost use Rattle.story_format.specs.RuleMaking.{action_entries};
+
+use crate::actions::action_entries;
+use crate::place::NONE;
+use crate::rule_entry::{Aspect, PropertySide, RuleBody, RuleEntry};
+use crate::rule_tables::{ActionEntry, Book, RuleTables, SceneEntry};
+use play_meaning::Counts;
+use std::alloc::{AllocError, Global};
+
+/// The number of a byte that stands for none.
+const NO_BYTE: u8 = 255;
+
+/// The most rules, the standard ones with them.
+const MOST_RULES: usize = 2000;
+
+/// How many standard rules there are.
+const STANDARD_RULES: u8 = 61;
+
+/// The most rulebooks of the author's.
+const MOST_OWN_BOOKS: usize = 100;
+
+/// The most scenes.
+const MOST_SCENES: usize = 50;
+
+fn is_same_action(one: &ActionEntry, other: &ActionEntry) -> bool
+    ensures { result ≡ is_same_action one.now other.now }
+{
+    one.nouns == other.nouns
+        && one.noun == other.noun
+        && one.second == other.second
+        && one.marks == other.marks
+}
+
+#[tactic(auto, unfolding(crate::specs::RuleChecks::are_same_actions))]
+fn are_same_actions(actions: &[ActionEntry], others: &[ActionEntry]) -> bool
+    ensures { result ≡ are_same_actions actions.now others.now }
+{
+    let mut actions = actions;
+    let mut others = others;
+    while let [action, after @ ..] = actions {
+        match others {
+            [other, behind @ ..] if is_same_action(action, other) => others = behind,
+            _ => return false,
+        }
+        actions = after;
+    }
+    others.is_empty()
+}
+
+/// Whether a number is none, or that of one of so many.
+fn is_byte_or_none(count: u16, number: u8) -> bool
+    ensures { result ≡ is_number_or_none 255 count number }
+{
+    number == NO_BYTE || u16::from(number) < count
+}
+
+fn is_code_or_none(count: u16, number: u16) -> bool
+    ensures { result ≡ is_number_or_none 65535 count number }
+{
+    number == NONE || number < count
+}
+
+fn is_right_side(flags: u16, side: &PropertySide) -> bool
+    ensures { result ≡ is_right_side flags side.now }
+{
+    u16::from(side.property) < flags && side.side <= 3
+}
+
+fn are_right_sides(flags: u16, sides: &[PropertySide]) -> bool
+    ensures { result ≡ list_all (is_right_side flags) sides.now }
+{
+    sides.iter().all(|side| is_right_side(flags, side))
+}
+
+#[tactic(auto, unfolding(crate::specs::RuleChecks::is_right_aspect))]
+fn is_right_aspect(counts: &Counts, aspect: &Aspect) -> bool
+    ensures { result ≡ is_right_aspect counts.now aspect.now }
+{
+    match aspect {
+        Aspect::Anything => true,
+        Aspect::Object(object) => *object < counts.objects,
+        Aspect::Kind(kind) => {
+            u16::from(kind.kind) < counts.kinds
+                && are_right_sides(counts.flags, kind.properties.as_slice())
+        }
+        Aspect::Unknown(_) => false,
+    }
+}
+
+#[tactic(auto, unfolding(crate::specs::RuleChecks::is_right_body))]
+fn is_right_body(codes: u16, body: &RuleBody) -> bool
+    ensures { result ≡ is_right_body codes body.now }
+{
+    match body {
+        RuleBody::Code(code) => *code < codes,
+        RuleBody::Standard(rule) => 1 <= *rule && *rule <= STANDARD_RULES,
+        RuleBody::Unknown(_) => false,
+    }
+}
+
+#[tactic(auto, unfolding(crate::specs::RuleChecks::is_right_rule))]
+fn is_right_rule(counts: &Counts, rule: &RuleEntry) -> bool
+    ensures { result ≡ is_right_rule counts.now rule.now }
+{
+    rule.book < counts.books
+        && is_byte_or_none(counts.actions, rule.action)
+        && is_right_aspect(counts, &rule.noun)
+        && is_right_aspect(counts, &rule.second)
+        && is_right_aspect(counts, &rule.place)
+        && is_byte_or_none(counts.scenes, rule.scene)
+        && is_code_or_none(counts.codes, rule.condition)
+        && is_right_body(counts.codes, &rule.body)
+}
+
+fn each_is_right(counts: &Counts, rules: &[RuleEntry]) -> bool
+    ensures { result ≡ list_all (is_right_rule counts.now) rules.now }
+{
+    rules.iter().all(|rule| is_right_rule(counts, rule))
+}
+
+fn lists_none(book: &Book) -> bool
+    ensures { result ≡ lists_none book.now }
+{
+    book.rules.as_slice().is_empty()
+}
+
+fn each_lists_none(books: &[Book]) -> bool
+    ensures { result ≡ list_all lists_none books.now }
+{
+    books.iter().all(lists_none)
+}
+
+/// Whether there are the books of so many scenes, and the author's own, and none lists a rule.
+#[tactic(auto, unfolding(crate::specs::RuleChecks::are_right_books))]
+fn are_right_books(scenes: usize, books: &[Book]) -> bool
+    requires { nat_le scenes 50 ≡ true }
+    ensures { result ≡ are_right_books scenes books.now }
+{
+    let first = 8 + 2 * scenes;
+    first <= books.len() && books.len() <= first + MOST_OWN_BOOKS && each_lists_none(books)
+}
+
+#[tactic(auto, unfolding(crate::specs::RuleChecks::is_right_scene))]
+fn is_right_scene(scene: &SceneEntry) -> bool
+    ensures { result ≡ is_right_scene scene.now }
+{
+    scene.recurring <= 1 && scene.begins == NONE && scene.ends == NONE
+}
+
+fn each_scene_is_right(scenes: &[SceneEntry]) -> bool
+    ensures { result ≡ list_all is_right_scene scenes.now }
+{
+    scenes.iter().all(is_right_scene)
+}
+
+/// Whether there are few scenes, which nothing begins or ends.
+fn are_right_scenes(scenes: &[SceneEntry]) -> bool
+    ensures { result ≡ are_right_scenes scenes.now }
+{
+    scenes.len() <= MOST_SCENES && each_scene_is_right(scenes)
+}
+
+/// Whether tables 8 to 12 are those of a story: the sixteen actions, no grammar so far, rules that name what is there, books
+/// that list none, and scenes that nothing begins or ends.
+#[tactic(auto, unfolding(crate::specs::RuleChecks::are_right_rules))]
+pub fn are_right_rules(
+    alloc: Global,
+    counts: &Counts,
+    rules: &RuleTables,
+) -> Result<bool, AllocError>
+    ensures { IfOk result (λ right. right ≡ are_right_rules counts.now rules.now) }
+{
+    let actions = action_entries(alloc)?;
+    let scenes = rules.scenes.as_slice();
+    Ok(are_right_scenes(scenes)
+        && are_right_books(scenes.len(), rules.books.as_slice())
+        && are_same_actions(rules.actions.as_slice(), actions.as_slice())
+        && rules.grammar.as_slice().is_empty()
+        && rules.rules.as_slice().len() <= MOST_RULES
+        && each_is_right(counts, rules.rules.as_slice()))
+}

@@ -1,0 +1,144 @@
+//! The rule tables of a tale.
+ghost use Rattle.std.specs.Prelude.{◌≡◌, ◌≤◌, [], IfOk, length, map, min, replicate};
+ghost use Rattle.play_meaning.specs.Meant.{rule_meant};
+ghost use Rattle.story_format.specs.RuleMaking.{book_count, condition_number, rule_count, rule_entries, rule_entry, rules_of, scene_entry};
+
+use crate::actions::{action_entries, mark_if};
+use crate::place::NONE;
+use crate::rule_entry::{Aspect, RuleBody, RuleEntry};
+use crate::rule_tables::{Book, RuleTables, SceneEntry};
+use crate::table::Table;
+use play_meaning::tree::MeantRule;
+use std::alloc::{AllocError, Global};
+use world_meaning::Declared;
+
+/// A number as two bytes say it.
+fn small(number: usize) -> u16
+    ensures { result ≡ min number 65535 }
+{
+    number.min(65_535) as u16
+}
+
+fn condition_number(next: usize, rule: &MeantRule) -> u16
+    ensures { result ≡ condition_number next (rule_meant rule.now).condition }
+{
+    match rule.head.condition {
+        None => NONE,
+        Some(_) => small(next),
+    }
+}
+
+/// How many codes a rule has: that of its condition, if it has one, and that of its body.
+fn rule_count(rule: &MeantRule) -> usize
+    ensures { result ≡ rule_count (rule_meant rule.now) }
+{
+    match rule.head.condition {
+        None => 1,
+        Some(_) => 2,
+    }
+}
+
+/// The entry of a rule whose first code has this number.
+fn rule_entry(next: usize, rule: &MeantRule) -> RuleEntry
+    requires { next ≤ 5000 }
+    ensures { result ≡ rule_entry next (rule_meant rule.now) }
+{
+    RuleEntry {
+        book: rule.head.book,
+        action: 255,
+        noun: Aspect::Anything,
+        second: Aspect::Anything,
+        place: Aspect::Anything,
+        scene: 255,
+        condition: condition_number(next, rule),
+        body: RuleBody::Code(small(next + rule_count(rule) - 1)),
+    }
+}
+
+/// The entries of rules, the first code having this number.
+#[tactic(auto, unfolding(crate::specs::RuleMaking::rule_entries))]
+fn rule_entries(
+    alloc: Global,
+    first: usize,
+    rules: &[MeantRule],
+) -> Result<Table<RuleEntry>, AllocError>
+    requires few { first ≤ 1000 }
+    requires few_rules { length rules.now ≤ 2000 }
+    ensures { IfOk result (λ entries. entries ≡ rule_entries first (map rule_meant rules.now)) }
+{
+    let mut entries = Vec::new(alloc);
+    let mut next = first;
+    let mut rest = rules;
+    while let [rule, after @ ..] = rest {
+        entries.push(rule_entry(next, rule))?;
+        next += rule_count(rule);
+        rest = after;
+    }
+    Ok(Table::new(entries))
+}
+
+/// So many books without rules.
+fn empty_books(alloc: Global, count: usize) -> Result<Table<Book>, AllocError>
+    ensures { IfOk result (λ books. books ≡ replicate count (record { rules = [] })) }
+{
+    let mut books = Vec::new(alloc);
+    let mut left = count;
+    while left > 0 {
+        books.push(Book {
+            rules: Table::new(Vec::new(alloc)),
+        })?;
+        left -= 1;
+    }
+    Ok(Table::new(books))
+}
+
+fn scene_entry(recurs: bool) -> SceneEntry
+    ensures { result ≡ scene_entry recurs }
+{
+    SceneEntry {
+        recurring: mark_if(1, recurs),
+        begins: NONE,
+        ends: NONE,
+    }
+}
+
+fn scene_entries(alloc: Global, scenes: &[bool]) -> Result<Vec<SceneEntry>, AllocError>
+    ensures { IfOk result (λ entries. entries.items ≡ map scene_entry scenes.now) }
+{
+    scenes
+        .iter()
+        .map(|recurs| scene_entry(*recurs))
+        .collect(alloc)
+}
+
+/// How many books there are: eight, two for each scene, and the author's own.
+fn book_count(declared: &Declared) -> usize
+    requires few { length declared.now.scenes ≤ 50 }
+    requires few_books { declared.now.rulebooks ≤ 100 }
+    ensures { result ≡ book_count declared.now }
+{
+    8 + 2 * declared.scenes.as_slice().len() + declared.rulebooks
+}
+
+/// Tables 8 to 12 of what a source declares and of its rules, the first code of these having this number.
+#[tactic(auto, unfolding(crate::specs::RuleMaking::rules_of))]
+pub fn rules_of(
+    alloc: Global,
+    declared: &Declared,
+    first: usize,
+    rules: &[MeantRule],
+) -> Result<RuleTables, AllocError>
+    requires few { first ≤ 1000 }
+    requires few_rules { length rules.now ≤ 2000 }
+    requires few_scenes { length declared.now.scenes ≤ 50 }
+    requires few_books { declared.now.rulebooks ≤ 100 }
+    ensures { IfOk result (λ made. made ≡ rules_of declared.now first (map rule_meant rules.now)) }
+{
+    Ok(RuleTables {
+        actions: action_entries(alloc)?,
+        grammar: Table::new(Vec::new(alloc)),
+        rules: rule_entries(alloc, first, rules)?,
+        books: empty_books(alloc, book_count(declared))?,
+        scenes: Table::new(scene_entries(alloc, declared.scenes.as_slice())?),
+    })
+}
