@@ -8,7 +8,7 @@ ghost use Rattle.i7_claims.specs.Views.{names_of};
 use i7_sentences::{Assertion, Being, Name, Sentence};
 use object_words::Strings;
 use std::alloc::{AllocError, Global};
-use world_meaning::{Direction, is_spelled, lowered};
+use world_meaning::{Direction, is_spelled};
 
 /// The first number of an object of the author's.
 pub const FIRST_OF_AUTHOR: usize = 13;
@@ -34,7 +34,7 @@ pub fn key_of(alloc: Global, name: &[u8]) -> Result<Vec<u8>, AllocError>
     if is_spelled(name, b"player") {
         return Vec::from_slice(alloc, b"yourself");
     }
-    lowered(alloc, name)
+    name.to_ascii_lowercase(alloc)
 }
 
 /// The keys of the built-in objects.

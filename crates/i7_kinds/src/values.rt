@@ -1,5 +1,7 @@
 //! What sentences say of the properties of objects, or usually of those of kinds, and of variables, and the lowest
 //! line of what says another value.
+//!
+//! What each claim tells is marked `inline(always)`, since each loop over the claims asks for few of them.
 ghost use Rattle.std.specs.Prelude.{◌≡◌, IfOk, OnOk};
 ghost use Rattle.i7_claims.specs.Numbers.{number_in};
 ghost use Rattle.i7_kinds.specs.Values.{is_contrary, is_other, is_same, told_as, told_by, value_at, value_in, value_twice, values_by, with_slot, with_told};
@@ -72,6 +74,7 @@ fn told_of_variable(scope: &Scope<'_>, start: &Start) -> Told
 }
 
 /// What a fact says of the properties of objects, or of kinds that are there, or of variables.
+#[inline(always)]
 fn told_by(bearer: Bearer, scope: &Scope<'_>, fact: &Fact) -> Option<Told>
     ensures { result ≡ told_by bearer scope.now fact.now }
 {
@@ -108,6 +111,7 @@ fn keep(values: &mut Values, slot: Slot, value: Value) -> Result<(), AllocError>
     Ok(())
 }
 
+#[inline(always)]
 fn keep_told(values: &mut Values, told: Option<Told>) -> Result<(), AllocError>
     ensures { OnOk result (value_at values.new ≡ with_told (value_at values.old) told) }
 {

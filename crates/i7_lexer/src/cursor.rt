@@ -31,6 +31,7 @@ impl Cursor {
     }
 
     /// The place behind a lexeme that begins here.
+    #[inline(always)]
     pub(crate) fn after(self, lexeme: &Lexeme<'_>) -> Cursor
         requires lines { self.line + breaks_of lexeme.now < 2 ^ 32 }
         requires short { length (spelled lexeme.now) < 2 ^ 32 }

@@ -28,6 +28,7 @@ pub(crate) enum Lexeme<'a> {
 
 /// The first lexeme and the bytes behind it; none where a text or a comment has no end, and in
 /// front of nothing.
+#[inline(always)]
 pub(crate) fn next_lexeme(bytes: &[u8]) -> Option<(Lexeme<'_>, &[u8])>
     ensures { MatchOption result (next_of bytes.now ≡ None) (λ r. next_of bytes.now ≡ Some (r.0, r.1.now)) }
 {

