@@ -13,6 +13,7 @@ use story_code::{EmitFault, body_codes, condition_codes, description_codes};
 use world_meaning::TextBytes;
 
 /// The bytes of codes put together, and of the tests that they name in turn.
+#[derive(Debug, Drop)]
 pub struct Coded {
     pub codes: Vec<TextBytes>,
     pub tests: Vec<TextBytes>,

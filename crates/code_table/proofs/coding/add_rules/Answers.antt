@@ -1,0 +1,1 @@
+use Rattle.code_table.proofs.coding.add_rules.Goals as goal

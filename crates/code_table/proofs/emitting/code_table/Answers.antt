@@ -1,0 +1,1 @@
+use Rattle.code_table.proofs.emitting.code_table.Goals as goal
