@@ -2,14 +2,17 @@
 use Rattle.std.proofs.Common.{◌≡◌, ◌∙◌, ap, sym, subst, refl, ℕ, suc, ◌+◌, ◌≤◌, ◌<◌, true, List, [], ◌∷◌, ◌++◌, length, drop, take, append_assoc, append-nil, arith, length-append}
 use Rattle.std.specs.List.{AllByRecursion, flat_map}
 use Rattle.std.specs.Prelude.{map}
+use Rattle.play_meaning.specs.Meant.{rule_meant, text_meant}
 use Rattle.play_meaning.specs.declared.instruction.Instruction.{Instruction}
 use Rattle.play_meaning.specs.declared.operand.Counts.{Counts}
+use Rattle.play_meaning.specs.declared.tree.rule.MeantRule.{MeantRule}
+use Rattle.play_meaning.specs.declared.tree.said.Text.{Text as MeantText}
 use Rattle.story_code.specs.Emits.{AreEmitted, AreSpelled}
 use Rattle.story_code.specs.Emitting.{can_say_all}
 use Rattle.story_code.specs.SoundlyEmitted.{AreSoundAnywhere, among}
 use Rattle.code_table.specs.Coding.{AddAll, Adds, AreCoded, IsCoded}
 use Rattle.code_table.specs.Emitted.{AllFit, CanBeSaid, codes_of_origins, origins_emitted, origins_from}
-use Rattle.code_table.specs.Origins.{Fits, Origin, part_of, use_for}
+use Rattle.code_table.specs.Origins.{Describes, Fits, Origin, origins_meant, origins_of_rule, part_of, use_for}
 
 pub spelled_long : (bytes : List (List ℕ)) (codes : List (List Instruction)) → AreSpelled bytes codes → length bytes ≡ length codes
 spelled_long [] [] spelled = refl
@@ -66,6 +69,19 @@ module _ (z : Counts) (string : List ℕ → ℕ) where
   -- the numbers have run out
   pub too_many_tests : (origins : List Origin) (codes tests : List (List ℕ)) → AreCoded z string (length origins) origins codes tests → 65536 ≤ length origins + length tests → 65535 < length (codes_of_origins string origins)
   too_many_tests origins codes tests coded many = omega (arith, many, whole_long origins codes tests coded)
+
+  -- they are too many without any tests
+  pub too_many_heads : (origins : List Origin) → 65536 ≤ length origins → 65535 < length (codes_of_origins string origins)
+  too_many_heads origins many =
+      let es = origins_emitted string origins in
+      omega (arith, many, length-append (map (λ e. e.code) es) (flat_map (λ e. e.tests) es), codes_long string (length origins) origins)
+
+  -- rules behind texts
+  pub all_coded : (heads : ℕ) (texts : List MeantText) (rules : List MeantRule) (codes tests more_codes more_tests : List (List ℕ)) → heads ≡ length (origins_meant texts rules)
+      → AreCoded z string heads (map Describes (map text_meant texts)) codes tests → AddAll z string heads (flat_map origins_of_rule (map rule_meant rules)) codes tests more_codes more_tests
+      → AreCoded z string (length (origins_meant texts rules)) (origins_meant texts rules) more_codes more_tests
+  all_coded heads texts rules codes tests more_codes more_tests count coded adds =
+      subst (λ n. AreCoded z string n (origins_meant texts rules) more_codes more_tests) count (adds (map Describes (map text_meant texts)) coded)
 
   -- ---- one more
 

@@ -1,23 +1,27 @@
 -- Codes that are put together, and why they end early.
-use Rattle.std.proofs.Common.{◌≡◌, ◌∙◌, ap, sym, subst, refl, ℕ, suc, ◌+◌, ◌-◌, ◌<◌, ◌≤◌, List, [], ◌∷◌, ◌++◌, length, drop, take, get_or, append_assoc, append-nil, arith, length-append, true, false}
+use Rattle.std.proofs.Common.{◌≡◌, ◌∙◌, ap, sym, subst, refl, ℕ, suc, ◌+◌, ◌-◌, ◌<◌, ◌≤◌, List, [], ◌∷◌, ◌++◌, length, drop, take, get_or, append_assoc, append-nil, Some, None, arith, length-append, true, false}
 use Rattle.std.specs.List.{AllByRecursion, flat_map}
+use Rattle.std.specs.Option.{option_map}
 use Rattle.std.specs.Prelude.{map}
 use Rattle.std.proofs.lemmas.List.{length-map, take_all}
-use Rattle.play_meaning.specs.Meant.{rule_meant, text_meant}
+use Rattle.play_meaning.specs.Meant.{body_meant, condition_meant, rule_meant, text_meant}
 use Rattle.play_meaning.specs.Rules.{AuthorRule}
+use Rattle.play_meaning.specs.TranslatedScripts.{in_list}
 use Rattle.play_meaning.specs.Trees.{Text}
 use Rattle.play_meaning.specs.declared.operand.Counts.{Counts}
+use Rattle.play_meaning.specs.declared.tree.condition.Condition.{Condition}
+use Rattle.play_meaning.specs.declared.tree.phrase.Phrase.{Phrase}
 use Rattle.play_meaning.specs.declared.tree.rule.MeantRule.{MeantRule}
 use Rattle.play_meaning.specs.declared.tree.said.Text.{Text as MeantText}
 use Rattle.story_code.specs.Emitting.{can_say_all}
 use Rattle.story_code.specs.declared.emit.EmitFault.{EmitFault}
 use Rattle.story_code.specs.declared.emit.EmitFault.TheVariants as emit
-use Rattle.code_table.specs.Coding.{AddAll, AreCoded, HasNoCode, RulesHaveNone, StopIn, StopsIn, TextsHaveNone, not_emitted, rule_fault, text_fault}
+use Rattle.code_table.specs.Coding.{AddAll, Adds, AreCoded, HasNoCode, RulesHaveNone, StopIn, StopsIn, TextsHaveNone, not_emitted, rule_fault, text_fault}
 use Rattle.code_table.specs.Emitted.{HaveNoTable, codes_of_origins, number_from, origins_emitted, origins_from}
-use Rattle.code_table.specs.Origins.{Describes, Fits, Origin, origins_of, origins_of_rule, part_of}
+use Rattle.code_table.specs.Origins.{Asks, Describes, Does, Fits, Origin, origins_of, origins_of_rule, part_of}
 use Rattle.code_table.specs.declared.adding.NotAdded.{NotAdded}
 use Rattle.code_table.specs.declared.adding.NotAdded.TheVariants as added
-use Rattle.code_table.proofs.Coded.{all_fit, all_said, coded_long, coded_tests, codes_long}
+use Rattle.code_table.proofs.Coded.{adds_both, adds_one, all_fit, all_said, coded_long, coded_tests, codes_long}
 use Rattle.code_table.proofs.Lists.{flat_append}
 use Rattle.code_table.proofs.Parted.{rule_parted, text_parted}
 
@@ -96,9 +100,9 @@ module _ (z : Counts) (string : List ℕ → ℕ) where
       by emit.TooLong long = λ fits. long refl (fits z.own z.codes)
       by emit.Memory long = tt
 
-  -- ---- a rule
+  -- ---- one of several
 
-  pub stops_at : (heads : ℕ) (before front back : List Origin) (origin : Origin) (codes tests : List (List ℕ)) (fault : NotAdded) → AreCoded z string heads (before ++ front) codes tests
+  stops_at : (heads : ℕ) (before front back : List Origin) (origin : Origin) (codes tests : List (List ℕ)) (fault : NotAdded) → AreCoded z string heads (before ++ front) codes tests
       → HasNoCode z string (heads + length tests) origin fault → StopsIn z string heads before (front ++ origin ∷ back) fault
   stops_at heads before front back origin codes tests fault coded none = record {
     front = front;
@@ -110,15 +114,10 @@ module _ (z : Counts) (string : List ℕ → ℕ) where
     none = subst (λ n. HasNoCode z string n origin fault) (ap (λ k. heads + k) (coded_tests z string heads (before ++ front) codes tests coded)) none;
   }
 
-  -- the first of a rule's
-  pub first_stops : (heads : ℕ) (back : List Origin) (origin : Origin) (codes tests : List (List ℕ)) (fault : NotAdded) → HasNoCode z string (heads + length tests) origin fault → StopIn z string heads (origin ∷ back) codes tests fault
-  first_stops heads back origin codes tests fault none before coded =
-      stops_at heads before [] back origin codes tests fault (subst (λ l. AreCoded z string heads l codes tests) (sym (append-nil before)) coded) none
-
-  -- the second
-  pub second_stops : (heads : ℕ) (first origin : Origin) (codes tests more_codes more_tests : List (List ℕ)) (fault : NotAdded) → AddAll z string heads (first ∷ []) codes tests more_codes more_tests
-      → HasNoCode z string (heads + length more_tests) origin fault → StopIn z string heads (first ∷ origin ∷ []) codes tests fault
-  second_stops heads first origin codes tests more_codes more_tests fault adds none before coded = stops_at heads before (first ∷ []) [] origin more_codes more_tests fault (adds before coded) none
+  -- the first of them
+  stops_first : (heads : ℕ) (before back : List Origin) (origin : Origin) (codes tests : List (List ℕ)) (fault : NotAdded) → AreCoded z string heads before codes tests → HasNoCode z string (heads + length tests) origin fault
+      → StopsIn z string heads before (origin ∷ back) fault
+  stops_first heads before back origin codes tests fault coded none = stops_at heads before [] back origin codes tests fault (subst (λ l. AreCoded z string heads l codes tests) (sym (append-nil before)) coded) none
 
   -- ---- why there is no table then
 
@@ -172,6 +171,47 @@ module _ (z : Counts) (string : List ℕ → ℕ) where
           (subst (λ n. 65536 ≤ number_from string n (origins_of texts before ++ stops.front)) count stops.none)
       by added.Memory stops = tt
 
+-- ---- a rule's condition and body
+
+module _ (z : Counts) (string : List ℕ → ℕ) (heads : ℕ) (rule : MeantRule) (phrases : List Phrase) (own : phrases ≡ rule.body.items) (codes tests : List (List ℕ)) where
+  rule_with : (condition : Condition) → rule.head.condition ≡ Some condition → origins_of_rule (rule_meant rule) ≡ Asks (condition_meant condition) ∷ Does (body_meant phrases) ∷ []
+  rule_with condition is =
+      ap (λ o. map Asks (in_list (option_map condition_meant o)) ++ Does (body_meant rule.body.items) ∷ []) is ∙ ap (λ l. Asks (condition_meant condition) ∷ Does (body_meant l) ∷ []) (sym own)
+
+  rule_without : rule.head.condition ≡ None → origins_of_rule (rule_meant rule) ≡ Does (body_meant phrases) ∷ []
+  rule_without is = ap (λ o. map Asks (in_list (option_map condition_meant o)) ++ Does (body_meant rule.body.items) ∷ []) is ∙ ap (λ l. Does (body_meant l) ∷ []) (sym own)
+
+  pub both_added : (condition : Condition) (codes_now tests_now more_codes more_tests : List (List ℕ)) → rule.head.condition ≡ Some condition
+      → Adds z string heads (Asks (condition_meant condition)) codes tests codes_now tests_now → Adds z string heads (Does (body_meant phrases)) codes_now tests_now more_codes more_tests
+      → AddAll z string heads (origins_of_rule (rule_meant rule)) codes tests more_codes more_tests
+  both_added condition codes_now tests_now more_codes more_tests is asks does =
+      subst (λ l. AddAll z string heads l codes tests more_codes more_tests) (sym (rule_with condition is))
+      (adds_both z string heads (Asks (condition_meant condition) ∷ []) (Does (body_meant phrases) ∷ []) codes tests codes_now tests_now more_codes more_tests
+      (adds_one z string heads (Asks (condition_meant condition)) codes tests codes_now tests_now asks) (adds_one z string heads (Does (body_meant phrases)) codes_now tests_now more_codes more_tests does))
+
+  pub body_added : (more_codes more_tests : List (List ℕ)) → rule.head.condition ≡ None → Adds z string heads (Does (body_meant phrases)) codes tests more_codes more_tests
+      → AddAll z string heads (origins_of_rule (rule_meant rule)) codes tests more_codes more_tests
+  body_added more_codes more_tests is does =
+      subst (λ l. AddAll z string heads l codes tests more_codes more_tests) (sym (rule_without is)) (adds_one z string heads (Does (body_meant phrases)) codes tests more_codes more_tests does)
+
+  pub condition_stops : (condition : Condition) (fault : NotAdded) → rule.head.condition ≡ Some condition → HasNoCode z string (heads + length tests) (Asks (condition_meant condition)) fault
+      → StopIn z string heads (origins_of_rule (rule_meant rule)) codes tests fault
+  condition_stops condition fault is none before coded =
+      subst (λ l. StopsIn z string heads before l fault) (sym (rule_with condition is)) (stops_first z string heads before (Does (body_meant phrases) ∷ []) (Asks (condition_meant condition)) codes tests fault coded none)
+
+  pub second_stops : (condition : Condition) (codes_now tests_now : List (List ℕ)) (fault : NotAdded) → rule.head.condition ≡ Some condition
+      → Adds z string heads (Asks (condition_meant condition)) codes tests codes_now tests_now → HasNoCode z string (heads + length tests_now) (Does (body_meant phrases)) fault
+      → StopIn z string heads (origins_of_rule (rule_meant rule)) codes tests fault
+  second_stops condition codes_now tests_now fault is asks none before coded =
+      subst (λ l. StopsIn z string heads before l fault) (sym (rule_with condition is))
+      (stops_at z string heads before (Asks (condition_meant condition) ∷ []) [] (Does (body_meant phrases)) codes_now tests_now fault
+      (adds_one z string heads (Asks (condition_meant condition)) codes tests codes_now tests_now asks before coded) none)
+
+  pub only_stops : (fault : NotAdded) → rule.head.condition ≡ None → HasNoCode z string (heads + length tests) (Does (body_meant phrases)) fault
+      → StopIn z string heads (origins_of_rule (rule_meant rule)) codes tests fault
+  only_stops fault is none before coded =
+      subst (λ l. StopsIn z string heads before l fault) (sym (rule_without is)) (stops_first z string heads before [] (Does (body_meant phrases)) codes tests fault coded none)
+
 -- ---- as the loops come to it
 
 abbrev pub one_text : Text → List Origin
@@ -195,9 +235,15 @@ module _ (z : Counts) (string : List ℕ → ℕ) (heads : ℕ) where
   rule_stops rules codes tests codes_now tests_now rest rule number fault some at place stop left =
       let way : IsOnWay origins_of_rule z string heads (map rule_meant rules) codes tests codes_now tests_now (rule_meant rule ∷ map rule_meant (take (length rest - 1) (drop 1 rest))) =
       subst (λ l. IsOnWay origins_of_rule z string heads (map rule_meant rules) codes tests codes_now tests_now (map rule_meant l)) (front_of rest rule some at) left in
-      let many : length rules ≡ length left.before + length rest =
-      sym (length-map rules rule_meant) ∙ ap length left.parts ∙ length-append left.before (map rule_meant rest) ∙ ap (λ n. length left.before + n) (length-map rest rule_meant) in
-      rule_none z string heads (map rule_meant rules) way.before _ (rule_meant rule) codes tests codes_now tests_now number fault way.parts (omega (arith, place, many)) way.coded stop
+      let after = take (length rest - 1) (drop 1 rest) in
+      let many : length rules ≡ length way.before + suc (length (map rule_meant after)) = sym (length-map rules rule_meant) ∙ ap length way.parts ∙ length-append way.before (rule_meant rule ∷ map rule_meant after) in
+      rule_none z string heads (map rule_meant rules) way.before (map rule_meant after) (rule_meant rule) codes tests codes_now tests_now number fault way.parts
+      (omega (arith, place, many, length-map after rule_meant, ap length (front_of rest rule some at))) way.coded stop
+
+  pub rules_left : (rules : List MeantRule) (codes tests codes_now tests_now : List (List ℕ)) (rest : List MeantRule) → IsOnWay origins_of_rule z string heads (map rule_meant rules) codes tests codes_now tests_now (map rule_meant rest)
+      → length rest ≤ length rules
+  rules_left rules codes tests codes_now tests_now rest way =
+      omega (arith, length-map rules rule_meant, length-map rest rule_meant, ap length way.parts, length-append way.before (map rule_meant rest))
 
   -- nothing is put together yet
   pub begins_empty : (texts : List Text) (codes tests : List (List ℕ)) → codes ≡ [] → tests ≡ [] → IsOnWay one_text z string heads texts [] [] codes tests texts
