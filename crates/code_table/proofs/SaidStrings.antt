@@ -7,8 +7,8 @@ use Rattle.world_meaning.specs.declared.place.Rel.TheVariants.{Carried, Worn}
 use Rattle.play_meaning.specs.Instructions.{sizes}
 use Rattle.play_meaning.specs.declared.instruction.Instruction.{Instruction}
 use Rattle.play_meaning.specs.declared.instruction.Instruction.TheVariants as code
-use Rattle.play_meaning.specs.TranslatedScripts.{description_part, test_part}
-use Rattle.play_meaning.specs.Translation.{Part, adjective_code, adjectives_code, asked_of, body_part, choice, condition_part, description_code, held_code, is_there_code, kind_code, leave_part, loop, nothing, number_part, object_code, one, phrase_part, seq, strings_of_body, strings_of_phrase, strings_of_text, test_code, testing, text_part, these}
+use Rattle.play_meaning.specs.TranslatedScripts.{description_part}
+use Rattle.play_meaning.specs.Translation.{Part, adjective_code, adjectives_code, asked_of, body_part, choice, condition_part, description_code, held_code, is_there_code, kind_code, leave_part, loop, number_part, object_code, one, phrase_part, seq, strings_of_body, strings_of_phrase, strings_of_text, test_code, testing, text_part, these}
 use Rattle.play_meaning.specs.Trees as tree
 use Rattle.play_meaning.specs.Trees.{Adjective, Body, Condition, Description, NotSo, Number, Object, Phrase, Quality, Text, Touchable, Visible}
 use Rattle.play_meaning.specs.declared.outcome.Flow.{Flow}

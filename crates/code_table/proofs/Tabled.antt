@@ -1,5 +1,5 @@
 -- The bytes of origins' codes, and behind them those of the tests that these name, are a table.
-use Rattle.std.proofs.Common.{◌≡◌, ◌∙◌, ap, sym, subst, refl, ℕ, zero, suc, ◌+◌, ◌≤◌, true, List, [], ◌∷◌, ◌++◌, length, append-nil, Option, Some, None, arith, length-append}
+use Rattle.std.proofs.Common.{◌≡◌, ◌∙◌, ap, sym, subst, refl, ℕ, suc, ◌+◌, ◌≤◌, List, [], ◌∷◌, ◌++◌, length, append-nil, Option, Some, None, arith, length-append}
 use Rattle.std.specs.List.{AllByRecursion, flat_map}
 use Rattle.std.specs.Prelude.{map}
 use Rattle.std.proofs.lemmas.List.{length-map, map-append}
@@ -8,14 +8,13 @@ use Rattle.play_meaning.specs.declared.instruction.Instruction.{Instruction}
 use Rattle.play_meaning.specs.declared.operand.Counts.{Counts}
 use Rattle.play_meaning.specs.declared.operand.Use.{Use}
 use Rattle.story_code.specs.Emits.{AreSpelled}
-use Rattle.story_code.specs.Emitting.{can_say_all}
 use Rattle.story_code.specs.Fronts.{code_in}
 use Rattle.story_code.specs.Runs.{code_or_none, code_told, test_named}
 use Rattle.story_code.specs.Soundness.{Judged}
 use Rattle.story_code.specs.SoundlyEmitted.{AreNumbered, IsSoundTestCode, NameInTurn, NamesNext, NamesNone, among, sizes_as}
 use Rattle.story_code.proofs.Exact.{one_code, spells_in}
 use Rattle.code_table.specs.Coding.{AreCoded}
-use Rattle.code_table.specs.Emitted.{AllFit, codes_of_origins, origins_emitted, origins_from}
+use Rattle.code_table.specs.Emitted.{codes_of_origins, origins_emitted, origins_from}
 use Rattle.code_table.specs.Origins.{Origin, part_of, use_for}
 use Rattle.code_table.specs.Tables.{IsTableOf, sizes_from, tests_in, tests_of, use_of}
 use Rattle.code_table.proofs.Coded.{coded_long, spelled_long}

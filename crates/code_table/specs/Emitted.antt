@@ -1,5 +1,5 @@
 -- The codes of texts and rules: those of all origins in turn, and behind them all tests that they name, in turn.
-use Rattle.std.specs.Prelude.{◌≡◌, ℕ, ◌+◌, ◌<◌, true, false, List, [], ◌∷◌, ◌++◌, length, map}
+use Rattle.std.specs.Prelude.{◌≡◌, ℕ, ◌+◌, ◌<◌, true, false, List, ◌∷◌, ◌++◌, length, map}
 use Rattle.std.specs.List.{AllByRecursion, flat_map}
 use Rattle.play_meaning.specs.Rules.{AuthorRule}
 use Rattle.play_meaning.specs.TranslatedScripts.{codes_emitted, emitted_in_turn}

@@ -24,7 +24,7 @@ returns-clause-coded c =
     let mid = c.match-rule.out in
     let new = c.add_body.new.out in
     elim c.match-rule.branch [
-      in-Some+in-Ok w ↦
+      | in-Some+in-Ok w ↦
           let asks = subst (λ o. Adds z string heads (Asks (condition_meant w.in-Some.condition)) codes tests o.codes.items o.tests.items) (sym w.out-is) (w.in-Ok.ensures.coded string) in
           on_ok_weaker c.add_body.result
           (both_added z string heads rule c.as_slice.result.now c.as_slice.ensures.value codes tests w.in-Some.condition mid.codes.items mid.tests.items new.codes.items new.tests.items w.in-Some.is asks) c.add_body.ensures.coded
@@ -44,7 +44,7 @@ returns-clause-none c =
     let tests = c.args.out.now.tests.items in
     let mid = c.match-rule.out in
     elim c.match-rule.branch [
-      in-Some+in-Ok w ↦
+      | in-Some+in-Ok w ↦
           let asks = subst (λ o. Adds z string heads (Asks (condition_meant w.in-Some.condition)) codes tests o.codes.items o.tests.items) (sym w.out-is) (w.in-Ok.ensures.coded string) in
           IfErr-weaker c.add_body.result _ _ (λ fault. second_stops z string heads rule c.as_slice.result.now c.as_slice.ensures.value codes tests w.in-Some.condition mid.codes.items mid.tests.items fault w.in-Some.is asks) c.add_body.ensures.none
       | in_default w ↦

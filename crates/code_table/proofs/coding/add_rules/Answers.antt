@@ -1,4 +1,4 @@
-use Rattle.std.proofs.Common.{◌∙◌, subst, sym, ap, length, map, arith}
+use Rattle.std.proofs.Common.{subst, sym, map, arith}
 use Rattle.object_words.specs.Mentions.{number_in}
 use Rattle.play_meaning.specs.Meant.{rule_meant}
 use Rattle.code_table.specs.Coding.{RulesHaveNone}
