@@ -45,9 +45,6 @@ module _ {A : Type 0} (f : A → List Origin) (z : Counts) (string : List ℕ �
     pub parts : all ≡ before ++ rest
     pub coded : AddAll z string heads (flat_map f before) codes tests more_codes more_tests
 
-  pub begins : IsOnWay codes tests all
-  begins = record { before = []; parts = refl; coded = λ others is. subst (λ l. AreCoded z string heads l codes tests) (sym (append-nil others)) is }
-
   -- one more
   pub grown : (codes_now tests_now more_codes more_tests : List (List ℕ)) (a : A) (rest : List A) → AddAll z string heads (f a) codes_now tests_now more_codes more_tests → IsOnWay codes_now tests_now (a ∷ rest) → IsOnWay more_codes more_tests rest
   grown codes_now tests_now more_codes more_tests a rest adds way = record {
@@ -244,11 +241,6 @@ module _ (z : Counts) (string : List ℕ → ℕ) (heads : ℕ) where
       → length rest ≤ length rules
   rules_left rules codes tests codes_now tests_now rest way =
       omega (arith, length-map rules rule_meant, length-map rest rule_meant, ap length way.parts, length-append way.before (map rule_meant rest))
-
-  -- nothing is put together yet
-  pub begins_empty : (texts : List Text) (codes tests : List (List ℕ)) → codes ≡ [] → tests ≡ [] → IsOnWay one_text z string heads texts [] [] codes tests texts
-  begins_empty texts codes tests none no_tests =
-      subst (λ l. IsOnWay one_text z string heads texts [] [] l tests texts) (sym none) (subst (λ l. IsOnWay one_text z string heads texts [] [] [] l texts) (sym no_tests) (begins one_text z string heads texts [] []))
 
   pub texts_end : (texts : List Text) (codes tests : List (List ℕ)) (rest : List MeantText) → length rest < 1 → IsOnWay one_text z string heads texts [] [] codes tests (map text_meant rest) → AreCoded z string heads (map Describes texts) codes tests
   texts_end texts codes tests rest none way = subst (λ l. AreCoded z string heads l codes tests) (all_texts texts) (ends one_text z string heads texts [] [] text_meant codes tests rest none way [] (refl, refl))

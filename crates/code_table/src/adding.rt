@@ -13,14 +13,14 @@ use story_code::{EmitFault, body_codes, condition_codes, description_codes};
 use world_meaning::TextBytes;
 
 /// The bytes of codes put together, and of the tests that they name in turn.
-#[derive(Debug, Drop)]
+#[derive(Drop)]
 pub struct Coded {
     pub codes: Vec<TextBytes>,
     pub tests: Vec<TextBytes>,
 }
 
 /// Why a code isn't added.
-#[derive(Clone, Copy, Debug, PartialEq, Eq)]
+#[derive(Clone, Copy)]
 pub enum NotAdded {
     /// What it is of doesn't fit, or bytes can't say it and the tests that it names.
     TooLong,

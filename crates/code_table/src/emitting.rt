@@ -25,7 +25,7 @@ use world_meaning::TextBytes;
 /// # Errors
 ///
 /// `LongText` with the number of the first text that doesn't fit, or whose codes bytes can't say; `LongRule` with that of
-/// the first rule of whose condition or body this is so, where it is of no text; `TooMany` only where there are more than
+/// the first rule of whose condition or body this is so, where it is so of no text; `TooMany` only where there are more than
 /// 65,535 codes; and `Memory`.
 pub fn code_table(
     alloc: Global,
