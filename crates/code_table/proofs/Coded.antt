@@ -1,172 +1,122 @@
--- The codes of texts are put together text by text.
-use Rattle.std.proofs.Common.{◌≡◌, ◌∙◌, ap, sym, subst, refl, ℕ, suc, ◌+◌, ◌-◌, ◌<◌, ◌≤◌, nat_lt, Bool, true, false, if◌then◌else◌, List, [], ◌∷◌, ◌++◌, length, drop, take, get_or, append_assoc, append-nil, Some, None, arith, length-append}
-use Rattle.std.specs.List.{flat_map}
+-- The bytes of codes that are put together one by one.
+use Rattle.std.proofs.Common.{◌≡◌, ◌∙◌, ap, sym, subst, refl, ℕ, suc, ◌+◌, ◌≤◌, ◌<◌, true, List, [], ◌∷◌, ◌++◌, length, drop, take, append_assoc, append-nil, arith, length-append}
+use Rattle.std.specs.List.{AllByRecursion, flat_map}
 use Rattle.std.specs.Prelude.{map}
-use Rattle.std.proofs.lemmas.Bool.{ltb-false, ltb-true}
-use Rattle.std.proofs.lemmas.List.{take_all}
-use Rattle.play_meaning.specs.Meant.{text_meant}
-use Rattle.play_meaning.specs.TranslatedScripts.{description_part}
-use Rattle.play_meaning.specs.Trees as tree
+use Rattle.play_meaning.specs.Meant.{rule_meant, text_meant}
+use Rattle.play_meaning.specs.declared.instruction.Instruction.{Instruction}
 use Rattle.play_meaning.specs.declared.operand.Counts.{Counts}
-use Rattle.play_meaning.specs.declared.operand.Use.TheVariants as role
-use Rattle.play_meaning.specs.declared.tree.said.Text.{Text}
-use Rattle.story_code.specs.Emits.{AreEmitted}
+use Rattle.play_meaning.specs.declared.tree.rule.MeantRule.{MeantRule}
+use Rattle.play_meaning.specs.declared.tree.said.Text.{Text as MeantText}
+use Rattle.story_code.specs.Emits.{AreEmitted, AreSpelled}
 use Rattle.story_code.specs.Emitting.{can_say_all}
-use Rattle.story_code.specs.Fitting.{TextFits}
 use Rattle.story_code.specs.SoundlyEmitted.{AreSoundAnywhere, among}
-use Rattle.story_code.specs.declared.emit.EmitFault.{EmitFault}
-use Rattle.story_code.specs.declared.emit.EmitFault.TheVariants as emit
-use Rattle.code_table.specs.Coding.{Adds, AreCoded, IsCoded, fault_at, number_behind}
-use Rattle.code_table.specs.Descriptions.{CanBeSaid, HaveNoTable, IsTooLong, codes_of_texts, number_from, texts_emitted, texts_from}
-use Rattle.code_table.proofs.Tabled.{all_fit, all_said, coded_long, spelled_long}
+use Rattle.code_table.specs.Coding.{AddAll, Adds, AreCoded, IsCoded}
+use Rattle.code_table.specs.Emitted.{AllFit, CanBeSaid, codes_of_origins, origins_emitted, origins_from}
+use Rattle.code_table.specs.Origins.{Describes, Fits, Origin, origins_meant, origins_of_rule, part_of, use_for}
 
--- ---- what is told of texts that are coded
+pub spelled_long : (bytes : List (List ℕ)) (codes : List (List Instruction)) → AreSpelled bytes codes → length bytes ≡ length codes
+spelled_long [] [] spelled = refl
+spelled_long [] (code ∷ codes) spelled = absurd spelled
+spelled_long (b ∷ bytes) [] spelled = absurd spelled
+spelled_long (b ∷ bytes) (code ∷ codes) spelled = ap suc (spelled_long bytes codes spelled.1)
 
-pub coded_tests : (z : Counts) (string : List ℕ → ℕ) (first : ℕ) (texts : List tree.Text) (codes tests : List (List ℕ)) → AreCoded z string first texts codes tests
-    → length tests ≡ length (flat_map (λ e. e.tests) (texts_from string first texts))
-coded_tests z string first [] codes tests coded = ap length coded.1
-coded_tests z string first (text ∷ texts) codes tests coded =
-    let own = coded.1.0 in
-    let later = coded.1.1.1.1.0 in
-    let e = description_part string text first 0 in
-    let as_many : length own ≡ length e.tests = spelled_long own e.tests coded.1.1.0.emitted.spelled.1 in
-    let number : first + length own ≡ first + length e.tests = ap (λ k. first + k) as_many in
-    let rest = coded_tests z string (first + length own) texts coded.1.1.1.0 later coded.1.1.1.1.1.1.1 ∙ ap (λ n. length (flat_map (λ e. e.tests) (texts_from string n texts))) number in
-    omega (arith, ap length coded.1.1.1.1.1.1.0, length-append own later, as_many, rest, length-append e.tests (flat_map (λ e. e.tests) (texts_from string (first + length e.tests) texts)))
+pub codes_long : (string : List ℕ → ℕ) (first : ℕ) (origins : List Origin) → length (map (λ e. e.code) (origins_from string first origins)) ≡ length origins
+codes_long string first [] = refl
+codes_long string first (origin ∷ origins) = ap suc (codes_long string (first + length (part_of string origin first 0).tests) origins)
 
-tests_grow : (string : List ℕ → ℕ) (first : ℕ) (texts others : List tree.Text)
-    → length (flat_map (λ e. e.tests) (texts_from string first texts)) ≤ length (flat_map (λ e. e.tests) (texts_from string first (texts ++ others)))
-tests_grow string first [] others = omega arith
-tests_grow string first (text ∷ texts) others =
-    let e = description_part string text first 0 in
-    let rest = tests_grow string (first + length e.tests) texts others in
-    omega (arith, rest, length-append e.tests (flat_map (λ e. e.tests) (texts_from string (first + length e.tests) texts)), length-append e.tests (flat_map (λ e. e.tests) (texts_from string (first + length e.tests) (texts ++ others))))
+module _ (z : Counts) (string : List ℕ → ℕ) where
+  -- ---- what is told of origins that are coded
 
-module _ (z : Counts) (string : List ℕ → ℕ) (all : List tree.Text) where
-  -- these texts are left, where so many codes and tests are put together
-  pub record IsOnWay (codes tests : List (List ℕ)) (rest : List tree.Text) : Type 0 where
-    pub before : List tree.Text
-    pub parts : all ≡ before ++ rest
-    pub coded : (others : List tree.Text) (more later : List (List ℕ)) → AreCoded z string (length all + length tests) others more later → AreCoded z string (length all) (before ++ others) (codes ++ more) (tests ++ later)
+  pub coded_long : (first : ℕ) (origins : List Origin) (codes tests : List (List ℕ)) → AreCoded z string first origins codes tests → length codes ≡ length origins
+  coded_long first [] codes tests coded = ap length coded.0
+  coded_long first (origin ∷ origins) codes tests coded = ap length coded.1.1.1.1.1.0 ∙ ap suc (coded_long (first + length coded.1.0) origins coded.1.1.1.0 coded.1.1.1.1.0 coded.1.1.1.1.1.1.1)
 
-  -- those of the texts so far
-  so_far : (codes tests : List (List ℕ)) (rest : List tree.Text) (way : IsOnWay codes tests rest) → AreCoded z string (length all) way.before codes tests
-  so_far codes tests rest way =
-      subst (λ l. AreCoded z string (length all) l codes tests) (append-nil way.before)
-      (subst (λ l. AreCoded z string (length all) (way.before ++ []) l tests) (append-nil codes)
-      (subst (λ l. AreCoded z string (length all) (way.before ++ []) (codes ++ []) l) (append-nil tests) (way.coded [] [] [] (refl, refl))))
+  pub coded_tests : (first : ℕ) (origins : List Origin) (codes tests : List (List ℕ)) → AreCoded z string first origins codes tests → length tests ≡ length (flat_map (λ e. e.tests) (origins_from string first origins))
+  coded_tests first [] codes tests coded = ap length coded.1
+  coded_tests first (origin ∷ origins) codes tests coded =
+      let own = coded.1.0 in
+      let later = coded.1.1.1.1.0 in
+      let e = part_of string origin first 0 in
+      let as_many : length own ≡ length e.tests = spelled_long own e.tests coded.1.1.0.emitted.spelled.1 in
+      let number : first + length own ≡ first + length e.tests = ap (λ k. first + k) as_many in
+      let rest = coded_tests (first + length own) origins coded.1.1.1.0 later coded.1.1.1.1.1.1.1 ∙ ap (λ n. length (flat_map (λ e. e.tests) (origins_from string n origins))) number in
+      omega (arith, ap length coded.1.1.1.1.1.1.0, length-append own later, as_many, rest, length-append e.tests (flat_map (λ e. e.tests) (origins_from string (first + length e.tests) origins)))
 
-  pub begins : (codes tests : List (List ℕ)) → codes ≡ [] → tests ≡ [] → IsOnWay codes tests all
-  begins codes tests none no_tests =
-      subst (λ l. IsOnWay l tests all) (sym none) (subst (λ l. IsOnWay [] l all) (sym no_tests) (record {
-        before = [];
-        parts = refl;
-        coded = λ others more later is. subst (λ n. AreCoded z string n others more later) number is;
-      }))
-    where
-      number : length all + 0 ≡ length all
-      number = omega arith
+  pub all_fit : (first : ℕ) (origins : List Origin) (codes tests : List (List ℕ)) → AreCoded z string first origins codes tests → AllFit z string origins
+  all_fit first [] codes tests coded = tt
+  all_fit first (origin ∷ origins) codes tests coded = (coded.1.1.0.fits, all_fit (first + length coded.1.0) origins coded.1.1.1.0 coded.1.1.1.1.0 coded.1.1.1.1.1.1.1)
 
-  -- a text more
-  grown : (codes tests more_codes more_tests : List (List ℕ)) (first : ℕ) (text : tree.Text) (rest : List tree.Text) → first ≡ length all + length tests → Adds z string first text codes tests more_codes more_tests
-      → IsOnWay codes tests (text ∷ rest) → IsOnWay more_codes more_tests rest
-  grown codes tests more_codes more_tests first text rest number adds way =
-      let code = adds.0 in
-      let own = adds.1.0 in
-      let codes_are = adds.1.1.0 in
-      let tests_are = adds.1.1.1.0 in
-      let is : IsCoded z string (length all + length tests) text code own = subst (λ n. IsCoded z string n text code own) number adds.1.1.1.1 in
-      let long : length more_tests ≡ length tests + length own = ap length tests_are ∙ length-append tests own in
-      let by_own : length all + length more_tests ≡ (length all + length tests) + length own = omega (arith, long) in
-      record {
-        before = way.before ++ text ∷ [];
-        parts = way.parts ∙ sym (append_assoc way.before (text ∷ []) rest);
-        coded = λ others more later coded.
-            let whole = way.coded (text ∷ others) (code ∷ more) (own ++ later) (code, (own, (is, (more, (later, (refl, (refl, subst (λ n. AreCoded z string n others more later) by_own coded))))))) in
-            subst (λ l. AreCoded z string (length all) l (more_codes ++ more) (more_tests ++ later)) (sym (append_assoc way.before (text ∷ []) others))
-            (subst (λ l. AreCoded z string (length all) (way.before ++ text ∷ others) l (more_tests ++ later)) (sym (ap (λ l. l ++ more) codes_are ∙ append_assoc codes (code ∷ []) more))
-            (subst (λ l. AreCoded z string (length all) (way.before ++ text ∷ others) (codes ++ (code ∷ more)) l) (sym (ap (λ l. l ++ later) tests_are ∙ append_assoc tests own later)) whole));
-      }
+  -- bytes said what was put together
+  pub all_said : (first : ℕ) (origins : List Origin) (codes tests : List (List ℕ)) → AreCoded z string first origins codes tests → AllByRecursion (λ e. can_say_all e ≡ true) (origins_from string first origins)
+  all_said first [] codes tests coded = tt
+  all_said first (origin ∷ origins) codes tests coded =
+      let own = coded.1.0 in
+      let is = coded.1.1.0 in
+      let e = part_of string origin first 0 in
+      let number : first + length own ≡ first + length e.tests = ap (λ k. first + k) (spelled_long own e.tests is.emitted.spelled.1) in (
+        is.emitted.said,
+        subst (λ n. AllByRecursion (λ e. can_say_all e ≡ true) (origins_from string n origins)) number (all_said (first + length own) origins coded.1.1.1.0 coded.1.1.1.1.0 coded.1.1.1.1.1.1.1),
+      )
 
-  -- ---- as the loop keeps it
+  whole_long : (origins : List Origin) (codes tests : List (List ℕ)) → AreCoded z string (length origins) origins codes tests → length (codes_of_origins string origins) ≡ length origins + length tests
+  whole_long origins codes tests coded =
+      let es = origins_emitted string origins in
+      omega (arith, coded_tests (length origins) origins codes tests coded, length-append (map (λ e. e.code) es) (flat_map (λ e. e.tests) es), codes_long string (length origins) origins)
 
-  pub grows_on : (codes tests more_codes more_tests : List (List ℕ)) (first : ℕ) (rest : List Text) (text : Text) → 1 ≤ length rest → text ≡ get_or rest 0 text → first ≡ length all + length tests
-      → Adds z string first (text_meant text) codes tests more_codes more_tests → IsOnWay codes tests (map text_meant rest) → IsOnWay more_codes more_tests (map text_meant (take (length rest - 1) (drop 1 rest)))
-  grows_on codes tests more_codes more_tests first [] text some at number adds way = absurd (omega (arith, some))
-  grows_on codes tests more_codes more_tests first (one ∷ rest) text some at number adds way =
-      let whole : take (suc (length rest) - 1) rest ≡ rest = take_all _ rest (omega arith) in
-      subst (λ l. IsOnWay more_codes more_tests (map text_meant l)) (sym whole)
-      (grown codes tests more_codes more_tests first (text_meant one) (map text_meant rest) number (subst (λ (t : Text). Adds z string first (text_meant t) codes tests more_codes more_tests) at adds) way)
-
-  -- the text in front is too long
-  pub is_too_long : (codes tests : List (List ℕ)) (first : ℕ) (rest : List Text) (text : Text) → 1 ≤ length rest → text ≡ get_or rest 0 text → first ≡ length all + length tests
-      → (((own count : ℕ) → TextFits (among z own count) role.Describing string 0 (text_meant text)) → can_say_all (description_part string (text_meant text) first 0) ≡ false)
-      → IsOnWay codes tests (map text_meant rest) → IsTooLong z string all (length codes)
-  is_too_long codes tests first [] text some at number told way = absurd (omega (arith, some))
-  is_too_long codes tests first (one ∷ rest) text some at number told way =
-      let coded = so_far codes tests (map text_meant (one ∷ rest)) way in
-      let there : first ≡ number_from string (length all) way.before = omega (arith, number, coded_tests z string (length all) way.before codes tests coded) in
-      record {
-        before = way.before;
-        text = text_meant one;
-        behind = map text_meant rest;
-        parts = way.parts;
-        place = coded_long z string 0 (length all) way.before codes tests coded;
-        fit = all_fit z string 0 (length all) way.before codes tests coded;
-        said = all_said z string 0 (length all) way.before codes tests coded;
-        long = subst (λ (t : Text). ((own count : ℕ) → TextFits (among z own count) role.Describing string 0 (text_meant t)) → can_say_all (description_part string (text_meant t) (number_from string (length all) way.before) 0) ≡ false) at
-            (subst (λ n. ((own count : ℕ) → TextFits (among z own count) role.Describing string 0 (text_meant text)) → can_say_all (description_part string (text_meant text) n 0) ≡ false) there told);
-      }
-
-  codes_long : (first : ℕ) (texts : List tree.Text) → length (map (λ e. e.code) (texts_from string first texts)) ≡ length texts
-  codes_long first [] = refl
-  codes_long first (text ∷ texts) = ap suc (codes_long (first + length (description_part string text first 0).tests) texts)
+  pub can_be_said : (origins : List Origin) (codes tests : List (List ℕ)) → AreCoded z string (length origins) origins codes tests → length origins + length tests < 65536 → CanBeSaid string origins
+  can_be_said origins codes tests coded few = record { each = all_said (length origins) origins codes tests coded; few = omega (arith, few, whole_long origins codes tests coded) }
 
   -- the numbers have run out
-  pub too_many : (codes tests : List (List ℕ)) (rest : List tree.Text) → 65536 ≤ length all + length tests → IsOnWay codes tests rest → 65535 < length (codes_of_texts string all)
-  too_many codes tests rest many way =
-      let coded = so_far codes tests rest way in
-      let fewer : length (flat_map (λ e. e.tests) (texts_from string (length all) way.before)) ≤ length (flat_map (λ e. e.tests) (texts_emitted string all)) =
-      subst (λ l. length (flat_map (λ e. e.tests) (texts_from string (length all) way.before)) ≤ length (flat_map (λ e. e.tests) (texts_from string (length all) l))) (sym way.parts) (tests_grow string (length all) way.before rest) in
-      omega (arith, many, fewer, coded_tests z string (length all) way.before codes tests coded, length-append (map (λ e. e.code) (texts_emitted string all)) (flat_map (λ e. e.tests) (texts_emitted string all)), codes_long (length all) all)
+  pub too_many_tests : (origins : List Origin) (codes tests : List (List ℕ)) → AreCoded z string (length origins) origins codes tests → 65536 ≤ length origins + length tests → 65535 < length (codes_of_origins string origins)
+  too_many_tests origins codes tests coded many = omega (arith, many, whole_long origins codes tests coded)
 
-  pub ends : (codes tests : List (List ℕ)) (rest : List Text) → length rest < 1 → IsOnWay codes tests (map text_meant rest) → AreCoded z string (length all) all codes tests
-  ends codes tests (one ∷ rest) none way = absurd (omega (arith, none))
-  ends codes tests [] none way =
-      subst (λ l. AreCoded z string (length all) l codes tests) (sym (way.parts ∙ append-nil way.before)) (so_far codes tests [] way)
+  -- they are too many without any tests
+  pub too_many_heads : (origins : List Origin) → 65536 ≤ length origins → 65535 < length (codes_of_origins string origins)
+  too_many_heads origins many =
+      let es = origins_emitted string origins in
+      omega (arith, many, length-append (map (λ e. e.code) es) (flat_map (λ e. e.tests) es), codes_long string (length origins) origins)
 
-  pub can_be_said : (codes tests : List (List ℕ)) → AreCoded z string (length all) all codes tests → length all + length tests < 65536 → CanBeSaid string all
-  can_be_said codes tests coded few = record {
-    each = all_said z string 0 (length all) all codes tests coded;
-    few = omega (arith, few, coded_tests z string (length all) all codes tests coded, length-append (map (λ e. e.code) (texts_emitted string all)) (flat_map (λ e. e.tests) (texts_emitted string all)), codes_long (length all) all);
-  }
+  -- rules behind texts
+  pub all_coded : (heads : ℕ) (texts : List MeantText) (rules : List MeantRule) (codes tests more_codes more_tests : List (List ℕ)) → heads ≡ length (origins_meant texts rules)
+      → AreCoded z string heads (map Describes (map text_meant texts)) codes tests → AddAll z string heads (flat_map origins_of_rule (map rule_meant rules)) codes tests more_codes more_tests
+      → AreCoded z string (length (origins_meant texts rules)) (origins_meant texts rules) more_codes more_tests
+  all_coded heads texts rules codes tests more_codes more_tests count coded adds =
+      subst (λ n. AreCoded z string n (origins_meant texts rules) more_codes more_tests) count (adds (map Describes (map text_meant texts)) coded)
 
--- ---- faults
+  -- ---- one more
 
-pub none_for : (z : Counts) (string : List ℕ → ℕ) (texts : List tree.Text) (number : ℕ) (fault : EmitFault) → (fault ≡ emit.TooLong → IsTooLong z string texts number) → HaveNoTable z string texts (fault_at number fault)
-none_for z string texts number emit.TooLong long = long refl
-none_for z string texts number emit.Memory long = tt
+  one_more : (first : ℕ) (origins : List Origin) (codes tests : List (List ℕ)) (origin : Origin) (code : List ℕ) (own : List (List ℕ)) → AreCoded z string first origins codes tests → IsCoded z string (first + length tests) origin code own
+      → AreCoded z string first (origins ++ origin ∷ []) (codes ++ code ∷ []) (tests ++ own)
+  one_more first [] codes tests origin code own coded is =
+      let none : first + length tests ≡ first = omega (arith, ap length coded.1) in (
+        code,
+        (own, (subst (λ n. IsCoded z string n origin code own) none is, ([], ([], (ap (λ l. l ++ code ∷ []) coded.0, (ap (λ l. l ++ own) coded.1 ∙ sym (append-nil own), (refl, refl))))))),
+      )
+  one_more first (one ∷ origins) codes tests origin code own coded is =
+      let front = coded.1.0 in
+      let others = coded.1.1.1.0 in
+      let later = coded.1.1.1.1.0 in
+      let number : first + length tests ≡ first + length front + length later = omega (arith, ap length coded.1.1.1.1.1.1.0, length-append front later) in
+      let rest = one_more (first + length front) origins others later origin code own coded.1.1.1.1.1.1.1 (subst (λ n. IsCoded z string n origin code own) number is) in (
+        coded.0,
+        (front, (coded.1.1.0, (others ++ code ∷ [], (later ++ own, (ap (λ l. l ++ code ∷ []) coded.1.1.1.1.1.0, (ap (λ l. l ++ own) coded.1.1.1.1.1.1.0 ∙ append_assoc front later own, rest)))))),
+      )
 
--- ---- numbers
+  module _ (heads : ℕ) where
+    pub adds_one : (origin : Origin) (codes tests more_codes more_tests : List (List ℕ)) → Adds z string heads origin codes tests more_codes more_tests → AddAll z string heads (origin ∷ []) codes tests more_codes more_tests
+    adds_one origin codes tests more_codes more_tests adds before coded =
+        subst (λ l. AreCoded z string heads (before ++ origin ∷ []) l more_tests) (sym adds.1.1.0)
+        (subst (λ l. AreCoded z string heads (before ++ origin ∷ []) (codes ++ adds.0 ∷ []) l) (sym adds.1.1.1.0) (one_more heads before codes tests origin adds.0 adds.1.0 coded adds.1.1.1.1))
 
-number_by : (texts tests n : ℕ) (b : Bool) → nat_lt (texts + tests) 65536 ≡ b → (if b then Some (texts + tests) else None) ≡ Some n → (n ≡ texts + tests) × (texts + tests < 65536)
-number_by texts tests n true less is = let same : n ≡ texts + tests = cc in (same, ltb-true (texts + tests) 65536 less)
-number_by texts tests n false less is = absurd cc
+    pub adds_both : (a b : List Origin) (codes tests more_codes more_tests last_codes last_tests : List (List ℕ)) → AddAll z string heads a codes tests more_codes more_tests
+        → AddAll z string heads b more_codes more_tests last_codes last_tests → AddAll z string heads (a ++ b) codes tests last_codes last_tests
+    adds_both a b codes tests more_codes more_tests last_codes last_tests first second before coded =
+        subst (λ l. AreCoded z string heads l last_codes last_tests) (append_assoc before a b) (second (before ++ a) (first before coded))
 
-pub number_is : (texts tests n : ℕ) → number_behind texts tests ≡ Some n → (n ≡ texts + tests) × (texts + tests < 65536)
-number_is texts tests n is = number_by texts tests n (nat_lt (texts + tests) 65536) refl is
-
-no_number_by : (texts tests : ℕ) (b : Bool) → nat_lt (texts + tests) 65536 ≡ b → (if b then Some (texts + tests) else None) ≡ None → 65536 ≤ texts + tests
-no_number_by texts tests true less is = absurd cc
-no_number_by texts tests false less is = ltb-false (texts + tests) 65536 less
-
-pub no_number : (texts tests : ℕ) → number_behind texts tests ≡ None → 65536 ≤ texts + tests
-no_number texts tests is = no_number_by texts tests (nat_lt (texts + tests) 65536) refl is
-
--- ---- a text
-
-pub adds_by : (z : Counts) (string : List ℕ → ℕ) (first : ℕ) (text : tree.Text) (codes tests more_codes more_tests emitted : List (List ℕ)) → ((own count : ℕ) → TextFits (among z own count) role.Describing string 0 text)
-    → AreEmitted (description_part string text first 0) emitted → AreSoundAnywhere z role.Describing first (description_part string text first 0) emitted
-    → more_codes ≡ codes ++ take 1 emitted → more_tests ≡ tests ++ drop 1 emitted → Adds z string first text codes tests more_codes more_tests
-adds_by z string first text codes tests more_codes more_tests [] fits emitted sound codes_are tests_are = absurd emitted.spelled
-adds_by z string first text codes tests more_codes more_tests (code ∷ own) fits emitted sound codes_are tests_are = (code, (own, (codes_are, (tests_are, record { fits = fits; emitted = emitted; sound = sound }))))
+    -- what was emitted is put behind
+    pub adds_by : (origin : Origin) (first : ℕ) (codes tests more_codes more_tests emitted : List (List ℕ)) → first ≡ heads + length tests → ((own count : ℕ) → Fits (among z own count) string origin)
+        → AreEmitted (part_of string origin first 0) emitted → AreSoundAnywhere z (use_for origin) first (part_of string origin first 0) emitted
+        → more_codes ≡ codes ++ take 1 emitted → more_tests ≡ tests ++ drop 1 emitted → Adds z string heads origin codes tests more_codes more_tests
+    adds_by origin first codes tests more_codes more_tests [] number fits emitted sound codes_are tests_are = absurd emitted.spelled
+    adds_by origin first codes tests more_codes more_tests (code ∷ own) number fits emitted sound codes_are tests_are =
+        (code, (own, (codes_are, (tests_are, subst (λ n. IsCoded z string n origin code own) number (record { fits = fits; emitted = emitted; sound = sound })))))

@@ -3,13 +3,17 @@ pub mod Coded
 pub mod Counted
 pub mod Decided
 pub mod Grown
+pub mod Heads
 pub mod Lists
 pub mod NoTables
 pub mod Onward
+pub mod Parted
 pub mod Said
 pub mod SaidStrings
 pub mod Spoken
+pub mod Stopped
 pub mod Tabled
 pub mod Together
 pub mod Turns
 pub mod Walked
+pub mod Within

@@ -1,4 +1,4 @@
--- The strings that the codes of texts name are those that the texts say.
+-- The strings that the codes of texts and rules name are those that these say.
 use Rattle.std.proofs.Common.{◌≡◌, ◌∙◌, ap, sym, refl, ℕ, ◌+◌, negsuc, List, [], ◌∷◌, ◌++◌, length, append-nil, Option, Some, None}
 use Rattle.std.specs.List.{flat_map}
 use Rattle.std.specs.Prelude.{map}
@@ -7,11 +7,16 @@ use Rattle.world_meaning.specs.declared.place.Rel.TheVariants.{Carried, Worn}
 use Rattle.play_meaning.specs.Instructions.{sizes}
 use Rattle.play_meaning.specs.declared.instruction.Instruction.{Instruction}
 use Rattle.play_meaning.specs.declared.instruction.Instruction.TheVariants as code
-use Rattle.play_meaning.specs.TranslatedScripts.{description_part, emitted_in_turn}
-use Rattle.play_meaning.specs.Translation.{Part, adjective_code, adjectives_code, asked_of, choice, condition_part, description_code, held_code, is_there_code, kind_code, number_part, object_code, one, seq, strings_of_text, test_code, testing, text_part, these}
+use Rattle.play_meaning.specs.TranslatedScripts.{description_part}
+use Rattle.play_meaning.specs.Translation.{Part, adjective_code, adjectives_code, asked_of, body_part, choice, condition_part, description_code, held_code, is_there_code, kind_code, leave_part, loop, number_part, object_code, one, phrase_part, seq, strings_of_body, strings_of_phrase, strings_of_text, test_code, testing, text_part, these}
 use Rattle.play_meaning.specs.Trees as tree
-use Rattle.play_meaning.specs.Trees.{Adjective, Condition, Description, NotSo, Number, Object, Quality, Text, Touchable, Visible}
-use Rattle.code_table.specs.Descriptions.{codes_of_texts, texts_emitted}
+use Rattle.play_meaning.specs.Trees.{Adjective, Body, Condition, Description, NotSo, Number, Object, Phrase, Quality, Text, Touchable, Visible}
+use Rattle.play_meaning.specs.declared.outcome.Flow.{Flow}
+use Rattle.play_meaning.specs.declared.outcome.Flow.TheVariants.{Decides, GoesOn, NoDecision}
+use Rattle.play_meaning.specs.declared.outcome.Outcome.TheVariants.{Failure, Success}
+use Rattle.story_code.specs.Emits.{whole_body}
+use Rattle.code_table.specs.Emitted.{codes_of_origins, origins_emitted, origins_from}
+use Rattle.code_table.specs.Origins.{Asks, Describes, Does, Origin, part_of, strings_of_origin}
 use Rattle.code_table.specs.Strings.{strings_in, strings_of}
 use Rattle.code_table.proofs.Lists.{flat_append}
 
@@ -102,6 +107,13 @@ choice_names condition a b xs ys asks first second test place =
       of_append asked.tests (one.tests ++ other.tests) q.1 (of_append one.tests other.tests f.1 s.1),
     )
 
+loop_names : (k : ℕ) (passes : List Instruction) (body : Part) (xs : List ℕ) → strings_in passes ≡ [] → Names_strings body xs → Names_strings (loop k passes body) (xs ++ [])
+unfolding loop
+loop_names k passes body xs none turns test place =
+    let turn = body (test + 1) (place + 8) in
+    let t = turns (test + 1) (place + 8) in
+    (in_append turn.code (code.Jump (place + 2) ∷ []) xs [] t.0 refl, ap (λ l. l ++ strings_of turn.tests) none ∙ t.1)
+
 three : (a b c : Part) → Names_strings a [] → Names_strings b [] → Names_strings c [] → Names_strings (seq a (seq b c)) []
 three a b c first second third = seq_names a (seq b c) [] [] first (seq_names b c [] [] second third)
 
@@ -177,23 +189,76 @@ module _ (string : List ℕ → ℕ) where
       alike (description_part string text) (map string (strings_of_text text) ++ []) (map string (strings_of_text text)) (append-nil (map string (strings_of_text text)))
       (seq_names (text_part string 0 text) (one code.Done) (map string (strings_of_text text)) [] (text_names 0 text) (these_name (code.Done ∷ []) refl))
 
-  -- ---- texts one behind the other
+  -- ---- phrases
 
-  all_named : (first : ℕ) (texts : List Text)
-      → (strings_of (map (λ e. e.code) (emitted_in_turn first (map (description_part string) texts))) ≡ map string (flat_map strings_of_text texts))
-      × (strings_of (flat_map (λ e. e.tests) (emitted_in_turn first (map (description_part string) texts))) ≡ [])
+  leave_names : (flow : Flow) → Names_strings (leave_part flow) []
+  leave_names GoesOn = these_name [] refl
+  leave_names NoDecision = these_name (code.NoDecision ∷ []) refl
+  leave_names (Decides Success) = these_name (code.Success ∷ []) refl
+  leave_names (Decides Failure) = these_name (code.Failure ∷ []) refl
+
+  mutual
+    unfolding phrase_part body_part strings_of_phrase strings_of_body
+
+    phrase_names : (k : ℕ) (phrase : Phrase) → Names_strings (phrase_part string k phrase) (map string (strings_of_phrase phrase))
+    phrase_names k (tree.Say text) = text_names k text
+    phrase_names k (tree.NowIs o p value) = these_name (object_code o ++ code.SetFlag p value ∷ []) (none (object_code o) (code.SetFlag p value ∷ []) (object_none o) refl)
+    phrase_names k (tree.NowHeld o r holder) = these_name (object_code o ++ object_code holder ++ code.PutAt r ∷ []) (held_none o holder (code.PutAt r) refl)
+    phrase_names k (tree.NowNowhere o) = these_name (object_code o ++ code.Away ∷ []) (none (object_code o) (code.Away ∷ []) (object_none o) refl)
+    phrase_names k (tree.Move o holder) = these_name (object_code o ++ object_code holder ++ code.Move ∷ []) (held_none o holder code.Move refl)
+    phrase_names k (tree.NowNumber p o number) =
+        seq_names (seq (these (object_code o)) (number_part k number)) (one (code.SetProp p)) [] []
+        (seq_names (these (object_code o)) (number_part k number) [] [] (these_name (object_code o) (object_none o)) (number_names k number)) (these_name (code.SetProp p ∷ []) refl)
+    phrase_names k (tree.NowVariable v number) = seq_names (number_part k number) (one (code.SetVar v)) [] [] (number_names k number) (these_name (code.SetVar v ∷ []) refl)
+    phrase_names k (tree.Try silent action noun second) = these_name (object_code noun ++ object_code second ++ code.Try silent action ∷ []) (held_none noun second (code.Try silent action) refl)
+    phrase_names k (tree.Follow book) = these_name (code.Follow book ∷ []) refl
+    phrase_names k (tree.Leave flow) = leave_names flow
+    phrase_names k (tree.EndStory text) = λ test place. (refl, refl)
+    phrase_names k (tree.If condition a b) =
+        alike (choice (condition_part k condition) (body_part string k a) (body_part string k b)) (map string (strings_of_body a) ++ map string (strings_of_body b)) (map string (strings_of_body a ++ strings_of_body b))
+        (sym (map-append string (strings_of_body a) (strings_of_body b)))
+        (choice_names (condition_part k condition) (body_part string k a) (body_part string k b) (map string (strings_of_body a)) (map string (strings_of_body b)) (condition_names k condition) (body_names k a) (body_names k b))
+    phrase_names k (tree.Repeat description body) =
+        alike (loop k (test_code k description) (body_part string (k + 1) body)) (map string (strings_of_body body) ++ []) (map string (strings_of_body body)) (append-nil (map string (strings_of_body body)))
+        (loop_names k (test_code k description) (body_part string (k + 1) body) (map string (strings_of_body body)) (test_none k description) (body_names (k + 1) body))
+    phrase_names k (tree.Instead phrase) =
+        alike (seq (phrase_part string k phrase) (one code.Failure)) (map string (strings_of_phrase phrase) ++ []) (map string (strings_of_phrase phrase)) (append-nil (map string (strings_of_phrase phrase)))
+        (seq_names (phrase_part string k phrase) (one code.Failure) (map string (strings_of_phrase phrase)) [] (phrase_names k phrase) (these_name (code.Failure ∷ []) refl))
+
+    body_names : (k : ℕ) (body : Body) → Names_strings (body_part string k body) (map string (strings_of_body body))
+    body_names k tree.End = these_name [] refl
+    body_names k (tree.Then phrase body) =
+        alike (seq (phrase_part string k phrase) (body_part string k body)) (map string (strings_of_phrase phrase) ++ map string (strings_of_body body)) (map string (strings_of_phrase phrase ++ strings_of_body body))
+        (sym (map-append string (strings_of_phrase phrase) (strings_of_body body)))
+        (seq_names (phrase_part string k phrase) (body_part string k body) (map string (strings_of_phrase phrase)) (map string (strings_of_body body)) (phrase_names k phrase) (body_names k body))
+
+  whole_names : (body : Body) → Names_strings (whole_body string body) (map string (strings_of_body body))
+  whole_names body =
+      alike (whole_body string body) (map string (strings_of_body body) ++ []) (map string (strings_of_body body)) (append-nil (map string (strings_of_body body)))
+      (seq_names (body_part string 0 body) (one code.Done) (map string (strings_of_body body)) [] (body_names 0 body) (these_name (code.Done ∷ []) refl))
+
+  -- ---- origins one behind the other
+
+  origin_names : (origin : Origin) → Names_strings (part_of string origin) (map string (strings_of_origin origin))
+  origin_names (Describes text) = description_names text
+  origin_names (Asks condition) = seq_names (condition_part 0 condition) (one code.Answer) [] [] (condition_names 0 condition) (these_name (code.Answer ∷ []) refl)
+  origin_names (Does body) = whole_names body
+
+  all_named : (first : ℕ) (origins : List Origin)
+      → (strings_of (map (λ e. e.code) (origins_from string first origins)) ≡ map string (flat_map strings_of_origin origins)) × (strings_of (flat_map (λ e. e.tests) (origins_from string first origins)) ≡ [])
   all_named first [] = (refl, refl)
-  all_named first (text ∷ texts) =
-      let e = description_part string text first 0 in
-      let own = description_names text first 0 in
-      let later = all_named (first + length e.tests) texts in
-      let rest = emitted_in_turn (first + length e.tests) (map (description_part string) texts) in (
-        ap (λ l. l ++ strings_of (map (λ e. e.code) rest)) own.0 ∙ ap (λ l. map string (strings_of_text text) ++ l) later.0 ∙ sym (map-append string (strings_of_text text) (flat_map strings_of_text texts)),
+  all_named first (origin ∷ origins) =
+      let e = part_of string origin first 0 in
+      let own = origin_names origin first 0 in
+      let later = all_named (first + length e.tests) origins in
+      let rest = origins_from string (first + length e.tests) origins in
+      let said = strings_of_origin origin in (
+        ap (λ l. l ++ strings_of (map (λ e. e.code) rest)) own.0 ∙ ap (λ l. map string said ++ l) later.0 ∙ sym (map-append string said (flat_map strings_of_origin origins)),
         of_append e.tests (flat_map (λ e. e.tests) rest) own.1 later.1,
       )
 
-  pub strings_in_order : (texts : List Text) → strings_of (codes_of_texts string texts) ≡ map string (flat_map strings_of_text texts)
-  strings_in_order texts =
-      let all = all_named (length texts) texts in
-      let es = texts_emitted string texts in
+  pub strings_in_order : (origins : List Origin) → strings_of (codes_of_origins string origins) ≡ map string (flat_map strings_of_origin origins)
+  strings_in_order origins =
+      let all = all_named (length origins) origins in
+      let es = origins_emitted string origins in
       flat_append strings_in (map (λ e. e.code) es) (flat_map (λ e. e.tests) es) ∙ ap (λ l. strings_of (map (λ e. e.code) es) ++ l) all.1 ∙ append-nil (strings_of (map (λ e. e.code) es)) ∙ all.0

@@ -1,25 +1,23 @@
--- The bytes of texts' codes, and behind them those of the tests that these name, are a table.
-use Rattle.std.proofs.Common.{◌≡◌, ◌∙◌, ap, sym, subst, refl, ℕ, zero, suc, ◌+◌, ◌≤◌, true, List, [], ◌∷◌, ◌++◌, length, append-nil, Option, Some, None, arith, length-append}
+-- The bytes of origins' codes, and behind them those of the tests that these name, are a table.
+use Rattle.std.proofs.Common.{◌≡◌, ◌∙◌, ap, sym, subst, refl, ℕ, suc, ◌+◌, ◌≤◌, List, [], ◌∷◌, ◌++◌, length, append-nil, Option, Some, None, arith, length-append}
 use Rattle.std.specs.List.{AllByRecursion, flat_map}
-use Rattle.std.specs.Prelude.{map, replicate}
-use Rattle.std.proofs.lemmas.List.{map-append}
-use Rattle.play_meaning.specs.TranslatedScripts.{description_part, emitted_in_turn, in_list}
-use Rattle.play_meaning.specs.Translation.{Emitted}
-use Rattle.play_meaning.specs.Trees.{Text}
+use Rattle.std.specs.Prelude.{map}
+use Rattle.std.proofs.lemmas.List.{length-map, map-append}
+use Rattle.play_meaning.specs.TranslatedScripts.{in_list}
 use Rattle.play_meaning.specs.declared.instruction.Instruction.{Instruction}
 use Rattle.play_meaning.specs.declared.operand.Counts.{Counts}
 use Rattle.play_meaning.specs.declared.operand.Use.{Use}
-use Rattle.play_meaning.specs.declared.operand.Use.TheVariants.{Describing}
 use Rattle.story_code.specs.Emits.{AreSpelled}
-use Rattle.story_code.specs.Emitting.{can_say_all}
 use Rattle.story_code.specs.Fronts.{code_in}
 use Rattle.story_code.specs.Runs.{code_or_none, code_told, test_named}
 use Rattle.story_code.specs.Soundness.{Judged}
 use Rattle.story_code.specs.SoundlyEmitted.{AreNumbered, IsSoundTestCode, NameInTurn, NamesNext, NamesNone, among, sizes_as}
 use Rattle.story_code.proofs.Exact.{one_code, spells_in}
 use Rattle.code_table.specs.Coding.{AreCoded}
-use Rattle.code_table.specs.Descriptions.{AllFit, codes_of_texts, texts_emitted}
+use Rattle.code_table.specs.Emitted.{codes_of_origins, origins_emitted, origins_from}
+use Rattle.code_table.specs.Origins.{Origin, part_of, use_for}
 use Rattle.code_table.specs.Tables.{IsTableOf, sizes_from, tests_in, tests_of, use_of}
+use Rattle.code_table.proofs.Coded.{coded_long, spelled_long}
 use Rattle.code_table.proofs.Lists.{all_append, flat_append}
 use Rattle.code_table.proofs.Onward.{Sound, turn_append}
 use Rattle.code_table.proofs.Turns.{AreInTurn, number_of}
@@ -66,12 +64,6 @@ spelled_append [] more [] others first second = second
 spelled_append [] more (code ∷ codes) others first second = absurd first
 spelled_append (b ∷ bytes) more [] others first second = absurd first
 spelled_append (b ∷ bytes) more (code ∷ codes) others first second = (first.0, spelled_append bytes more codes others first.1 second)
-
-pub spelled_long : (bytes : List (List ℕ)) (codes : List (List Instruction)) → AreSpelled bytes codes → length bytes ≡ length codes
-spelled_long [] [] spelled = refl
-spelled_long [] (code ∷ codes) spelled = absurd spelled
-spelled_long (b ∷ bytes) [] spelled = absurd spelled
-spelled_long (b ∷ bytes) (code ∷ codes) spelled = ap suc (spelled_long bytes codes spelled.1)
 
 -- ---- the tests that a code names in turn
 
@@ -123,7 +115,7 @@ module _ (z : Counts) where
 
   stand_append : (a b : List (ℕ × ℕ)) (first : ℕ) (tests more : List (List ℕ)) → StandInTurn a first tests → StandInTurn b (first + length tests) more → StandInTurn (a ++ b) first (tests ++ more)
   stand_append a b first tests more one other =
-      let long : length (map use_of a) ≡ length tests = mapped a ∙ one.many in
+      let long : length (map use_of a) ≡ length tests = length-map a use_of ∙ one.many in
       let number : first + length tests ≡ first + length a = ap (λ n. first + n) (sym one.many) in record {
         turn = turn_append first a b one.turn (subst (λ n. AreInTurn n b) number other.turn);
         many = omega (arith, length-append a b, length-append tests more, one.many, other.many);
@@ -133,29 +125,22 @@ module _ (z : Counts) where
             ∙ ap (λ n. judged_from z first (map use_of a) tests ++ judged_from z (first + n) (map use_of b) more) long))
             (all_append Sound (judged_from z first (map use_of a) tests) (judged_from z (first + length tests) (map use_of b) more) one.sound other.sound);
       }
-    where
-      mapped : (l : List (ℕ × ℕ)) → length (map use_of l) ≡ length l
-      mapped [] = refl
-      mapped (t ∷ l) = ap suc (mapped l)
 
--- ---- the codes of texts
+-- ---- the codes of origins
 
 module _ (z : Counts) (string : List ℕ → ℕ) (total : ℕ) where
   abbrev Whole : Counts
   Whole = record z { codes = total }
 
-  abbrev Emitted_from : ℕ → List Text → List Emitted
-  Emitted_from first texts = emitted_in_turn first (map (description_part string) texts)
+  -- the codes of origins from this number on, and the tests from that one
+  pub record AreTabled (n first : ℕ) (origins : List Origin) (codes tests : List (List ℕ)) : Type 0 where
+    pub spelled : AreSpelled codes (map (λ e. e.code) (origins_from string first origins))
+    pub named : AreSpelled tests (flat_map (λ e. e.tests) (origins_from string first origins))
+    pub stand : StandInTurn Whole (tests_of (map (λ e. e.code) (origins_from string first origins))) first tests
+    pub silent : tests_of (flat_map (λ e. e.tests) (origins_from string first origins)) ≡ []
+    pub sound : AllByRecursion Sound (judged_from Whole n (map use_for origins) codes)
 
-  -- the codes of texts from this number on, and the tests from that one
-  pub record AreTabled (n first : ℕ) (texts : List Text) (codes tests : List (List ℕ)) : Type 0 where
-    pub spelled : AreSpelled codes (map (λ e. e.code) (Emitted_from first texts))
-    pub named : AreSpelled tests (flat_map (λ e. e.tests) (Emitted_from first texts))
-    pub stand : StandInTurn Whole (tests_of (map (λ e. e.code) (Emitted_from first texts))) first tests
-    pub silent : tests_of (flat_map (λ e. e.tests) (Emitted_from first texts)) ≡ []
-    pub sound : AllByRecursion Sound (judged_from Whole n (replicate (length texts) Describing) codes)
-
-  tabled : (n first : ℕ) (texts : List Text) (codes tests : List (List ℕ)) → AreCoded z string first texts codes tests → n + length texts ≤ first → first + length tests ≤ total → AreTabled n first texts codes tests
+  tabled : (n first : ℕ) (origins : List Origin) (codes tests : List (List ℕ)) → AreCoded z string first origins codes tests → n + length origins ≤ first → first + length tests ≤ total → AreTabled n first origins codes tests
   tabled n first [] codes tests coded before there =
       subst (λ l. AreTabled n first [] l tests) (sym coded.0) (subst (λ l. AreTabled n first [] [] l) (sym coded.1) (record {
         spelled = tt;
@@ -164,7 +149,7 @@ module _ (z : Counts) (string : List ℕ → ℕ) (total : ℕ) where
         silent = refl;
         sound = tt;
       }))
-  tabled n first (text ∷ texts) codes tests coded before there =
+  tabled n first (origin ∷ origins) codes tests coded before there =
       let b = coded.0 in
       let own = coded.1.0 in
       let is = coded.1.1.0 in
@@ -172,18 +157,18 @@ module _ (z : Counts) (string : List ℕ → ℕ) (total : ℕ) where
       let later = coded.1.1.1.1.0 in
       let first_is = coded.1.1.1.1.1.0 in
       let tests_are = coded.1.1.1.1.1.1.0 in
-      let e = description_part string text first 0 in
+      let e = part_of string origin first 0 in
       let as_many : length own ≡ length e.tests = spelled_long own e.tests is.emitted.spelled.1 in
       let all_tests : length tests ≡ length own + length later = ap length tests_are ∙ length-append own later in
       let numbered : AreNumbered (among z n total) first e.tests = record { behind = omega (arith, before); there = omega (arith, there, all_tests, as_many) } in
       let sound = is.sound n total numbered in
       let same : sound.0.code ≡ e.code = one_code b sound.0.code e.code sound.0.spells is.emitted.spelled.0 in
       let names : NameInTurn (IsSoundTestCode Whole) e.code first own = subst (λ code. NameInTurn (IsSoundTestCode Whole) code first own) same sound.1 in
-      let rest : AreTabled (n + 1) (first + length own) texts others later = tabled (n + 1) (first + length own) texts others later coded.1.1.1.1.1.1.1 (omega (arith, before)) (omega (arith, there, all_tests)) in
+      let rest : AreTabled (n + 1) (first + length own) origins others later = tabled (n + 1) (first + length own) origins others later coded.1.1.1.1.1.1.1 (omega (arith, before)) (omega (arith, there, all_tests)) in
       let number : first + length own ≡ first + length e.tests = ap (λ k. first + k) as_many in
-      let behind : AreTabled (n + 1) (first + length e.tests) texts others later = subst (λ k. AreTabled (n + 1) k texts others later) number rest in
-      let es = Emitted_from (first + length e.tests) texts in
-      subst (λ l. AreTabled n first (text ∷ texts) l tests) (sym first_is) (subst (λ l. AreTabled n first (text ∷ texts) (b ∷ others) l) (sym tests_are) (record {
+      let behind : AreTabled (n + 1) (first + length e.tests) origins others later = subst (λ k. AreTabled (n + 1) k origins others later) number rest in
+      let es = origins_from string (first + length e.tests) origins in
+      subst (λ l. AreTabled n first (origin ∷ origins) l tests) (sym first_is) (subst (λ l. AreTabled n first (origin ∷ origins) (b ∷ others) l) (sym tests_are) (record {
         spelled = (is.emitted.spelled.0, behind.spelled);
         named = spelled_append own later e.tests (flat_map (λ e. e.tests) es) is.emitted.spelled.1 behind.named;
         stand = stand_append Whole (tests_in e.code) (tests_of (map (λ e. e.code) es)) first own later (stand_in_turn Whole e.code first own names)
@@ -192,67 +177,41 @@ module _ (z : Counts) (string : List ℕ → ℕ) (total : ℕ) where
         sound = (sound.0, behind.sound);
       }))
 
-  pub all_fit : (first : ℕ) (texts : List Text) (codes tests : List (List ℕ)) → AreCoded z string first texts codes tests → AllFit z string texts
-  all_fit first [] codes tests coded = tt
-  all_fit first (text ∷ texts) codes tests coded = (coded.1.1.0.fits, all_fit (first + length coded.1.0) texts coded.1.1.1.0 coded.1.1.1.1.0 coded.1.1.1.1.1.1.1)
+  module _ (origins : List Origin) (codes tests all : List (List ℕ)) (coded : AreCoded z string (length origins) origins codes tests) (all_is : all ≡ codes ++ tests) (total_is : total ≡ length all) where
+    together : AreTabled 0 (length origins) origins codes tests
+    together = tabled 0 (length origins) origins codes tests coded (omega arith) (omega (arith, total_is, ap length all_is, length-append codes tests, coded_long z string (length origins) origins codes tests coded))
 
-  -- bytes said what was put together
-  pub all_said : (first : ℕ) (texts : List Text) (codes tests : List (List ℕ)) → AreCoded z string first texts codes tests → AllByRecursion (λ e. can_say_all e ≡ true) (Emitted_from first texts)
-  all_said first [] codes tests coded = tt
-  all_said first (text ∷ texts) codes tests coded =
-      let own = coded.1.0 in
-      let is = coded.1.1.0 in
-      let e = description_part string text first 0 in
-      let number : first + length own ≡ first + length e.tests = ap (λ k. first + k) (spelled_long own e.tests is.emitted.spelled.1) in
-      (is.emitted.said, subst (λ n. AllByRecursion (λ e. can_say_all e ≡ true) (Emitted_from n texts)) number (all_said (first + length own) texts coded.1.1.1.0 coded.1.1.1.1.0 coded.1.1.1.1.1.1.1))
-
-  replicated : (k : ℕ) → length (replicate k Describing) ≡ k
-  replicated zero = refl
-  replicated (suc k) = ap suc (replicated k)
-
-  mapped : (l : List (ℕ × ℕ)) → length (map use_of l) ≡ length l
-  mapped [] = refl
-  mapped (t ∷ l) = ap suc (mapped l)
-
-  pub coded_long : (first : ℕ) (texts : List Text) (codes tests : List (List ℕ)) → AreCoded z string first texts codes tests → length codes ≡ length texts
-  coded_long first [] codes tests coded = ap length coded.0
-  coded_long first (text ∷ texts) codes tests coded = ap length coded.1.1.1.1.1.0 ∙ ap suc (coded_long (first + length coded.1.0) texts coded.1.1.1.0 coded.1.1.1.1.0 coded.1.1.1.1.1.1.1)
-
-  module _ (texts : List Text) (codes tests all : List (List ℕ)) (coded : AreCoded z string (length texts) texts codes tests) (all_is : all ≡ codes ++ tests) (total_is : total ≡ length all) where
-    together : AreTabled 0 (length texts) texts codes tests
-    together = tabled 0 (length texts) texts codes tests coded (omega arith) (omega (arith, total_is, ap length all_is, length-append codes tests, coded_long (length texts) texts codes tests coded))
-
-    pub all_spelled : AreSpelled all (codes_of_texts string texts)
+    pub all_spelled : AreSpelled all (codes_of_origins string origins)
     all_spelled =
-        subst (λ l. AreSpelled l (codes_of_texts string texts)) (sym all_is)
-        (spelled_append codes tests (map (λ e. e.code) (texts_emitted string texts)) (flat_map (λ e. e.tests) (texts_emitted string texts)) together.spelled together.named)
+        subst (λ l. AreSpelled l (codes_of_origins string origins)) (sym all_is)
+        (spelled_append codes tests (map (λ e. e.code) (origins_emitted string origins)) (flat_map (λ e. e.tests) (origins_emitted string origins)) together.spelled together.named)
 
     heads : List Use
-    heads = replicate (length texts) Describing
+    heads = map use_for origins
 
     named : List (ℕ × ℕ)
-    named = tests_of (map (λ e. e.code) (texts_emitted string texts))
+    named = tests_of (map (λ e. e.code) (origins_emitted string origins))
 
-    tests_all : tests_of (codes_of_texts string texts) ≡ named
+    tests_all : tests_of (codes_of_origins string origins) ≡ named
     unfolding named
-    tests_all = flat_append tests_in (map (λ e. e.code) (texts_emitted string texts)) (flat_map (λ e. e.tests) (texts_emitted string texts)) ∙ ap (λ l. named ++ l) together.silent ∙ append-nil named
+    tests_all = flat_append tests_in (map (λ e. e.code) (origins_emitted string origins)) (flat_map (λ e. e.tests) (origins_emitted string origins)) ∙ ap (λ l. named ++ l) together.silent ∙ append-nil named
 
     judged : List Judged
     judged = judged_from Whole 0 (heads ++ map use_of named) all
 
     heads_long : length heads ≡ length codes
     unfolding heads
-    heads_long = replicated (length texts) ∙ sym (coded_long (length texts) texts codes tests coded)
+    heads_long = length-map origins use_for ∙ sym (coded_long z string (length origins) origins codes tests coded)
 
     uses_long : length (heads ++ map use_of named) ≡ length all
     unfolding named
-    uses_long = omega (arith, length-append heads (map use_of named), heads_long, mapped named, together.stand.many, ap length all_is, length-append codes tests)
+    uses_long = omega (arith, length-append heads (map use_of named), heads_long, length-map named use_of, together.stand.many, ap length all_is, length-append codes tests)
 
-    told : map code_told judged ≡ codes_of_texts string texts
+    told : map code_told judged ≡ codes_of_origins string origins
     unfolding judged
-    told = judged_codes Whole 0 (heads ++ map use_of named) all (codes_of_texts string texts) uses_long all_spelled
+    told = judged_codes Whole 0 (heads ++ map use_of named) all (codes_of_origins string origins) uses_long all_spelled
 
-    pub tabled_whole : (judged : List Judged) × IsTableOf Whole (replicate (length texts) Describing) all judged
+    pub tabled_whole : (judged : List Judged) × IsTableOf Whole (map use_for origins) all judged
     unfolding judged heads named
     tabled_whole = (
       judged,
@@ -260,20 +219,19 @@ module _ (z : Counts) (string : List ℕ → ℕ) (total : ℕ) where
         bytes = judged_bytes Whole 0 (heads ++ map use_of named) all uses_long;
         all = total_is;
         sizes = judged_sizes Whole 0 (heads ++ map use_of named) all uses_long ∙ ap (λ l. sizes_from Whole 0 (heads ++ map use_of l)) (sym tests_all ∙ ap tests_of (sym told));
-        in_turn = subst (λ l. AreInTurn (length heads) l) (sym tests_all ∙ ap tests_of (sym told)) (subst (λ n. AreInTurn n named) (sym (replicated (length texts))) together.stand.turn);
+        in_turn = subst (λ l. AreInTurn (length heads) l) (sym tests_all ∙ ap tests_of (sym told)) (subst (λ n. AreInTurn n named) (sym (length-map origins use_for)) together.stand.turn);
         sound =
             subst (λ l. AllByRecursion Sound l)
             (sym (ap (judged_from Whole 0 (heads ++ map use_of named)) all_is ∙ judged_append Whole 0 heads (map use_of named) codes tests heads_long ∙ ap (λ n. judged_from Whole 0 heads codes ++ judged_from Whole n (map use_of named) tests) number))
             (all_append Sound (judged_from Whole 0 heads codes) (judged_from Whole (length heads) (map use_of named) tests) together.sound
-            (subst (λ n. AllByRecursion Sound (judged_from Whole n (map use_of named) tests)) (sym (replicated (length texts))) together.stand.sound));
+            (subst (λ n. AllByRecursion Sound (judged_from Whole n (map use_of named) tests)) (sym (length-map origins use_for)) together.stand.sound));
       },
     )
       where
-        number : 0 + length (replicate (length texts) Describing) ≡ length (replicate (length texts) Describing)
+        number : 0 + length (map use_for origins) ≡ length (map use_for origins)
         number = omega arith
 
--- where so many texts are said
-pub table_of_texts : (z : Counts) (string : List ℕ → ℕ) (count : ℕ) (texts : List Text) (codes tests all : List (List ℕ)) → count ≡ length texts → AreCoded z string (length texts) texts codes tests → all ≡ codes ++ tests
-    → (judged : List Judged) × IsTableOf (record z { codes = length all }) (replicate count Describing) all judged
-table_of_texts z string count texts codes tests all many coded all_is =
-    subst (λ n. (judged : List Judged) × IsTableOf (record z { codes = length all }) (replicate n Describing) all judged) (sym many) (tabled_whole z string (length all) texts codes tests all coded all_is refl)
+-- where as many codes are judged as there are
+pub table_of_origins : (z : Counts) (string : List ℕ → ℕ) (origins : List Origin) (codes tests all : List (List ℕ)) → AreCoded z string (length origins) origins codes tests → all ≡ codes ++ tests
+    → (judged : List Judged) × IsTableOf (record z { codes = length all }) (map use_for origins) all judged
+table_of_origins z string origins codes tests all coded all_is = tabled_whole z string (length all) origins codes tests all coded all_is refl

@@ -1,40 +1,90 @@
--- How the codes of texts are put together text by text, as relations on lists: what the code is proved equal to.
-use Rattle.std.specs.Prelude.{◌≡◌, ℕ, ◌+◌, nat_lt, List, [], ◌∷◌, ◌++◌, length, Option, None, Some, if◌then◌else◌}
-use Rattle.play_meaning.specs.TranslatedScripts.{description_part}
+-- How the codes of texts and rules are put together one by one, as relations on lists: what the code is proved equal to.
+use Rattle.std.specs.Prelude.{◌≡◌, ℕ, ◌+◌, ◌≤◌, nat_lt, true, false, List, [], ◌∷◌, ◌++◌, length, map, Option, None, Some, if◌then◌else◌}
+use Rattle.std.specs.List.{AllByRecursion}
+use Rattle.play_meaning.specs.Rules.{AuthorRule}
 use Rattle.play_meaning.specs.Trees.{Text}
 use Rattle.play_meaning.specs.declared.operand.Counts.{Counts}
-use Rattle.play_meaning.specs.declared.operand.Use.TheVariants as role
 use Rattle.story_code.specs.Emits.{AreEmitted}
-use Rattle.story_code.specs.Fitting.{TextFits}
+use Rattle.story_code.specs.Emitting.{can_say_all}
 use Rattle.story_code.specs.SoundlyEmitted.{AreSoundAnywhere, among}
 use Rattle.story_code.specs.declared.emit.EmitFault.{EmitFault}
 use Rattle.story_code.specs.declared.emit.EmitFault.TheVariants as emit
-use Rattle.code_table.specs.declared.describing.TableFault.{TableFault}
-use Rattle.code_table.specs.declared.describing.TableFault.TheVariants.{TooLong, Memory}
+use Rattle.code_table.specs.Emitted.{AllFit, HaveNoTable, number_from, origins_from}
+use Rattle.code_table.specs.Origins.{Describes, Fits, Origin, origins_of, part_of, use_for}
+use Rattle.code_table.specs.declared.adding.NotAdded.{NotAdded}
+use Rattle.code_table.specs.declared.adding.NotAdded.TheVariants as added
+use Rattle.code_table.specs.declared.fault.TableFault.{TableFault}
+use Rattle.code_table.specs.declared.fault.TableFault.TheVariants.{LongRule, LongText, TooMany, Memory}
 
--- the number behind so many texts and tests, if two bytes say it
+-- the number behind so many origins and tests, if two bytes say it
 abbrev pub number_behind : ℕ → ℕ → Option ℕ
-number_behind texts tests = if nat_lt (texts + tests) 65536 then Some (texts + tests) else None
+number_behind origins tests = if nat_lt (origins + tests) 65536 then Some (origins + tests) else None
 
--- why there is no table where a text of this number isn't told
-abbrev pub fault_at : ℕ → EmitFault → TableFault
-fault_at number emit.TooLong = TooLong number
-fault_at number emit.Memory = Memory
+-- these are the bytes of an origin's code and of the tests that it names, the first of this number
+pub record IsCoded (z : Counts) (string : List ℕ → ℕ) (first : ℕ) (origin : Origin) (code : List ℕ) (tests : List (List ℕ)) : Type 0 where
+  pub fits : (own codes : ℕ) → Fits (among z own codes) string origin
+  pub emitted : AreEmitted (part_of string origin first 0) (code ∷ tests)
+  pub sound : AreSoundAnywhere z (use_for origin) first (part_of string origin first 0) (code ∷ tests)
 
--- these are the bytes of a text's code and of the tests that it names, the first of this number
-pub record IsCoded (z : Counts) (string : List ℕ → ℕ) (first : ℕ) (text : Text) (code : List ℕ) (tests : List (List ℕ)) : Type 0 where
-  pub fits : (own codes : ℕ) → TextFits (among z own codes) role.Describing string 0 text
-  pub emitted : AreEmitted (description_part string text first 0) (code ∷ tests)
-  pub sound : AreSoundAnywhere z role.Describing first (description_part string text first 0) (code ∷ tests)
+-- they are added behind those of the origins before, where so many codes stand in front of the first test
+abbrev pub Adds : Counts → (List ℕ → ℕ) → ℕ → Origin → List (List ℕ) → List (List ℕ) → List (List ℕ) → List (List ℕ) → Type 0
+Adds z string heads origin codes tests more_codes more_tests =
+    (code : List ℕ) × ((own : List (List ℕ)) × ((more_codes ≡ codes ++ code ∷ []) × ((more_tests ≡ tests ++ own) × IsCoded z string (heads + length tests) origin code own)))
 
--- they are added behind those of the texts before
-abbrev pub Adds : Counts → (List ℕ → ℕ) → ℕ → Text → List (List ℕ) → List (List ℕ) → List (List ℕ) → List (List ℕ) → Type 0
-Adds z string first text codes tests more_codes more_tests =
-    (code : List ℕ) × ((own : List (List ℕ)) × ((more_codes ≡ codes ++ code ∷ []) × ((more_tests ≡ tests ++ own) × IsCoded z string first text code own)))
-
--- the bytes of texts' codes, and of the tests that they name in turn
-abbrev pub AreCoded : Counts → (List ℕ → ℕ) → ℕ → List Text → List (List ℕ) → List (List ℕ) → Type 0
+-- the bytes of origins' codes, and of the tests that they name in turn
+abbrev pub AreCoded : Counts → (List ℕ → ℕ) → ℕ → List Origin → List (List ℕ) → List (List ℕ) → Type 0
 AreCoded z string first [] codes tests = (codes ≡ []) × (tests ≡ [])
-AreCoded z string first (text ∷ texts) codes tests =
-    (code : List ℕ) × ((own : List (List ℕ)) × (IsCoded z string first text code own
-    × ((others : List (List ℕ)) × ((later : List (List ℕ)) × ((codes ≡ code ∷ others) × ((tests ≡ own ++ later) × AreCoded z string (first + length own) texts others later))))))
+AreCoded z string first (origin ∷ origins) codes tests =
+    (code : List ℕ) × ((own : List (List ℕ)) × (IsCoded z string first origin code own
+    × ((others : List (List ℕ)) × ((later : List (List ℕ)) × ((codes ≡ code ∷ others) × ((tests ≡ own ++ later) × AreCoded z string (first + length own) origins others later))))))
+
+-- these origins' codes are put behind whatever codes there are
+abbrev pub AddAll : Counts → (List ℕ → ℕ) → ℕ → List Origin → List (List ℕ) → List (List ℕ) → List (List ℕ) → List (List ℕ) → Type 0
+AddAll z string heads origins codes tests more_codes more_tests =
+    (before : List Origin) → AreCoded z string heads before codes tests → AreCoded z string heads (before ++ origins) more_codes more_tests
+
+-- ---- what isn't added
+
+-- why an origin has no code, whose first test would have this number
+abbrev pub HasNoCode : Counts → (List ℕ → ℕ) → ℕ → Origin → NotAdded → Type 0
+HasNoCode z string first origin added.TooLong = ((own codes : ℕ) → Fits (among z own codes) string origin) → can_say_all (part_of string origin first 0) ≡ false
+HasNoCode z string first origin added.TooMany = 65536 ≤ first
+HasNoCode z string first origin added.Memory = Unit {0}
+
+-- behind others, which are coded, one of these origins has none
+pub record StopsIn (z : Counts) (string : List ℕ → ℕ) (heads : ℕ) (before origins : List Origin) (fault : NotAdded) : Type 0 where
+  pub front : List Origin
+  pub origin : Origin
+  pub back : List Origin
+  pub within : origins ≡ front ++ origin ∷ back
+  pub fit : AllFit z string (before ++ front)
+  pub said : AllByRecursion (λ e. can_say_all e ≡ true) (origins_from string heads (before ++ front))
+  pub none : HasNoCode z string (number_from string heads (before ++ front)) origin fault
+
+-- whatever codes they are put behind
+abbrev pub StopIn : Counts → (List ℕ → ℕ) → ℕ → List Origin → List (List ℕ) → List (List ℕ) → NotAdded → Type 0
+StopIn z string heads origins codes tests fault = (before : List Origin) → AreCoded z string heads before codes tests → StopsIn z string heads before origins fault
+
+-- so many codes stand in front of the first test, whatever rules there are: why texts have no table with them
+abbrev pub TextsHaveNone : Counts → (List ℕ → ℕ) → ℕ → List Text → TableFault → Type 0
+TextsHaveNone z string heads texts fault = (rules : List AuthorRule) → heads ≡ length (origins_of texts rules) → HaveNoTable z string texts rules fault
+
+-- the same of rules, behind whatever texts have these codes and tests
+abbrev pub RulesHaveNone : Counts → (List ℕ → ℕ) → ℕ → List AuthorRule → List (List ℕ) → List (List ℕ) → TableFault → Type 0
+RulesHaveNone z string heads rules codes tests fault =
+    (texts : List Text) → AreCoded z string heads (map Describes texts) codes tests → heads ≡ length (origins_of texts rules) → HaveNoTable z string texts rules fault
+
+abbrev pub not_emitted : EmitFault → NotAdded
+not_emitted emit.TooLong = added.TooLong
+not_emitted emit.Memory = added.Memory
+
+-- why there is no table where the text, or the rule, of this number isn't coded
+abbrev pub text_fault : ℕ → NotAdded → TableFault
+text_fault number added.TooLong = LongText number
+text_fault number added.TooMany = TooMany
+text_fault number added.Memory = Memory
+
+abbrev pub rule_fault : ℕ → NotAdded → TableFault
+rule_fault number added.TooLong = LongRule number
+rule_fault number added.TooMany = TooMany
+rule_fault number added.Memory = Memory

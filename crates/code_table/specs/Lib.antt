@@ -1,6 +1,7 @@
 pub mod Coding
-pub mod Descriptions
+pub mod Emitted
 pub mod Growing
 pub mod Laws
+pub mod Origins
 pub mod Strings
 pub mod Tables

@@ -1,0 +1,29 @@
+use Rattle.std.proofs.Common.{[], map, subst, sym, arith}
+use Rattle.object_words.specs.Mentions.{number_in}
+use Rattle.play_meaning.specs.Meant.{text_meant}
+use Rattle.code_table.specs.Coding.{TextsHaveNone}
+use Rattle.code_table.specs.Origins.{Describes}
+use Rattle.code_table.proofs.Coded.{adds_one}
+use Rattle.code_table.proofs.Stopped.{grows_on, one_text, text_stops, texts_end}
+use Rattle.code_table.proofs.coding.texts_coded.Goals as goal
+
+pub returns-in-Err-clause-none : goal.returns-in-Err-clause-none
+returns-in-Err-clause-none c =
+    let z = c.args.counts.now in
+    let string = number_in c.args.strings.now in
+    let texts = map text_meant c.args.texts.now in
+    subst (TextsHaveNone z string c.args.heads texts) (sym c.text_fault.ensures)
+    (text_stops z string c.args.heads texts c.loop-rest.out.codes.items c.loop-rest.out.tests.items c.loop-rest.rest.now c.text-item.result c.len-number.result c.in-Err.fault c.in-len1-up.len_at_least c.text-item.is
+    (omega (arith, c.len-number.ensures, c.loop-rest.out.codes.ok)) c.in-Err.ensures.none c.loop-rest.invariant)
+
+pub loop-rest-preserved : goal.loop-rest-preserved
+loop-rest-preserved c =
+    let z = c.args.counts.now in
+    let string = number_in c.args.strings.now in
+    let added = adds_one z string c.args.heads (Describes (text_meant c.text-item.result)) c.loop-rest.out.codes.items c.loop-rest.out.tests.items c.add_text.new.out.codes.items c.add_text.new.out.tests.items c.in-Ok.ensures.coded in
+    grows_on one_text z string c.args.heads (map text_meant c.args.texts.now) [] [] text_meant c.loop-rest.out.codes.items c.loop-rest.out.tests.items
+    c.add_text.new.out.codes.items c.add_text.new.out.tests.items c.loop-rest.rest.now c.text-item.result c.in-len1-up.len_at_least c.text-item.is added c.loop-rest.invariant
+
+pub returns-clause-coded : goal.returns-clause-coded
+returns-clause-coded c =
+    texts_end c.args.counts.now (number_in c.args.strings.now) c.args.heads (map text_meant c.args.texts.now) c.loop-rest.out.codes.items c.loop-rest.out.tests.items c.loop-rest.rest.now c.in_default.len_below c.loop-rest.invariant
