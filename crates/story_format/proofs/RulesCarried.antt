@@ -27,7 +27,9 @@ use Rattle.story_format.proofs.RuleLemmas.{counted, counted_more, origins_in}
 
 behind_there : {A : Type 0} (front xs : List A) (k : ℕ) (x : A) → slice_get xs k ≡ Some x → slice_get (front ++ xs) (length front + k) ≡ Some x
 behind_there [] xs k x at = let same : 0 + k ≡ k = omega arith in ap (slice_get xs) same ∙ at
-behind_there (y ∷ front) xs k x at = behind_there front xs k x at
+behind_there (y ∷ front) xs k x at =
+    let same : suc (length front) + k ≡ suc (length front + k) = omega arith in
+    ap (slice_get (y ∷ (front ++ xs))) same ∙ behind_there front xs k x at
 
 -- a rule's condition, if there is one, stands first, and then its body
 condition_first : (rule : AuthorRule) (more : List Origin) (condition : Condition) → rule.condition ≡ Some condition → slice_get (origins_of_rule rule ++ more) 0 ≡ Some (Asks condition)

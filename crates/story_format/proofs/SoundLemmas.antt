@@ -124,7 +124,7 @@ tables_sound d ws texts rules few short many fit said =
     let room : described_in ws + length (origins_in rules) ≤ 65535 = omega (arith, all, many, bytes_enough strings origins, bytes_few strings origins said) in
     let described : length texts ≡ length (codes_named (entries_of strings 0 ws)) = many ∙ sym (codes_counted strings ws 0 (omega (arith, short))) in
     let uses : map use_for origins ≡ replicate (length (codes_named (entries_of strings 0 ws))) Describing ++ uses_in_rules (rule_entries (described_in ws) rules) =
-    origins_used texts rules ∙ (λ i. replicate (described i) Describing ++ rules_used rules (described_in ws) room (~ i)) in
+    origins_used texts rules ∙ (λ i. replicate (described i) Describing ++ sym (rules_used rules (described_in ws) room) i) in
     record {
       judged = found.0;
       table = subst (λ us. IsTableOf (record z { codes = small (length bytes) }) us bytes found.0) uses (subst (λ n. IsTableOf (record z { codes = n }) (map use_for origins) bytes found.0) count found.1);

@@ -183,7 +183,10 @@ module _ (t u : Tables) (one : IsStory t) (other : IsStory u) (alike : AreToldAl
 
   -- the codes that objects name, and then those that rules name, are in turn
   turns : (x : Tables) → AreSound x → (are_in_turn 0 (codes_named x.objects) ≡ true) × (are_in_turn (length (codes_named x.objects)) (codes_in_rules x.rules.rules) ≡ true)
-  turns x sound = turn_parted (codes_named x.objects) (codes_in_rules x.rules.rules) 0 sound.in_turn
+  turns x sound =
+      let t = turn_parted (codes_named x.objects) (codes_in_rules x.rules.rules) 0 sound.in_turn in
+      let there : length (codes_named x.objects) ≡ 0 + length (codes_named x.objects) = omega arith in
+      (t.0, ap (λ n. are_in_turn n (codes_in_rules x.rules.rules)) there ∙ t.1)
 
   numbers : AreNumberedAlike c d 0 t.objects u.objects
   unfolding c d

@@ -9,7 +9,7 @@ use Rattle.story_code.specs.Fronts.{code_in}
 use Rattle.story_code.specs.Runs.{code_or_none}
 use Rattle.story_code.specs.Soundness.{Judged}
 use Rattle.story_format.specs.Checks.{codes_named}
-pub use Rattle.story_format.specs.Counts.{counts_of, small}
+unfoldable pub use Rattle.story_format.specs.Counts.{counts_of, small}
 use Rattle.story_format.specs.RuleChecks.{uses_in_rules}
 use Rattle.story_format.specs.declared.tables.Tables.{Tables}
 
