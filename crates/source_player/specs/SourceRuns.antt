@@ -5,6 +5,7 @@ use Rattle.world_meaning.specs.declared.tale.Tale.{Tale}
 use Rattle.play_meaning.specs.Games.{Game}
 use Rattle.play_meaning.specs.Sessions.{State, opened}
 use Rattle.play_meaning.specs.Transcripts.{IsPlay}
+use Rattle.play_meaning.specs.Rules.{AuthorRule}
 use Rattle.play_meaning.specs.Trees.{Text}
 use Rattle.story_format.specs.Holding.{AreHeld}
 use Rattle.story_format.specs.Refusals.{IsRefused as IsNoStory}
@@ -44,19 +45,21 @@ pub record BrokeOffStory (fault : RunFault) (bytes : List ℕ) (echo : Bool) (be
   pub broke : BrokeOffGame fault (game_of_story story) echo before after
 
 -- The headline: a source of which there is a story file was played, in the game of the tale that its sentences mean and of what
--- its descriptions say.
+-- its descriptions say; no rule of the author's is consulted so far.
 pub record PlayedSource (source : List ℕ) (echo : Bool) (before after : Streams) (ending : Ending) : Type 0 where
   pub tale : Tale
   pub texts : List Text
-  pub means : Means source tale texts
-  pub held : AreHeld tale texts
+  pub rules : List AuthorRule
+  pub means : Means source tale texts rules
+  pub held : AreHeld tale texts rules
   pub played : PlayedGame (game_meant tale texts) echo before after ending
 
 pub record BrokeOffSource (fault : RunFault) (source : List ℕ) (echo : Bool) (before after : Streams) : Type 0 where
   pub tale : Tale
   pub texts : List Text
-  pub means : Means source tale texts
-  pub held : AreHeld tale texts
+  pub rules : List AuthorRule
+  pub means : Means source tale texts rules
+  pub held : AreHeld tale texts rules
   pub broke : BrokeOffGame fault (game_meant tale texts) echo before after
 
 -- whether play had begun
@@ -82,8 +85,9 @@ pub record IsSpelled (bytes : List ℕ) : Type 0 where
 pub record IsMeant (source : List ℕ) : Type 0 where
   pub tale : Tale
   pub texts : List Text
-  pub means : Means source tale texts
-  pub held : AreHeld tale texts
+  pub rules : List AuthorRule
+  pub means : Means source tale texts rules
+  pub held : AreHeld tale texts rules
 
 -- Why bytes aren't played to their end as a story: they are none, memory is refused where the story that they are begins,
 -- or the run broke off.
@@ -105,8 +109,9 @@ LeavesSource (Run fault) source echo before after = BrokeOffSource fault source 
 pub record PlayedBytes (source commands : List ℕ) (echo : Bool) (transcript : List ℕ) (ending : Ending) : Type 0 where
   pub tale : Tale
   pub texts : List Text
-  pub means : Means source tale texts
-  pub held : AreHeld tale texts
+  pub rules : List AuthorRule
+  pub means : Means source tale texts rules
+  pub held : AreHeld tale texts rules
   pub last : State
   pub play : IsPlay (game_meant tale texts) echo (opened (game_meant tale texts)).state commands transcript last
   pub ended : last.ending ≡ Some ending

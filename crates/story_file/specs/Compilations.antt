@@ -8,23 +8,25 @@ use Rattle.world_meaning.specs.declared.tale.Tale.{Tale}
 use Rattle.play_meaning.specs.Games.{Game}
 use Rattle.play_meaning.specs.PlainTales.{script_of}
 use Rattle.play_meaning.specs.Scripts.{game_of}
+use Rattle.play_meaning.specs.Rules.{AuthorRule}
 use Rattle.play_meaning.specs.Trees.{Text}
 use Rattle.i7_lexer.specs.Readings.{HasTokens}
 use Rattle.i7_lexer.specs.Refusals.{IsRefused as IsUnspelled, longest}
 use Rattle.i7_lexer.specs.declared.token.Token.{Token}
 use Rattle.i7_sentences.specs.Sources.{HasSentences, IsRefused as IsUnread}
 use Rattle.i7_sentences.specs.declared.sentence.Sentence.{Sentence}
-use Rattle.code_table.specs.declared.describing.TableFault.{TableFault}
-use Rattle.code_table.specs.declared.describing.TableFault.TheVariants.{TooLong, TooMany, Memory}
+use Rattle.code_table.specs.declared.fault.TableFault.{TableFault}
+use Rattle.code_table.specs.declared.fault.TableFault.TheVariants.{LongRule, LongText, TooMany, Memory}
 use Rattle.story_format.specs.Carrying.{Carries}
 use Rattle.story_format.specs.Holding.{AreHeld, AreNotHeld}
 use Rattle.story_format.specs.Making.{tables_of, text_of}
 use Rattle.story_format.specs.Spells.{Spells}
 use Rattle.story_format.specs.declared.tables.Tables.{Tables}
-use Rattle.story_file.specs.Lines.{line_of_description}
+use Rattle.story_file.specs.Lines.{line_of_description, line_of_rule}
 use Rattle.story_file.specs.Meanings.{AreMeant, AreRefused}
 
--- the game of a tale whose descriptions say these texts, in the order of the objects that have one
+-- the game of a tale whose descriptions say these texts, in the order of the objects that have one; no rule of the author's is
+-- consulted so far
 abbrev pub game_meant : Tale → List Text → Game
 game_meant tale texts = game_of (script_of tale (text_of tale texts))
 
@@ -34,22 +36,23 @@ pub record Says (source : List ℕ) (sentences : List Sentence) : Type 0 where
   pub spells : HasTokens source tokens
   pub reads : HasSentences tokens sentences
 
--- A source's sentences mean this tale, and its descriptions say these texts.
-pub record Means (source : List ℕ) (tale : Tale) (texts : List Text) : Type 0 where
+-- A source's sentences mean this tale, its descriptions say these texts, and these are its rules.
+pub record Means (source : List ℕ) (tale : Tale) (texts : List Text) (rules : List AuthorRule) : Type 0 where
   pub sentences : List Sentence
   pub says : Says source sentences
-  pub meant : AreMeant sentences tale texts
+  pub meant : AreMeant sentences tale texts rules
 
 -- A source has this story file: it spells the tables of the tale that the source's sentences mean, with codes for what its
--- descriptions say, and these tables carry the tale.
+-- descriptions say and for its rules, and these tables carry the tale.
 pub record IsCompiled (source bytes : List ℕ) : Type 0 where
   pub tale : Tale
   pub texts : List Text
-  pub means : Means source tale texts
-  pub held : AreHeld tale texts
+  pub rules : List AuthorRule
+  pub means : Means source tale texts rules
+  pub held : AreHeld tale texts rules
   pub tables : Tables
-  pub tables_are : tables ≡ tables_of tale texts
-  pub carries : Carries tables tale texts
+  pub tables_are : tables ≡ tables_of tale texts rules
+  pub carries : Carries tables tale texts rules
   pub spells : Spells bytes tables
 
 -- A source's tokens are refused.
@@ -64,23 +67,25 @@ pub record IsUnmeant (source : List ℕ) (fault : Fault) : Type 0 where
   pub says : Says source sentences
   pub refused : AreRefused sentences fault
 
--- how it is told that no story file says texts: at the line of the first description whose code is too long, or at line 1 where
--- there are too many codes or strings
+-- how it is told that no story file says texts and rules: at the line of the first description whose code is too long, or else of
+-- the first such rule, or at line 1 where there are too many codes or strings
 abbrev pub IsToldAs : List Sentence → List Object → TableFault → Fault → Type 0
-IsToldAs sentences objects (TooLong number) fault = fault ≡ record { code = TooManyCode; line = line_of_description sentences objects number }
+IsToldAs sentences objects (LongText number) fault = fault ≡ record { code = TooManyCode; line = line_of_description sentences objects number }
+IsToldAs sentences objects (LongRule number) fault = fault ≡ record { code = TooManyCode; line = line_of_rule sentences number }
 IsToldAs sentences objects TooMany fault = fault ≡ record { code = TooManyCode; line = 1 }
 IsToldAs sentences objects Memory fault = ⊥
 
--- A source means a tale of which no story file says the descriptions.
+-- A source means a tale of which no story file says the descriptions and rules.
 pub record IsUnheldSource (source : List ℕ) (fault : Fault) : Type 0 where
   pub tale : Tale
   pub texts : List Text
-  pub means : Means source tale texts
+  pub rules : List AuthorRule
+  pub means : Means source tale texts rules
   pub reason : TableFault
-  pub not_held : AreNotHeld tale texts reason
+  pub not_held : AreNotHeld tale texts rules reason
   pub told : IsToldAs means.sentences tale.objects reason fault
 
--- A source is refused: by its bytes, its tokens, what its sentences say, or for descriptions that no story file says; or, within
+-- A source is refused: by its bytes, its tokens, what its sentences say, or for descriptions and rules that no story file says; or, within
 -- the limit, memory was refused.
 pub data IsRefused : List ℕ → Fault → Type 0 where
   unspelled : {source : List ℕ} {fault : Fault} → IsUnspelled source fault → IsRefused source fault

@@ -1,5 +1,6 @@
 //! What holds of every source, by the definitions alone.
 ghost use Rattle.std.specs.Prelude.{◌≡◌, ◌≢◌, ℕ, List};
+ghost use Rattle.play_meaning.specs.Rules.{AuthorRule};
 ghost use Rattle.play_meaning.specs.Trees.{Text};
 ghost use Rattle.world_meaning.specs.declared.fault.Fault.{Fault};
 ghost use Rattle.world_meaning.specs.declared.fault.FaultCode.TheVariants.{Memory};
@@ -10,11 +11,12 @@ use i7_phrases::one_text_is_meant;
 use i7_resolution::one_resolution;
 use story_format::never_held_and_not;
 
-/// No source means two tales, or the same with other descriptions.
+/// No source means two tales, or the same with other descriptions or other rules.
 pub fn one_tale()
-    ensures { (source : List ℕ) (tale other : Tale) (texts others : List Text) → Means source tale texts → Means source other others → (tale ≡ other) × (texts ≡ others) }
+    ensures { (source : List ℕ) (tale other : Tale) (texts others : List Text) (rules more : List AuthorRule) → Means source tale texts rules → Means source other others more → (tale ≡ other) × ((texts ≡ others) × (rules ≡ more)) }
 {
     one_text_is_meant();
+    one_resolution();
 }
 
 /// No source has a story file and is refused, memory aside.

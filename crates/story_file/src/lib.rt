@@ -5,8 +5,8 @@ mod compiler;
 mod laws;
 mod lines;
 mod meaning;
+mod rules;
 mod texts;
-mod unheld;
 mod worked_rows;
 
 pub use compiler::compile;

@@ -1,7 +1,7 @@
-//! The lines of descriptions.
+//! The lines of descriptions and rules.
 ghost use Rattle.std.specs.Prelude.{◌≡◌, slice_get};
 ghost use Rattle.std.specs.Option.{option_map};
-ghost use Rattle.story_file.specs.Lines.{describes_with, line_of, line_of_description};
+ghost use Rattle.story_file.specs.Lines.{describes_with, is_rule, line_of, line_of_description, line_of_rule};
 ghost use Rattle.story_file.specs.Meanings.{descriptions_of};
 
 use i7_sentences::{Assertion, Sentence};
@@ -48,6 +48,30 @@ fn description_at(objects: &[Object], number: usize) -> Option<&TextBytes>
         rest = after;
     }
     None
+}
+
+fn is_rule(said: &Assertion) -> bool
+    ensures { result ≡ is_rule said.now }
+{
+    matches!(said, Assertion::Rule(_))
+}
+
+/// The line of the rule of this number, counted from 0 in the order of the sentences; 1 where there is none.
+pub fn line_of_rule(sentences: &[Sentence], number: usize) -> u32
+    ensures { result ≡ line_of_rule sentences.now number }
+{
+    let mut left = number;
+    let mut rest = sentences;
+    while let [sentence, after @ ..] = rest {
+        if is_rule(&sentence.said) {
+            if left == 0 {
+                return sentence.line;
+            }
+            left -= 1;
+        }
+        rest = after;
+    }
+    1
 }
 
 /// The line of the first sentence that says the description of this number.

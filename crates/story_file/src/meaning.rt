@@ -1,27 +1,28 @@
-//! From sentences to the tale that they mean, and what its descriptions say.
+//! From sentences to the tale that they mean, what its descriptions say, and its rules.
 ghost use Rattle.std.specs.Prelude.{◌≡◌, ◌⊎◌, Ok as Said, IfErr, IfOk};
 ghost use Rattle.i7_kinds.specs.Tales.{tale_said};
 ghost use Rattle.i7_resolution.specs.Resolutions.{IsResolution, known_in};
-ghost use Rattle.i7_sentences.specs.Lowest.{lowest};
 ghost use Rattle.world_meaning.specs.Faults.{out_of_memory};
-ghost use Rattle.story_file.specs.Meanings.{AreMeant, AreRefused, MeanSomeTale, known_said, refusal_told, unheld_line};
-ghost use Rattle.story_file.specs.Texts.{texts_kept};
+ghost use Rattle.story_file.specs.Meanings.{AreMeant, AreRefused, AreTexts, MeanSomeTale, known_said};
+ghost use Rattle.story_file.specs.Rules.{rules_kept, rules_told};
+ghost use Rattle.story_file.specs.Texts.{AreReadable, texts_kept};
 
+use crate::rules::rules_of;
 use crate::texts::texts_of;
-use crate::unheld::lowest_unheld;
 use i7_kinds::tale_of;
 use i7_names::{SourceNames, names_in};
-use i7_resolution::{Resolution, resolution_of};
+use i7_resolution::{Resolution, Resolved, resolution_of};
 use i7_sentences::Sentence;
-use play_meaning::tree::Text;
+use play_meaning::tree::{MeantRule, Text};
 use std::alloc::{AllocError, Global};
-use world_meaning::{Fault, FaultCode, Tale};
+use world_meaning::{Fault, Tale};
 
-/// A tale, and what its descriptions say, in the order of the objects that have one.
+/// A tale, what its descriptions say, in the order of the objects that have one, and its rules, in the order of their sentences.
 #[derive(Drop)]
 pub struct Meant {
     pub tale: Tale,
     pub texts: Vec<Text>,
+    pub rules: Vec<MeantRule>,
 }
 
 /// What the names of sentences stand for that mean a tale, and what is resolved of them.
@@ -38,46 +39,50 @@ fn resolution_said(
     Ok((names, told))
 }
 
-/// Why sentences are refused of which so much is resolved, if they are: no story holds a rule so far.
-fn refusal_told(told: &Resolution, sentences: &[Sentence]) -> Option<Fault>
-    ensures { result ≡ refusal_told told.now (lowest unheld_line sentences.now) }
+/// What the descriptions of a tale say that the sentences mean, and its rules, where so much is resolved of them.
+fn kept_of(
+    alloc: Global,
+    names: &SourceNames,
+    tale: &Tale,
+    resolved: Resolved,
+) -> Result<(Vec<Text>, Vec<MeantRule>), AllocError>
+    requires { AreReadable (known_in names.now) tale.now.objects }
+    ensures texts { IfOk result (λ kept. AreTexts (known_in names.now) tale.now.objects (texts_kept kept.0.items)) }
+    ensures rules { IfOk result (λ kept. rules_kept kept.1.items ≡ rules_told resolved) }
 {
-    match told {
-        Resolution::Refused(fault) => Some(*fault),
-        Resolution::Says(_) => {
-            let line = lowest_unheld(sentences)?;
-            Some(Fault {
-                code: FaultCode::NotUnderstood,
-                line,
-            })
-        }
-    }
+    let texts = texts_of(alloc, names, tale.objects.as_slice())?;
+    let rules = rules_of(alloc, resolved.rules)?;
+    Ok((texts, rules))
 }
 
-/// What the descriptions of a tale say that the sentences mean, or why they are refused.
-fn texts_meant(alloc: Global, sentences: &[Sentence], tale: &Tale) -> Result<Vec<Text>, Fault>
+/// What the descriptions of a tale say that the sentences mean, and its rules, or why they are refused.
+fn meant_of(
+    alloc: Global,
+    sentences: &[Sentence],
+    tale: &Tale,
+) -> Result<(Vec<Text>, Vec<MeantRule>), Fault>
     requires { tale_said sentences.now ≡ Said tale.now }
-    ensures meant { IfOk result (λ texts. AreMeant sentences.now tale.now (texts_kept texts.items)) }
+    ensures meant { IfOk result (λ kept. AreMeant sentences.now tale.now (texts_kept kept.0.items) (rules_kept kept.1.items)) }
     ensures refused { IfErr result (λ fault. AreRefused sentences.now fault ⊎ (fault ≡ out_of_memory)) }
 {
     let Ok((names, told)) = resolution_said(alloc, sentences) else {
         return Err(Fault::OUT_OF_MEMORY);
     };
-    if let Some(fault) = refusal_told(&told, sentences) {
-        return Err(fault);
-    }
-    match texts_of(alloc, &names, tale.objects.as_slice()) {
-        Ok(texts) => Ok(texts),
-        Err(_) => Err(Fault::OUT_OF_MEMORY),
+    match told {
+        Resolution::Refused(fault) => Err(fault),
+        Resolution::Says(resolved) => match kept_of(alloc, &names, tale, resolved) {
+            Ok(kept) => Ok(kept),
+            Err(_) => Err(Fault::OUT_OF_MEMORY),
+        },
     }
 }
 
-/// The tale that sentences mean and what its descriptions say, or why they are refused.
+/// The tale that sentences mean, what its descriptions say, and its rules, or why they are refused.
 pub fn tale_meant(alloc: Global, sentences: &[Sentence]) -> Result<Meant, Fault>
-    ensures meant { IfOk result (λ meant. AreMeant sentences.now meant.tale (texts_kept meant.texts.items)) }
+    ensures meant { IfOk result (λ meant. AreMeant sentences.now meant.tale (texts_kept meant.texts.items) (rules_kept meant.rules.items)) }
     ensures refused { IfErr result (λ fault. AreRefused sentences.now fault ⊎ (fault ≡ out_of_memory)) }
 {
     let tale = tale_of(alloc, sentences)?;
-    let texts = texts_meant(alloc, sentences, &tale)?;
-    Ok(Meant { tale, texts })
+    let (texts, rules) = meant_of(alloc, sentences, &tale)?;
+    Ok(Meant { tale, texts, rules })
 }

@@ -148,6 +148,10 @@ tables_with d ws rules origins = record (tables_but_codes d ws rules (strings_of
 abbrev pub tables_of : Tale → List Text → List AuthorRule → Tables
 tables_of t texts rules = tables_with t.declared (worded t.objects) rules (origins_of texts rules)
 
+-- its strings
+abbrev pub strings_with : Tale → List Text → List AuthorRule → List (List ℕ)
+strings_with t texts rules = strings_of (worded t.objects) (origins_of texts rules)
+
 -- ---- what is said of each object
 
 -- where these are the texts of those that are described, in order

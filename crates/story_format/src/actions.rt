@@ -59,8 +59,8 @@ const CARRIED: Needs = Needs {
 
 /// What each action needs that every story has, by number (*Writing with Inform*, chapter 12).
 const STANDARD_NEEDS: [Needs; 16] = [
-    NOTHING, EXAMINED, TOUCHED, TOUCHED, PUT, PUT, TOUCHED, TOUCHED, SEEN, CARRIED, TOUCHED, NOTHING,
-    NOTHING, NOTHING, TOUCHED, TOUCHED,
+    NOTHING, EXAMINED, TOUCHED, TOUCHED, PUT, PUT, TOUCHED, TOUCHED, SEEN, CARRIED, TOUCHED,
+    NOTHING, NOTHING, NOTHING, TOUCHED, TOUCHED,
 ];
 
 fn need_number(slot: Slot) -> u8

@@ -13,11 +13,7 @@ use std::alloc::{AllocError, Global};
 
 /// Mentions the strings that phrases say.
 #[cycle(bodies)]
-fn mention_body(
-    alloc: Global,
-    strings: &mut Strings,
-    body: &[Phrase],
-) -> Result<(), AllocError>
+fn mention_body(alloc: Global, strings: &mut Strings, body: &[Phrase]) -> Result<(), AllocError>
     ensures { OnOk result (strings.new ≡ fold mention strings.old (strings_of_body (body_meant body.now))) }
 {
     for at in 0..body.len() {
@@ -27,11 +23,7 @@ fn mention_body(
 }
 
 #[cycle(bodies)]
-fn mention_phrase(
-    alloc: Global,
-    strings: &mut Strings,
-    phrase: &Phrase,
-) -> Result<(), AllocError>
+fn mention_phrase(alloc: Global, strings: &mut Strings, phrase: &Phrase) -> Result<(), AllocError>
     ensures { OnOk result (strings.new ≡ fold mention strings.old (strings_of_phrase (phrase_meant phrase.now))) }
 {
     match phrase {
@@ -61,11 +53,7 @@ fn mention_branches(
 }
 
 #[cycle(bodies)]
-fn mention_branch(
-    alloc: Global,
-    strings: &mut Strings,
-    branch: &Branch,
-) -> Result<(), AllocError>
+fn mention_branch(alloc: Global, strings: &mut Strings, branch: &Branch) -> Result<(), AllocError>
     ensures { OnOk result (strings.new ≡ fold mention strings.old (branch_strings branch.now)) }
 {
     mention_body(alloc, strings, branch.phrases.as_slice())
@@ -73,11 +61,7 @@ fn mention_branch(
 
 /// Mentions what a phrase says that has no phrases of its own.
 #[tactic(auto, unfolding(play_meaning::specs::Translation::strings_of_phrase), using(crate::proofs::Mentioned::text_mentioned))]
-fn mention_simple(
-    alloc: Global,
-    strings: &mut Strings,
-    simple: &Simple,
-) -> Result<(), AllocError>
+fn mention_simple(alloc: Global, strings: &mut Strings, simple: &Simple) -> Result<(), AllocError>
     ensures { OnOk result (strings.new ≡ fold mention strings.old (strings_of_phrase (simple_meant simple.now))) }
 {
     match simple {

@@ -176,10 +176,12 @@ pub fn are_right_rules(
 {
     let actions = action_entries(alloc)?;
     let scenes = rules.scenes.as_slice();
-    Ok(are_right_scenes(scenes)
-        && are_right_books(scenes.len(), rules.books.as_slice())
-        && are_same_actions(rules.actions.as_slice(), actions.as_slice())
-        && rules.grammar.as_slice().is_empty()
-        && rules.rules.as_slice().len() <= MOST_RULES
-        && each_is_right(counts, rules.rules.as_slice()))
+    Ok(
+        are_right_scenes(scenes)
+            && are_right_books(scenes.len(), rules.books.as_slice())
+            && are_same_actions(rules.actions.as_slice(), actions.as_slice())
+            && rules.grammar.as_slice().is_empty()
+            && rules.rules.as_slice().len() <= MOST_RULES
+            && each_is_right(counts, rules.rules.as_slice()),
+    )
 }

@@ -1,7 +1,11 @@
-use Rattle.std.proofs.Common.{◌∙◌}
+use Rattle.std.proofs.Common.{◌∙◌, arith}
 use Rattle.std.specs.Prelude.{map}
 use Rattle.std.proofs.lemmas.Result.{IfErr-weaker, IfOk-weaker}
 use Rattle.play_meaning.specs.Meant.{rule_meant, text_meant}
+use Rattle.story_format.specs.Making.{worded}
+use Rattle.story_format.proofs.DeclaredLemmas.{declared_parts}
+use Rattle.story_format.proofs.OrderLemmas.{codes_few}
+use Rattle.story_format.proofs.Stories.{few_objects}
 use Rattle.story_format.proofs.CodedTables.{are_held, coded_is, none_so, on_both, too_many}
 use Rattle.story_format.proofs.coding.tables_of.Goals as goal
 
@@ -25,3 +29,12 @@ pub returns-clause-none : goal.returns-clause-none
 returns-clause-none c =
     IfErr-weaker c.with_codes.result _ _
     (λ fault none. none_so c.args.tale.now (map text_meant c.args.texts.now) (map rule_meant c.args.rules.now) c.in-Ok.strings c.in-Ok.tables c.in-Ok.ensures.strings c.in-Ok.ensures.tables fault none) c.with_codes.ensures.none
+
+pub uncoded-requires-clause-few : goal.uncoded-requires-clause-few
+uncoded-requires-clause-few c = omega (arith, codes_few (worded c.args.tale.now.objects), few_objects c.args.tale.now c.requires.held)
+
+pub uncoded-requires-clause-few_scenes : goal.uncoded-requires-clause-few_scenes
+uncoded-requires-clause-few_scenes c = (declared_parts c.args.tale.now.declared c.requires.held.made.declared).scenes
+
+pub uncoded-requires-clause-few_books : goal.uncoded-requires-clause-few_books
+uncoded-requires-clause-few_books c = (declared_parts c.args.tale.now.declared c.requires.held.made.declared).rulebooks
