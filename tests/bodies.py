@@ -1,14 +1,15 @@
 #!/usr/bin/env python3
-"""Does the body of each case of tests/bodies/phrases.json once, and compares what it says and comes to; or why it is refused, as
-of the sources of tests/bodies/rules.rows (tests/row_files.py says how rows are written).
+"""Does the body of each case of tests/bodies/phrases.json once, in the world of its story, and compares what it says and comes to; or
+why it is refused, as of the sources of tests/bodies/rules.rows (tests/row_files.py says how rows are written). The story of each
+source that is taken says what a plain reader of stories says: its tables 8 to 12 are those of the source (tests/rule_sources.py),
+its codes are sound, and the program plays it: it begins, and answers `look`, as the reader says.
 
 Use: tests/bodies.py PROGRAM [NAME..]    (the program of `i7story`; that of `rule_calls` stands beside it)
 NAME: only cases whose name begins so
 
 A case is a source with its name and what it is about. Of a body `text` is what it says, `result` how it leaves off, `ends` the
 text with which the story ended, or null, and `stops` null or the code with which play breaks off; of a refused source `refusal`
-is its code, the code's name and its line. No story holds rules yet, nor descriptions with a `[`. So beside the source stands what its
-story is compiled of, in which a sentence that declares nothing stands for each rule and a marker for each such text."""
+is its code, the code's name and its line."""
 import json
 import pathlib
 import re
@@ -16,24 +17,20 @@ import subprocess
 import sys
 import tempfile
 
+from plain_stories import NONE16, opening, tables
 from row_files import report, rows_of
-from rule_sources import plain_part
+from rule_sources import tables_of
 
-program = pathlib.Path(sys.argv[1]).resolve().parents[2] / "rule_calls/out/rule_calls"
+program = pathlib.Path(sys.argv[1]).resolve()
+calls = program.parents[2] / "rule_calls/out/rule_calls"
 wanted = tuple(sys.argv[2:]) or ("",)
 folder = pathlib.Path(__file__).resolve().parent / "bodies"
 
 RESULTS = {"done": "Done", "no decision": "NoDecision", "success": "Success", "failure": "Failure"}
 
 
-def record_of(source):
-    """The source as the program reads it."""
-    assert not re.search("[@\x1e\x1f]", source), source
-    return source + "\x1f" + plain_part(source) + "\x1e"
-
-
 def answer_of(case):
-    """What the program is to print of a case."""
+    """What `rule_calls` is to print of a case."""
     refusal = case.get("refusal")
     if refusal:
         return f"refused\t{refusal['line']}: {refusal['code']} {refusal['name']}"
@@ -44,27 +41,51 @@ def answer_of(case):
 
 
 def readable(line):
-    """A line of the program with its bytes as text."""
+    """A line of `rule_calls` with its bytes as text."""
     return re.sub(r"\[[\d, ]*\]", lambda found: repr(bytes(json.loads(found[0])).decode("latin-1")), line)
 
 
 def told(sources):
-    """What the program prints of sources, a line for each."""
+    """What `rule_calls` prints of sources, a line for each."""
+    assert not any("\x1e" in source for source in sources)
     with tempfile.NamedTemporaryFile("w", newline="") as scratch:
-        scratch.write("".join(map(record_of, sources)))
+        scratch.write("".join(source + "\x1e" for source in sources))
         scratch.flush()
-        done = subprocess.run([program, "bodies", scratch.name], capture_output=True, check=True, timeout=300)
+        done = subprocess.run([calls, "bodies", scratch.name], capture_output=True, check=True, timeout=300)
     return done.stdout.decode().split("\n")[:-1]
 
 
 def wanted_cases():
-    """The sources, each with its name and what the program is to print of it."""
+    """The sources, each with its name and what `rule_calls` is to print of it."""
     for case in json.loads((folder / "phrases.json").read_text()):
         yield case["name"], case["source"], answer_of(case)
     for place, (source, answer) in rows_of(folder / "rules.rows"):
         yield place, source.decode(), answer.decode()
 
 
-cases = [case for case in wanted_cases() if case[0].startswith(wanted)]
-lines = told(source for _, source, _ in cases)
-report("bodies", ((name, readable(line), readable(answer)) for line, (name, _, answer) in zip(lines, cases, strict=True)))
+def played(scratch, source):
+    """Whether the story of a source has the tables that it must have, and what it says at first and to `look`, with what a plain
+    reader says."""
+    path, story = scratch / "s.i7", scratch / "story"
+    path.write_bytes(source.encode())
+    subprocess.run([program, "compile", path, story], check=True, timeout=10)
+    data = story.read_bytes()
+    t = tables(data)
+    asked = tables_of(source, sum(o["code"] != NONE16 for o in t["objects"]))
+    done = subprocess.run([program, "play", story], input=b"look\n", capture_output=True, timeout=10)
+    said = opening(data)
+    return ({name: t[name] for name in asked}, done.returncode, done.stdout, done.stderr), (asked, 0, said + said, b"")
+
+
+def answers():
+    cases = [case for case in wanted_cases() if case[0].startswith(wanted)]
+    for line, (name, _, answer) in zip(told([source for _, source, _ in cases]), cases, strict=True):
+        yield name, readable(line), readable(answer)
+    with tempfile.TemporaryDirectory() as scratch:
+        for name, source, answer in cases:
+            if not answer.startswith("refused"):
+                found, asked = played(pathlib.Path(scratch), source)
+                yield f"{name}, its story", str(found), str(asked)
+
+
+report("bodies", answers())

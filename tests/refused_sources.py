@@ -1,7 +1,6 @@
 #!/usr/bin/env python3
 """Compiles the source of each row of tests/refused_sources/*.rows (tests/row_files.py says how a row is written): it is refused as
-its second field says, a line, a code and its name, or `taken`. The sources of tests/bodies are refused as is told there; one of
-which all is understood for its first rule, since no story holds one so far.
+its second field says, a line, a code and its name, or `taken`. The sources of tests/bodies are refused as is told there, or taken.
 
 Use: tests/refused_sources.py PROGRAM"""
 import json
@@ -12,7 +11,6 @@ import sys
 import tempfile
 
 from row_files import report, rows_of
-from rule_sources import unheld_line
 
 program = pathlib.Path(sys.argv[1]).resolve()
 folder = pathlib.Path(__file__).resolve().parent / "refused_sources"
@@ -48,7 +46,7 @@ def answers():
         for place, (source, wanted) in rows_of(path):
             yield place, answer(source), wanted
     for place, source, refusal in told_of_bodies():
-        yield place, answer(source), refusal or b"%d: C5 NotUnderstood" % unheld_line(source.decode())
+        yield place, answer(source), refusal or b"taken"
 
 
 with tempfile.TemporaryDirectory() as scratch:

@@ -1,12 +1,14 @@
-"""Sources with rules: where their sentences begin and end, and what of them no story holds so far, by a plain reading."""
+"""Sources with rules, by a plain reading: where their sentences begin and end, and what these put into tables 8 to 12 of the story."""
 import re
 
-RULE = re.compile(r"(?:Every turn|When play begins|(?:An?|The) [\w' -]+? rule)\b")
+from plain_stories import ACTIONS, BUILT_IN_BOOKS, EVERY_TURN, NONE8, NONE16
+
+RULE = re.compile(r"(?:Every turn|When play begins|(?:An?|The) ([\w' -]+?) rule)\b(?= when | *[,:(]|$)")
 COMMENT = re.compile(r'("[^"]*")|\[[^]]*\]')
-DESCRIPTION = re.compile(r'"([^"]*\[[^"]*)"')
 FINAL = re.compile(r"[.?!]'?$|$")
 NEXT = re.compile(r'\s+["A-Z]|\s*$')
-STAND_IN = "North is a direction."
+RULEBOOK = re.compile(r"(?:an? |the |some )?(.+) rules (?:is|are) a rulebook\.?", re.I | re.S)
+SCENE = re.compile(r"(?:an? |the |some )?(.+?) (?:is|are) a (recurring )?scene\.?", re.I | re.S)
 
 
 def without_comments(source):
@@ -35,32 +37,48 @@ def end_of(source, start):
 
 
 def sentences(source):
-    """The places at which sentences begin and end."""
-    end = 0
+    """The sentences of a source."""
+    source, end = without_comments(source), 0
     while found := re.compile(r"\S").search(source, end):
         end = end_of(source, found.start())
-        yield found.start(), end
+        yield source[found.start() : end]
 
 
-def plain_part(source):
-    """What the source's story is compiled of."""
-    plain, texts, done = "", 0, 0
-    for start, end in sentences(without_comments(source)):
-        before, sentence = source[done:start], source[start:end]
-        if RULE.match(sentence):
-            sentence = STAND_IN + "\n" * sentence.count("\n")
-        elif found := DESCRIPTION.search(sentence):
-            marker = f'"@{texts};{FINAL.search(found[1])[0]}"' + "\n" * found[0].count("\n")
-            sentence = sentence[: found.start()] + marker + sentence[found.end() :]
-            texts += 1
-        plain, done = plain + before + sentence, end
-    return plain + source[done:]
+def declared(told):
+    """The names of the rulebooks that sentences declare, and of the scenes, each with whether it may happen again."""
+    rulebooks, scenes = [], {}
+    for sentence in told:
+        if found := RULEBOOK.fullmatch(sentence):
+            rulebooks.append(found[1].lower())
+        elif found := SCENE.fullmatch(sentence):
+            scenes[found[1].lower()] = found[2] is not None
+    return rulebooks, scenes
 
 
-def unheld_line(source):
-    """The line of the first sentence that is a rule."""
-    plain = without_comments(source)
-    for start, end in sentences(plain):
-        if RULE.match(plain[start:end]):
-            return 1 + plain.count("\n", 0, start)
-    return None
+def head_of(sentence, rulebooks, scenes):
+    """The book of a rule, and whether it has a condition; none of another sentence."""
+    found = RULE.match(sentence)
+    if not found:
+        return None
+    if sentence.startswith("When"):
+        return EVERY_TURN + 1, False
+    asks = sentence.startswith(" when ", found.end())
+    if sentence.startswith("Every"):
+        return EVERY_TURN, asks
+    return BUILT_IN_BOOKS + 2 * len(scenes) + rulebooks.index(found[1].lower()), asks
+
+
+def tables_of(source, described):
+    """Tables 8 to 12 of a source's story, as a plain reader of stories gives them, where so many objects are described."""
+    told = list(sentences(source))
+    rulebooks, scenes = declared(told)
+    heads = [head for sentence in told if (head := head_of(sentence, rulebooks, scenes))]
+    rules, code = [], described
+    for book, asks in heads:
+        rules.append((book, NONE8, (0,), (0,), (0,), NONE8, code if asks else NONE16, (0, code + asks)))
+        code += asks + 1
+    return {
+        "actions": ACTIONS, "grammar": [], "rules": rules,
+        "books": [[] for _ in range(BUILT_IN_BOOKS + 2 * len(scenes) + len(rulebooks))],
+        "scenes": [bytes([recurs]) + b"\xff" * 4 for recurs in scenes.values()],
+    }

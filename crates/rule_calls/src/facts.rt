@@ -1,6 +1,6 @@
 //! What is asked about a body that was done, as `said`, `ended`, `variable NUMBER`, `holder OBJECT`, `number PROPERTY OBJECT` or
 //! `flag PROPERTY OBJECT`.
-use crate::playing::Done;
+use crate::runs::Done;
 use std::alloc::{AllocError, Global};
 use world_meaning::{ObjNo, Place};
 

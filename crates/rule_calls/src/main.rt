@@ -1,14 +1,12 @@
 //! Does the bodies of rules, and prints what they come to: the program that is compared with what is told of them. Its words are
-//! a form and a file. `bodies` does the body of each case, a source with a rule, or says why the source is refused; `codes`
-//! prints the codes of each case; `names` prints what a name of a source stands for; `runs` does bodies that are told by their
-//! codes; `spelling` prints the instructions that stand in front of bytes, a line each.
+//! a form and a file. `bodies` does the body of the one rule of each source in the world of the source's story, or says why the
+//! source is refused; `codes` prints the codes of the story; `names` prints what a name of a source stands for; behind each of
+//! these sources stands a record separator (U+001E). `runs` does bodies that are told by their codes; `spelling` prints the
+//! instructions that stand in front of bytes, a line each.
 #![tactic(auto)]
 
-mod case;
 mod codes;
-mod emitted;
 mod facts;
-mod meant;
 mod named;
 mod playing;
 mod reading;
@@ -16,11 +14,9 @@ mod runner;
 mod runs;
 mod spelling;
 mod stage;
-mod strings;
 mod told_code;
 mod unplayed;
 
-use case::Case;
 use named::names_told;
 use playing::{told, told_codes};
 use runs::Bench;
@@ -60,19 +56,19 @@ fn tell(out: &mut Stdout, told: Result<String, AllocError>) -> bool {
     }
 }
 
-/// What is printed of a case.
-fn case_told(alloc: Global, form: Form, record: &str) -> Result<String, AllocError> {
+/// What is printed of a source.
+fn source_told(alloc: Global, form: Form, record: &str) -> Result<String, AllocError> {
     match form {
-        Form::Codes => told_codes(alloc, &Case::of(record)),
+        Form::Codes => told_codes(alloc, record),
         Form::Names => names_told(alloc, record),
-        _ => told(alloc, &Case::of(record)),
+        _ => told(alloc, record),
     }
 }
 
-/// Prints what each case comes to.
-fn tell_cases(alloc: Global, out: &mut Stdout, form: Form, cases: &str) -> bool {
-    for record in cases.split_terminator('\u{1e}') {
-        if !tell(out, case_told(alloc, form, record)) {
+/// Prints what each source comes to.
+fn tell_sources(alloc: Global, out: &mut Stdout, form: Form, sources: &str) -> bool {
+    for record in sources.split_terminator('\u{1e}') {
+        if !tell(out, source_told(alloc, form, record)) {
             return false;
         }
     }
@@ -119,7 +115,7 @@ fn tell_all(rt: &HostRuntime, form: Form, told: &str) -> bool {
     match form {
         Form::Runs => tell_runs(rt.alloc(), &mut out, told),
         Form::Spelling => tell_spelling(rt.alloc(), &mut out, told),
-        _ => tell_cases(rt.alloc(), &mut out, form, told),
+        _ => tell_sources(rt.alloc(), &mut out, form, told),
     }
 }
 

@@ -1,14 +1,8 @@
-//! A case, from its source to what its body does.
-use crate::case::Case;
-use crate::codes::{Rest, all_verified, counts_of};
-use crate::emitted::emit_case;
-use crate::meant::{Meant, case_meant};
-use crate::reading::{Source, source_of};
+//! A source, from its words to what the body of its one rule does in the world of its story.
 use crate::runner::{Asked, Ended, run};
-use crate::stage::Stage;
-use crate::strings::strings_of;
 use crate::told_code::all_told;
 use crate::unplayed::Unplayed;
+use play_meaning::Use;
 use std::alloc::{AllocError, Global};
 use std::rc::Rc;
 use story_code::Verified;
@@ -16,101 +10,79 @@ use story_file::compile;
 use story_format::{Story, load};
 use world_store::World;
 
-/// A case whose body can be done: its codes, the body's in front, and where they are run.
+/// What the body of a story's rule did, said and left behind.
 #[derive(Drop)]
-struct Staged {
-    codes: Vec<Verified>,
-    stage: Stage,
+struct Played {
+    ended: Ended,
+    text: Vec<u8>,
+    world: World,
 }
 
-/// What a body did, said and left behind.
-#[derive(Drop)]
-pub struct Done {
-    pub ended: Ended,
-    pub text: Vec<u8>,
-    pub stage: Stage,
-}
-
-/// The story of plain sentences.
-pub fn story_of(alloc: Global, plain: &str) -> Result<Rc<Story>, Unplayed> {
-    let bytes = compile(alloc, plain.as_bytes())?;
+/// The story of a source.
+pub fn story_of(alloc: Global, source: &str) -> Result<Rc<Story>, Unplayed> {
+    let bytes = compile(alloc, source.as_bytes())?;
     let story = load(alloc, bytes.as_slice())?;
     Ok(Rc::new(alloc, story)?)
 }
 
-/// The codes of a case's one rule and of its story's descriptions, and the world with which the story begins.
-fn set_up_meant(
-    alloc: Global,
-    source: &Source,
-    meant: &Meant,
-    story: &Rc<Story>,
-) -> Result<Staged, Unplayed> {
-    let [body] = meant.bodies.as_slice() else {
+/// The number of the one body among codes.
+fn only_body(codes: &[Verified]) -> Option<u16> {
+    let mut found = None;
+    for (number, code) in codes.iter().enumerate() {
+        if let Use::Body = code.sizes().role {
+            if found.is_some() {
+                return None;
+            }
+            found = u16::try_from(number).ok();
+        }
+    }
+    found
+}
+
+/// Does the body of a source's one rule once, in the world with which its story begins.
+fn played(alloc: Global, source: &str) -> Result<Played, Unplayed> {
+    let story = story_of(alloc, source)?;
+    let codes = story.as_ref().codes();
+    let Some(number) = only_body(codes) else {
         return Err(Unplayed::NotOneRule);
     };
-    let told = story.as_ref();
-    let strings = strings_of(alloc, source, told)?;
-    let rest = Rest {
-        scenes: meant.scenes,
-        books: meant.books,
-        strings: strings.len(),
-        codes: 0,
-    };
-    let counts = counts_of(alloc, told, &rest)?;
-    let emitted = emit_case(alloc, &counts, &strings, body, told, meant.texts.as_slice())?;
-    let codes = all_verified(alloc, &emitted, counts)?;
-    let world = World::start(alloc, story)?;
-    let stage = Stage::new(alloc, world, &strings, emitted.descriptions)?;
-    Ok(Staged { codes, stage })
-}
-
-/// A case whose body can be done.
-fn set_up(alloc: Global, case: &Case<'_>) -> Result<Staged, Unplayed> {
-    let source = source_of(alloc, case.source)?;
-    let story = story_of(alloc, case.plain)?;
-    let meant = case_meant(alloc, &source)?;
-    set_up_meant(alloc, &source, &meant, &story)
-}
-
-/// Does the body of a case once.
-fn played(alloc: Global, case: &Case<'_>) -> Result<Done, Unplayed> {
-    let Staged { codes, mut stage } = set_up(alloc, case)?;
+    let mut world = World::start(alloc, &story)?;
     let mut text = Vec::new(alloc);
     let ended = run(
         alloc,
-        &mut stage,
-        codes.as_slice(),
-        0,
+        &mut world,
+        codes,
+        number,
         &mut text,
         Asked::Unplayed,
         1,
     )?;
-    Ok(Done { ended, text, stage })
+    Ok(Played { ended, text, world })
 }
 
 /// What a body did, as it is printed: how it left off, the text with which the story ended, if it has, and what was said, as
 /// bytes; or why it broke off.
-fn printed(alloc: Global, done: &Done) -> Result<String, AllocError> {
-    let said = done.text.as_slice();
-    let ended = done.stage.world().ended();
-    match &done.ended {
+fn printed(alloc: Global, played: &Played) -> Result<String, AllocError> {
+    let said = played.text.as_slice();
+    let ended = played.world.ended();
+    match &played.ended {
         Ended::Left(step) => format!(in alloc; "did\t{step:?}\t{ended:?}\t{said:?}"),
         Ended::Broken(reason) => format!(in alloc; "stopped\t{reason}"),
     }
 }
 
-/// What a case comes to: what its body did, why it broke off, or why it isn't played.
-pub fn told(alloc: Global, case: &Case<'_>) -> Result<String, AllocError> {
-    match played(alloc, case) {
-        Ok(done) => printed(alloc, &done),
+/// What a source comes to: what the body of its rule did, why it broke off, or why it isn't played.
+pub fn told(alloc: Global, source: &str) -> Result<String, AllocError> {
+    match played(alloc, source) {
+        Ok(played) => printed(alloc, &played),
         Err(unplayed) => format!(in alloc; "{unplayed}"),
     }
 }
 
-/// The codes of a case, or why it isn't played.
-pub fn told_codes(alloc: Global, case: &Case<'_>) -> Result<String, AllocError> {
-    match set_up(alloc, case) {
-        Ok(staged) => all_told(alloc, staged.codes.as_slice()),
+/// The codes of a source's story, or why there is none.
+pub fn told_codes(alloc: Global, source: &str) -> Result<String, AllocError> {
+    match story_of(alloc, source) {
+        Ok(story) => all_told(alloc, story.as_ref().codes()),
         Err(unplayed) => format!(in alloc; "{unplayed}"),
     }
 }

@@ -2,9 +2,9 @@
 //! strings that codes may say, a line each; behind another the runs, a line each: how often the first body is done, what it asks
 //! being passed over, or `once`, where it leaves off there; perhaps a slash and the number of the code by which all is described
 //! that the story describes; the codes, a blank in front of each; and perhaps a tab and what is asked, `;` in between.
-use crate::codes::{Rest, counts_of, sound};
+use crate::codes::{counts_of, sound};
 use crate::facts::fact_told;
-use crate::playing::{Done, story_of};
+use crate::playing::story_of;
 use crate::runner::{Asked, Ended, run};
 use crate::stage::Stage;
 use crate::told_code::ToldCode;
@@ -23,6 +23,14 @@ use world_store::World;
 pub struct Bench {
     story: Rc<Story>,
     strings: Strings,
+}
+
+/// What a body did, said and left behind.
+#[derive(Drop)]
+pub struct Done {
+    pub ended: Ended,
+    pub text: Vec<u8>,
+    pub stage: Stage,
 }
 
 /// How a body is done: how often, what becomes of it where it asks, and the code that describes.
@@ -129,13 +137,7 @@ impl Bench {
 
     /// Codes, if each is sound.
     fn verified(&self, alloc: Global, told: Vec<ToldCode>) -> Result<Vec<Verified>, Unplayed> {
-        let rest = Rest {
-            scenes: 0,
-            books: 0,
-            strings: self.strings.len(),
-            codes: told.len(),
-        };
-        let counts = counts_of(alloc, self.story.as_ref(), &rest)?;
+        let counts = counts_of(alloc, self.story.as_ref(), self.strings.len(), told.len())?;
         let mut codes = Vec::new(alloc);
         for (own, code) in told.into_iter().enumerate() {
             codes.push(sound(code.bytes, counts, own, code.role)?)?;

@@ -1,4 +1,4 @@
-//! The ground of a case: the world of its story, with the strings and the codes of descriptions that are the case's own.
+//! The ground of a run: the world of a story, with the strings and the codes of descriptions that are the run's own.
 ghost use Rattle.std.specs.Prelude.{None, slice_index_or};
 ghost use Rattle.world_store.specs.StorySettings.{setting_of};
 
@@ -9,7 +9,7 @@ use story_format::{door_in, way_in};
 use world_meaning::{Article, KindNo, ObjNo, Place, Rel, TextBytes};
 use world_store::World;
 
-/// A story's world, and what the codes of a case name.
+/// A story's world, and what the codes of a run name.
 #[derive(Drop)]
 pub struct Stage {
     world: World,

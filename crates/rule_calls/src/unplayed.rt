@@ -1,10 +1,10 @@
-//! Why a case isn't played.
+//! Why a body isn't done.
 use std::alloc::AllocError;
 use story_format::LoadFault;
 use thiserror::Error;
 use world_meaning::Fault;
 
-/// Why a case isn't played.
+/// Why a body isn't done.
 #[derive(Debug, Drop, Error)]
 pub enum Unplayed {
     /// The source is refused.
@@ -16,8 +16,6 @@ pub enum Unplayed {
     Memory(#[from(alloc)] AllocError),
     #[error("unplayed\ta part can't be read")]
     UnknownPart,
-    #[error("unplayed\tmore actions, rulebooks or scenes than the language has")]
-    TooManyNames,
     #[error("unplayed\tnot one rule")]
     NotOneRule,
     #[error("unplayed\ta code isn't sound")]
