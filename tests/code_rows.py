@@ -101,14 +101,6 @@ def bodies(rows):
         yield next(found[world]), printed("\t".join([end.replace(" ", "\t", 1), *values]))
 
 
-def record_of(plain, rule, *texts):
-    """A source as `rule_calls` reads it."""
-    plain, source = written_out(plain), written_out(f"{plain}\n\n{rule}")
-    for number, text in enumerate(texts):
-        source = source.replace(f'"@{number};"', written_out(text))
-    return f"{source}\x1f{plain}\x1e"
-
-
 def lengths(codes):
     """Codes with how many bytes each has in place of its digits."""
     return re.sub(r":([0-9a-f]+)", lambda digits: f":{len(digits[1]) // 2}", codes)
@@ -121,8 +113,8 @@ def joined(codes):
 
 def emitted(rows):
     """What the rules of sources are emitted as, or do."""
-    for form, wanted, *source in rows:
-        (line,) = lines_told("bodies" if form == "bodies" else "codes", record_of(*source))
+    for form, wanted, source in rows:
+        (line,) = lines_told("bodies" if form == "bodies" else "codes", written_out(source) + "\x1e")
         wanted = printed(written_out(wanted))
         if form == "codes":
             yield joined(line), joined(wanted)

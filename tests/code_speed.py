@@ -39,7 +39,7 @@ def asked(*words, told):
 
 def codes_of(source, rule):
     """The codes of a rule as they are told."""
-    return asked(program, "codes", told=f"{source}\n\n{rule}\x1f{source}\x1e").stdout.strip()
+    return asked(program, "codes", told=f"{source}\n\n{rule}\x1e").stdout.strip()
 
 
 def taken(source, codes, times):

@@ -40,7 +40,7 @@ def long_rule(front, again, end):
 def answer(rule):
     """What the program says of the rule."""
     with tempfile.NamedTemporaryFile("w", newline="") as file:
-        file.write(f"{PLAIN}\n\n{rule}\x1f{PLAIN}\x1e")
+        file.write(f"{PLAIN}\n\n{rule}\x1e")
         file.flush()
         try:
             done = subprocess.run([program, "bodies", file.name], capture_output=True, text=True, check=True, timeout=1)
