@@ -1,9 +1,11 @@
 #!/usr/bin/env python3
 """Damaged story files: each cut, each flipped bit and many random changes of a story are judged by a plain reader of the format
-(tests/plain_stories.py), and the program must say the same: the fault, or what the story tells at first. Of 24,000 more the
+(tests/plain_stories.py), and the program must say the same: the fault, or what the story tells at first. Of many more, among them
+each cut and each flipped bit of a story with rules, books and scenes and of the stories of some sources of tests/bodies, the
 program of `story_calls` must say it, and tell the same to `look`.
 
 Use: tests/damaged_stories.py PROGRAM    (the program of `i7story`; that of `story_calls` stands beside it)"""
+import json
 import os
 import pathlib
 import random
@@ -11,11 +13,14 @@ import subprocess
 import sys
 import tempfile
 
-from plain_stories import Fault, crowded, furnished, opening
+from plain_stories import Fault, crowded, furnished, opening, ruled
 
 program = pathlib.Path(sys.argv[1]).resolve()
 calls = program.parents[2] / "story_calls/out/story_calls"
-source = pathlib.Path(__file__).resolve().parent / "rows/two_rooms/source.i7"
+folder = pathlib.Path(__file__).resolve().parent
+source = folder / "rows/two_rooms/source.i7"
+# Every so many of the sources of tests/bodies.
+STEP = 90
 FAULTS = ["L1 BadMagic", "L2 BadVersion", "L3 Truncated", "L4 TooLong", "L5 BadTable", "L6 BadCode"]
 
 
@@ -27,40 +32,65 @@ def with_changes(chance, story, count, values):
     return bytes(data)
 
 
-def changed(story, turns):
+def changed(name, story, turns):
     chance = random.Random(8)
     for turn in range(turns):
-        yield f"furnished, change {turn}", with_changes(chance, story, turn % 2 + 1, [*range(26), 99, 255])
+        yield f"{name}, change {turn}", with_changes(chance, story, turn % 2 + 1, [*range(26), 99, 255])
 
 
-def damaged(story):
-    yield "whole", story
-    furniture = furnished(story)
-    yield "furnished", furniture
-    yield from changed(furniture, 6000)
-    yield "crowded", crowded(story)
+def cut_or_flipped(name, story):
+    """Each cut and each flipped bit of a story, and the story itself."""
+    yield name, story
     for length in range(len(story)):
-        yield f"cut to {length}", story[:length]
-    yield "a byte more", story + b"\0"
+        yield f"{name}, cut to {length}", story[:length]
+    yield f"{name}, a byte more", story + b"\0"
     for bit in range(len(story) * 8):
         data = bytearray(story)
         data[bit // 8] ^= 1 << (bit % 8)
-        yield f"bit {bit}", bytes(data)
+        yield f"{name}, bit {bit}", bytes(data)
+
+
+def damaged(story):
+    yield from cut_or_flipped("two rooms", story)
+    furniture, rules = furnished(story), ruled(story)
+    yield "furnished", furniture
+    yield from changed("furnished", furniture, 6000)
+    yield "ruled", rules
+    yield from changed("ruled", rules, 3000)
+    yield "crowded", crowded(story)
     chance = random.Random(7)
     for turn in range(3000):
         values = [0, 1, 2, 6, 13, 14, 34, 55, 255, chance.randrange(256)]
         yield f"change {turn}", with_changes(chance, story, turn % 4 + 1, values)
 
 
-def damaged_more(story):
+def damaged_more(story, others):
     """Stories for `story_calls`."""
-    furniture = furnished(story)
+    furniture, rules = furnished(story), ruled(story)
+    yield from cut_or_flipped("ruled", rules)
+    for name, other in others:
+        yield from cut_or_flipped(name, other)
     chance = random.Random(9)
     for byte in range(256):
         yield f"byte {byte} more", story + bytes([byte])
     for turn in range(12000):
         yield f"any change {turn}", with_changes(chance, story, turn % 3 + 1, range(256))
         yield f"furnished, any change {turn}", with_changes(chance, furniture, turn % 3 + 1, range(256))
+        yield f"ruled, any change {turn}", with_changes(chance, rules, turn % 3 + 1, range(256))
+
+
+def some_bodies(scratch):
+    """The stories of some of the sources of tests/bodies that are taken, each with its name."""
+    taken = [case for case in json.loads((folder / "bodies/phrases.json").read_text()) if not case.get("refusal")]
+    for case in taken[::STEP]:
+        (scratch / "source").write_bytes(case["source"].encode())
+        yield case["name"], compiled(scratch / "source", scratch / "story")
+
+
+def compiled(path, story):
+    """The story of a source."""
+    subprocess.run([program, "compile", path, story], check=True)
+    return story.read_bytes()
 
 
 def judged(story):
@@ -122,11 +152,11 @@ def failures(answers):
 def main():
     with tempfile.TemporaryDirectory() as scratch:
         path = pathlib.Path(scratch) / "story"
-        subprocess.run([program, "compile", source, path], check=True)
-        story = path.read_bytes()
+        story = compiled(source, path)
+        others = list(some_bodies(pathlib.Path(scratch)))
         count, failed = failures(by_program(path, damaged(story)))
         print(f"damaged stories: {count - failed} passed, {failed} failed")
-        more, failed_more = failures(by_calls(path, damaged_more(story)))
+        more, failed_more = failures(by_calls(path, damaged_more(story, others)))
         print(f"damaged stories: of {more} calls {more - failed_more} passed, {failed_more} failed")
     sys.exit(failed + failed_more != 0)
 

@@ -1,7 +1,8 @@
 #!/usr/bin/env python3
 """A story written by hand from docs/story-format.md, tests/story_files/two_rooms.hex: the source that says it is compiled to its
 bytes, and each change of changes.rows makes it refused, or leaves a story that plays. A plain reader of the format must say the
-same. The numbers with which a story begins are those that numbers.rows tells of numbers.i7.
+same. The numbers with which a story begins are those that numbers.rows tells of numbers.i7, the rules, books and scenes of sources
+those of rules.rows.
 
 Use: tests/story_files.py PROGRAM    (tests/row_files.py says how rows are written)"""
 import pathlib
@@ -10,7 +11,7 @@ import subprocess
 import sys
 import tempfile
 
-from plain_stories import Fault, has, opening, tables
+from plain_stories import NONE16, Fault, has, opening, tables
 from row_files import report, rows_of
 
 program = pathlib.Path(sys.argv[1]).resolve()
@@ -87,6 +88,14 @@ def numbers_of(told, asked):
     return " ".join(number_of(told, thing, number) for thing in told["objects"]).encode()
 
 
+def rules_of(told):
+    """What a row of rules tells of a story."""
+    rules = [(rule[0], rule[6], rule[7][1]) for rule in told["rules"]]
+    said = ", ".join(f"{book} {'-' if test == NONE16 else test} {body}" for book, test, body in rules)
+    scenes = " ".join(str(scene[0]) for scene in told["scenes"])
+    return [said or "-", str(len(told["books"])), scenes or "-"]
+
+
 def answers(scratch):
     story = digits_of(folder / "two_rooms.hex")
     yield "two_rooms.hex", compiled(scratch, TWO_ROOMS).hex(), story.hex()
@@ -98,6 +107,10 @@ def answers(scratch):
     yield "numbers.i7", str(len(told["numbers"])), "2"
     for place, (asked, wanted) in rows_of(folder / "numbers.rows"):
         yield place, numbers_of(told, asked), wanted
+    for place, (source, *wanted) in rows_of(folder / "rules.rows"):
+        story = compiled(scratch, source)
+        yield place, "\t".join(rules_of(tables(story))), b"\t".join(wanted).decode()
+        yield f"{place}, plainly", read_plainly(story), b"plays"
 
 
 with tempfile.TemporaryDirectory() as folder_of_files:
