@@ -1,9 +1,11 @@
 #!/usr/bin/env bash
 # Sources of the greatest length that are hard on a reader: each is answered within a second, and those of few
-# sentences, phrases and pieces of texts with at most 40 bytes of memory for each of theirs.
+# sentences, phrases and pieces of texts with at most 40 bytes of memory for each of theirs. And stories whose rules and codes are
+# hard on a loader: each plays or is refused within a second, as the first part of its name says.
 # Use: tests/hostile.sh PROGRAM
 set -u
 program=$(realpath "$1")
+here=$(realpath "$(dirname "$0")")
 scratch=$(mktemp -d)
 trap 'rm -rf "$scratch"' EXIT
 cd "$scratch" || exit 1
@@ -64,6 +66,69 @@ open("long_property.i7", "w").write("The Hall is a room. A thing can be " + "x" 
 words = "".join(f"Hall is a room.\n\n" for n in range(longest // 17))
 open("one_room.i7", "w").write(words[:longest])
 PY
+echo 'The Hall is a room. "A bare hall." The Garden is north of the Hall.' >two_rooms.source
+"$program" compile two_rooms.source two_rooms || exit 1
+PYTHONPATH=$here python3 - <<'PY'
+import random
+from plain_stories import NONE8, NONE16, Cursor, rules_written, start_of_rules, table, tables, u
+data = open("two_rooms", "rb").read()
+head = Cursor(data)
+head.take(6)
+STRINGS = head.table(head.text)
+WORLD = data[head.place : start_of_rules(data)]
+LONGEST = 65535
+HALL = bytes.fromhex("22 0020 37")
+ROOM = bytes.fromhex("11 00 13 01 3b")
+ANYTHING = (0,)
+def save(name, rules, codes, strings=()):
+    """Saves the story of two rooms with these rules, with codes behind that of the Hall and with strings behind its own."""
+    texts = table(u(2, len(text)) + text for text in [*STRINGS, *strings])
+    told = rules_written({**tables(data), "rules": rules})
+    open(name + ".story", "wb").write(data[:6] + texts + WORLD + told + table(u(2, len(code)) + code for code in [HALL, *codes]))
+def does(code):
+    """A rule that does this code."""
+    return (6, NONE8, ANYTHING, ANYTHING, ANYTHING, NONE8, NONE16, (0, code))
+FOUR = [does(code) for code in range(1, 5)]
+def named_in_turn(unit, size, first):
+    """Bodies of as many units as there is room for, each naming the next test, and those tests."""
+    count = (LONGEST - 1) // size
+    bodies = [b"".join(unit(place * size, first + body * count + place) for place in range(count)) + b"\x37" for body in range(4)]
+    return bodies, count * 4
+def loop(place, test):
+    return bytes.fromhex("34 00 35 00") + u(2, test) + u(2, place + 11) + b"\x33" + u(2, place + 2)
+def count(place, test):
+    return bytes.fromhex("20 00") + u(2, test) + b"\x24"
+save("plays_long_bodies", FOUR, [bytes.fromhex("22 0020") * 21844 + b"\x37" * 3] * 4)
+save("plays_choices", FOUR, [bytes.fromhex("19 32 fffc") * 16383 + b"\x37"] * 4)
+bodies, tests = named_in_turn(loop, 11, 5)
+save("plays_loops", FOUR, bodies + [ROOM] * tests)
+bodies, tests = named_in_turn(count, 5, 5)
+save("plays_tests", FOUR, bodies + [ROOM] * tests)
+save("L6_tests_out_of_turn", FOUR, bodies[::-1] + [ROOM] * tests)
+save("L6_same_tests", FOUR, bodies[:1] * 4 + [ROOM] * tests)
+save("L6_test_left_out", FOUR, bodies + [ROOM] * (tests - 1))
+bodies, tests = bodies[:2], tests // 2
+deep = [bytes.fromhex("20 01") + u(2, 3 + tests + number) + bytes.fromhex("01 00000000 08 3b") for number in range(tests)]
+save("plays_tests_in_tests", FOUR[:2], named_in_turn(count, 5, 3)[0][:2] + deep + [ROOM] * tests)
+save("plays_strings", FOUR[:3], [b"".join(b"\x22" + u(2, 33 + body * 21833 + n) for n in range(21833)) + b"\x37" for body in range(3)], [b"%d" % n for n in range(65499)])
+save("plays_bodies_of_a_byte", [does(code) for code in range(1, 2001)], [b"\x37"] * 2000)
+save("L6_codes_of_a_byte", [], [b"\x37"] * 65534)
+save("L6_more_codes_of_a_byte", [does(code) for code in range(1, 2001)], [b"\x37"] * 65534)
+save("L5_bodies_backwards", [does(code) for code in range(2000, 0, -1)], [b"\x37"] * 2000)
+def names(test, loops=0):
+    return bytes([0x20, loops]) + u(2, test) + bytes.fromhex("01 00000000 08 3b")
+save("L6_each_names_the_next", FOUR[:1], [count(0, 2) + b"\x37"] + [names(number + 1, min(number - 1, 8)) for number in range(2, 65533)] + [ROOM])
+save("L6_each_names_the_last", FOUR[:1], [count(0, 2) + b"\x37"] + [names(number - 1, 1) for number in range(2, 65534)])
+save("L6_each_names_itself", FOUR[:1], [count(0, 2) + b"\x37"] + [names(number, 1) for number in range(2, 65534)])
+save("L6_two_name_each_other", FOUR[:1], [count(0, 2) + b"\x37", names(3, 1), names(2, 2)])
+save("L6_random", FOUR, [random.Random(7).randbytes(LONGEST) for _ in range(4)])
+save("L6_jumps_back", FOUR, [bytes.fromhex("33 0000") * 21845] * 4)
+save("L6_loops_in_loops", FOUR, [b"".join(bytes([0x34, n % 9, 0x35, n % 9]) + u(2, 5 + n) + u(2, LONGEST - 1) for n in range(8191)) + b"\x37" * 7] * 4)
+save("L6_operands", FOUR, [bytes.fromhex("04") * (LONGEST - 1) + b"\x37"] * 4)
+save("L6_jumps_into_arguments", FOUR, [bytes.fromhex("19 32 fffb") * 16383 + b"\x37"] * 4)
+kind = (2, 4, [(2, 0)] * 255)
+save("plays_properties", [(6, NONE8, kind, kind, kind, NONE8, NONE16, (1, 1))] * 2000, [])
+PY
 # The least address space, in KiB, in which an empty source is answered.
 least_space() {
   local low=1024 high=1048576 middle
@@ -82,8 +147,8 @@ for source in *.i7; do
   want=1
   limit=$space
   case $source in
-    rooms.i7 | one_room.i7) want=0 limit=unlimited ;;
-    closed_texts.i7 | rule_colons.i7 | rule_phrases.i7 | rule_substitutions.i7 | rules_many.i7 | long_*) limit=unlimited ;;
+    rooms.i7 | one_room.i7 | rule_phrases.i7) want=0 limit=unlimited ;;
+    closed_texts.i7 | rule_colons.i7 | rule_substitutions.i7 | rules_many.i7 | long_*) limit=unlimited ;;
   esac
   (ulimit -v "$limit"; exec timeout 1 "$program" compile "$source" story) 2>err </dev/null
   status=$?
@@ -92,6 +157,20 @@ for source in *.i7; do
   else
     failed=$((failed + 1))
     echo "hostile: $source: status $status, $(head -c 100 err)"
+  fi
+done
+for story in *.story; do
+  timeout 1 "$program" play "$story" >out 2>err </dev/null
+  status=$?
+  case $story in
+    plays_*) [ $status = 0 ] && [ ! -s err ] && grep -q "A bare hall" out ;;
+    *) [ $status = 2 ] && [ ! -s out ] && grep -qE "^$story: ${story%%_*} [A-Za-z]+\$" err ;;
+  esac
+  if [ $? = 0 ]; then
+    passed=$((passed + 1))
+  else
+    failed=$((failed + 1))
+    echo "hostile: $story: status $status, $(head -c 100 err)"
   fi
 done
 echo "hostile: $passed passed, $failed failed"
