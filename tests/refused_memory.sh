@@ -1,5 +1,5 @@
 #!/usr/bin/env bash
-# Plays three rows, each as a source and as a compiled story, with each allocation of the run refused in turn. Each
+# Plays four rows, each as a source and as a compiled story, with each allocation of the run refused in turn. Each
 # run must end in one of two ways: with status 4, the one line `i7story: out of memory` and no transcript; or
 # with status 0 and the transcript in which at most one reply is that of the abandoned turn.
 # Use: tests/refused_memory.sh PROGRAM
@@ -26,6 +26,8 @@ import pathlib
 import sys
 row, scratch = map(pathlib.Path, sys.argv[1:])
 dark = "Darkness\nIt is pitch dark, and you can't see a thing.\n"
+platform = "Platform\nThe platform lies dry and still. The next train is 5 minutes late. A signal box stands to the east.\n"
+box = "Box\nLevers fill the wall, and a lamp glows among them.\nYou can see a lamp and a shelf here.\n"
 grotto = "Grotto\nWater drips from the roof.\nYou can see a brass lamp, a chest and some moss here.\n"
 mouth = "Cave Mouth\nDaylight ends here. The cave goes on to the north.\n"
 hall = "Hall\nA gate leads north, a hatch down.\n"
@@ -47,6 +49,12 @@ start, looks, ways, closed = {
         "Mouth",
         {"Mouth": mouth, "Cave": dark, "Grotto": grotto},
         {("Mouth", "n"): "Cave", ("Cave", "e"): "Grotto", ("Cave", "s"): "Mouth", ("Grotto", "w"): "Cave"},
+        {},
+    ),
+    "rules_and_scenes": (
+        "Platform",
+        {"Platform": platform, "Box": box},
+        {("Platform", "e"): "Box", ("Box", "w"): "Platform"},
         {},
     ),
 }[row.name]
@@ -78,7 +86,7 @@ PY
 
 passed=0
 failed=0
-for name in two_rooms lamp_in_a_dark_room doors_between_rooms; do
+for name in two_rooms lamp_in_a_dark_room doors_between_rooms rules_and_scenes; do
   row=$here/rows/$name
   "$program" compile "$row/source.i7" "$scratch/story" || exit 1
   expected || exit 1
