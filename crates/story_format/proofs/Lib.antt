@@ -22,6 +22,7 @@ pub mod Mentioned
 pub mod RuleStrings
 pub mod PlainTexts
 pub mod LoadedCodes
+pub mod LoadedRules
 pub mod Counting
 pub mod Naming
 pub mod SoundOrNot

@@ -124,7 +124,7 @@ heads_in_turn strings ws rules few le =
     turn_joined (codes_named (entries_of strings 0 ws)) (codes_in_rules (rule_entries (described_in ws) rules)) 0 (codes_in_turn strings ws 0 (omega (arith, few)))
     (ap (λ n. are_in_turn n (codes_in_rules (rule_entries (described_in ws) rules))) there ∙ rules_in_turn rules (described_in ws) le)
 
-uses_counted_one : (n : ℕ) (b : RuleBody) → length (cond (eqb n 65535) [] (Test 0 ∷ []) ++ use_in_body b) ≡ length (cond (eqb n 65535) [] (n ∷ []) ++ code_of_body b)
+pub uses_counted_one : (n : ℕ) (b : RuleBody) → length (cond (eqb n 65535) [] (Test 0 ∷ []) ++ use_in_body b) ≡ length (cond (eqb n 65535) [] (n ∷ []) ++ code_of_body b)
 uses_counted_one n b =
     elim (either (eqb n 65535)) [
       | inl none ↦ rw none (by b)

@@ -22,14 +22,9 @@ use Rattle.story_format.specs.Facts.{text_at}
 use Rattle.story_format.specs.RuleMaking.{condition_count, condition_number, rule_count, rule_entries, rule_entry}
 use Rattle.story_format.specs.declared.rule_entry.RuleBody.TheVariants.{Code}
 use Rattle.story_format.proofs.RuleLemmas.{counted, counted_more, origins_in}
+use Rattle.story_format.proofs.StoryLemmas.{behind_there}
 
 -- ---- places in lists
-
-behind_there : {A : Type 0} (front xs : List A) (k : ℕ) (x : A) → slice_get xs k ≡ Some x → slice_get (front ++ xs) (length front + k) ≡ Some x
-behind_there [] xs k x at = let same : 0 + k ≡ k = omega arith in ap (slice_get xs) same ∙ at
-behind_there (y ∷ front) xs k x at =
-    let same : suc (length front) + k ≡ suc (length front + k) = omega arith in
-    ap (slice_get (y ∷ (front ++ xs))) same ∙ behind_there front xs k x at
 
 -- a rule's condition, if there is one, stands first, and then its body
 condition_first : (rule : AuthorRule) (more : List Origin) (condition : Condition) → rule.condition ≡ Some condition → slice_get (origins_of_rule rule ++ more) 0 ≡ Some (Asks condition)

@@ -1,5 +1,5 @@
 -- What is known of the objects of a tale that a story file can hold.
-use Rattle.std.proofs.Common.{◌≡◌, ℕ, zero, suc, ◌+◌, ◌<◌, ◌≤◌, Bool, true, false, ◌&&◌, leb, List, [], ◌∷◌, ◌++◌, length, map, take, drop, Option, Some, refl, arith}
+use Rattle.std.proofs.Common.{◌≡◌, ℕ, zero, suc, ◌+◌, ◌<◌, ◌≤◌, Bool, true, false, ◌&&◌, leb, List, [], ◌∷◌, ◌++◌, length, map, take, drop, Option, Some, refl, ap, ◌∙◌, arith}
 use Rattle.std.specs.Prelude.{slice_get, is_none, codes}
 use Rattle.std.specs.List.{list_all}
 use Rattle.std.specs.Str.{bytes_eq}
@@ -35,6 +35,12 @@ pub get_front : {A : Type 0} (xs ys : List A) (n : ℕ) (x : A) → slice_get xs
 get_front [] ys n x at = absurd cc
 get_front (y ∷ xs) ys zero x at = at
 get_front (y ∷ xs) ys (suc n) x at = get_front xs ys n x at
+
+pub behind_there : {A : Type 0} (front xs : List A) (k : ℕ) (x : A) → slice_get xs k ≡ Some x → slice_get (front ++ xs) (length front + k) ≡ Some x
+behind_there [] xs k x at = let same : 0 + k ≡ k = omega arith in ap (slice_get xs) same ∙ at
+behind_there (y ∷ front) xs k x at =
+    let same : suc (length front) + k ≡ suc (length front + k) = omega arith in
+    ap (slice_get (y ∷ (front ++ xs))) same ∙ behind_there front xs k x at
 
 pub last_of_five : (a b c d e : Bool) → (a && b && c && d && e) ≡ true → (a ≡ true) × (b ≡ true) × (c ≡ true) × (d ≡ true) × (e ≡ true)
 last_of_five true true true true true h = (refl, refl, refl, refl, refl)

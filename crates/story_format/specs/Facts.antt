@@ -1,8 +1,11 @@
--- What a story's tables say of its objects, by number; nothing of a number that no object has.
+-- What a story's tables say of its objects and rules, by number; nothing of a number that none has.
 use Rattle.std.specs.Prelude.{ℕ, ◌-◌, Bool, false, ◌==◌, List, [], length, map, take, count_by, slice_get, slice_index_or, Option, Some, None, if◌then◌else◌}
 use Rattle.world_meaning.specs.Tale.{room_beyond}
 use Rattle.world_meaning.specs.declared.exits.Exits.{Exits}
 use Rattle.story_format.specs.Placed.{is_room_entry}
+use Rattle.story_format.specs.declared.rule_entry.RuleBody.{RuleBody}
+use Rattle.story_format.specs.declared.rule_entry.RuleBody.TheVariants.{Code}
+use Rattle.story_format.specs.declared.rule_entry.RuleEntry.{RuleEntry}
 use Rattle.story_format.specs.declared.tables.Entry.{Entry}
 use Rattle.story_format.specs.declared.tables.Tables.{Tables}
 
@@ -64,3 +67,33 @@ holder_in (Some entry) = entry.holder
 -- the room in which the player begins
 abbrev pub start_of : Tables → ℕ
 start_of t = holder_in (slice_get t.objects 0)
+
+-- ---- rules
+
+abbrev pub book_in : Option RuleEntry → Option ℕ
+book_in None = None
+book_in (Some rule) = Some rule.book
+
+-- the rulebook that a rule is of
+abbrev pub book_of_rule : Tables → ℕ → Option ℕ
+book_of_rule t r = book_in (slice_get t.rules.rules r)
+
+abbrev pub condition_in : Option RuleEntry → Option ℕ
+condition_in None = None
+condition_in (Some rule) = if rule.condition == 65535 then None else Some rule.condition
+
+-- the number of the code that answers a rule's condition, if it has one
+abbrev pub condition_of_rule : Tables → ℕ → Option ℕ
+condition_of_rule t r = condition_in (slice_get t.rules.rules r)
+
+abbrev pub code_in_body : RuleBody → Option ℕ
+code_in_body (Code n) = Some n
+code_in_body _ = None
+
+abbrev pub body_in : Option RuleEntry → Option ℕ
+body_in None = None
+body_in (Some rule) = code_in_body rule.body
+
+-- the number of the code that does what a rule does, unless that is a standard rule
+abbrev pub body_of_rule : Tables → ℕ → Option ℕ
+body_of_rule t r = body_in (slice_get t.rules.rules r)

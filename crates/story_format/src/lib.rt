@@ -23,6 +23,7 @@ mod row;
 mod rule_checks;
 mod rule_codes;
 mod rule_entry;
+mod rule_facts;
 mod rule_making;
 mod rule_tables;
 mod soundness;

@@ -1,8 +1,8 @@
 //! A story that was loaded, and what it says of its objects.
 ghost use Rattle.std.specs.Prelude.{◌≡◌, ◌≤◌, ◌-◌, ℕ, Some, map};
 ghost use Rattle.std.specs.List.{list_any};
-ghost use Rattle.story_format.specs.Facts.{description_code_of, exits_at, name_of, object_count_of, start_of, text_at, way_of, words_of};
-ghost use Rattle.story_code.specs.Runs.{AreSoundTogether, IsDescription};
+ghost use Rattle.story_format.specs.Facts.{body_of_rule, condition_of_rule, description_code_of, exits_at, name_of, object_count_of, start_of, text_at, way_of, words_of};
+ghost use Rattle.story_code.specs.Runs.{AreSoundTogether, IsBody, IsDescription, IsTestAt};
 ghost use Rattle.story_format.specs.Codes.{AreCodesOf};
 ghost use Rattle.world_meaning.specs.Spelling.{is_spelled};
 
@@ -157,12 +157,14 @@ impl Story {
         way_in(&self.exits(room), direction)
     }
 
-    /// The codes, by number, each verified for what it is for: they are sound together, and a described object is described by
-    /// one that is a description's.
+    /// The codes, by number, each verified for what it is for: they are sound together, a described object is described by one
+    /// that is a description's, a rule's condition is answered by a test inside no loop, and what a rule does is a body's.
     pub fn codes(&self) -> &[Verified]
         ensures codes { AreCodesOf self.now result.now }
         ensures sound { AreSoundTogether result.now }
         ensures described { (o n : ℕ) → description_code_of self.now o ≡ Some n → IsDescription result.now n }
+        ensures asked { (r n : ℕ) → condition_of_rule self.now r ≡ Some n → IsTestAt result.now n 0 }
+        ensures done { (r n : ℕ) → body_of_rule self.now r ≡ Some n → IsBody result.now n }
     {
         self.codes.as_slice()
     }

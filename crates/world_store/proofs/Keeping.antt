@@ -18,7 +18,7 @@ use Rattle.world_meaning.specs.declared.place.Rel.{Rel}
 use Rattle.world_meaning.specs.declared.place.Rel.TheVariants.{In, On, Carried, Worn, Part}
 use Rattle.object_tree.specs.Places.{holder_of, place_of}
 use Rattle.play_meaning.specs.Settings.{room_kind}
-use Rattle.play_meaning.specs.Worlds.{World}
+use Rattle.play_meaning.specs.Worlds.{World, not_begun}
 use Rattle.play_meaning.specs.declared.scene.SceneNow.{SceneNow}
 use Rattle.story_format.specs.Facts.{start_of}
 use Rattle.story_format.specs.InPlay.{is_of, is_of_in, start_flags, start_number, start_numbers, start_variable, start_variables, starts_true}

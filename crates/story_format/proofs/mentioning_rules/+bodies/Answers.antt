@@ -1,7 +1,7 @@
-use Rattle.std.proofs.Common.{◌∙◌, ap, sym, refl}
+use Rattle.std.proofs.Common.{◌∙◌, ap, sym}
 use Rattle.std.specs.Prelude.{fold}
 use Rattle.object_words.specs.Mentions.{mention}
-use Rattle.play_meaning.specs.Meant.{phrase_meant, simple_meant}
+use Rattle.play_meaning.specs.Meant.{phrase_meant}
 use Rattle.play_meaning.specs.Translation.{strings_of_phrase}
 use Rattle.story_format.proofs.RuleStrings.{body_end, body_step, branches_end, branches_step, choice_mentioned, loop_says, on_ok}
 use Rattle.story_format.proofs.mentioning_rules.+bodies.Goals as goal

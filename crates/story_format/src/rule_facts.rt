@@ -1,0 +1,59 @@
+//! What a story that was loaded says of its rules, by number.
+ghost use Rattle.std.specs.Prelude.{◌≡◌, Some, length};
+ghost use Rattle.story_format.specs.Facts.{body_of_rule, book_of_rule, code_in_body, condition_in, condition_of_rule};
+
+use crate::place::NONE;
+use crate::rule_entry::{RuleBody, RuleEntry};
+use crate::story::Story;
+
+fn condition_in(rule: &RuleEntry) -> Option<u16>
+    ensures { result ≡ condition_in (Some rule.now) }
+{
+    if rule.condition == NONE {
+        None
+    } else {
+        Some(rule.condition)
+    }
+}
+
+fn code_in_body(body: &RuleBody) -> Option<u16>
+    ensures { result ≡ code_in_body body.now }
+{
+    match body {
+        RuleBody::Code(code) => Some(*code),
+        _ => None,
+    }
+}
+
+impl Story {
+    /// How many rules there are.
+    pub fn rule_count(&self) -> usize
+        ensures { result ≡ length self.now.rules.rules }
+    {
+        self.tables().rules.rules.as_slice().len()
+    }
+
+    /// The rulebook that a rule is of, by its number.
+    pub fn book_of_rule(&self, rule: usize) -> Option<u16>
+        ensures { result ≡ book_of_rule self.now rule }
+    {
+        let rule = self.tables().rules.rules.as_slice().get(rule)?;
+        Some(rule.book)
+    }
+
+    /// The number of the code that answers a rule's condition, if it has one.
+    pub fn condition_of_rule(&self, rule: usize) -> Option<u16>
+        ensures { result ≡ condition_of_rule self.now rule }
+    {
+        let rule = self.tables().rules.rules.as_slice().get(rule)?;
+        condition_in(rule)
+    }
+
+    /// The number of the code that does what a rule does; none where that is a standard rule.
+    pub fn body_of_rule(&self, rule: usize) -> Option<u16>
+        ensures { result ≡ body_of_rule self.now rule }
+    {
+        let rule = self.tables().rules.rules.as_slice().get(rule)?;
+        code_in_body(&rule.body)
+    }
+}
