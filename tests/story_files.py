@@ -2,9 +2,10 @@
 """A story written by hand from docs/story-format.md, tests/story_files/two_rooms.hex: the source that says it is compiled to its
 bytes, and each change of changes.rows makes it refused, or leaves a story that plays. A plain reader of the format must say the
 same. The numbers with which a story begins are those that numbers.rows tells of numbers.i7, the rules, books and scenes of sources
-those of rules.rows.
+those of rules.rows, by the readers of a loaded story too.
 
-Use: tests/story_files.py PROGRAM    (tests/row_files.py says how rows are written)"""
+Use: tests/story_files.py PROGRAM    (the program of `i7story`; that of `rule_calls` stands beside it; tests/row_files.py says how
+rows are written)"""
 import pathlib
 import re
 import subprocess
@@ -15,6 +16,7 @@ from plain_stories import NONE16, Fault, has, opening, tables
 from row_files import report, rows_of
 
 program = pathlib.Path(sys.argv[1]).resolve()
+calls = program.parents[2] / "rule_calls/out/rule_calls"
 folder = pathlib.Path(__file__).resolve().parent / "story_files"
 CHANGE = re.compile(r"(\d+|end)([=+-])([\d,]+)")
 TWO_ROOMS = b"""The Hall is a room. "A bare hall."\n\nThe Garden is north of the Hall.\n"""
@@ -96,6 +98,14 @@ def rules_of(told):
     return [said or "-", str(len(told["books"])), scenes or "-"]
 
 
+def rules_read(scratch, sources):
+    """What the readers of a loaded story say of the rules of sources."""
+    path = scratch / "sources"
+    path.write_bytes(b"".join(source + b"\x1e" for source in sources))
+    done = subprocess.run([calls, "rules", path], capture_output=True, check=True, timeout=60)
+    return [line or "-" for line in done.stdout.decode().split("\n")[:-1]]
+
+
 def answers(scratch):
     story = digits_of(folder / "two_rooms.hex")
     yield "two_rooms.hex", compiled(scratch, TWO_ROOMS).hex(), story.hex()
@@ -107,8 +117,11 @@ def answers(scratch):
     yield "numbers.i7", str(len(told["numbers"])), "2"
     for place, (asked, wanted) in rows_of(folder / "numbers.rows"):
         yield place, numbers_of(told, asked), wanted
-    for place, (source, *wanted) in rows_of(folder / "rules.rows"):
+    rules = list(rows_of(folder / "rules.rows"))
+    read = rules_read(scratch, [source for _, (source, *_) in rules])
+    for (place, (source, *wanted)), said in zip(rules, read, strict=True):
         story = compiled(scratch, source)
+        yield f"{place}, by readers", said, wanted[0].decode()
         yield place, "\t".join(rules_of(tables(story))), b"\t".join(wanted).decode()
         yield f"{place}, plainly", read_plainly(story), b"plays"
 

@@ -1,8 +1,8 @@
 //! Does the bodies of rules, and prints what they come to: the program that is compared with what is told of them. Its words are
 //! a form and a file. `bodies` does the body of the one rule of each source in the world of the source's story, or says why the
-//! source is refused; `codes` prints the codes of the story; `names` prints what a name of a source stands for; behind each of
-//! these sources stands a record separator (U+001E). `runs` does bodies that are told by their codes; `spelling` prints the
-//! instructions that stand in front of bytes, a line each.
+//! source is refused; `codes` prints the codes of the story, `rules` its rules; `names` prints what a name of a source stands
+//! for; behind each of these sources stands a record separator (U+001E). `runs` does bodies that are told by their codes;
+//! `spelling` prints the instructions that stand in front of bytes, a line each.
 #![tactic(auto)]
 
 mod codes;
@@ -18,7 +18,7 @@ mod told_code;
 mod unplayed;
 
 use named::names_told;
-use playing::{told, told_codes};
+use playing::{told, told_codes, told_rules};
 use runs::Bench;
 use spelling::spelling_told;
 use std::alloc::{AllocError, Global};
@@ -32,6 +32,7 @@ enum Form {
     Bodies,
     Codes,
     Names,
+    Rules,
     Runs,
     Spelling,
 }
@@ -42,6 +43,7 @@ fn form_of(name: &str) -> Option<Form> {
         "bodies" => Some(Form::Bodies),
         "codes" => Some(Form::Codes),
         "names" => Some(Form::Names),
+        "rules" => Some(Form::Rules),
         "runs" => Some(Form::Runs),
         "spelling" => Some(Form::Spelling),
         _ => None,
@@ -61,6 +63,7 @@ fn source_told(alloc: Global, form: Form, record: &str) -> Result<String, AllocE
     match form {
         Form::Codes => told_codes(alloc, record),
         Form::Names => names_told(alloc, record),
+        Form::Rules => told_rules(alloc, record),
         _ => told(alloc, record),
     }
 }

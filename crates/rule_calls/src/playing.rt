@@ -2,10 +2,8 @@
 use crate::runner::{Asked, Ended, run};
 use crate::told_code::all_told;
 use crate::unplayed::Unplayed;
-use play_meaning::Use;
 use std::alloc::{AllocError, Global};
 use std::rc::Rc;
-use story_code::Verified;
 use story_file::compile;
 use story_format::{Story, load};
 use world_store::World;
@@ -25,27 +23,22 @@ pub fn story_of(alloc: Global, source: &str) -> Result<Rc<Story>, Unplayed> {
     Ok(Rc::new(alloc, story)?)
 }
 
-/// The number of the one body among codes.
-fn only_body(codes: &[Verified]) -> Option<u16> {
-    let mut found = None;
-    for (number, code) in codes.iter().enumerate() {
-        if let Use::Body = code.sizes().role {
-            if found.is_some() {
-                return None;
-            }
-            found = u16::try_from(number).ok();
-        }
+/// The number of the code that does what a story's one rule does.
+fn only_body(story: &Story) -> Option<u16> {
+    if story.rule_count() == 1 {
+        story.body_of_rule(0)
+    } else {
+        None
     }
-    found
 }
 
 /// Does the body of a source's one rule once, in the world with which its story begins.
 fn played(alloc: Global, source: &str) -> Result<Played, Unplayed> {
     let story = story_of(alloc, source)?;
-    let codes = story.as_ref().codes();
-    let Some(number) = only_body(codes) else {
+    let Some(number) = only_body(story.as_ref()) else {
         return Err(Unplayed::NotOneRule);
     };
+    let codes = story.as_ref().codes();
     let mut world = World::start(alloc, &story)?;
     let mut text = Vec::new(alloc);
     let ended = run(
@@ -83,6 +76,42 @@ pub fn told(alloc: Global, source: &str) -> Result<String, AllocError> {
 pub fn told_codes(alloc: Global, source: &str) -> Result<String, AllocError> {
     match story_of(alloc, source) {
         Ok(story) => all_told(alloc, story.as_ref().codes()),
+        Err(unplayed) => format!(in alloc; "{unplayed}"),
+    }
+}
+
+/// A number, or `-` where there is none.
+fn number_told(alloc: Global, number: Option<u16>) -> Result<String, AllocError> {
+    match number {
+        Some(number) => format!(in alloc; "{number}"),
+        None => format!(in alloc; "-"),
+    }
+}
+
+/// A rule of a story: its rulebook, the code of its condition and that of its body.
+fn rule_told(alloc: Global, story: &Story, rule: usize) -> Result<String, AllocError> {
+    let book = number_told(alloc, story.book_of_rule(rule))?;
+    let condition = number_told(alloc, story.condition_of_rule(rule))?;
+    let body = number_told(alloc, story.body_of_rule(rule))?;
+    format!(in alloc; "{book} {condition} {body}")
+}
+
+/// The rules of a story, a comma in between.
+fn all_rules_told(alloc: Global, story: &Story) -> Result<String, AllocError> {
+    let mut all = String::new(alloc);
+    for rule in 0..story.rule_count() {
+        if !all.is_empty() {
+            all.push_str(", ")?;
+        }
+        all.push_str(rule_told(alloc, story, rule)?.as_str())?;
+    }
+    Ok(all)
+}
+
+/// The rules of a source's story, or why there is none.
+pub fn told_rules(alloc: Global, source: &str) -> Result<String, AllocError> {
+    match story_of(alloc, source) {
+        Ok(story) => all_rules_told(alloc, story.as_ref()),
         Err(unplayed) => format!(in alloc; "{unplayed}"),
     }
 }
