@@ -80,10 +80,11 @@ LONGEST = 65535
 HALL = bytes.fromhex("22 0020 37")
 ROOM = bytes.fromhex("11 00 13 01 3b")
 ANYTHING = (0,)
-def save(name, rules, codes, strings=()):
-    """Saves the story of two rooms with these rules, with codes behind that of the Hall and with strings behind its own."""
+def save(name, rules, codes, strings=(), **others):
+    """Saves the story of two rooms with these rules, with codes behind that of the Hall, with strings behind its own, and perhaps
+    with other tables."""
     texts = table(u(2, len(text)) + text for text in [*STRINGS, *strings])
-    told = rules_written({**tables(data), "rules": rules})
+    told = rules_written({**tables(data), "rules": rules, **others})
     open(name + ".story", "wb").write(data[:6] + texts + WORLD + told + table(u(2, len(code)) + code for code in [HALL, *codes]))
 def does(code):
     """A rule that does this code."""
@@ -126,6 +127,11 @@ save("L6_jumps_back", FOUR, [bytes.fromhex("33 0000") * 21845] * 4)
 save("L6_loops_in_loops", FOUR, [b"".join(bytes([0x34, n % 9, 0x35, n % 9]) + u(2, 5 + n) + u(2, LONGEST - 1) for n in range(8191)) + b"\x37" * 7] * 4)
 save("L6_operands", FOUR, [bytes.fromhex("04") * (LONGEST - 1) + b"\x37"] * 4)
 save("L6_jumps_into_arguments", FOUR, [bytes.fromhex("19 32 fffb") * 16383 + b"\x37"] * 4)
+save("L5_many_rules", [does(1)] * LONGEST, [b"\x37"])
+save("L5_many_books", [], [], books=[[]] * LONGEST)
+save("L5_long_books", [does(1)], [b"\x37"], books=[[0] * LONGEST] * 8)
+save("L5_many_scenes", [], [], books=[[]] * LONGEST, scenes=[b"\0" + b"\xff" * 4] * LONGEST)
+save("L5_many_actions", [], [], actions=[bytes([1, 1, 255, 0])] * LONGEST)
 kind = (2, 4, [(2, 0)] * 255)
 save("plays_properties", [(6, NONE8, kind, kind, kind, NONE8, NONE16, (1, 1))] * 2000, [])
 PY
