@@ -1,8 +1,9 @@
 //! Does the bodies of rules, and prints what they come to: the program that is compared with what is told of them. Its words are
 //! a form and a file. `bodies` does the body of the one rule of each source in the world of the source's story, or says why the
-//! source is refused; `codes` prints the codes of the story, `rules` its rules; `names` prints what a name of a source stands
-//! for; behind each of these sources stands a record separator (U+001E). `runs` does bodies that are told by their codes;
-//! `spelling` prints the instructions that stand in front of bytes, a line each.
+//! source is refused; `codes` prints the codes of the story, `rules` its rules; `trees` prints what the one rule means before it
+//! becomes code; `names` prints what a name of a source stands for; behind each of these sources stands a record separator
+//! (U+001E). `runs` does bodies that are told by their codes; `spelling` prints the instructions that stand in front of bytes, a
+//! line each.
 #![tactic(auto)]
 
 mod codes;
@@ -15,6 +16,7 @@ mod runs;
 mod spelling;
 mod stage;
 mod told_code;
+mod trees;
 mod unplayed;
 
 use named::names_told;
@@ -25,6 +27,7 @@ use std::alloc::{AllocError, Global};
 use std::io::{Stdout, Write};
 use std::process::ExitCode;
 use std::{env, fs};
+use trees::told_trees;
 
 /// What is printed of a file.
 #[derive(Clone, Copy)]
@@ -35,6 +38,7 @@ enum Form {
     Rules,
     Runs,
     Spelling,
+    Trees,
 }
 
 /// The form of this name.
@@ -46,6 +50,7 @@ fn form_of(name: &str) -> Option<Form> {
         "rules" => Some(Form::Rules),
         "runs" => Some(Form::Runs),
         "spelling" => Some(Form::Spelling),
+        "trees" => Some(Form::Trees),
         _ => None,
     }
 }
@@ -64,6 +69,7 @@ fn source_told(alloc: Global, form: Form, record: &str) -> Result<String, AllocE
         Form::Codes => told_codes(alloc, record),
         Form::Names => names_told(alloc, record),
         Form::Rules => told_rules(alloc, record),
+        Form::Trees => told_trees(alloc, record),
         _ => told(alloc, record),
     }
 }

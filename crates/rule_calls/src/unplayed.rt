@@ -18,6 +18,8 @@ pub enum Unplayed {
     UnknownPart,
     #[error("unplayed\tnot one rule")]
     NotOneRule,
+    #[error("unplayed\tmore rulebooks or scenes than there may be")]
+    TooManyNames,
     #[error("unplayed\ta code isn't sound")]
     Unsound,
     #[error("unplayed\tthe codes aren't sound together")]

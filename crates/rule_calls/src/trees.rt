@@ -1,0 +1,32 @@
+//! What a source's rule means, as it is resolved, before it becomes code.
+use crate::reading::sentences_in;
+use crate::unplayed::Unplayed;
+use i7_names::names_in;
+use i7_resolution::{Resolution, resolution_of};
+use i7_rules::SourceRule;
+use std::alloc::{AllocError, Global};
+
+/// The rules of a source.
+fn rules_of(alloc: Global, source: &str) -> Result<Vec<SourceRule>, Unplayed> {
+    let sentences = sentences_in(alloc, source)?;
+    let names = names_in(alloc, sentences.as_slice())?;
+    if names.rulebooks.len() > 100 || names.scenes > 50 {
+        return Err(Unplayed::TooManyNames);
+    }
+    match resolution_of(alloc, &names, sentences.as_slice())? {
+        Resolution::Says(resolved) => Ok(resolved.rules),
+        Resolution::Refused(fault) => Err(Unplayed::Refused(fault)),
+    }
+}
+
+/// The body of a source's one rule, phrase by phrase, or why it has none.
+pub fn told_trees(alloc: Global, source: &str) -> Result<String, AllocError> {
+    let rules = match rules_of(alloc, source) {
+        Ok(rules) => rules,
+        Err(unplayed) => return format!(in alloc; "{unplayed}"),
+    };
+    match rules.as_slice() {
+        [rule] => format!(in alloc; "{:?}", rule.rule.body),
+        _ => format!(in alloc; "{}", Unplayed::NotOneRule),
+    }
+}
