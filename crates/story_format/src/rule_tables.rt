@@ -1,4 +1,4 @@
-//! Tables 8 to 12: actions, grammar, rules, books and scenes. This language has none of its own yet.
+//! Tables 8 to 12: actions, grammar, rules, books and scenes. No book lists a rule yet, and nothing begins or ends a scene.
 ghost use Rattle.std.specs.Prelude.{◌≡◌};
 
 use crate::field::{Field, read_fields, skip_fields, write_fields};
