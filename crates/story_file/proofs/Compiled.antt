@@ -1,5 +1,5 @@
 -- How many texts a tale has, and the sentences, texts and rules that the compiler hands on, by their names in the definitions.
-use Rattle.std.proofs.Common.{◌≡◌, ◌∙◌, ap, refl, subst, sym, ℕ, suc, ◌+◌, List, [], ◌∷◌, ◌++◌, length, inl, inr, ◌⊎◌, arith}
+use Rattle.std.proofs.Common.{◌≡◌, ◌∙◌, refl, subst, sym, ℕ, ◌+◌, List, [], ◌∷◌, ◌++◌, length, inl, inr, ◌⊎◌, arith}
 use Rattle.std.specs.Prelude.{Option, None, Some}
 use Rattle.world_meaning.specs.Faults.{out_of_memory}
 use Rattle.world_meaning.specs.declared.fault.Fault.{Fault}

@@ -1,5 +1,5 @@
 -- What the tale that sentences mean declares is what a story may declare, and its objects have what their kinds have.
-use Rattle.std.proofs.Common.{◌≡◌, ℕ, ℤ, suc, ◌+◌, ◌≤◌, true, ◌&&◌, cond, eqb, leb, List, [], ◌∷◌, ◌++◌, length, Option, refl, sym, ap, arith, ◌∙◌, inl, inr, Bool}
+use Rattle.std.proofs.Common.{◌≡◌, ℕ, ℤ, suc, ◌+◌, ◌≤◌, Bool, true, ◌&&◌, cond, eqb, leb, List, [], ◌∷◌, ◌++◌, length, Option, refl, sym, ap, arith, ◌∙◌, inl, inr}
 use Rattle.std.specs.List.{list_all}
 use Rattle.std.specs.Prelude.{count_by, fold, slice_get}
 use Rattle.std.proofs.lemmas.Bool.{eq-eqb, le-leb}
