@@ -4,6 +4,7 @@ use Rattle.std.specs.Prelude.{find, is_none, slice_get}
 use Rattle.std.specs.List.{list_all}
 use Rattle.std.specs.Option.{option_map}
 use Rattle.std.proofs.lemmas.Bool.{ltb-false, lt-ltb, le-leb, ne_eqb}
+use Rattle.std.proofs.lemmas.List.{length-map}
 use Rattle.std.proofs.lemmas.Option.{slice_get_past}
 use Rattle.world_meaning.proofs.Bools.{both, both_are, either}
 use Rattle.world_meaning.specs.Chains.{IsTree}
@@ -24,7 +25,7 @@ use Rattle.object_words.specs.Words.{more_words, words_for}
 use Rattle.i7_claims.specs.Claims.{claims_of}
 use Rattle.i7_kinds.specs.Demands.{descriptions_of, description_of, first_target, implied_in, implied_leads, is_exit, is_wrong, line_at, line_of_description, stated_in, stated_leads, subject_of, target_of, way_back, way_there, way_through, wrong_after, wrong_kind}
 use Rattle.i7_claims.specs.Firsts.{first_of}
-use Rattle.i7_kinds.specs.KindClaims.{declared_by, kind_cycle, kind_names, kind_too_many, parents_of, starts_of}
+use Rattle.i7_kinds.specs.KindClaims.{declared_by, is_recurring_by, kind_cycle, kind_names, kind_too_many, parents_of, scenes_of, starts_of}
 use Rattle.i7_kinds.specs.Knowns.{is_of, is_parted_at, kinds_known, kinds_of, known_at, knowns_of, off_path}
 use Rattle.i7_kinds.specs.Places.{Places, holder_cycle, places_by, put}
 use Rattle.i7_claims.specs.Scans.{earlier}
@@ -48,7 +49,7 @@ use Rattle.i7_kinds.specs.declared.ways.Target.{Target}
 use Rattle.i7_kinds.proofs.Bounds.{NoFaults, counted-source, earlier_none, first_none_both, frame_parts, unmapped, unrefused}
 use Rattle.i7_kinds.proofs.Fines.{AreFine, base, kind_few, knowns_counted}
 use Rattle.i7_kinds.proofs.Granting.{either_ors_behind}
-use Rattle.i7_kinds.proofs.KindScans.{either_ors_few, numbers_few, parents_few, variables_few}
+use Rattle.i7_kinds.proofs.KindScans.{either_ors_few, names_few, numbers_few, parents_few, variables_few}
 use Rattle.i7_kinds.proofs.Placed.{AreSuited, IsSuited, judged, places_counted, places_suited, places_tree, put_length}
 use Rattle.i7_claims.proofs.Ranged.{AreRanged, AreRangedSentences, source_ranged}
 use Rattle.i7_kinds.proofs.Ranged.{AreRangedValues, said_ranged, starts_in_range}
@@ -295,6 +296,14 @@ sorts_fine claims none =
     let b = earlier_none (too_many_as sort.Number claims) _ a.1 in
     (a.0, b.0, (earlier_none (too_many_as sort.Variable claims) (earlier (too_many_as sort.Rulebook claims) (too_many_as sort.Scene claims)) b.1).0)
 
+pub few_by : (claims : List Claim) → name_too_many claims ≡ None → (length (names_as sort.Rulebook claims) ≤ 100) × (length (names_as sort.Scene claims) ≤ 50)
+few_by claims none =
+    let a = earlier_none (too_many_as sort.EitherOr claims) _ none in
+    let b = earlier_none (too_many_as sort.Number claims) _ a.1 in
+    let c = earlier_none (too_many_as sort.Variable claims) (earlier (too_many_as sort.Rulebook claims) (too_many_as sort.Scene claims)) b.1 in
+    let d = earlier_none (too_many_as sort.Rulebook claims) (too_many_as sort.Scene claims) c.1 in
+    (names_few sort.Rulebook claims [] (omega arith) d.0, names_few sort.Scene claims [] (omega arith) d.1)
+
 -- what is known of a source without a refusal, its objects' places without the player's
 record Whole (parents : List (Option ℕ)) (knowns : List Known) (places : Places) (room : ℕ) (statements : List NumberedSentence) (count : ℕ) : Type 0 where
   fine : AreFine parents (length parents) knowns
@@ -402,7 +411,9 @@ objects_held claims keys statements mentions counted ranged none =
     let few_properties : length (built_in_either_ors ++ behind.properties) ≤ 100 = subst (λ (p : List (List ℕ)). length p ≤ 100) (either_ors_behind claims).1 (either_ors_few claims sorts.0) in
     let roots : list_all (is_rooted (kinds_with behind)) behind.kinds ≡ true = subst (λ (p : List (Option ℕ)). list_all (is_rooted p) behind.kinds ≡ true) kinds (authors_rooted claims fine.unknown cycles.0) in
     let few_starts : length (starts_of claims (names_as sort.Variable claims)) ≤ 100 = omega (arith, variables_few claims sorts.2, starts_counted claims (names_as sort.Variable claims)) in
-    let declared = declared_held behind few few_properties (numbers_few claims sorts.1) few_starts (starts_in_range claims (names_as sort.Variable claims) ranged) roots in
+    let others = few_by claims many.1 in
+    let few_scenes : length (scenes_of claims (names_as sort.Scene claims)) ≤ 50 = omega (arith, others.1, length-map (names_as sort.Scene claims) (is_recurring_by claims)) in
+    let declared = declared_held behind few few_properties (numbers_few claims sorts.1) few_starts few_scenes others.0 (starts_in_range claims (names_as sort.Variable claims) ranged) roots in
     let whole = subst (λ (p : List (Option ℕ)). Whole p knowns (places_by keys claims) room.0 statements (length mentions)) kinds w in
     let placed = put (places_by keys claims) 0 (place_in_room room.0) in
     let values = values_by bearer.Objects s claims in

@@ -7,4 +7,5 @@ pub mod MadeObjects
 pub mod MadePlaces
 pub mod Outcomes
 pub mod Ranges
+pub mod RulesOf
 pub mod Understood

@@ -1,5 +1,5 @@
 -- What the tale that sentences mean declares is what a story may declare, and its objects have what their kinds have.
-use Rattle.std.proofs.Common.{◌≡◌, ℕ, ℤ, suc, ◌+◌, ◌≤◌, true, ◌&&◌, cond, eqb, leb, List, [], ◌∷◌, ◌++◌, length, Option, refl, sym, ap, arith, ◌∙◌, inl, inr}
+use Rattle.std.proofs.Common.{◌≡◌, ℕ, ℤ, suc, ◌+◌, ◌≤◌, Bool, true, ◌&&◌, cond, eqb, leb, List, [], ◌∷◌, ◌++◌, length, Option, refl, sym, ap, arith, ◌∙◌, inl, inr}
 use Rattle.std.specs.List.{list_all}
 use Rattle.std.specs.Prelude.{count_by, fold, slice_get}
 use Rattle.std.proofs.lemmas.Bool.{eq-eqb, le-leb}
@@ -8,7 +8,7 @@ use Rattle.world_meaning.specs.Declarations.{is_had, is_had_at, are_right_grants
 use Rattle.world_meaning.specs.declared.declared.Declared.{Declared}
 use Rattle.world_meaning.specs.declared.declared.Granted.{Granted}
 use Rattle.world_meaning.specs.Kinds.{built_in_parents}
-use Rattle.i7_kinds.specs.KindClaims.{declared_by, givens_by, kind_names, starts_of}
+use Rattle.i7_kinds.specs.KindClaims.{declared_by, givens_by, kind_names, scenes_of, starts_of}
 use Rattle.i7_claims.specs.Sorts.{built_in_either_ors, names_as}
 use Rattle.i7_claims.specs.declared.sorts.Sort.TheVariants as sort
 use Rattle.i7_claims.specs.declared.claim.Claim.{Claim}
@@ -21,13 +21,16 @@ use Rattle.i7_kinds.specs.declared.entries.Entry.{Entry}
 use Rattle.i7_kinds.specs.Tales.{Made, begins, built_in_truths, kind_at, numbers_from, object_as, object_of, objects_of, properties_from}
 use Rattle.i7_kinds.proofs.UnderKinds.{with_others}
 
--- what stands behind the built-in kinds and properties, the names of the number properties, and what variables start at
+-- what stands behind the built-in kinds and properties, the names of the number properties, what variables start at, which scenes may
+-- happen again, and how many rulebooks there are
 pub record Behind : Type 0 where
   pub kinds : List (Option ℕ)
   pub givens : List Given
   pub properties : List (List ℕ)
   pub numbers : List (List ℕ)
   pub starts : List ℤ
+  pub scenes : List Bool
+  pub rulebooks : ℕ
 
 abbrev pub kinds_with : Behind → List (Option ℕ)
 kinds_with b = with_others b.kinds
@@ -39,7 +42,7 @@ abbrev pub numbers_with : Behind → List Granted
 numbers_with b = flags_from (kinds_with b) b.givens (length (flags_with b)) [] b.numbers
 
 abbrev pub declared_with : Behind → Declared
-declared_with b = record { kinds = kinds_with b; flags = flags_with b; numbers = numbers_with b; variables = b.starts }
+declared_with b = record { kinds = kinds_with b; flags = flags_with b; numbers = numbers_with b; variables = b.starts; scenes = b.scenes; rulebooks = b.rulebooks }
 
 abbrev pub behind_of : List Claim → Behind
 behind_of claims = record {
@@ -48,6 +51,8 @@ behind_of claims = record {
   properties = (either_ors_behind claims).0;
   numbers = names_as sort.Number claims;
   starts = starts_of claims (names_as sort.Variable claims);
+  scenes = scenes_of claims (names_as sort.Scene claims);
+  rulebooks = length (names_as sort.Rulebook claims);
 }
 
 pub declared_is : (claims : List Claim) → declared_with (behind_of claims) ≡ declared_by claims
@@ -59,6 +64,8 @@ declared_is claims =
       flags = flags_from (kinds i) (givens_by claims) 0 built_in_bases (names i);
       numbers = flags_from (kinds i) (givens_by claims) (length (flags_from (kinds i) (givens_by claims) 0 built_in_bases (names i))) [] (names_as sort.Number claims);
       variables = starts_of claims (names_as sort.Variable claims);
+      scenes = scenes_of claims (names_as sort.Scene claims);
+      rulebooks = length (names_as sort.Rulebook claims);
     }
 
 pub starts_counted : (claims : List Claim) (names : List (List ℕ)) → length (starts_of claims names) ≡ length names
@@ -76,16 +83,16 @@ kinds_right others few roots = rw (le-leb _ _ few) roots
 pub kinds_many : (b : Behind) → 10 ≤ length (kinds_with b)
 kinds_many b = omega (arith, others_counted b.kinds)
 
-pub declared_held : (b : Behind) → length (kinds_with b) ≤ 100 → length (built_in_either_ors ++ b.properties) ≤ 100 → length b.numbers ≤ 100 → length b.starts ≤ 100 → list_all is_number b.starts ≡ true → list_all (is_rooted (kinds_with b)) b.kinds ≡ true → is_well_declared (declared_with b) ≡ true
+pub declared_held : (b : Behind) → length (kinds_with b) ≤ 100 → length (built_in_either_ors ++ b.properties) ≤ 100 → length b.numbers ≤ 100 → length b.starts ≤ 100 → length b.scenes ≤ 50 → b.rulebooks ≤ 100 → list_all is_number b.starts ≡ true → list_all (is_rooted (kinds_with b)) b.kinds ≡ true → is_well_declared (declared_with b) ≡ true
 unfolding is_well_declared
-declared_held b few few_properties few_numbers few_variables ranged roots =
+declared_held b few few_properties few_numbers few_variables few_scenes few_rulebooks ranged roots =
     let n = length (kinds_with b) in
     let names = built_in_either_ors ++ b.properties in
     let many = kinds_many b in
     let flags : are_right_grants n (flags_with b) ≡ true = both (leb (length (flags_with b)) 100) _ (le-leb _ _ (omega (arith, few_properties, flags_counted (kinds_with b) many b.givens 0 built_in_bases names))) (flags_right (kinds_with b) many b.givens 0 built_in_bases names) in
     let first = length (flags_with b) in
     let numbers : are_right_grants n (numbers_with b) ≡ true = both (leb (length (numbers_with b)) 100) _ (le-leb _ _ (omega (arith, few_numbers, flags_counted (kinds_with b) many b.givens first [] b.numbers))) (flags_right (kinds_with b) many b.givens first [] b.numbers) in
-    rw (kinds_right b.kinds few roots, begin_built_in (kinds_with b) many b.givens b.properties, flags, numbers, le-leb (length b.starts) 100 few_variables) ranged
+    rw (kinds_right b.kinds few roots, begin_built_in (kinds_with b) many b.givens b.properties, flags, numbers, le-leb (length b.starts) 100 few_variables, ranged, le-leb (length b.scenes) 50 few_scenes) (le-leb b.rulebooks 100 few_rulebooks)
 
 -- ---- what an object begins with
 

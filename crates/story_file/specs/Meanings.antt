@@ -12,7 +12,6 @@ use Rattle.i7_kinds.specs.Tales.{tale_said}
 use Rattle.i7_names.specs.SourceNames.{names_in, rulebooks_in, scene_count}
 use Rattle.i7_resolution.specs.Resolutions.{IsResolution}
 use Rattle.i7_resolution.specs.SourceTexts.{Says as TextSays}
-use Rattle.i7_resolution.specs.declared.resolution.Resolution.{Resolution}
 use Rattle.i7_resolution.specs.declared.resolution.Resolution.TheVariants.{Refused, Says}
 use Rattle.i7_resolution.specs.declared.resolution.Resolved.{Resolved}
 use Rattle.i7_rules.specs.Knowns.{Known}

@@ -1,13 +1,12 @@
-use Rattle.std.proofs.Common.{List, subst}
-use Rattle.std.specs.Prelude.{map}
-use Rattle.play_meaning.specs.Meant.{text_meant}
-use Rattle.play_meaning.specs.declared.tree.said.Text.{Text as Kept}
-use Rattle.story_format.specs.Holding.{AreHeld, AreNotHeld}
+use Rattle.std.proofs.Common.{List}
+use Rattle.play_meaning.specs.Rules.{AuthorRule}
+use Rattle.play_meaning.specs.Trees.{Text}
+use Rattle.story_format.specs.Holding.{AreHeld, AreNotHeld, AreOf}
 use Rattle.story_format.specs.Making.{tables_of}
 use Rattle.story_format.specs.Spells.{Spells}
-use Rattle.story_file.specs.Meanings.{known_said}
+use Rattle.story_file.specs.Rules.{rules_kept}
 use Rattle.story_file.specs.Texts.{texts_kept}
-use Rattle.story_file.proofs.Compiled.{compiled_by, is_held, refused_by, texts_counted, unheld_by}
+use Rattle.story_file.proofs.Compiled.{are_of, compiled_by, for_lent, is_held, of_lent, refused_by, unheld_by}
 use Rattle.story_file.proofs.compiler.compile.Goals as goal
 
 pub returns-in-Err : goal.returns-in-Err
@@ -15,24 +14,27 @@ returns-in-Err c = refused_by c.args.source.now c.in_ok-sentences.sentences.item
 
 pub write-requires-clause-held : goal.write-requires-clause-held
 write-requires-clause-held c =
-    is_held c.args.source.now c.in_ok-sentences.sentences.items c.as_slice-sentences.result.now c.in_ok-sentences.ensures.said c.as_slice-sentences.ensures.value c.in-Ok.meant.tale (texts_kept c.in-Ok.meant.texts.items) c.in-Ok.ensures.meant
+    is_held c.args.source.now c.in_ok-sentences.sentences.items c.as_slice-sentences.result.now c.in_ok-sentences.ensures.said c.as_slice-sentences.ensures.value c.in-Ok.meant.tale (texts_kept c.in-Ok.meant.texts.items) (rules_kept c.in-Ok.meant.rules.items) c.in-Ok.ensures.meant
 
-pub write-requires-clause-many : goal.write-requires-clause-many
-write-requires-clause-many c =
-    texts_counted (known_said c.as_slice-sentences.result.now) c.in-Ok.meant.tale.objects c.as_slice.result.now c.in-Ok.meant.texts.items c.in-Ok.ensures.meant.texts_are c.as_slice.ensures.value
+pub write-requires-clause-are_of : goal.write-requires-clause-are_of
+write-requires-clause-are_of c =
+    let tale = c.in-Ok.meant.tale in
+    for_lent (AreOf tale) c.in-Ok.meant.texts.items c.as_slice.result.now c.in-Ok.meant.rules.items c.as_slice-2.result.now c.as_slice.ensures.value c.as_slice-2.ensures.value
+    (are_of c.args.source.now c.in_ok-sentences.sentences.items c.as_slice-sentences.result.now c.in_ok-sentences.ensures.said c.as_slice-sentences.ensures.value tale (texts_kept c.in-Ok.meant.texts.items) (rules_kept c.in-Ok.meant.rules.items) c.in-Ok.ensures.meant)
 
 pub returns-in-Ok-write : goal.returns-in-Ok-write
 returns-in-Ok-write c =
     let tale = c.in-Ok.meant.tale in
-    compiled_by c.args.source.now c.in_ok-sentences.sentences.items c.as_slice-sentences.result.now c.in_ok-sentences.ensures.said c.as_slice-sentences.ensures.value tale (texts_kept c.in-Ok.meant.texts.items) c.in-Ok.ensures.meant
-    c.in-Ok-write.bytes.items
-    (subst (λ (texts : List Kept). AreHeld tale (map text_meant texts)) c.as_slice.ensures.value c.in-Ok-write.ensures.said)
-    (subst (λ (texts : List Kept). Spells c.in-Ok-write.bytes.items (tables_of tale (map text_meant texts))) c.as_slice.ensures.value c.in-Ok-write.ensures.spelled)
+    let bytes = c.in-Ok-write.bytes.items in
+    let lent = λ (F : List Text → List AuthorRule → Type 0). of_lent F c.in-Ok.meant.texts.items c.as_slice.result.now c.in-Ok.meant.rules.items c.as_slice-2.result.now c.as_slice.ensures.value c.as_slice-2.ensures.value in
+    compiled_by c.args.source.now c.in_ok-sentences.sentences.items c.as_slice-sentences.result.now c.in_ok-sentences.ensures.said c.as_slice-sentences.ensures.value tale (texts_kept c.in-Ok.meant.texts.items) (rules_kept c.in-Ok.meant.rules.items) c.in-Ok.ensures.meant
+    bytes (lent (AreHeld tale) c.in-Ok-write.ensures.said) (lent (λ texts rules. Spells bytes (tables_of tale texts rules)) c.in-Ok-write.ensures.spelled)
 
 pub returns : goal.returns
 returns c =
     let tale = c.in-Ok.meant.tale in
-    unheld_by c.args.source.now c.in_ok-sentences.sentences.items c.as_slice-sentences.result.now c.in_ok-sentences.ensures.said c.as_slice-sentences.ensures.value tale (texts_kept c.in-Ok.meant.texts.items) c.in-Ok.ensures.meant
-    c.as_slice-in-Err-write.result.now c.in-Err-write.fault c.fault_told.result c.as_slice-in-Err-write.ensures
-    (subst (λ (texts : List Kept). AreNotHeld tale (map text_meant texts) c.in-Err-write.fault) c.as_slice.ensures.value c.in-Err-write.ensures.none)
+    let fault = c.in-Err-write.fault in
+    unheld_by c.args.source.now c.in_ok-sentences.sentences.items c.as_slice-sentences.result.now c.in_ok-sentences.ensures.said c.as_slice-sentences.ensures.value tale (texts_kept c.in-Ok.meant.texts.items) (rules_kept c.in-Ok.meant.rules.items) c.in-Ok.ensures.meant
+    c.as_slice-in-Err-write.result.now fault c.fault_told.result c.as_slice-in-Err-write.ensures
+    (of_lent (λ texts rules. AreNotHeld tale texts rules fault) c.in-Ok.meant.texts.items c.as_slice.result.now c.in-Ok.meant.rules.items c.as_slice-2.result.now c.as_slice.ensures.value c.as_slice-2.ensures.value c.in-Err-write.ensures.none)
     c.fault_told.ensures

@@ -1,0 +1,132 @@
+-- The rules of sentences that mean a tale are few, and stand in its books.
+use Rattle.std.proofs.Common.{◌≡◌, ◌∙◌, ap, refl, subst, sym, ℕ, zero, suc, ◌<◌, ◌≤◌, Bool, true, ◌&&◌, List, [], ◌∷◌, length, map, Some, arith, inl, inr}
+use Rattle.std.specs.Prelude.{reverse, slice_get}
+use Rattle.std.specs.List.{AllZip, list_all}
+use Rattle.std.proofs.lemmas.Bool.{cases_lt, lt-ltb}
+use Rattle.std.proofs.lemmas.Grind.{reverse_onto}
+use Rattle.std.proofs.lemmas.List.{length-map, length-reverse, reverse-reverse}
+use Rattle.std.proofs.lemmas.List.Elements.{All-head, All-tail}
+use Rattle.std.proofs.lemmas.List.Folds.{list_all-append}
+use Rattle.world_meaning.proofs.Bools.{both, both_are}
+use Rattle.world_meaning.specs.Declarations.{is_below}
+use Rattle.world_meaning.specs.declared.declared.Declared.{Declared}
+use Rattle.world_meaning.specs.declared.tale.Tale.{Tale}
+use Rattle.play_meaning.specs.Meant.{rule_meant}
+use Rattle.play_meaning.specs.Rules.{AuthorRule}
+use Rattle.play_meaning.specs.Trees.{Text}
+use Rattle.i7_rules.specs.Knowns.{Known}
+use Rattle.i7_rules.specs.RuleList.{Placed, RuleAt, placed, rules_in}
+use Rattle.i7_rules.specs.Rules.{IsBook, IsWithin, heading}
+use Rattle.i7_rules.specs.SourceRules.{AreTold, IsOver, IsRulesFound, IsTold, most_rules}
+use Rattle.i7_rules.specs.declared.source_rules.RulesFound.{RulesFound}
+use Rattle.i7_rules.specs.declared.source_rules.RulesFound.TheVariants as ruled
+use Rattle.i7_rules.specs.declared.source_rules.SourceRule.{SourceRule}
+use Rattle.i7_sentences.specs.Lowest.{IsNowhere}
+use Rattle.i7_sentences.specs.declared.rule.RuleBook.{RuleBook}
+use Rattle.i7_sentences.specs.declared.rule.RuleBook.TheVariants as named
+use Rattle.i7_sentences.specs.declared.sentence.Sentence.{Sentence}
+use Rattle.i7_resolution.specs.Resolutions.{joined}
+use Rattle.i7_resolution.specs.declared.resolution.Resolution.{Resolution}
+use Rattle.i7_resolution.specs.declared.resolution.Resolution.TheVariants as resolution
+use Rattle.i7_resolution.specs.declared.resolution.Resolved.{Resolved}
+use Rattle.i7_resolution.specs.declared.source_texts.TextsFound.{TextsFound}
+use Rattle.i7_resolution.specs.declared.source_texts.TextsFound.TheVariants as found
+use Rattle.story_format.specs.Holding.{books_of}
+use Rattle.story_format.specs.RuleMaking.{book_count}
+use Rattle.story_file.specs.Meanings.{AreMeant, known_said}
+use Rattle.story_file.proofs.Counted.{rulebooks_counted, scenes_counted}
+
+-- ---- what is told of the rules
+
+-- what is resolved, if anything is
+abbrev resolved_or : Resolved → Resolution → Resolved
+resolved_or other (resolution.Says resolved) = resolved
+resolved_or other (resolution.Refused fault) = other
+
+told_by : (k : Known) (sentences : List Sentence) (rules : RulesFound) (texts : TextsFound) (resolved : Resolved) → resolution.Says resolved ≡ joined rules texts → IsRulesFound k sentences rules
+    → AreTold k (reverse (rules_in sentences)) (reverse resolved.rules.items)
+told_by k sentences (ruled.Says rules) (found.Says texts) resolved told are =
+    subst (λ (r : Resolved). AreTold k (reverse (rules_in sentences)) (reverse r.rules.items)) (sym (ap (resolved_or resolved) told)) are
+told_by k sentences (ruled.Says rules) (found.Refused fault) resolved told are = absurd cc
+told_by k sentences (ruled.Refused fault) (found.Says texts) resolved told are = absurd cc
+told_by k sentences (ruled.Refused fault) (found.Refused other) resolved told are = absurd cc
+
+-- ---- there are few
+
+few_placed : (k : Known) (rules : List RuleAt) → IsNowhere (IsOver k) (placed rules) → length rules ≤ most_rules
+few_placed k [] none = omega arith
+few_placed k (rule ∷ before) none =
+    let Fits = λ (p : Placed). (line : ℕ) → IsOver k p line → ⊥ in
+    let this : Placed = record { rule = rule; before = before } in
+    let few = few_placed k before (All-tail Fits this (placed before) none) in
+    elim (cases_lt (length before) most_rules) [
+      | inl less ↦ omega (arith, less)
+      | inr many ↦ absurd (All-head Fits this (placed before) none rule.line (inr (omega (arith, few, many), refl)))
+    ]
+
+pub as_many : {A B : Type 0} (R : A → B → Type 0) (xs : List A) (ys : List B) → AllZip R xs ys → length ys ≡ length xs
+as_many R [] [] zip = refl
+as_many R [] (y ∷ ys) zip = absurd zip
+as_many R (x ∷ xs) [] zip = absurd zip
+as_many R (x ∷ xs) (y ∷ ys) zip = ap suc (as_many R xs ys zip.1)
+
+few_told : (k : Known) (rules : List RuleAt) (told : List SourceRule) → AreTold k rules (reverse told) → length told ≤ 2000
+unfolding most_rules
+few_told k rules told are = omega (arith, few_placed k rules are.within, as_many (IsTold k) rules (reverse told) are.each, length-reverse told)
+
+-- ---- each stands in a book
+
+there_below : {A : Type 0} (xs : List A) (n : ℕ) (x : A) → slice_get xs n ≡ Some x → n < length xs
+there_below [] n x there = absurd cc
+there_below (y ∷ xs) zero x there = omega arith
+there_below (y ∷ xs) (suc n) x there = omega (arith, there_below xs n x there)
+
+list_all_back : {A : Type 0} (p : A → Bool) (xs : List A) → list_all p xs ≡ true → list_all p (reverse xs) ≡ true
+list_all_back p [] all = refl
+list_all_back p (x ∷ xs) all =
+    let t = both_are (p x) (list_all p xs) all in
+    ap (list_all p) (reverse_onto xs x []) ∙ list_all-append p (reverse xs) (x ∷ []) ∙ both (list_all p (reverse xs)) (p x && true) (list_all_back p xs t.1) (both (p x) true t.0 refl)
+
+module _ (k : Known) (d : Declared) (books : length k.rulebooks ≡ d.rulebooks) (scenes : k.scenes ≡ length d.scenes) where
+  book_below : (book : RuleBook) (number : ℕ) → IsBook k book number → number < book_count d
+  book_below named.EveryTurn number is = omega (arith, is)
+  book_below named.PlayBegins number is = omega (arith, is)
+  book_below (named.Own words) number is = omega (arith, is.numbered, there_below k.rulebooks is.k is.name is.at, books, scenes)
+
+  abbrev has_book : SourceRule → Bool
+  has_book told = is_below (book_count d) told.rule.head.book
+
+  told_below : (r : RuleAt) (told : SourceRule) → IsTold k r told → has_book told ≡ true
+  told_below r told is =
+      let head : IsWithin k r.rule (heading told.rule.head) = (is.rule).0 in
+      lt-ltb told.rule.head.book (book_count d) (book_below r.rule.book told.rule.head.book (head.0).book)
+
+  all_below : (rules : List RuleAt) (told : List SourceRule) → AllZip (IsTold k) rules told → list_all has_book told ≡ true
+  all_below [] [] each = refl
+  all_below [] (one ∷ told) each = absurd each
+  all_below (rule ∷ rules) [] each = absurd each
+  all_below (rule ∷ rules) (one ∷ told) each = both (has_book one) (list_all has_book told) (told_below rule one each.0) (all_below rules told each.1)
+
+  tested : (told : List SourceRule) → list_all (is_below (book_count d)) (books_of (map (λ one. rule_meant one.rule) told)) ≡ list_all has_book told
+  tested [] = refl
+  tested (one ∷ told) = ap (λ (b : Bool). has_book one && b) (tested told)
+
+  books_below : (rules : List RuleAt) (told : List SourceRule) → AllZip (IsTold k) rules (reverse told) → list_all (is_below (book_count d)) (books_of (map (λ one. rule_meant one.rule) told)) ≡ true
+  books_below rules told each =
+      tested told ∙ ap (list_all has_book) (sym (reverse-reverse told)) ∙ list_all_back has_book (reverse told) (all_below rules (reverse told) each)
+
+-- ---- all of it
+
+pub few_rules : (sentences : List Sentence) (tale : Tale) (texts : List Text) (rules : List AuthorRule) → AreMeant sentences tale texts rules → length rules ≤ 2000
+few_rules sentences tale texts rules meant =
+    let is = meant.resolved_is in
+    let told = told_by (known_said sentences) sentences is.rules is.texts meant.resolved is.told_is is.rules_are in
+    let few = few_told (known_said sentences) (reverse (rules_in sentences)) meant.resolved.rules.items told in
+    subst (λ (all : List AuthorRule). length all ≤ 2000) (sym meant.rules_are) (omega (arith, few, length-map meant.resolved.rules.items (λ (one : SourceRule). rule_meant one.rule)))
+
+pub rules_in_books : (sentences : List Sentence) (tale : Tale) (texts : List Text) (rules : List AuthorRule) → AreMeant sentences tale texts rules → list_all (is_below (book_count tale.declared)) (books_of rules) ≡ true
+rules_in_books sentences tale texts rules meant =
+    let is = meant.resolved_is in
+    let told = told_by (known_said sentences) sentences is.rules is.texts meant.resolved is.told_is is.rules_are in
+    subst (λ (all : List AuthorRule). list_all (is_below (book_count tale.declared)) (books_of all) ≡ true) (sym meant.rules_are)
+    (books_below (known_said sentences) tale.declared (rulebooks_counted sentences tale meant.tale_is) (scenes_counted sentences tale meant.tale_is) (reverse (rules_in sentences)) meant.resolved.rules.items told.each)
