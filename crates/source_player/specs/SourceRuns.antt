@@ -81,7 +81,7 @@ pub record IsSpelled (bytes : List ℕ) : Type 0 where
   pub story : Tables
   pub spells : Spells bytes story
 
--- a source whose sentences mean a tale, of which a story file says the descriptions
+-- a source whose sentences mean a tale, of which a story file says the descriptions and rules
 pub record IsMeant (source : List ℕ) : Type 0 where
   pub tale : Tale
   pub texts : List Text

@@ -68,7 +68,7 @@ pub record IsUnmeant (source : List ℕ) (fault : Fault) : Type 0 where
   pub refused : AreRefused sentences fault
 
 -- how it is told that no story file says texts and rules: at the line of the first description whose code is too long, or else of
--- the first such rule, or at line 1 where there are too many codes or strings
+-- the first such rule, or at line 1 where there are too many codes or strings, or a rule says a string of over 65,535 bytes
 abbrev pub IsToldAs : List Sentence → List Object → TableFault → Fault → Type 0
 IsToldAs sentences objects (LongText number) fault = fault ≡ record { code = TooManyCode; line = line_of_description sentences objects number }
 IsToldAs sentences objects (LongRule number) fault = fault ≡ record { code = TooManyCode; line = line_of_rule sentences number }

@@ -54,7 +54,7 @@ pub record AreMeant (sentences : List Sentence) (tale : Tale) (texts : List Text
 abbrev pub MeanSomeTale : List Sentence → Type 0
 MeanSomeTale sentences = (tale : Tale) × (tale_said sentences ≡ Ok tale)
 
--- What rules and texts name, or how much they hold, refuses sentences that mean a tale.
+-- What rules and texts name, how much they hold, or how the lines of rules stand, refuses sentences that mean a tale.
 pub record AreUnresolved (sentences : List Sentence) (fault : Fault) : Type 0 where
   pub meant : MeanSomeTale sentences
   pub refused : IsResolution (known_said sentences) sentences (Refused fault)

@@ -76,6 +76,6 @@ AreNotHeld t texts rules Memory = Unit {0}
 abbrev pub NeverHeldAndNot : Type 0
 NeverHeldAndNot = (t : Tale) (texts : List Text) (rules : List AuthorRule) (fault : TableFault) → AreHeld t texts rules → AreNotHeld t texts rules fault → fault ≡ Memory
 
--- texts of bytes alone, at most 65,535, are said
+-- texts of bytes alone, each at most 65,535, are said where there is no rule
 abbrev pub PlainTextsAreHeld : Type 0
 PlainTextsAreHeld = (t : Tale) (bytes : List (List ℕ)) → IsHeld t → length bytes ≡ codes_in t.objects → list_all is_short bytes ≡ true → AreHeld t (map plain bytes) []

@@ -27,7 +27,7 @@ pub record IsStory (t : Tables) : Type 0 where
   pub right : are_right t ≡ true
   -- the codes are sound, and everything is named
   pub sound : AreSound t
-  -- the books are in order
+  -- the books are in order, as those of right tables are so far
   pub ordered : are_ordered t ≡ true
 
 -- The bytes spell the story of these tables.

@@ -24,7 +24,7 @@ pub enum LoadFault {
     /// A code isn't sound, or isn't named exactly once, or a string that only codes name is out of order, or
     /// a string is named by none.
     BadCode,
-    /// A book's rules are out of order; not yet told, since this version has no rules.
+    /// A book's rules are out of order; not yet told, since a book that lists a rule is a bad table so far.
     BadOrder,
     /// Memory was refused.
     Memory,

@@ -56,12 +56,12 @@ pub fn story_carries_tale()
     ensures { (tale : Tale) (texts : List Text) (rules : List AuthorRule) → IsHeld tale → AreHeld tale texts rules → Carries (tables_of tale texts rules) tale texts rules }
 {}
 
-/// A story file says descriptions that say bytes alone, at most 65,535 of them.
+/// A story file says descriptions that say bytes alone, each at most 65,535, where there is no rule.
 pub fn plain_texts_are_held()
     ensures { PlainTextsAreHeld }
 {}
 
-/// Texts that a story file says are not held for no reason but memory.
+/// Texts and rules that a story file says are not held for no reason but memory.
 pub fn never_held_and_not()
     ensures { NeverHeldAndNot }
 {
@@ -74,8 +74,8 @@ pub fn stories_lead_to_rooms()
     ensures ways { (tables : Tables) (room direction : ℕ) → IsStory tables → is_at_or_none (sorts_in tables).rooms (way_of tables room direction) ≡ true }
 {}
 
-/// Stories that say the same of their objects, text by text, are one: a renumbering of a story's strings or
-/// codes is no other story.
+/// Stories that say the same of their objects and rules, text by text and code by code, and have all else as it is, are
+/// one: a renumbering of a story's strings or codes is no other story.
 pub fn told_alike_are_one()
     ensures { (story other : Tables) → IsStory story → IsStory other → AreToldAlike story other → story ≡ other }
 {}

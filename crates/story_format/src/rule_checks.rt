@@ -14,7 +14,7 @@ use std::alloc::{AllocError, Global};
 /// The number of a byte that stands for none.
 const NO_BYTE: u8 = 255;
 
-/// The most rules, the standard ones with them.
+/// The most rules of a story.
 const MOST_RULES: usize = 2000;
 
 /// How many standard rules there are.

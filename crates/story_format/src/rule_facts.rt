@@ -1,4 +1,4 @@
-//! What a story that was loaded says of its rules, by number.
+//! What a story that was loaded says of its rules, by number: their rulebooks and their codes, and not what they are about.
 ghost use Rattle.std.specs.Prelude.{◌≡◌, Some, length};
 ghost use Rattle.story_format.specs.Facts.{body_of_rule, book_of_rule, code_in_body, condition_in, condition_of_rule};
 

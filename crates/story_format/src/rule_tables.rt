@@ -12,7 +12,7 @@ use world_meaning::Listed;
 pub struct ActionEntry {
     /// How many nouns it has.
     pub nouns: u8,
-    /// What the noun needs: 0 seen, 1 touched, 2 carried.
+    /// What the noun needs: 0 seen, 1 touched, 2 carried; 255 where it has none.
     pub noun: u8,
     /// What the second noun needs.
     pub second: u8,

@@ -79,7 +79,7 @@ abbrev pub told : Typed → Told
 told (Whole bytes) = Line bytes.now
 told (Overlong has_word) = Long has_word
 
--- what a story without rules of its own reads in it
+-- what a story in which no rule of its own is consulted reads in it
 abbrev pub plain_told : Means → Told → PlainReading
 plain_told means (Line line) = reading_of means line
 plain_told means (Long has_word) = if has_word then TooLong else Empty

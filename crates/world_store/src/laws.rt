@@ -36,8 +36,8 @@ pub fn directions_are_directions(world: &World)
     let _ = &world.tree;
 }
 
-/// The tables of a tale that a story file holds, whose descriptions say these texts, give the game of the tale with them: the
-/// same setting, start, descriptions and reading of lines.
+/// The tables of a tale that a story file holds, with texts of its descriptions and rules that it says, give the game of the tale
+/// with these texts: the same setting, start, descriptions and reading of lines. The rules are in neither.
 pub fn tables_give_their_tales_game()
     ensures { (t : Tale) (texts : List Text) (rules : List AuthorRule) → IsHeld t → AreHeld t texts rules → plain_story (tables_of t texts rules) ≡ story_of_script (script_of t (text_of t texts)) }
 {}
