@@ -23,6 +23,7 @@ use Rattle.story_format.specs.Making.{tables_of, text_of}
 use Rattle.story_format.specs.Spells.{Spells}
 use Rattle.story_format.specs.declared.tables.Tables.{Tables}
 use Rattle.story_file.specs.Lines.{line_of_description, line_of_rule}
+use Rattle.story_file.specs.LongStrings.{line_of_long_string}
 use Rattle.story_file.specs.Meanings.{AreMeant, AreRefused}
 
 -- the game of a tale whose descriptions say these texts, in the order of the objects that have one; no rule of the author's is
@@ -68,11 +69,12 @@ pub record IsUnmeant (source : List ℕ) (fault : Fault) : Type 0 where
   pub refused : AreRefused sentences fault
 
 -- how it is told that no story file says texts and rules: at the line of the first description whose code is too long, or else of
--- the first such rule, or at line 1 where there are too many codes or strings, or a rule says a string of over 65,535 bytes
+-- the first such rule; and at the line of the first phrase that says a string of over 65,535 bytes, or at line 1 where none does and
+-- there are too many codes or strings
 abbrev pub IsToldAs : List Sentence → List Object → TableFault → Fault → Type 0
 IsToldAs sentences objects (LongText number) fault = fault ≡ record { code = TooManyCode; line = line_of_description sentences objects number }
 IsToldAs sentences objects (LongRule number) fault = fault ≡ record { code = TooManyCode; line = line_of_rule sentences number }
-IsToldAs sentences objects TooMany fault = fault ≡ record { code = TooManyCode; line = 1 }
+IsToldAs sentences objects TooMany fault = fault ≡ record { code = TooManyCode; line = line_of_long_string sentences }
 IsToldAs sentences objects Memory fault = ⊥
 
 -- A source means a tale of which no story file says the descriptions and rules.

@@ -5,6 +5,7 @@ ghost use Rattle.story_file.specs.Compilations.{IsCompiled, IsRefused, IsToldAs,
 ghost use Rattle.world_meaning.specs.Faults.{out_of_memory};
 
 use crate::lines::{line_of_description, line_of_rule};
+use crate::long_strings::line_of_long_string;
 use crate::meaning::tale_meant;
 use code_table::TableFault;
 use i7_lexer::lex;
@@ -38,7 +39,7 @@ fn fault_told(sentences: &[Sentence], objects: &[Object], fault: TableFault) -> 
         },
         TableFault::TooMany => Fault {
             code: FaultCode::TooMany,
-            line: 1,
+            line: line_of_long_string(sentences),
         },
         TableFault::Memory => Fault::OUT_OF_MEMORY,
     }

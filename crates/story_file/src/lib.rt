@@ -4,6 +4,7 @@
 mod compiler;
 mod laws;
 mod lines;
+mod long_strings;
 mod meaning;
 mod rules;
 mod texts;
