@@ -33,7 +33,7 @@ fn only_body(story: &Story) -> Option<u16> {
 }
 
 /// Does the body of a source's one rule once, in the world with which its story begins.
-fn played(alloc: Global, source: &str) -> Result<Played, Unplayed> {
+fn play(alloc: Global, source: &str) -> Result<Played, Unplayed> {
     let story = story_of(alloc, source)?;
     let Some(number) = only_body(story.as_ref()) else {
         return Err(Unplayed::NotOneRule);
@@ -66,7 +66,7 @@ fn printed(alloc: Global, played: &Played) -> Result<String, AllocError> {
 
 /// What a source comes to: what the body of its rule did, why it broke off, or why it isn't played.
 pub fn told(alloc: Global, source: &str) -> Result<String, AllocError> {
-    match played(alloc, source) {
+    match play(alloc, source) {
         Ok(played) => printed(alloc, &played),
         Err(unplayed) => format!(in alloc; "{unplayed}"),
     }
