@@ -21,6 +21,7 @@ pub mod Machines
 pub mod Meant
 pub mod Operands
 pub mod Order
+pub mod Patterns
 pub mod PhraseRows
 pub mod PlainReading
 pub mod PlainStories

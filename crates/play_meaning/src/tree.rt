@@ -3,6 +3,7 @@
 mod condition;
 mod number;
 mod object;
+mod pattern;
 mod phrase;
 mod rule;
 mod said;
@@ -10,6 +11,7 @@ mod said;
 pub use condition::{Basic, Clause, Condition, Conjunction};
 pub use number::{Joined, Number, Operator, Term};
 pub use object::{Adjective, Description, Held, Quality, Referent, Side};
+pub use pattern::{Aspect, Listing, Pattern};
 pub use phrase::{Branch, Phrase, Simple};
 pub use rule::{MeantRule, RuleHead};
 pub use said::{Piece, Said, Text};

@@ -1,0 +1,38 @@
+//! What rules are about, and where sentences list them (*Writing with Inform*, chapters 7 and 19).
+use crate::action::ActNo;
+use crate::tree::object::Adjective;
+use world_meaning::{KindNo, Listed, ObjNo};
+
+/// What a rule asks of a noun, or of the place.
+#[derive(Debug, Drop)]
+pub enum Aspect {
+    Anything,
+    /// This object.
+    Exactly(ObjNo),
+    /// An object of this kind, or of one below it, of which these adjectives are true.
+    OfKind(KindNo, Listed<Adjective>),
+}
+
+/// What a rule is about, its condition aside: nothing that isn't asked for matters.
+#[derive(Debug, Drop)]
+pub struct Pattern {
+    pub action: Option<ActNo>,
+    pub noun: Aspect,
+    pub second: Aspect,
+    pub place: Aspect,
+    /// The number of a scene that happens.
+    pub scene: Option<u8>,
+}
+
+/// Where sentences list a rule, by the latest of them.
+#[derive(Clone, Copy, Debug, PartialEq, Eq)]
+pub enum Listing {
+    /// No sentence lists it: it stands where its pattern puts it.
+    InOrder,
+    /// `is listed first in`, by the number of the sentence: the latest goes first.
+    First(u32),
+    /// `is listed last in`, by the number of the sentence: the latest goes last.
+    Last(u32),
+    /// `is not listed in any rulebook`
+    Unlisted,
+}
