@@ -1,0 +1,4 @@
+mod BookLemmas
+mod EntryLemmas
+mod HeadingLemmas
+mod KeyLemmas

@@ -1,0 +1,5 @@
+pub mod Books
+pub mod Entries
+pub mod Headings
+pub mod KeyLists
+pub mod Keys

@@ -1,0 +1,12 @@
+//! The order of rulebooks: which of a story's rules a rulebook holds, and which of them is asked first
+//! (*Writing with Inform*, 19.16).
+#![tactic(auto)]
+
+mod books;
+mod entry;
+mod heading;
+mod key;
+mod specificity;
+
+pub use books::{Books, order};
+pub use heading::Heading;
