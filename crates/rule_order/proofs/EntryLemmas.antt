@@ -35,9 +35,10 @@ all_by P (e ∷ es) each = (each 0 e (omega arith), all_by P es (λ j d in'. eac
 
 rise_by : (es : List Entry) → ((i j : ℕ) (d : Entry) → i ≤ j → j < length es → goes_before (get_or es j d) (get_or es i d) ≡ false) → Rise es
 rise_by [] far = tt
-rise_by (e ∷ es) far =
-    (all_by (λ m. goes_before m e ≡ false) es (λ j d in'. far 0 (suc j) d (omega arith) (omega (arith, in'))),
-    rise_by es (λ i j d le in'. far (suc i) (suc j) d (omega (arith, le)) (omega (arith, in'))))
+rise_by (e ∷ es) far = (
+  all_by (λ m. goes_before m e ≡ false) es (λ j d in'. far 0 (suc j) d (omega arith) (omega (arith, in'))),
+  rise_by es (λ i j d le in'. far (suc i) (suc j) d (omega (arith, le)) (omega (arith, in'))),
+)
 
 pub sorted_rise : (es : List Entry) → IsSortedBy goes_before es → Rise es
 sorted_rise es sorted = rise_by es (λ i j d le in'. sorted_far goes_before (ranks_by law.total-law (λ e. e)) es sorted i j d le in')

@@ -80,9 +80,11 @@ one_entry s kinds depths all n h rule is at listing.InOrder listed =
     let noun : grade s rule.noun ≡ grade_of kinds (aspect_meant h.pattern.noun) = grades_alike s kinds depths rule.noun ∙ ap (grade_of kinds) is.noun in
     let second : grade s rule.second ≡ grade_of kinds (aspect_meant h.pattern.second) = grades_alike s kinds depths rule.second ∙ ap (grade_of kinds) is.second in
     let place : grade s rule.place ≡ grade_of kinds (aspect_meant h.pattern.place) = grades_alike s kinds depths rule.place ∙ ap (grade_of kinds) is.place in
-    let asked : aspects rule ≡ aspects_of h = aspects_alike h rule is in
-    (ap (key_at s n) at ∙ ap (rule_key_by s n rule) listed
-    ∙ λ i. pos 1 ∷ minus (asked i) ∷ minus (noun i) ∷ minus (second i) ∷ minus (place i) ∷ pos n ∷ [], tt)
+    let asked : aspects rule ≡ aspects_of h = aspects_alike h rule is in (
+      ap (key_at s n) at ∙ ap (rule_key_by s n rule) listed
+          ∙ λ i. pos 1 ∷ minus (asked i) ∷ minus (noun i) ∷ minus (second i) ∷ minus (place i) ∷ pos n ∷ [],
+      tt,
+    )
 
 both : (P : Entry → Type 0) (es fs : List Entry) → AllByRecursion P es → AllByRecursion P fs → AllByRecursion P (es ++ fs)
 both P [] fs of_es of_fs = of_fs
@@ -99,5 +101,5 @@ entries_alike s kinds depths all n (h ∷ hs) (rule ∷ rules) there alike =
     let here : n ≡ n + 0 = omega arith in
     let later : (j : ℕ) → (n + 1) + j ≡ n + suc j = λ j. omega arith in
     both (IsEntryOf s all) (option_to_list (entry_by h.book n (key_by kinds n h h.listing))) (entries_from kinds (n + 1) hs)
-      (one_entry s kinds depths all n h rule alike.0 (ap (slice_get all) here ∙ there 0) h.listing alike.0.listed)
-      (entries_alike s kinds depths all (n + 1) hs rules (λ j. ap (slice_get all) (later j) ∙ there (suc j)) alike.1)
+    (one_entry s kinds depths all n h rule alike.0 (ap (slice_get all) here ∙ there 0) h.listing alike.0.listed)
+    (entries_alike s kinds depths all (n + 1) hs rules (λ j. ap (slice_get all) (later j) ∙ there (suc j)) alike.1)

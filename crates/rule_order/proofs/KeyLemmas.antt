@@ -63,7 +63,7 @@ keys_alike (key.First s) (key.Last t) = refl
 keys_alike (key.InOrder a n m p number) (key.First s) = refl
 keys_alike (key.InOrder a n m p number) (key.InOrder b o q r other) =
     λ i. ordering_then (minus_cmp a.0 b.0 i) (ordering_then (minus_cmp n.0 o.0 i) (ordering_then (minus_cmp m.0 q.0 i) (ordering_then (minus_cmp p.0 r.0 i)
-      ((pos_cmp number other ∙ sym (then_equal (int_cmp (pos number) (pos other)))) i))))
+    ((pos_cmp number other ∙ sym (then_equal (int_cmp (pos number) (pos other)))) i))))
 keys_alike (key.InOrder a n m p number) (key.Last s) = refl
 keys_alike (key.Last s) (key.First t) = refl
 keys_alike (key.Last s) (key.InOrder a n m p number) = refl

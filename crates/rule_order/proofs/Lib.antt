@@ -2,3 +2,5 @@ mod BookLemmas
 mod EntryLemmas
 mod HeadingLemmas
 mod KeyLemmas
+mod ListingLemmas
+mod Uniqueness

@@ -3,3 +3,4 @@ pub mod Entries
 pub mod Headings
 pub mod KeyLists
 pub mod Keys
+pub mod Listings

@@ -6,7 +6,11 @@ mod books;
 mod entry;
 mod heading;
 mod key;
+mod laws;
+mod listing;
 mod specificity;
 
 pub use books::{Books, order};
 pub use heading::Heading;
+pub use laws::one_order;
+pub use listing::{Front, ListingSentence, listings};
