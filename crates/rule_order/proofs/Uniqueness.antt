@@ -139,7 +139,7 @@ apart_in s rules apart book ns order m n at_m at_n one other =
     let a = is_there (slice_get rules m) book (held s rules book m ns order at_m) in
     let b = is_there (slice_get rules n) book (held s rules book n ns order at_n) in
     numbers_same s rules apart m n a.0 b.0 a.1.0 b.1.0 a.0.listed b.0.listed refl refl a.1.1 b.1.1
-      (sym (ap (key_at s m) a.1.0) ∙ keys_same s rules m n one other ∙ ap (key_at s n) b.1.0)
+    (sym (ap (key_at s m) a.1.0) ∙ keys_same s rules m n one other ∙ ap (key_at s n) b.1.0)
 
 pub one_order : (s : Setting) (rules : List Rule) (book : ℕ) (ns ms : List ℕ) → AreListedApart rules → IsInOrder s rules book ns → IsInOrder s rules book ms → ns ≡ ms
 one_order s rules book ns ms apart order other =
