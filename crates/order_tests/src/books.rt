@@ -13,7 +13,7 @@ pub fn at_most<T>(items: &[T], count: usize) -> &[T]
 }
 
 /// The rulebooks of these rules.
-pub fn ordered(alloc: Global, rules: &[Heading]) -> Result<Books, AllocError> {
+pub fn ordered(alloc: Global, rules: &[Heading<'_>]) -> Result<Books, AllocError> {
     let kinds = built_in_parents(alloc)?;
     order(alloc, at_most(kinds.as_slice(), 255), at_most(rules, 65535))
 }

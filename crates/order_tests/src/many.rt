@@ -6,23 +6,27 @@ use std::alloc::{AllocError, Global};
 use std::test::Fail;
 use world_meaning::ObjNo;
 
-/// As many rules of every turn as a source may have: of each two the second is about an object.
-fn rules(alloc: Global) -> Result<Vec<Heading>, AllocError> {
+fn about(noun: Aspect) -> Pattern {
+    Pattern {
+        action: None,
+        noun,
+        second: Aspect::Anything,
+        place: Aspect::Anything,
+        scene: None,
+    }
+}
+
+/// As many rules of every turn as a source may have, with these patterns in turn.
+fn rules<'a>(
+    alloc: Global,
+    first: &'a Pattern,
+    second: &'a Pattern,
+) -> Result<Vec<Heading<'a>>, AllocError> {
     let mut rules = Vec::new(alloc);
     for number in 0..2000u16 {
         rules.push(Heading {
             book: 6,
-            pattern: Pattern {
-                action: None,
-                noun: if number % 2 == 0 {
-                    Aspect::Anything
-                } else {
-                    Aspect::Exactly(ObjNo::new(number))
-                },
-                second: Aspect::Anything,
-                place: Aspect::Anything,
-                scene: None,
-            },
+            pattern: if number % 2 == 0 { first } else { second },
             is_conditional: false,
             listing: Listing::InOrder,
         })?;
@@ -33,7 +37,10 @@ fn rules(alloc: Global) -> Result<Vec<Heading>, AllocError> {
 #[test]
 fn two_thousand_rules_are_put_in_order(rt: HostRuntime) -> Result<(), Fail> {
     let alloc = rt.alloc();
-    let books = ordered(alloc, rules(alloc)?.as_slice())?;
+    let anything = about(Aspect::Anything);
+    let an_object = about(Aspect::Exactly(ObjNo::new(13)));
+    let rules = rules(alloc, &anything, &an_object)?;
+    let books = ordered(alloc, rules.as_slice())?;
     let book = books.book(6);
     assert_eq!(rt; book.len(), 2000);
     for place in 0..1000u16 {

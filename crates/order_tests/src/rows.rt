@@ -43,7 +43,7 @@ fn about(action: Option<ActNo>, noun: Aspect, place: Aspect) -> Pattern {
     }
 }
 
-fn instead(pattern: Pattern, is_conditional: bool, listing: Listing) -> Heading {
+fn instead<'a>(pattern: &'a Pattern, is_conditional: bool, listing: Listing) -> Heading<'a> {
     Heading {
         book: INSTEAD,
         pattern,
@@ -52,48 +52,26 @@ fn instead(pattern: Pattern, is_conditional: bool, listing: Listing) -> Heading 
     }
 }
 
-/// Doing anything, taking something, taking a container, taking an open container in the hall, taking the box, and that
-/// with a condition: rules 0 to 5, as these are listed.
-fn six_rules(alloc: Global, listed: [Listing; 6]) -> Result<Vec<Heading>, AllocError> {
-    let [ash, birch, cedar, elm, fir, oak] = listed;
-    let anywhere = Aspect::Anything;
-    Ok(vec![in alloc;
-        instead(about(None, Aspect::Anything, Aspect::Anything), false, ash),
-        instead(
-            about(taking(), Aspect::Anything, Aspect::Anything),
-            false,
-            birch
-        ),
-        instead(
-            about(taking(), container(alloc, false)?, Aspect::Anything),
-            false,
-            cedar
-        ),
-        instead(
-            about(taking(), container(alloc, true)?, Aspect::Exactly(hall())),
-            false,
-            elm
-        ),
-        instead(
-            about(taking(), Aspect::Exactly(the_box()), Aspect::Anything),
-            false,
-            fir
-        ),
-        instead(
-            about(taking(), Aspect::Exactly(the_box()), anywhere),
-            true,
-            oak
-        ),
-    ]?)
-}
-
-/// The instead rules in order, as these sentences list the six.
+/// The instead rules in order, as these sentences list the six: doing anything, taking something, taking a container, taking
+/// an open container in the hall, taking the box, and that with a condition.
 fn instead_rules(alloc: Global, sentences: &[ListingSentence]) -> Result<Vec<u16>, Fail> {
     let listed = listings(alloc, 6, at_most(sentences, 3))?;
     let [ash, birch, cedar, elm, fir, oak] = listed.as_slice() else {
         return Ok(Vec::new(alloc));
     };
-    let rules = six_rules(alloc, [*ash, *birch, *cedar, *elm, *fir, *oak])?;
+    let anything = about(None, Aspect::Anything, Aspect::Anything);
+    let something = about(taking(), Aspect::Anything, Aspect::Anything);
+    let a_container = about(taking(), container(alloc, false)?, Aspect::Anything);
+    let an_open_one = about(taking(), container(alloc, true)?, Aspect::Exactly(hall()));
+    let the_box = about(taking(), Aspect::Exactly(the_box()), Aspect::Anything);
+    let rules = [
+        instead(&anything, false, *ash),
+        instead(&something, false, *birch),
+        instead(&a_container, false, *cedar),
+        instead(&an_open_one, false, *elm),
+        instead(&the_box, false, *fir),
+        instead(&the_box, true, *oak),
+    ];
     let books = ordered(alloc, rules.as_slice())?;
     Ok(Vec::from_slice(alloc, books.book(INSTEAD))?)
 }

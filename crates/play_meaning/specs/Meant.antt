@@ -1,7 +1,6 @@
 -- The trees that the words of a source mean: lists joined one by one as the language joins them.
 use Rattle.std.specs.Prelude.{ℕ, Bool, true, false, List, [], ◌∷◌, Option, None, Some, map, fold}
 use Rattle.std.specs.Option.{option_map}
-use Rattle.play_meaning.specs.Rules.{AuthorRule}
 use Rattle.play_meaning.specs.Trees as tree
 use Rattle.play_meaning.specs.declared.tree.object.Adjective.{Adjective}
 use Rattle.play_meaning.specs.declared.tree.object.Description.{Description}
@@ -33,7 +32,6 @@ use Rattle.play_meaning.specs.declared.tree.phrase.Phrase.{Phrase, Row_of-Branch
 use Rattle.play_meaning.specs.declared.tree.phrase.Phrase.TheVariants as phrase
 use Rattle.play_meaning.specs.declared.tree.phrase.Simple.{Simple}
 use Rattle.play_meaning.specs.declared.tree.phrase.Simple.TheVariants as simple
-use Rattle.play_meaning.specs.declared.tree.rule.MeantRule.{MeantRule}
 
 -- ---- objects and descriptions
 
@@ -187,6 +185,3 @@ body_meant (phrase ∷ phrases) = tree.Then (phrase_meant phrase) (body_meant ph
 abbrev pub branches_meant : List Branch → tree.Body → tree.Body
 branches_meant [] others = others
 branches_meant (branch ∷ branches) others = tree.Then (tree.If (condition_meant branch.condition) (body_meant branch.phrases.items) (branches_meant branches others)) tree.End
-
-abbrev pub rule_meant : MeantRule → AuthorRule
-rule_meant rule = record { book = rule.head.book; condition = option_map condition_meant rule.head.condition; body = body_meant rule.body.items }

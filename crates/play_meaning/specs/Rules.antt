@@ -33,12 +33,6 @@ pub record Rule : Type 0 where
   pub body : Body
   pub listed : Listed
 
--- a rule of a source, as its own words say it: it is about nothing but its condition, and stands in the order of its book
-pub record AuthorRule : Type 0 where
-  pub book : ℕ
-  pub condition : Option Condition
-  pub body : Body
-
 -- of nothing every aspect is false that asks anything
 abbrev pub is_met : Setting → World → Aspect → Option ℕ → Bool
 is_met s w Anything o = true

@@ -77,9 +77,9 @@ one_entry s kinds depths all n h rule is at (listing.First sentence) listed =
 one_entry s kinds depths all n h rule is at (listing.Last sentence) listed =
     (ap (key_at s n) at ∙ ap (rule_key_by s n rule) listed, tt)
 one_entry s kinds depths all n h rule is at listing.InOrder listed =
-    let noun : grade s rule.noun ≡ grade_of kinds (aspect_meant h.pattern.noun) = grades_alike s kinds depths rule.noun ∙ ap (grade_of kinds) is.noun in
-    let second : grade s rule.second ≡ grade_of kinds (aspect_meant h.pattern.second) = grades_alike s kinds depths rule.second ∙ ap (grade_of kinds) is.second in
-    let place : grade s rule.place ≡ grade_of kinds (aspect_meant h.pattern.place) = grades_alike s kinds depths rule.place ∙ ap (grade_of kinds) is.place in
+    let noun : grade s rule.noun ≡ grade_of kinds (aspect_meant h.pattern.now.noun) = grades_alike s kinds depths rule.noun ∙ ap (grade_of kinds) is.noun in
+    let second : grade s rule.second ≡ grade_of kinds (aspect_meant h.pattern.now.second) = grades_alike s kinds depths rule.second ∙ ap (grade_of kinds) is.second in
+    let place : grade s rule.place ≡ grade_of kinds (aspect_meant h.pattern.now.place) = grades_alike s kinds depths rule.place ∙ ap (grade_of kinds) is.place in
     let asked : aspects rule ≡ aspects_of h = aspects_alike h rule is in (
       ap (key_at s n) at ∙ ap (rule_key_by s n rule) listed
           ∙ λ i. pos 1 ∷ minus (asked i) ∷ minus (noun i) ∷ minus (second i) ∷ minus (place i) ∷ pos n ∷ [],

@@ -18,16 +18,16 @@ grade_of kinds (OfKind kind adjectives) = 10 * depth_of kinds kind + length adje
 
 abbrev pub aspects_of : Heading → ℕ
 aspects_of h =
-    count_of h.pattern.action + asks (aspect_meant h.pattern.noun) + asks (aspect_meant h.pattern.second) + asks (aspect_meant h.pattern.place)
-    + count_of h.pattern.scene + one_if h.is_conditional
+    count_of h.pattern.now.action + asks (aspect_meant h.pattern.now.noun) + asks (aspect_meant h.pattern.now.second) + asks (aspect_meant h.pattern.now.place)
+    + count_of h.pattern.now.scene + one_if h.is_conditional
 
 -- a rule with this heading: what it asks and does beyond that is open
 pub record IsRuleOf (h : Heading) (rule : Rule) : Type 0 where
   pub book : rule.book ≡ h.book
-  pub action : rule.action ≡ h.pattern.action
-  pub noun : rule.noun ≡ aspect_meant h.pattern.noun
-  pub second : rule.second ≡ aspect_meant h.pattern.second
-  pub place : rule.place ≡ aspect_meant h.pattern.place
-  pub scene : rule.scene ≡ h.pattern.scene
+  pub action : rule.action ≡ h.pattern.now.action
+  pub noun : rule.noun ≡ aspect_meant h.pattern.now.noun
+  pub second : rule.second ≡ aspect_meant h.pattern.now.second
+  pub place : rule.place ≡ aspect_meant h.pattern.now.place
+  pub scene : rule.scene ≡ h.pattern.now.scene
   pub conditional : is_some rule.condition ≡ h.is_conditional
   pub listed : rule.listed ≡ listing_meant h.listing

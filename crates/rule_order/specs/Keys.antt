@@ -10,8 +10,8 @@ use Rattle.rule_order.specs.declared.key.Key.TheVariants as key
 
 abbrev pub key_in_order : List (Option ℕ) → ℕ → Heading → Key
 key_in_order kinds number h =
-    key.InOrder (record { 0 = aspects_of h }) (record { 0 = grade_of kinds (aspect_meant h.pattern.noun) })
-    (record { 0 = grade_of kinds (aspect_meant h.pattern.second) }) (record { 0 = grade_of kinds (aspect_meant h.pattern.place) }) number
+    key.InOrder (record { 0 = aspects_of h }) (record { 0 = grade_of kinds (aspect_meant h.pattern.now.noun) })
+    (record { 0 = grade_of kinds (aspect_meant h.pattern.now.second) }) (record { 0 = grade_of kinds (aspect_meant h.pattern.now.place) }) number
 
 abbrev pub key_by : List (Option ℕ) → ℕ → Heading → Listing → Option Key
 key_by kinds number h listing.InOrder = Some (key_in_order kinds number h)

@@ -53,7 +53,7 @@ fn books_from(alloc: Global, entries: &[Entry]) -> Result<Books, AllocError>
 pub fn order(
     alloc: Global,
     kinds: &[Option<KindNo>],
-    headings: &[Heading],
+    headings: &[Heading<'_>],
 ) -> Result<Books, AllocError>
     requires few { length kinds.now ≤ 255 }
     requires countable { length headings.now ≤ 65535 }

@@ -18,7 +18,7 @@ pub struct Entry {
 
 /// The rule of this number, if it is listed.
 #[tactic(auto, unfolding(crate::specs::Entries::entry_of))]
-fn entry_of(kinds: &[Option<KindNo>], number: u16, heading: &Heading) -> Option<Entry>
+fn entry_of(kinds: &[Option<KindNo>], number: u16, heading: &Heading<'_>) -> Option<Entry>
     requires few { length kinds.now ≤ 255 }
     ensures { result ≡ entry_of kinds.now number heading.now }
 {
@@ -46,7 +46,7 @@ fn push_if(entries: &mut Vec<Entry>, entry: Option<Entry>) -> Result<(), AllocEr
 pub fn entries_of(
     alloc: Global,
     kinds: &[Option<KindNo>],
-    headings: &[Heading],
+    headings: &[Heading<'_>],
 ) -> Result<Vec<Entry>, AllocError>
     requires few { length kinds.now ≤ 255 }
     requires countable { length headings.now ≤ 65535 }

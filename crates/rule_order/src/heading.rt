@@ -2,11 +2,11 @@
 use play_meaning::tree::{Listing, Pattern};
 
 /// What the order of a rulebook looks at in a rule.
-#[derive(Debug, Drop)]
-pub struct Heading {
+#[derive(Clone, Copy, Debug)]
+pub struct Heading<'a> {
     /// The rulebook, by its number.
     pub book: u16,
-    pub pattern: Pattern,
+    pub pattern: &'a Pattern,
     /// Whether the rule asks a condition too.
     pub is_conditional: bool,
     pub listing: Listing,

@@ -26,11 +26,11 @@ pub enum Key {
 }
 
 /// The key of a rule that no sentence lists.
-fn key_in_order(kinds: &[Option<KindNo>], number: u16, heading: &Heading) -> Key
+fn key_in_order(kinds: &[Option<KindNo>], number: u16, heading: &Heading<'_>) -> Key
     requires few { length kinds.now ≤ 255 }
     ensures { result ≡ key_in_order kinds.now number heading.now }
 {
-    let pattern = &heading.pattern;
+    let pattern = heading.pattern;
     Key::InOrder {
         aspects: Reverse(aspects_of(heading)),
         noun: Reverse(grade_of(kinds, &pattern.noun)),
@@ -42,7 +42,7 @@ fn key_in_order(kinds: &[Option<KindNo>], number: u16, heading: &Heading) -> Key
 
 /// The key of the rule of this number, if it is listed.
 #[tactic(auto, unfolding(crate::specs::Keys::key_of))]
-pub fn key_of(kinds: &[Option<KindNo>], number: u16, heading: &Heading) -> Option<Key>
+pub fn key_of(kinds: &[Option<KindNo>], number: u16, heading: &Heading<'_>) -> Option<Key>
     requires few { length kinds.now ≤ 255 }
     ensures { result ≡ key_of kinds.now number heading.now }
 {

@@ -69,10 +69,10 @@ fn asks(aspect: &Aspect) -> u8
 }
 
 /// How many of its aspects ask anything: action, noun, second noun, place, scene and condition.
-pub fn aspects_of(heading: &Heading) -> u8
+pub fn aspects_of(heading: &Heading<'_>) -> u8
     ensures { result ≡ aspects_of heading.now }
 {
-    let pattern = &heading.pattern;
+    let pattern = heading.pattern;
     u8::from(pattern.action.is_some())
         + asks(&pattern.noun)
         + asks(&pattern.second)
