@@ -18,3 +18,4 @@ mod Questions
 pub mod Readings
 mod Runs
 mod Stacks
+mod Stopped

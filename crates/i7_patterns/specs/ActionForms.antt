@@ -25,30 +25,32 @@ with_both make (Some x) second = option_map (make x) second
 abbrev pub nouns_meant : KeptNouns → Nouns
 nouns_meant nouns = (aspect_meant nouns.noun, aspect_meant nouns.second)
 
-abbrev pub behind_noun : Aspect → Aspect → Nouns
-behind_noun second noun = (noun, second)
-
-abbrev pub omitted : List Word → Option Aspect
-omitted [] = Some Anything
-omitted (word ∷ words) = None
+abbrev pub pair : Aspect → Aspect → Nouns
+pair noun second = (noun, second)
 
 abbrev pub omitted_or_asked : Scope → List Word → Option Aspect
 omitted_or_asked s [] = Some Anything
 omitted_or_asked s (word ∷ words) = noun_asked s (word ∷ words)
 
-abbrev pub first_asked : Scope → NounCount → List Word → Option Aspect
-first_asked s Zero words = None
-first_asked s One words = omitted_or_asked s words
-first_asked s Two words = noun_asked s words
+abbrev pub without_second : Aspect → Nouns
+without_second noun = (noun, Anything)
 
-abbrev pub last_asked : Scope → NounCount → List Word → Option Aspect
-last_asked s Zero words = None
-last_asked s One words = omitted words
-last_asked s Two words = noun_asked s words
+-- nothing stands behind the one noun
+abbrev pub one_noun : Scope → List Word → List Word → Option Nouns
+one_noun s noun [] = option_map without_second (omitted_or_asked s noun)
+one_noun s noun (word ∷ last) = None
+
+abbrev pub two_nouns : Scope → List Word → List Word → Option Nouns
+two_nouns s noun last = with_both pair (noun_asked s noun) (noun_asked s last)
+
+abbrev pub nouns_around : Scope → NounCount → List Word → List Word → Option Nouns
+nouns_around s Zero noun last = None
+nouns_around s One noun last = one_noun s noun last
+nouns_around s Two noun last = two_nouns s noun last
 
 abbrev pub nouns_by : Scope → NounCount → List Word → Option (List Word) → Option Nouns
 nouns_by s count noun None = None
-nouns_by s count noun (Some last) = with_both behind_noun (last_asked s count last) (first_asked s count noun)
+nouns_by s count noun (Some last) = nouns_around s count noun last
 
 -- the noun is the first n words, and the rest begins with the second part
 abbrev pub nouns_at : Scope → NounCount → List Word → List Word → ℕ → List Word → Option Nouns

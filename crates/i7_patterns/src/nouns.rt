@@ -2,7 +2,7 @@
 ghost use Rattle.std.specs.Prelude.{◌≡◌, ◌≤◌, length, option_map, IfOk};
 ghost use Rattle.i7_actions.specs.Parts.{behind, first_part, second_part};
 ghost use Rattle.i7_conditions.specs.Scopes.{scope_of};
-ghost use Rattle.i7_patterns.specs.ActionForms.{alone_asked, behind_noun, first_asked, last_asked, nouns_asked, nouns_at, nouns_behind, nouns_meant, omitted, omitted_or_asked, with_both};
+ghost use Rattle.i7_patterns.specs.ActionForms.{alone_asked, nouns_around, nouns_asked, nouns_at, nouns_behind, nouns_meant, omitted_or_asked, one_noun, pair, two_nouns, without_second};
 ghost use Rattle.i7_patterns.specs.Lowest.{lowest_from};
 ghost use Rattle.play_meaning.specs.Patterns.{aspect_meant};
 
@@ -20,16 +20,6 @@ pub struct Nouns {
     pub second: Aspect,
 }
 
-/// Nothing, where no words are left.
-fn omitted(words: &[TextBytes]) -> Option<Aspect>
-    ensures { option_map aspect_meant result ≡ omitted words.now }
-{
-    match words {
-        [] => Some(Aspect::Anything),
-        [_, ..] => None,
-    }
-}
-
 /// What words ask of the noun of an action that has one: nothing, where there are none.
 fn omitted_or_asked(
     alloc: Global,
@@ -45,47 +35,64 @@ fn omitted_or_asked(
     }
 }
 
-/// What words ask of the first noun.
-fn first_asked(
-    alloc: Global,
-    scope: &Scope<'_>,
-    count: NounCount,
-    words: &[TextBytes],
-) -> Result<Option<Aspect>, AllocError>
-    requires few { length (scope_of scope.now).repeats ≤ 255 }
-    ensures { IfOk result (λ aspect. option_map aspect_meant aspect ≡ first_asked (scope_of scope.now) count words.now) }
-{
-    match count {
-        NounCount::Zero => Ok(None),
-        NounCount::One => Ok(omitted_or_asked(alloc, scope, words)?),
-        NounCount::Two => Ok(noun_asked(alloc, scope, words)?),
-    }
-}
-
-/// What the words behind the second part of a name ask.
-fn last_asked(
-    alloc: Global,
-    scope: &Scope<'_>,
-    count: NounCount,
-    words: &[TextBytes],
-) -> Result<Option<Aspect>, AllocError>
-    requires few { length (scope_of scope.now).repeats ≤ 255 }
-    ensures { IfOk result (λ aspect. option_map aspect_meant aspect ≡ last_asked (scope_of scope.now) count words.now) }
-{
-    match count {
-        NounCount::Zero => Ok(None),
-        NounCount::One => Ok(omitted(words)),
-        NounCount::Two => Ok(noun_asked(alloc, scope, words)?),
-    }
-}
-
-/// Both nouns.
-fn behind_noun(second: Aspect, noun: Option<Aspect>) -> Option<Nouns>
-    ensures { option_map nouns_meant result ≡ option_map (behind_noun (aspect_meant second)) (option_map aspect_meant noun) }
+/// The noun, and nothing of a second.
+fn without_second(noun: Option<Aspect>) -> Option<Nouns>
+    ensures { option_map nouns_meant result ≡ option_map without_second (option_map aspect_meant noun) }
 {
     match noun {
         None => None,
-        Some(noun) => Some(Nouns { noun, second }),
+        Some(noun) => Some(Nouns {
+            noun,
+            second: Aspect::Anything,
+        }),
+    }
+}
+
+/// What words ask of the one noun of an action, where none stand behind it.
+fn one_noun(
+    alloc: Global,
+    scope: &Scope<'_>,
+    noun: &[TextBytes],
+    last: &[TextBytes],
+) -> Result<Option<Nouns>, AllocError>
+    requires few { length (scope_of scope.now).repeats ≤ 255 }
+    ensures { IfOk result (λ nouns. option_map nouns_meant nouns ≡ one_noun (scope_of scope.now) noun.now last.now) }
+{
+    match last {
+        [] => {
+            let noun = omitted_or_asked(alloc, scope, noun)?;
+            Ok(without_second(noun))
+        }
+        [_, ..] => Ok(None),
+    }
+}
+
+/// The noun, and a second.
+fn with_second(noun: Aspect, second: Option<Aspect>) -> Option<Nouns>
+    ensures { option_map nouns_meant result ≡ option_map (pair (aspect_meant noun)) (option_map aspect_meant second) }
+{
+    match second {
+        None => None,
+        Some(second) => Some(Nouns { noun, second }),
+    }
+}
+
+/// What words ask of the two nouns of an action.
+fn two_nouns(
+    alloc: Global,
+    scope: &Scope<'_>,
+    noun: &[TextBytes],
+    last: &[TextBytes],
+) -> Result<Option<Nouns>, AllocError>
+    requires few { length (scope_of scope.now).repeats ≤ 255 }
+    ensures { IfOk result (λ nouns. option_map nouns_meant nouns ≡ two_nouns (scope_of scope.now) noun.now last.now) }
+{
+    match noun_asked(alloc, scope, noun)? {
+        None => Ok(None),
+        Some(noun) => {
+            let second = noun_asked(alloc, scope, last)?;
+            Ok(with_second(noun, second))
+        }
     }
 }
 
@@ -98,14 +105,12 @@ fn nouns_around(
     last: &[TextBytes],
 ) -> Result<Option<Nouns>, AllocError>
     requires few { length (scope_of scope.now).repeats ≤ 255 }
-    ensures { IfOk result (λ nouns. option_map nouns_meant nouns ≡ with_both behind_noun (last_asked (scope_of scope.now) count last.now) (first_asked (scope_of scope.now) count noun.now)) }
+    ensures { IfOk result (λ nouns. option_map nouns_meant nouns ≡ nouns_around (scope_of scope.now) count noun.now last.now) }
 {
-    match last_asked(alloc, scope, count, last)? {
-        None => Ok(None),
-        Some(second) => {
-            let noun = first_asked(alloc, scope, count, noun)?;
-            Ok(behind_noun(second, noun))
-        }
+    match count {
+        NounCount::Zero => Ok(None),
+        NounCount::One => Ok(one_noun(alloc, scope, noun, last)?),
+        NounCount::Two => Ok(two_nouns(alloc, scope, noun, last)?),
     }
 }
 
