@@ -1,4 +1,4 @@
--- The best of the actions that words try is found.
+-- The best of the actions that pass a test is found.
 use Rattle.std.proofs.Common.{◌≡◌, ◌⊎◌, ℕ, suc, ◌+◌, ◌<◌, ◌≤◌, Bool, true, false, ◌&&◌, ◌||◌, List, [], ◌∷◌, length, drop, get_or, refl, sym, ap, ◌∙◌, subst, arith, inl, inr}
 use Rattle.std.specs.Prelude.{Some, None, nat_lt, ◌==◌, if◌then◌else◌}
 use Rattle.std.specs.List.{slice_get}
@@ -7,11 +7,9 @@ use Rattle.std.proofs.lemmas.Option.{slice_get_read, slice_get_within}
 use Rattle.std.proofs.lemmas.Bool.{ltb-true, ltb-false}
 use Rattle.std.proofs.lemmas.Bool.Decides.{nat_tests}
 use Rattle.world_meaning.proofs.Bools.{both, both_are, either}
-use Rattle.i7_conditions.specs.Scopes.{Scope}
-use Rattle.i7_conditions.specs.Words.{Word}
 use Rattle.i7_actions.specs.Parts.{first_part, second_part}
 use Rattle.i7_actions.specs.Trying.{GoesBefore, is_longer}
-use Rattle.i7_actions.specs.TryingForms.{Best, best_from, can_try, improves}
+use Rattle.i7_actions.specs.TryingForms.{Best, best_from, improves}
 use Rattle.i7_actions.specs.declared.action.Action.{Action}
 
 -- ---- the order
@@ -117,35 +115,35 @@ next_place xs rest n x e = sym (drop-drop 1 n xs) ∙ ap (drop 1) e
 
 -- ---- the best of the actions in front of a number
 
-pub record IsLeading (s : Scope) (words : List Word) (actions : List Action) (number n : ℕ) (a : Action) : Type 0 where
+pub record IsLeading (can : Action → Bool) (actions : List Action) (number n : ℕ) (a : Action) : Type 0 where
   pub at : slice_get actions n ≡ Some a
-  pub tries : can_try s words a ≡ true
-  pub first : (m : ℕ) (other : Action) → m < number → slice_get actions m ≡ Some other → GoesBefore m other n a → can_try s words other ≡ true → ⊥
+  pub tries : can a ≡ true
+  pub first : (m : ℕ) (other : Action) → m < number → slice_get actions m ≡ Some other → GoesBefore m other n a → can other ≡ true → ⊥
 
-abbrev IsBest : Scope → List Word → List Action → ℕ → Best → Type 0
-IsBest s words actions number None = (m : ℕ) (other : Action) → m < number → slice_get actions m ≡ Some other → can_try s words other ≡ true → ⊥
-IsBest s words actions number (Some best) = (best.0 < number) × IsLeading s words actions number best.0 best.1
+abbrev IsBest : (Action → Bool) → List Action → ℕ → Best → Type 0
+IsBest can actions number None = (m : ℕ) (other : Action) → m < number → slice_get actions m ≡ Some other → can other ≡ true → ⊥
+IsBest can actions number (Some best) = (best.0 < number) × IsLeading can actions number best.0 best.1
 
-still_none : (s : Scope) (words : List Word) (actions rest : List Action) (number : ℕ) (a : Action) → drop number actions ≡ a ∷ rest → can_try s words a ≡ false → IsBest s words actions number None
-    → IsBest s words actions (number + 1) None
-still_none s words actions rest number a e cannot h = λ m other lt at can.
+still_none : (can : Action → Bool) (actions rest : List Action) (number : ℕ) (a : Action) → drop number actions ≡ a ∷ rest → can a ≡ false → IsBest can actions number None
+    → IsBest can actions (number + 1) None
+still_none can actions rest number a e cannot h = λ m other lt at tries.
     elim (earlier m number lt) [
-      | inl less ↦ h m other less at can
-      | inr here ↦ let same : other ≡ a = one_at actions m number other a here at (at_place actions rest number a e) in let is : can_try s words a ≡ true = ap (can_try s words) (sym same) ∙ can in absurd cc
+      | inl less ↦ h m other less at tries
+      | inr here ↦ let same : other ≡ a = one_at actions m number other a here at (at_place actions rest number a e) in let is : can a ≡ true = ap can (sym same) ∙ tries in absurd cc
     ]
 
 not_before : (n : ℕ) (a : Action) → GoesBefore n a n a → ⊥
 not_before n a (inl above) = not_longer_self a above
 not_before n a (inr h) = absurd (omega (arith, h.1))
 
-now_first : (s : Scope) (words : List Word) (actions rest : List Action) (number : ℕ) (a : Action) → drop number actions ≡ a ∷ rest → can_try s words a ≡ true
-    → ((m : ℕ) (other : Action) → m < number → slice_get actions m ≡ Some other → GoesBefore m other number a → can_try s words other ≡ true → ⊥)
-    → IsBest s words actions (number + 1) (Some (number, a))
-now_first s words actions rest number a e can none = (
+now_first : (can : Action → Bool) (actions rest : List Action) (number : ℕ) (a : Action) → drop number actions ≡ a ∷ rest → can a ≡ true
+    → ((m : ℕ) (other : Action) → m < number → slice_get actions m ≡ Some other → GoesBefore m other number a → can other ≡ true → ⊥)
+    → IsBest can actions (number + 1) (Some (number, a))
+now_first can actions rest number a e tries none = (
   omega arith,
   record {
     at = at_place actions rest number a e;
-    tries = can;
+    tries = tries;
     first = λ m other lt at before is.
         elim (earlier m number lt) [
           | inl less ↦ none m other less at before is
@@ -157,65 +155,65 @@ now_first s words actions rest number a e can none = (
   },
 )
 
-led_over : (s : Scope) (words : List Word) (actions : List Action) (number n : ℕ) (a b : Action) → IsLeading s words actions number n b → is_longer a b ≡ true
-    → (m : ℕ) (other : Action) → m < number → slice_get actions m ≡ Some other → GoesBefore m other number a → can_try s words other ≡ true → ⊥
-led_over s words actions number n a b h does m other lt at (inl above) can = h.first m other lt at (inl (longer_on a b other above does)) can
-led_over s words actions number n a b h does m other lt at (inr equal) can = h.first m other lt at (inl (longer_over a b other equal.0 does)) can
+led_over : (can : Action → Bool) (actions : List Action) (number n : ℕ) (a b : Action) → IsLeading can actions number n b → is_longer a b ≡ true
+    → (m : ℕ) (other : Action) → m < number → slice_get actions m ≡ Some other → GoesBefore m other number a → can other ≡ true → ⊥
+led_over can actions number n a b h does m other lt at (inl above) tries = h.first m other lt at (inl (longer_on a b other above does)) tries
+led_over can actions number n a b h does m other lt at (inr equal) tries = h.first m other lt at (inl (longer_over a b other equal.0 does)) tries
 
-kept : (s : Scope) (words : List Word) (actions rest : List Action) (number n : ℕ) (a b : Action) → drop number actions ≡ a ∷ rest → n < number → IsLeading s words actions number n b
-    → (is_longer a b && can_try s words a) ≡ false → IsBest s words actions (number + 1) (Some (n, b))
-kept s words actions rest number n a b e less h isnt = (
+kept : (can : Action → Bool) (actions rest : List Action) (number n : ℕ) (a b : Action) → drop number actions ≡ a ∷ rest → n < number → IsLeading can actions number n b
+    → (is_longer a b && can a) ≡ false → IsBest can actions (number + 1) (Some (n, b))
+kept can actions rest number n a b e less h isnt = (
   omega (arith, less),
   record {
     at = h.at;
     tries = h.tries;
-    first = λ m other lt at before can.
+    first = λ m other lt at before tries.
         elim (earlier m number lt) [
-          | inl front ↦ h.first m other front at before can
+          | inl front ↦ h.first m other front at before tries
           | inr here ↦
               let same : other ≡ a = one_at actions m number other a here at (at_place actions rest number a e) in
-              let is : can_try s words a ≡ true = ap (can_try s words) (sym same) ∙ can in
+              let is : can a ≡ true = ap can (sym same) ∙ tries in
               let moved : GoesBefore number a n b = subst (λ (k : ℕ). GoesBefore k a n b) here (subst (λ (c : Action). GoesBefore m c n b) same before) in
               elim moved [
-                | inl above ↦ let does = both (is_longer a b) (can_try s words a) above is in absurd cc
+                | inl above ↦ let does = both (is_longer a b) (can a) above is in absurd cc
                 | inr equal ↦ absurd (omega (arith, less, equal.1))
               ]
         ];
   },
 )
 
-best_on : (s : Scope) (words : List Word) (actions rest : List Action) (number : ℕ) (a : Action) (best : Best) → drop number actions ≡ a ∷ rest → IsBest s words actions number best
-    → IsBest s words actions (number + 1) (if improves s words a best then Some (number, a) else best)
-best_on s words actions rest number a None e h =
-    elim (either (can_try s words a)) [
-      | inl can ↦ rw can (now_first s words actions rest number a e can (λ m other lt at before is. h m other lt at is))
-      | inr cannot ↦ rw cannot (still_none s words actions rest number a e cannot h)
+best_on : (can : Action → Bool) (actions rest : List Action) (number : ℕ) (a : Action) (best : Best) → drop number actions ≡ a ∷ rest → IsBest can actions number best
+    → IsBest can actions (number + 1) (if improves can a best then Some (number, a) else best)
+best_on can actions rest number a None e h =
+    elim (either (can a)) [
+      | inl tries ↦ rw tries (now_first can actions rest number a e tries (λ m other lt at before is. h m other lt at is))
+      | inr cannot ↦ rw cannot (still_none can actions rest number a e cannot h)
     ]
-best_on s words actions rest number a (Some best) e h =
-    elim (either (is_longer a best.1 && can_try s words a)) [
-      | inl does ↦ let are = both_are (is_longer a best.1) (can_try s words a) does in rw does (now_first s words actions rest number a e are.1 (led_over s words actions number best.0 a best.1 h.1 are.0))
-      | inr kept_so ↦ rw kept_so (kept s words actions rest number best.0 a best.1 e h.0 h.1 kept_so)
+best_on can actions rest number a (Some best) e h =
+    elim (either (is_longer a best.1 && can a)) [
+      | inl does ↦ let are = both_are (is_longer a best.1) (can a) does in rw does (now_first can actions rest number a e are.1 (led_over can actions number best.0 a best.1 h.1 are.0))
+      | inr kept_so ↦ rw kept_so (kept can actions rest number best.0 a best.1 e h.0 h.1 kept_so)
     ]
 
 -- ---- the best of all
 
-abbrev pub IsBestOfAll : Scope → List Word → List Action → Best → Type 0
-IsBestOfAll s words actions None = (m : ℕ) (other : Action) → slice_get actions m ≡ Some other → can_try s words other ≡ true → ⊥
-IsBestOfAll s words actions (Some best) = IsLeading s words actions (length actions) best.0 best.1
+abbrev pub IsBestOfAll : (Action → Bool) → List Action → Best → Type 0
+IsBestOfAll can actions None = (m : ℕ) (other : Action) → slice_get actions m ≡ Some other → can other ≡ true → ⊥
+IsBestOfAll can actions (Some best) = IsLeading can actions (length actions) best.0 best.1
 
-of_all : (s : Scope) (words : List Word) (actions : List Action) (number : ℕ) (best : Best) → length actions ≤ number → IsBest s words actions number best → IsBestOfAll s words actions best
-of_all s words actions number None le h = λ m other at can. h m other (omega (arith, le, slice_get_within actions m other at)) at can
-of_all s words actions number (Some best) le h =
-    record { at = h.1.at; tries = h.1.tries; first = λ m other lt at before can. h.1.first m other (omega (arith, le, lt)) at before can }
+of_all : (can : Action → Bool) (actions : List Action) (number : ℕ) (best : Best) → length actions ≤ number → IsBest can actions number best → IsBestOfAll can actions best
+of_all can actions number None le h = λ m other at tries. h m other (omega (arith, le, slice_get_within actions m other at)) at tries
+of_all can actions number (Some best) le h =
+    record { at = h.1.at; tries = h.1.tries; first = λ m other lt at before tries. h.1.first m other (omega (arith, le, lt)) at before tries }
 
-from_here : (s : Scope) (words : List Word) (actions : List Action) (number : ℕ) (best : Best) (rest : List Action) → drop number actions ≡ rest → IsBest s words actions number best
-    → IsBestOfAll s words actions (best_from s words number best rest)
-from_here s words actions number best [] e h = let long : length (drop number actions) ≡ 0 = ap length e in of_all s words actions number best (omega (arith, long, length-drop number actions)) h
-from_here s words actions number best (a ∷ rest) e h =
-    from_here s words actions (number + 1) (if improves s words a best then Some (number, a) else best) rest (next_place actions rest number a e) (best_on s words actions rest number a best e h)
+from_here : (can : Action → Bool) (actions : List Action) (number : ℕ) (best : Best) (rest : List Action) → drop number actions ≡ rest → IsBest can actions number best
+    → IsBestOfAll can actions (best_from can number best rest)
+from_here can actions number best [] e h = let long : length (drop number actions) ≡ 0 = ap length e in of_all can actions number best (omega (arith, long, length-drop number actions)) h
+from_here can actions number best (a ∷ rest) e h =
+    from_here can actions (number + 1) (if improves can a best then Some (number, a) else best) rest (next_place actions rest number a e) (best_on can actions rest number a best e h)
 
-pub best_of_all : (s : Scope) (words : List Word) (actions : List Action) → IsBestOfAll s words actions (best_from s words 0 None actions)
-best_of_all s words actions = from_here s words actions 0 None actions refl (λ m other lt at can. absurd (omega (arith, lt)))
+pub best_of_all : (can : Action → Bool) (actions : List Action) → IsBestOfAll can actions (best_from can 0 None actions)
+best_of_all can actions = from_here can actions 0 None actions refl (λ m other lt at tries. absurd (omega (arith, lt)))
 
 -- ---- one that goes before all
 

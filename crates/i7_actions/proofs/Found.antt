@@ -31,7 +31,7 @@ noun_as s word words (Read o) h = ((refl, h.0), h.1)
 noun_as s word words TooMany h = (h.0, (refl, h.1), h.2)
 noun_as s word words Unread h = λ o noun. h o noun.1
 
-noun_found : (s : Scope) (words : List Word) → IsFoundAs (IsNoun s words) is_deep (noun_said s words)
+pub noun_found : (s : Scope) (words : List Word) → IsFoundAs (IsNoun s words) is_deep (noun_said s words)
 noun_found s [] = λ o noun. absurd cc
 noun_found s (word ∷ words) = noun_as s word words (object_said s (word ∷ words)) (object_found s (word ∷ words))
 

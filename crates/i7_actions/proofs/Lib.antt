@@ -1,6 +1,6 @@
-mod Chosen
+pub mod Chosen
 mod Followed
-mod Found
-mod Once
+pub mod Found
+pub mod Once
 mod Refused
 mod Trying

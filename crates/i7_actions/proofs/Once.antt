@@ -21,7 +21,7 @@ use Rattle.i7_actions.proofs.Chosen.{one_at, one_first}
 use Rattle.i7_actions.proofs.Found.{is_zero, of_alone, of_around}
 
 -- the lowest of numbers is one
-lowest_once : (m n : ℕ) → (m < n → ⊥) → (n < m → ⊥) → m ≡ n
+pub lowest_once : (m n : ℕ) → (m < n → ⊥) → (n < m → ⊥) → m ≡ n
 lowest_once m n never nor =
     elim (either (nat_lt m n)) [
       | inl lt ↦ absurd (never (ltb-true _ _ lt))

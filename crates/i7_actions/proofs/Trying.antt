@@ -33,7 +33,7 @@ tried_as actions s words n a at first (Read nouns) is h = (tries actions s words
 tried_as actions s words n a at first TooMany is h = (try_of n h.0, tries actions s words n a h.0 at first h.1, h.2)
 tried_as actions s words n a at first Unread is h = absurd cc
 
-by_best : (actions : List Action) (s : Scope) (words : List Word) (best : Best) → IsBestOfAll s words actions best → IsFoundAs (Tries actions s words) try_is_over (tried_by s words best)
+by_best : (actions : List Action) (s : Scope) (words : List Word) (best : Best) → IsBestOfAll (can_try s words) actions best → IsFoundAs (Tries actions s words) try_is_over (tried_by s words best)
 by_best actions s words None h = λ t tries. h t.action tries.action tries.at (can_be_tried s words tries.action tries.gives.n t.nouns tries.gives.reads)
 by_best actions s words (Some best) h =
     tried_as actions s words best.0 best.1 h.at (λ m other at before can. h.first m other (slice_get_within actions m other at) at before can)
@@ -42,4 +42,4 @@ by_best actions s words (Some best) h =
 pub tries_found : (actions : List Action) (s : Scope) (words : List Word) (found : Found Try) → found ≡ tried_said actions s words → IsFoundAs (Tries actions s words) try_is_over found
 unfolding tried_said
 tries_found actions s words found e =
-    subst (IsFoundAs (Tries actions s words) try_is_over) (sym e) (by_best actions s words (best_from s words 0 None actions) (best_of_all s words actions))
+    subst (IsFoundAs (Tries actions s words) try_is_over) (sym e) (by_best actions s words (best_from (can_try s words) 0 None actions) (best_of_all (can_try s words) actions))

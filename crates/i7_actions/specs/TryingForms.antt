@@ -32,17 +32,18 @@ is_better a (Some best) = is_longer a best.1
 abbrev pub can_try : Scope → List Word → Action → Bool
 can_try s words a = is_read (nouns_said s a words)
 
-abbrev pub improves : Scope → List Word → Action → Best → Bool
-improves s words a best = is_better a best && can_try s words a
+-- an action that has a reading, as the test tells, is longer than the best so far
+abbrev pub improves : (Action → Bool) → Action → Best → Bool
+improves can a best = is_better a best && can a
 
 -- the best, where the first of these actions has this number
-abbrev pub best_from : Scope → List Word → ℕ → Best → List Action → Best
-best_from s words number best [] = best
-best_from s words number best (a ∷ rest) = best_from s words (number + 1) (if improves s words a best then Some (number, a) else best) rest
+abbrev pub best_from : (Action → Bool) → ℕ → Best → List Action → Best
+best_from can number best [] = best
+best_from can number best (a ∷ rest) = best_from can (number + 1) (if improves can a best then Some (number, a) else best) rest
 
 abbrev pub tried_by : Scope → List Word → Best → Found Try
 tried_by s words None = Unread
 tried_by s words (Some best) = one (try_of best.0) (nouns_said s best.1 words)
 
 unfoldable pub tried_said : List Action → Scope → List Word → Found Try
-tried_said actions s words = tried_by s words (best_from s words 0 None actions)
+tried_said actions s words = tried_by s words (best_from (can_try s words) 0 None actions)

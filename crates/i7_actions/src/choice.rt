@@ -23,7 +23,7 @@ fn is_longer(action: &Action, other: &Action) -> bool
 }
 
 /// Whether an action is longer than the best so far.
-fn is_better(action: &Action, best: Option<(u8, &Action)>) -> bool
+pub fn is_better(action: &Action, best: Option<(u8, &Action)>) -> bool
     ensures { result ≡ is_better action.now (option_map (λ b. (b.0, b.1.now)) best.entry) }
 {
     match best {
@@ -57,7 +57,7 @@ fn improves(
     best: Option<(u8, &Action)>,
 ) -> Result<bool, AllocError>
     requires few { length (scope_of scope.now).repeats ≤ 255 }
-    ensures { IfOk result (λ better. better ≡ improves (scope_of scope.now) words.now action.now (option_map (λ b. (b.0, b.1.now)) best.entry)) }
+    ensures { IfOk result (λ better. better ≡ improves (can_try (scope_of scope.now) words.now) action.now (option_map (λ b. (b.0, b.1.now)) best.entry)) }
 {
     if !is_better(action, best) {
         return Ok(false);
@@ -74,7 +74,7 @@ pub fn best_of<'a>(
 ) -> Result<Option<(u8, &'a Action)>, AllocError>
     requires few { length (scope_of scope.now).repeats ≤ 255 }
     requires countable { length actions.now ≤ 255 }
-    ensures { IfOk result (λ best. option_map (λ b. (b.0, b.1.now)) best ≡ best_from (scope_of scope.now) words.now 0 None actions.now) }
+    ensures { IfOk result (λ best. option_map (λ b. (b.0, b.1.now)) best ≡ best_from (can_try (scope_of scope.now) words.now) 0 None actions.now) }
 {
     let mut best = None;
     let mut number = 0u8;

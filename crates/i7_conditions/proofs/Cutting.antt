@@ -17,7 +17,7 @@ use Rattle.i7_conditions.specs.declared.front.Step.TheVariants.{Ends, Goes, Stop
 
 -- ---- columns
 
-column_long : (s : Scope) (words : List Word) → length (column_of s words) ≡ length words + 1
+pub column_long : (s : Scope) (words : List Word) → length (column_of s words) ≡ length words + 1
 column_long s [] = refl
 column_long s (word ∷ words) = omega (arith, length-append (column_of s words) (step_at s (word ∷ words) (column_of s words) ∷ []), column_long s words)
 
@@ -41,7 +41,7 @@ looked_top s (word ∷ words) =
     let long : length (word ∷ words) ≡ length (column_of s words) = omega (arith, column_long s words) in
     ap (λ (n : ℕ). get_or (column_of s (word ∷ words)) n Stops) long ∙ looked_at_end (column_of s words) (step_at s (word ∷ words) (column_of s words)) Stops
 
-columns_agree : (s : Scope) (words : List Word) (m j : ℕ) → j ≤ length (drop m words) → looked (column_of s words) j ≡ looked (column_of s (drop m words)) j
+pub columns_agree : (s : Scope) (words : List Word) (m j : ℕ) → j ≤ length (drop m words) → looked (column_of s words) j ≡ looked (column_of s (drop m words)) j
 columns_agree s words zero j le = refl
 columns_agree s [] (suc m) j le = refl
 columns_agree s (word ∷ words) (suc m) j le =
@@ -53,7 +53,7 @@ looked_drop s words m = columns_agree s words m (length (drop m words)) (omega a
 
 -- ---- the first adjective
 
-abbrev IsGoes : Scope → List Word → List Step → ℕ → ℕ → Step → Type 0
+abbrev pub IsGoes : Scope → List Word → List Step → ℕ → ℕ → Step → Type 0
 IsGoes s words column count len Stops = (m : ℕ) → count ≤ m → m < count + len → adjective_at s words column m ≡ None
 IsGoes s words column count len (Ends kind) = ⊥
 IsGoes s words column count len (Goes a n) =
@@ -77,7 +77,7 @@ goes_cases : (s : Scope) (words : List Word) (column : List Step) (count len : �
 goes_cases s words column count len None other e later = goes_on s words column count len other e later
 goes_cases s words column count len (Some a) other e later = (omega arith, omega arith, e, λ m le lt. absurd (omega (arith, le, lt)))
 
-goes_is : (s : Scope) (words : List Word) (column : List Step) (count : ℕ) (window : List Word) → IsGoes s words column count (length window) (goes s words column count window)
+pub goes_is : (s : Scope) (words : List Word) (column : List Step) (count : ℕ) (window : List Word) → IsGoes s words column count (length window) (goes s words column count window)
 goes_is s words column count [] = λ m le lt. absurd (omega (arith, le, lt))
 goes_is s words column count (word ∷ window) =
     goes_cases s words column count (length window) (adjective_at s words column count) (goes s words column (count + 1) window) refl (goes_is s words column (count + 1) window)
@@ -134,7 +134,7 @@ ends_goes : (found : Option ℕ) (other : Step) → can_go other ≡ true → ca
 ends_goes None other can = can
 ends_goes (Some kind) other can = refl
 
-window_long : (words : List Word) → length (window_of words) ≡ min (length words) 33
+pub window_long : (words : List Word) → length (window_of words) ≡ min (length words) 33
 window_long words = omega (arith, length-take (min (length words) 33) words)
 
 name_short : (s : Scope) (word : Word) (words : List Word) (m : ℕ) (a : Adjective) → m < length words + 1 → adjective_named s (take (suc m) (word ∷ words)) ≡ Some a → suc m ≤ 33
@@ -240,7 +240,7 @@ followed_same Stops done f g h = refl
 followed_same (Ends kind) done f g h = refl
 followed_same (Goes a n) done f g h = h (n - 1) (done ++ a ∷ [])
 
-follow_same : (c d : List Step) (words : List Word) → ((j : ℕ) → j ≤ length words → looked c j ≡ looked d j) → (n : ℕ) (done : List Adjective) → follow c n done words ≡ follow d n done words
+pub follow_same : (c d : List Step) (words : List Word) → ((j : ℕ) → j ≤ length words → looked c j ≡ looked d j) → (n : ℕ) (done : List Adjective) → follow c n done words ≡ follow d n done words
 follow_same c d [] h n done = refl
 follow_same c d (word ∷ words) h n done =
     let next = follow_same c d words (λ j le. h j (omega arith)) in

@@ -26,7 +26,7 @@ use Rattle.i7_conditions.specs.declared.front.Front.{Front}
 use Rattle.i7_conditions.proofs.Cutting.{front_found}
 use Rattle.i7_conditions.proofs.Readings.{meant_once, objects_found}
 
-meant_is_cut : (s : Scope) (words : List Word) (adjectives : List Adjective) (k : ℕ) → IsMeant s words adjectives k → IsCut s words adjectives k
+pub meant_is_cut : (s : Scope) (words : List Word) (adjectives : List Adjective) (k : ℕ) → IsMeant s words adjectives k → IsCut s words adjectives k
 meant_is_cut s words adjectives k (IsMeant.kind e) = IsCut.kind e
 meant_is_cut s words adjectives k (IsMeant.more {others = others} n no_kind e shortest rest) = IsCut.more n e (meant_is_cut s (drop n words) others k rest)
 
@@ -82,7 +82,7 @@ descriptions_found s words found e =
 
 -- ---- one reading
 
-same_cut : (s : Scope) (words : List Word) (adjectives others : List Adjective) (k j : ℕ) → IsMeant s words adjectives k → IsMeant s words others j → (adjectives ≡ others) × (k ≡ j)
+pub same_cut : (s : Scope) (words : List Word) (adjectives others : List Adjective) (k j : ℕ) → IsMeant s words adjectives k → IsMeant s words others j → (adjectives ≡ others) × (k ≡ j)
 same_cut s words adjectives others k j (IsMeant.kind e) (IsMeant.kind f) = let g : Some k ≡ Some j = sym e ∙ f in (refl, cc)
 same_cut s words adjectives others k j (IsMeant.kind e) (IsMeant.more n no_kind f shortest rest) = absurd cc
 same_cut s words adjectives others k j (IsMeant.more n no_kind f shortest rest) (IsMeant.kind e) = absurd cc

@@ -4,7 +4,7 @@ mod Chains
 mod Columns
 pub mod Conjoined
 pub mod Counting
-mod Cutting
+pub mod Cutting
 pub mod Described
 mod Digits
 mod Done
@@ -18,3 +18,4 @@ mod Questions
 pub mod Readings
 mod Runs
 mod Stacks
+mod Stopped

@@ -1,5 +1,5 @@
 -- How the words of a description are cut into adjectives and the kind behind them, told from the last word to the first.
-use Rattle.std.specs.Prelude.{ℕ, ◌+◌, ◌-◌, min, Bool, true, false, nat_lt, List, [], ◌∷◌, ◌++◌, length, take, get_or, Option, Some, None, if◌then◌else◌}
+use Rattle.std.specs.Prelude.{◌≡◌, ℕ, ◌+◌, ◌-◌, min, Bool, true, false, nat_lt, List, [], ◌∷◌, ◌++◌, length, take, get_or, Option, Some, None, if◌then◌else◌}
 use Rattle.play_meaning.specs.declared.tree.object.Adjective.{Adjective}
 use Rattle.i7_conditions.specs.Adjectives.{adjective_named, kind_named}
 use Rattle.i7_conditions.specs.Scopes.{Scope}
@@ -45,6 +45,14 @@ step_at s words column = ends_or (kind_named s words) (goes s words column 1 (wi
 abbrev pub column_of : Scope → List Word → List Step
 column_of s [] = Stops ∷ []
 column_of s (word ∷ words) = column_of s words ++ step_at s (word ∷ words) (column_of s words) ∷ []
+
+-- a column tells the same as another, whatever it ends with
+abbrev pub IsToldBy : List Step → List Step → Type 0
+IsToldBy column other = (left : ℕ) → looked column left ≡ looked other left
+
+-- how many of a column's last steps stop, with one step more
+abbrev pub stops_with : ℕ → Step → ℕ
+stops_with stops step = if can_go step then 0 else stops + 1
 
 -- what words are cut into by their first step, given what the words behind some more are cut into
 abbrev pub followed : Step → List Adjective → (ℕ → List Adjective → Option Front) → Option Front

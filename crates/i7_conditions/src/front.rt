@@ -1,7 +1,7 @@
 //! The words in front of a description's relation: adjectives, and then a kind. Of `closed dark room` they are `closed` and
 //! the kind `dark room`, if there is one, else `closed`, `dark` and `room`.
-ghost use Rattle.std.specs.Prelude.{◌≡◌, ◌+◌, ◌≤◌, [], length, IfOk};
-ghost use Rattle.i7_conditions.specs.Fronts.{adjective_at, can_go, column_of, ends_or, follow, front_said, goes, goes_by, looked, step_at, window_of};
+ghost use Rattle.std.specs.Prelude.{◌≡◌, ◌+◌, ◌≤◌, [], ◌∷◌, ◌++◌, length, IfOk, OnOk};
+ghost use Rattle.i7_conditions.specs.Fronts.{adjective_at, can_go, column_of, ends_or, follow, front_said, goes, goes_by, looked, step_at, stops_with, IsToldBy, window_of};
 ghost use Rattle.i7_conditions.specs.Scopes.{scope_of};
 
 use crate::adjective::{adjective_named, kind_named};
@@ -102,18 +102,34 @@ fn step_at(
     }
 }
 
-/// Of each count of last words, what they are cut into first.
+/// Adds a step to a column, and tells how many of its last steps stop.
+fn add_step(column: &mut Vec<Step>, stops: usize, step: Step) -> Result<usize, AllocError>
+    requires few { stops ≤ 32 }
+    ensures column { OnOk result (column.new.items ≡ column.old.items ++ step ∷ []) }
+    ensures stops { IfOk result (λ now. now ≡ stops_with stops step) }
+{
+    let now = match step {
+        Step::Stops => stops + 1,
+        Step::Ends(_) | Step::Goes(_, _) => 0,
+    };
+    column.push(step)?;
+    Ok(now)
+}
+
+/// Of each count of last words, what they are cut into first. Where as many counts as a name and its `not` may have can't be
+/// cut, no more can, and the column ends there.
 fn column_of(alloc: Global, scope: &Scope<'_>, words: &[TextBytes]) -> Result<Vec<Step>, AllocError>
-    ensures { IfOk result (λ column. column.items ≡ column_of (scope_of scope.now) words.now) }
+    ensures { IfOk result (λ column. IsToldBy column.items (column_of (scope_of scope.now) words.now)) }
 {
     let mut column = Vec::new(alloc);
     column.push(Step::Stops)?;
+    let mut stops = 1usize;
     let mut place = words.len();
-    while place > 0 {
+    while place > 0 && stops <= MOST_WORDS {
         place -= 1;
         let (_, rest) = words.split_at(place);
         let step = step_at(alloc, scope, column.as_slice(), rest)?;
-        column.push(step)?;
+        stops = add_step(&mut column, stops, step)?;
     }
     Ok(column)
 }
@@ -147,7 +163,7 @@ fn follow(alloc: Global, column: &[Step], words: &[TextBytes]) -> Result<Option<
 }
 
 /// The adjectives and the kind that words are, if they can be cut into these.
-#[tactic(auto, unfolding(crate::specs::Fronts::front_said))]
+#[tactic(auto, using(crate::proofs::Stopped::front_told), unfolding(crate::specs::Fronts::front_said))]
 pub fn front_of(
     alloc: Global,
     scope: &Scope<'_>,

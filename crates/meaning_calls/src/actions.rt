@@ -14,13 +14,15 @@ fn action(alloc: Global, name: &str, nouns: NounCount) -> Result<Action, AllocEr
     Ok(Action { name, nouns })
 }
 
-/// The standard actions, and four of an author.
-fn actions(alloc: Global) -> Result<Vec<Action>, AllocError> {
+/// The standard actions, and six of an author.
+pub fn actions(alloc: Global) -> Result<Vec<Action>, AllocError> {
     let mut all = standard_actions(alloc)?;
     all.push(action(alloc, "giving", NounCount::Two)?)?;
     all.push(action(alloc, "asking it twice", NounCount::One)?)?;
     all.push(action(alloc, "taking it off", NounCount::One)?)?;
     all.push(action(alloc, "Taking", NounCount::One)?)?;
+    all.push(action(alloc, "logging", NounCount::Zero)?)?;
+    all.push(action(alloc, "logging in", NounCount::One)?)?;
     Ok(all)
 }
 

@@ -8,6 +8,7 @@ mod descriptions;
 mod nesting;
 mod numbers;
 mod objects;
+mod patterns;
 mod phrases;
 mod row;
 mod scene;

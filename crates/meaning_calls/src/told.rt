@@ -8,6 +8,7 @@ use crate::descriptions::described;
 use crate::nesting::nested;
 use crate::numbers::number;
 use crate::objects::{known, object};
+use crate::patterns::{pattern, place};
 use crate::phrases::{opened, phrase};
 use crate::row::Row;
 use crate::scene::Scene;
@@ -29,8 +30,10 @@ fn said(alloc: Global, scope: &Scope<'_>, sort: &str, said: &str) -> Result<Stri
         "nesting" => nested(alloc, said),
         "numbers" => number(alloc, scope, said),
         "objects" => object(alloc, scope, said),
+        "patterns" => pattern(alloc, scope, said),
         "phrases" => phrase(alloc, scope, said),
         "pieces" => pieces(alloc, scope, said),
+        "places" => place(alloc, scope, said),
         "rulebooks" => followed(alloc, said),
         "texts" => text(alloc, scope, said),
         _ => format!(in alloc; "no such sort"),

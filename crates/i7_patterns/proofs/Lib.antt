@@ -1,0 +1,6 @@
+mod Asking
+mod Described
+mod Given
+mod Nouned
+mod Once
+mod Placed

@@ -1,0 +1,9 @@
+pub mod ActionForms
+pub mod Actions
+pub mod Asked
+pub mod AspectForms
+pub mod Aspects
+pub mod Lowest
+pub mod Patterns
+pub mod PatternForms
+pub mod Places

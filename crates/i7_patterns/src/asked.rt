@@ -1,0 +1,14 @@
+//! What words ask, if they ask something.
+ghost use Rattle.std.specs.Prelude.{◌≡◌};
+
+/// What words ask.
+#[derive(Debug, Drop)]
+pub enum Asked<T> {
+    Read(T),
+    /// They ask something, but in a place that is no room (C8).
+    WrongPlace,
+    /// They ask something, but with more adjectives than the language allows (C12).
+    TooMany,
+    /// The names allow no reading of them (C7).
+    Unread,
+}

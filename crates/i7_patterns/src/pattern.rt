@@ -1,0 +1,140 @@
+//! Patterns by their words (*Writing with Inform*, chapters 7 and 12): what stands behind `before` or `check`, without a
+//! `during` or a `when`; and the place behind `every turn in`.
+ghost use Rattle.std.specs.Prelude.{◌≡◌, ◌≤◌, ℕ, List, length, option_map, IfOk};
+ghost use Rattle.i7_actions.specs.declared.action.Action.{Action as Row};
+ghost use Rattle.i7_conditions.specs.Scopes.{Scope as Names, scope_of};
+ghost use Rattle.i7_conditions.specs.Words.{Word};
+ghost use Rattle.i7_patterns.specs.AspectForms.{one_asked};
+ghost use Rattle.i7_patterns.specs.Aspects.{AsksOne};
+ghost use Rattle.i7_patterns.specs.Asked.{IsAsked, judged};
+ghost use Rattle.i7_patterns.specs.PatternForms.{asked_aspect, asked_pattern, pattern_asked, pattern_meant};
+ghost use Rattle.i7_patterns.specs.Patterns.{IsPattern, Pattern as Meant, is_in_place, pattern_is_over};
+ghost use Rattle.i7_patterns.specs.Places.{is_long, is_place};
+ghost use Rattle.play_meaning.specs.Patterns.{aspect_meant};
+ghost use Rattle.play_meaning.specs.Rules.{Aspect as Meaning};
+
+use crate::action::action_asked;
+use crate::anything::anything_asked;
+use crate::asked::Asked;
+use crate::aspect::one_asked;
+use crate::place::{is_long, is_place};
+use i7_actions::Action;
+use i7_conditions::Scope;
+use play_meaning::tree::{Aspect, Pattern};
+use std::alloc::{AllocError, Global};
+use world_meaning::{KindNo, Object, TextBytes};
+
+/// The pattern that words are, wherever it may be.
+#[tactic(auto, unfolding(crate::specs::PatternForms::pattern_asked))]
+fn pattern_asked(
+    alloc: Global,
+    scope: &Scope<'_>,
+    actions: &[Action],
+    words: &[TextBytes],
+) -> Result<Option<Pattern>, AllocError>
+    requires few { length (scope_of scope.now).repeats ≤ 255 }
+    requires countable { length actions.now ≤ 255 }
+    ensures { IfOk result (λ pattern. option_map pattern_meant pattern ≡ pattern_asked actions.now (scope_of scope.now) words.now) }
+{
+    match anything_asked(alloc, scope, words)? {
+        Some(pattern) => Ok(Some(pattern)),
+        None => Ok(action_asked(alloc, scope, actions, words)?),
+    }
+}
+
+/// Whether a pattern has more adjectives of one noun, or of the place, than the language allows.
+fn pattern_is_over(pattern: &Pattern) -> bool
+    ensures { result ≡ pattern_is_over (pattern_meant pattern.now) }
+{
+    is_long(&pattern.noun) || is_long(&pattern.second) || is_long(&pattern.place)
+}
+
+/// What is told of a pattern.
+fn judged(
+    parents: &[Option<KindNo>],
+    objects: &[Object],
+    pattern: Option<Pattern>,
+) -> Asked<Pattern>
+    ensures { asked_pattern result ≡ judged (is_in_place parents.now objects.now) pattern_is_over (option_map pattern_meant pattern) }
+{
+    match pattern {
+        None => Asked::Unread,
+        Some(pattern) => {
+            if !is_place(parents, objects, &pattern.place) {
+                Asked::WrongPlace
+            } else if pattern_is_over(&pattern) {
+                Asked::TooMany
+            } else {
+                Asked::Read(pattern)
+            }
+        }
+    }
+}
+
+/// The pattern that words are, actions being numbered by their places. The kind above each kind is told, and the objects by
+/// number: a place is a room, or a description of rooms. Of several actions the one with the longest name is meant, and of
+/// its readings the one whose place begins earliest, and then the one with the shortest noun, as this profile has it.
+#[tactic(auto, using(crate::proofs::Asking::patterns_found))]
+pub fn pattern_of(
+    alloc: Global,
+    scope: &Scope<'_>,
+    actions: &[Action],
+    parents: &[Option<KindNo>],
+    objects: &[Object],
+    words: &[TextBytes],
+) -> Result<Asked<Pattern>, AllocError>
+    requires few { length (scope_of scope.now).repeats ≤ 255 }
+    requires countable { length actions.now ≤ 255 }
+    ensures { IfOk result (λ found. IsAsked (IsPattern actions.now (scope_of scope.now) words.now) (is_in_place parents.now objects.now) pattern_is_over (asked_pattern found)) }
+{
+    let pattern = pattern_asked(alloc, scope, actions, words)?;
+    Ok(judged(parents, objects, pattern))
+}
+
+/// What is told of a place.
+fn place_judged(
+    parents: &[Option<KindNo>],
+    objects: &[Object],
+    place: Option<Aspect>,
+) -> Asked<Aspect>
+    ensures { asked_aspect result ≡ judged (is_place parents.now objects.now) is_long (option_map aspect_meant place) }
+{
+    match place {
+        None => Asked::Unread,
+        Some(place) => {
+            if !is_place(parents, objects, &place) {
+                Asked::WrongPlace
+            } else if is_long(&place) {
+                Asked::TooMany
+            } else {
+                Asked::Read(place)
+            }
+        }
+    }
+}
+
+/// The place that words are behind an `in`: a room, or a description of rooms.
+#[tactic(auto, using(crate::proofs::Asking::places_found))]
+pub fn place_of(
+    alloc: Global,
+    scope: &Scope<'_>,
+    parents: &[Option<KindNo>],
+    objects: &[Object],
+    words: &[TextBytes],
+) -> Result<Asked<Aspect>, AllocError>
+    requires few { length (scope_of scope.now).repeats ≤ 255 }
+    ensures { IfOk result (λ found. IsAsked (AsksOne (scope_of scope.now) words.now) (is_place parents.now objects.now) is_long (asked_aspect found)) }
+{
+    let place = one_asked(alloc, scope, words)?;
+    Ok(place_judged(parents, objects, place))
+}
+
+/// Words are one pattern at most.
+pub fn one_pattern_is_meant()
+    ensures { (actions : List Row) (s : Names) (words : List Word) (p q : Meant) → IsPattern actions s words p → IsPattern actions s words q → p ≡ q }
+{}
+
+/// Words are one place at most.
+pub fn one_place_is_meant()
+    ensures { (s : Names) (words : List Word) (x y : Meaning) → AsksOne s words x → AsksOne s words y → x ≡ y }
+{}
