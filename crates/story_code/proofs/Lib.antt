@@ -19,8 +19,12 @@ pub mod Passing
 pub mod Phrases
 pub mod Places
 pub mod Rooms
+pub mod SaidDescriptions
+pub mod SaidParts
 pub mod SaidTexts
+pub mod SaidTrees
 pub mod Served
+pub mod ShortFits
 pub mod SoundAnywhere
 pub mod SoundBytes
 pub mod SoundConditions
