@@ -146,8 +146,13 @@ module _ (z : Counts) (o : List Instruction) where
   unfolding description_code
   description_size k (tree.Those list kind) are = omega (arith, those_size list kind are)
   description_size k (tree.ThoseHeld list kind r holder) are =
-      omega (arith, size_of_three (kind_code o kind (adjectives_code o list)) (o ++ object_code holder ++ i.Held r ∷ []) i.And, size_of_three o (object_code holder) (i.Held r),
-      those_size list kind are.0, object_size holder)
+      omega (
+        arith,
+        size_of_three (kind_code o kind (adjectives_code o list)) (o ++ object_code holder ++ i.Held r ∷ []) i.And,
+        size_of_three o (object_code holder) (i.Held r),
+        those_size list kind are.0,
+        object_size holder,
+      )
 
 -- ---- tests
 

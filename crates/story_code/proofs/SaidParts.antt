@@ -16,9 +16,10 @@ abbrev pub CanSpell : List Instruction → Type 0
 CanSpell code = (list_all can_spell code ≡ true) × (list_all opens_few code ≡ true)
 
 pub spell_both : (a b : List Instruction) → CanSpell a → CanSpell b → CanSpell (a ++ b)
-spell_both a b x y =
-    (list_all-append can_spell a b ∙ and_from (list_all can_spell a) (list_all can_spell b) x.0 y.0,
-    list_all-append opens_few a b ∙ and_from (list_all opens_few a) (list_all opens_few b) x.1 y.1)
+spell_both a b x y = (
+  list_all-append can_spell a b ∙ and_from (list_all can_spell a) (list_all can_spell b) x.0 y.0,
+  list_all-append opens_few a b ∙ and_from (list_all opens_few a) (list_all opens_few b) x.1 y.1,
+)
 
 -- a jump, and what stands behind it
 place_spelled : (place : ℕ) (code : List Instruction) → place < 65536 → CanSpell code → CanSpell (i.IfZero place ∷ code)
@@ -103,8 +104,7 @@ said_choice c a b x y w l m n r s u = record {
       let more = length-append first.tests other.tests in
       let of_asked = r.spelled t q (omega (arith, few, many, more)) (omega (arith, short, size, inner)) in
       let of_first = s.spelled t1 q1 (omega (arith, few, many, more)) (omega (arith, short, size, inner)) in
-      let of_other = u.spelled t2 q2 (omega (arith, few, many, more)) (omega (arith, short, size, inner)) in
-      (
+      let of_other = u.spelled t2 q2 (omega (arith, few, many, more)) (omega (arith, short, size, inner)) in (
         spell_both asked.code (i.IfZero q2 ∷ (first.code ++ i.Jump end ∷ other.code)) of_asked.0
             (place_spelled q2 (first.code ++ i.Jump end ∷ other.code) (omega (arith, short, size, inner))
             (spell_both first.code (i.Jump end ∷ other.code) of_first.0 (jump_spelled end other.code (omega (arith, short, size, inner)) of_other.0))),

@@ -205,8 +205,8 @@ module _ (z : Counts) (counted : IsCountedInTwoBytes z) where
 
   chosen_said : (string : List ℕ → ℕ) (k : ℕ) (c : Condition) (a b : Text) → ConditionIsSaid k c → TextIsSaid string k a → TextIsSaid string k b
       → IsSaid (choice (condition_part k c) (text_part string k a) (text_part string k b))
-          (105 * (words_of_condition c + words_of_text a + words_of_text b) + 3 * length (strings_of_text a) + 3 * length (strings_of_text b) + 6)
-          (words_of_condition c + words_of_text a + words_of_text b)
+      (105 * (words_of_condition c + words_of_text a + words_of_text b) + 3 * length (strings_of_text a) + 3 * length (strings_of_text b) + 6)
+      (words_of_condition c + words_of_text a + words_of_text b)
   chosen_said string k c a b r s u =
       within (choice (condition_part k c) (text_part string k a) (text_part string k b)) _ _ _ _
       (said_choice (condition_part k c) (text_part string k a) (text_part string k b) _ _ _ _ _ _ r s u) (omega arith) (omega arith)
