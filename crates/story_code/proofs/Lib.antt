@@ -25,6 +25,9 @@ pub mod SaidTexts
 pub mod SaidTrees
 pub mod Served
 pub mod ShortFits
+pub mod ShortJoined
+pub mod ShortShown
+pub mod ShortWholes
 pub mod SoundAnywhere
 pub mod SoundBytes
 pub mod SoundConditions

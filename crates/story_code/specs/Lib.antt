@@ -12,6 +12,7 @@ pub mod Passes
 pub mod Runs
 pub mod Sayable
 pub mod ShortLaws
+pub mod ShortRows
 pub mod Shortness
 pub mod SoundlyEmitted
 pub mod Soundness

@@ -52,7 +52,7 @@ pub use laws::{
 };
 pub use plain::read_plain;
 pub use row::size;
-pub use short_laws::what_is_short_fits;
+pub use short_laws::{rows_of_what_is_short, what_is_short_fits, what_words_mean_is_joined_so};
 pub use sizes::Sizes;
 pub use state::RunState;
 pub use step::Step;

@@ -1,0 +1,47 @@
+-- How many words some trees are said by, and what is short in a small story.
+use Rattle.std.specs.Prelude.{◌≡◌, ℕ, suc, zero, pos, List, [], ◌∷◌, None, Some}
+use Rattle.play_meaning.specs.Trees.{Adjective, And, Body, Bytes, Condition, End, First, IfSaid, InDarkness, IsOne, IsSo, Literal, NotSo, NowNowhere, NowNumber, Number, Object, Or, Plus, PropertyOf, Quality, RoomFrom, Say, Silence, The, Then, Those, Visible}
+use Rattle.story_code.specs.FittingRows.{repeats, small, sum_of}
+use Rattle.story_code.specs.Sayable.{AdjectiveIsSayable, BodyIsSayable, ConditionIsSayable, NumberIsSayable}
+use Rattle.story_code.specs.ShortLaws.{IsShortBody, IsShortCondition}
+use Rattle.story_code.specs.Shortness.{words_of_body, words_of_condition, words_of_phrase}
+
+-- so many times `now the ball is nowhere`
+abbrev pub going : ℕ → Body
+going zero = End
+going (suc n) = Then (NowNowhere (The 0)) (going n)
+
+-- `the room D from R`, where D and R are said so again
+abbrev pub beyond : ℕ → Object
+beyond zero = The 0
+beyond (suc n) = RoomFrom (beyond n) (beyond n)
+
+-- so many times `not visible`
+abbrev pub unseen : ℕ → List Adjective
+unseen zero = []
+unseen (suc n) = NotSo Visible ∷ unseen n
+
+-- an object said by 382 words, which is asked about 22 times
+abbrev pub hardest : Condition
+hardest = IsOne (beyond 7) (Those (unseen 9) (Some 1))
+
+abbrev pub CanSay : Body → Type 0
+CanSay body = BodyIsSayable small (λ string. 0) 0 body
+
+pub record ShortRows : Type 0 where
+  -- `increase the weight of the ball by 1`
+  pub increase : words_of_phrase (NowNumber 0 (The 0) (Plus (PropertyOf 0 (The 0)) (Literal (pos 1)))) ≡ 6
+  -- `say "It is [if the ball is lit]lit[end if]."`
+  pub text : words_of_phrase (Say (Bytes [] (IfSaid (IsSo (The 0) (Quality 0 First)) (Bytes [] Silence) Silence (Bytes [] Silence)))) ≡ 8
+  pub long : words_of_body (going 125) ≡ 500
+  pub long_is_short : IsShortBody small (λ string. 0) (going 125)
+  pub hard : words_of_condition hardest ≡ 402
+  pub hard_is_short : IsShortCondition small hardest
+  pub eight_repeats : CanSay (repeats 8)
+  pub nine_repeats : CanSay (repeats 9) → ⊥
+  pub thirty_three_numbers : NumberIsSayable small 0 (sum_of 32)
+  pub thirty_four_numbers : NumberIsSayable small 0 (sum_of 33) → ⊥
+  pub denied_once : AdjectiveIsSayable small (NotSo Visible)
+  pub denied_twice : AdjectiveIsSayable small (NotSo (NotSo Visible)) → ⊥
+  pub and_before_or : ConditionIsSayable small 0 (Or InDarkness (And InDarkness InDarkness))
+  pub or_in_or : ConditionIsSayable small 0 (Or InDarkness (Or InDarkness (Or InDarkness InDarkness))) → ⊥
