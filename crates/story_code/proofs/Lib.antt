@@ -19,13 +19,14 @@ pub mod Passing
 pub mod Phrases
 pub mod Places
 pub mod Rooms
-pub mod SaidDescriptions
-pub mod SaidParts
 pub mod SaidTexts
-pub mod SaidTrees
 pub mod Served
+pub mod ShortConditions
+pub mod ShortDescriptions
 pub mod ShortFits
 pub mod ShortJoined
+pub mod ShortParts
+pub mod ShortPhrases
 pub mod ShortShown
 pub mod ShortWholes
 pub mod SoundAnywhere

@@ -1,7 +1,7 @@
 -- What words mean is joined as the language joins it: few truths wait for others, and adjectives are denied once.
-use Rattle.std.proofs.Common.{◌≡◌, refl, ℕ, ◌+◌, ◌≤◌, Bool, true, false, List, [], ◌∷◌, arith}
+use Rattle.std.proofs.Common.{◌≡◌, refl, ◌≤◌, Bool, true, false, List, [], ◌∷◌, arith}
 use Rattle.std.specs.Prelude.{fold}
-use Rattle.play_meaning.specs.Meant.{adjective_meant, basic_meant, clause_meant, condition_meant, conjunction_meant, denied_if, not_if, quality_meant}
+use Rattle.play_meaning.specs.Meant.{basic_meant, clause_meant, condition_meant, conjunction_meant, denied_if, not_if, quality_meant}
 use Rattle.play_meaning.specs.Trees as tree
 use Rattle.play_meaning.specs.declared.operand.Counts.{Counts}
 use Rattle.play_meaning.specs.declared.tree.condition.Basic.{Basic}

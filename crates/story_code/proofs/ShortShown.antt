@@ -1,7 +1,6 @@
 -- The rows of what is short hold.
-use Rattle.std.proofs.Common.{◌≡◌, refl, ℕ, suc, zero, ◌+◌, ◌*◌, ◌<◌, ◌≤◌, List, [], ◌∷◌, length, arith}
-use Rattle.play_meaning.specs.Translation.{strings_of_body, strings_of_phrase}
-use Rattle.play_meaning.specs.Trees.{Literal, Number}
+use Rattle.std.proofs.Common.{◌≡◌, refl, ℕ, suc, zero, ◌+◌, ◌*◌, ◌≤◌, length, arith}
+use Rattle.play_meaning.specs.Translation.{strings_of_body}
 use Rattle.story_code.specs.FittingRows.{repeats, small, sum_of}
 use Rattle.story_code.specs.Sayable.{AdjectivesAreSayable, BodyIsSayable, ObjectIsThere, TermsAreSayable, froms, numbers_joined}
 use Rattle.story_code.specs.ShortRows.{CanSay, ShortRows, beyond, going, unseen}

@@ -1,5 +1,5 @@
 -- What few words say fits, and bytes can say all that is emitted of it.
-use Rattle.std.proofs.Common.{◌≡◌, refl, ℕ, ◌+◌, ◌*◌, Bool, true, false, List, length, arith}
+use Rattle.std.proofs.Common.{◌≡◌, refl, ◌+◌, ◌*◌, Bool, true, false, length, arith}
 use Rattle.play_meaning.specs.Translation.{body_part, condition_part, strings_of_body, strings_of_text, text_part}
 use Rattle.play_meaning.specs.declared.instruction.Instruction.TheVariants.{Answer, Done}
 use Rattle.play_meaning.specs.declared.operand.Use.TheVariants.{Describing}
@@ -7,8 +7,9 @@ use Rattle.story_code.specs.declared.emit.EmitFault.{EmitFault}
 use Rattle.story_code.specs.declared.emit.EmitFault.TheVariants.{Memory, TooLong}
 use Rattle.story_code.specs.ShortLaws.{ShortBodiesFit, ShortConditionsFit, ShortDescriptionsFit}
 use Rattle.story_code.specs.Shortness.{words_of_body, words_of_condition, words_of_text}
-use Rattle.story_code.proofs.SaidParts.{IsSaid, within}
-use Rattle.story_code.proofs.SaidTrees.{body_said, condition_said, text_said, whole_said}
+use Rattle.story_code.proofs.ShortParts.{IsSaid, whole_said, within}
+use Rattle.story_code.proofs.ShortPhrases.{body_said, text_said}
+use Rattle.story_code.proofs.ShortConditions.{condition_said}
 use Rattle.story_code.proofs.ShortFits.{body_fits, condition_fits, text_fits}
 
 pub bodies_fit : ShortBodiesFit

@@ -1,6 +1,6 @@
 -- How many words some trees are said by, and what is short in a small story.
-use Rattle.std.specs.Prelude.{◌≡◌, ℕ, suc, zero, pos, List, [], ◌∷◌, None, Some}
-use Rattle.play_meaning.specs.Trees.{Adjective, And, Body, Bytes, Condition, End, First, IfSaid, InDarkness, IsOne, IsSo, Literal, NotSo, NowNowhere, NowNumber, Number, Object, Or, Plus, PropertyOf, Quality, RoomFrom, Say, Silence, The, Then, Those, Visible}
+use Rattle.std.specs.Prelude.{◌≡◌, ℕ, suc, zero, pos, List, [], ◌∷◌, Some}
+use Rattle.play_meaning.specs.Trees.{Adjective, And, Body, Bytes, Condition, End, First, IfSaid, InDarkness, IsOne, IsSo, Literal, NotSo, NowNowhere, NowNumber, Object, Or, Plus, PropertyOf, Quality, RoomFrom, Say, Silence, The, Then, Those, Visible}
 use Rattle.story_code.specs.FittingRows.{repeats, small, sum_of}
 use Rattle.story_code.specs.Sayable.{AdjectiveIsSayable, BodyIsSayable, ConditionIsSayable, NumberIsSayable}
 use Rattle.story_code.specs.ShortLaws.{IsShortBody, IsShortCondition}

@@ -42,7 +42,8 @@ pub enum EmitFault {
 ///
 /// # Errors
 ///
-/// `TooLong` only where the tree doesn't fit or bytes can't say the codes, and `Memory`.
+/// `TooLong` only where the tree doesn't fit or bytes can't say the codes, and so never of what at most 500 words say within
+/// the limits of the language, with at most 32 numbers in an expression; and `Memory`.
 pub fn body_codes(
     alloc: Global,
     counts: &Counts,
@@ -73,7 +74,8 @@ pub fn body_codes(
 ///
 /// # Errors
 ///
-/// `TooLong` only where the tree doesn't fit or bytes can't say the codes, and `Memory`.
+/// `TooLong` only where the tree doesn't fit or bytes can't say the codes, and so never of what at most 500 words say within
+/// the limits of the language, with at most 32 numbers in an expression; and `Memory`.
 pub fn condition_codes(
     alloc: Global,
     counts: &Counts,
@@ -102,7 +104,8 @@ pub fn condition_codes(
 ///
 /// # Errors
 ///
-/// `TooLong` only where the tree doesn't fit or bytes can't say the codes, and `Memory`.
+/// `TooLong` only where the tree doesn't fit or bytes can't say the codes, and so never of what at most 500 words say within
+/// the limits of the language, with at most 32 numbers in an expression; and `Memory`.
 pub fn description_codes(
     alloc: Global,
     counts: &Counts,

@@ -2,11 +2,10 @@
 ghost use Rattle.story_code.specs.ShortRows.{ShortRows};
 ghost use Rattle.story_code.specs.ShortLaws.{IsJoinedSo, ShortBodiesFit, ShortConditionsFit, ShortDescriptionsFit};
 
-/// A body, a condition or a description that at most 500 words say, those inside its texts' brackets counted, fits a story
-/// in which what it names is there, if it keeps the limits of the language and no expression joins more than 32 numbers;
-/// and bytes can say what is emitted of it, if two bytes tell its tests by their numbers. So `body_codes`,
-/// `condition_codes` and `description_codes` don't answer `TooLong` of it: they do only of what doesn't fit or bytes can't
-/// say.
+/// A body, a condition or a description that at most 500 words say, those between its texts' brackets counted, fits a story
+/// in which what it names is there, if it keeps the limits of the language and joins at most 32 numbers in an expression.
+/// It names no more tests than words, and bytes can say what is emitted of it, if two tell these tests by their numbers. So
+/// `TooLong` is no answer of `body_codes`, `condition_codes` and `description_codes` to it, as their clauses `short` say.
 pub fn what_is_short_fits()
     ensures bodies { ShortBodiesFit }
     ensures conditions { ShortConditionsFit }

@@ -1,10 +1,10 @@
 -- Bytes can say the codes of objects and descriptions, which take few bytes for each word.
-use Rattle.std.proofs.Common.{◌≡◌, refl, ℕ, ◌+◌, ◌*◌, ◌<◌, ◌≤◌, ◌&&◌, nat_lt, true, List, [], ◌∷◌, ◌++◌, length, Option, None, Some, arith, ℤ, negsuc, pos}
+use Rattle.std.proofs.Common.{◌≡◌, refl, ℕ, ◌+◌, ◌*◌, ◌≤◌, ◌&&◌, nat_lt, true, List, [], ◌∷◌, ◌++◌, length, Option, None, Some, arith, ℤ, negsuc, pos}
 use Rattle.std.specs.List.{list_all}
 use Rattle.std.proofs.lemmas.Bool.{and_from, lt-ltb}
 use Rattle.std.proofs.lemmas.Nat.{mul-le}
 use Rattle.play_meaning.specs.Instructions.{sizes}
-use Rattle.play_meaning.specs.Translation.{adjective_code, adjectives_code, and_code, asked_of, description_code, is_there_code, kind_code, object_code, test_code}
+use Rattle.play_meaning.specs.Translation.{adjective_code, adjectives_code, asked_of, description_code, is_there_code, kind_code, object_code, test_code}
 use Rattle.play_meaning.specs.Trees as tree
 use Rattle.play_meaning.specs.Trees.{Adjective, Description, Object}
 use Rattle.play_meaning.specs.declared.instruction.Instruction.{Instruction}
@@ -15,7 +15,7 @@ use Rattle.story_code.specs.Sayable.{AdjectiveIsPlain, AdjectiveIsSayable, Adjec
 use Rattle.story_code.specs.Shortness.{words_of_adjective, words_of_adjectives, words_of_description, words_of_noun, words_of_object, words_of_those}
 use Rattle.story_code.specs.Spelling.{can_spell, is_integer}
 use Rattle.story_code.proofs.Followed.{sizes_append}
-use Rattle.story_code.proofs.SaidParts.{CanSpell, spell_both}
+use Rattle.story_code.proofs.ShortParts.{CanSpell, spell_both}
 
 -- a code, another behind it, and an instruction
 pub size_of_three : (a b : List Instruction) (x : Instruction) → sizes (a ++ b ++ x ∷ []) ≡ sizes a + sizes b + sizes (x ∷ [])
