@@ -14,7 +14,7 @@ use Rattle.story_code.proofs.ShortFits.{body_fits, condition_fits, text_fits}
 
 pub bodies_fit : ShortBodiesFit
 bodies_fit z string first body counted short = (
-  body_fits z string 0 body (omega arith) short.0,
+  λ own codes. body_fits z own codes string 0 body (omega arith) short.0,
   whole_said (body_part string 0 body) Done (words_of_body body) (length (strings_of_body body)) first (body_said z counted string 0 body (omega arith) short.0 short.1.0) (omega arith) (refl, refl)
       short.1.0 short.1.1,
 )
@@ -22,11 +22,11 @@ bodies_fit z string first body counted short = (
 pub conditions_fit : ShortConditionsFit
 conditions_fit z first condition counted short =
     let said : IsSaid (condition_part 0 condition) (105 * words_of_condition condition + 3 * 0) (words_of_condition condition) = within (condition_part 0 condition) _ _ _ _ (condition_said z counted 0 condition short.0 short.1) (omega arith) (omega arith) in
-    (condition_fits z 0 condition (omega arith) short.0, whole_said (condition_part 0 condition) Answer (words_of_condition condition) 0 first said (omega arith) (refl, refl) short.1 (omega arith))
+    (λ own codes. condition_fits z own codes 0 condition (omega arith) short.0, whole_said (condition_part 0 condition) Answer (words_of_condition condition) 0 first said (omega arith) (refl, refl) short.1 (omega arith))
 
 pub descriptions_fit : ShortDescriptionsFit
 descriptions_fit z string first text counted short = (
-  text_fits z Describing string 0 text (omega arith) short.0,
+  λ own codes. text_fits z own codes Describing string 0 text (omega arith) short.0,
   whole_said (text_part string 0 text) Done (words_of_text text) (length (strings_of_text text)) first (text_said z counted Describing string 0 text short.0 short.1.0) (omega arith) (refl, refl)
       short.1.0 short.1.1,
 )

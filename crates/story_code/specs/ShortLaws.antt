@@ -13,6 +13,7 @@ use Rattle.story_code.specs.Emitting.{can_say_all}
 use Rattle.story_code.specs.Fitting.{BodyFits, ConditionFits, TextFits}
 use Rattle.story_code.specs.Sayable.{AdjectiveIsPlain, AdjectiveIsSayable, BodyIsSayable, ConditionIsSayable, TextIsSayable, truths_waiting}
 use Rattle.story_code.specs.Shortness.{words_of_body, words_of_condition, words_of_text}
+use Rattle.story_code.specs.SoundlyEmitted.{among}
 
 -- two bytes tell each object, string and rulebook by its number
 pub record IsCountedInTwoBytes (z : Counts) : Type 0 where
@@ -35,7 +36,7 @@ IsShortCondition z condition = ConditionIsSayable z 0 condition × (words_of_con
 abbrev pub IsShortDescription : Counts → (List ℕ → ℕ) → Text → Type 0
 IsShortDescription z string text = TextIsSayable z Describing string 0 text × IsShort (words_of_text text) (strings_of_text text)
 
--- ---- it fits, and bytes can say what is emitted of it
+-- ---- it fits, whatever number its code has and however many codes there are, and bytes can say what is emitted of it
 
 -- two bytes tell the tests that are named by their numbers, from the first on
 abbrev pub IsNumberedFrom : ℕ → Emitted → Type 0
@@ -48,15 +49,15 @@ pub record IsShortlySaid (first words : ℕ) (e : Emitted) : Type 0 where
 
 abbrev pub ShortBodiesFit : Type 0
 ShortBodiesFit = (z : Counts) (string : List ℕ → ℕ) (first : ℕ) (body : Body) → IsCountedInTwoBytes z → IsShortBody z string body
-    → BodyFits z string 0 body × IsShortlySaid first (words_of_body body) (whole_body string body first 0)
+    → ((own codes : ℕ) → BodyFits (among z own codes) string 0 body) × IsShortlySaid first (words_of_body body) (whole_body string body first 0)
 
 abbrev pub ShortConditionsFit : Type 0
 ShortConditionsFit = (z : Counts) (first : ℕ) (condition : Condition) → IsCountedInTwoBytes z → IsShortCondition z condition
-    → ConditionFits z 0 0 condition × IsShortlySaid first (words_of_condition condition) (test_part condition first 0)
+    → ((own codes : ℕ) → ConditionFits (among z own codes) 0 0 condition) × IsShortlySaid first (words_of_condition condition) (test_part condition first 0)
 
 abbrev pub ShortDescriptionsFit : Type 0
 ShortDescriptionsFit = (z : Counts) (string : List ℕ → ℕ) (first : ℕ) (text : Text) → IsCountedInTwoBytes z → IsShortDescription z string text
-    → TextFits z Describing string 0 text × IsShortlySaid first (words_of_text text) (description_part string text first 0)
+    → ((own codes : ℕ) → TextFits (among z own codes) Describing string 0 text) × IsShortlySaid first (words_of_text text) (description_part string text first 0)
 
 -- ---- what words mean is joined so
 

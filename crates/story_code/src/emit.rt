@@ -42,8 +42,9 @@ pub enum EmitFault {
 ///
 /// # Errors
 ///
-/// `TooLong` only where the tree doesn't fit or bytes can't say the codes, and so never of what at most 500 words say within
-/// the limits of the language, with at most 32 numbers in an expression; and `Memory`.
+/// `TooLong` only where the tree doesn't fit or bytes can't say the codes. What at most 500 words say within the limits of the
+/// language, with at most 32 numbers in an expression, isn't too long, as long as two bytes tell its tests by their numbers.
+/// And `Memory`.
 pub fn body_codes(
     alloc: Global,
     counts: &Counts,
@@ -74,8 +75,9 @@ pub fn body_codes(
 ///
 /// # Errors
 ///
-/// `TooLong` only where the tree doesn't fit or bytes can't say the codes, and so never of what at most 500 words say within
-/// the limits of the language, with at most 32 numbers in an expression; and `Memory`.
+/// `TooLong` only where the tree doesn't fit or bytes can't say the codes. What at most 500 words say within the limits of the
+/// language, with at most 32 numbers in an expression, isn't too long, as long as two bytes tell its tests by their numbers.
+/// And `Memory`.
 pub fn condition_codes(
     alloc: Global,
     counts: &Counts,
@@ -104,8 +106,9 @@ pub fn condition_codes(
 ///
 /// # Errors
 ///
-/// `TooLong` only where the tree doesn't fit or bytes can't say the codes, and so never of what at most 500 words say within
-/// the limits of the language, with at most 32 numbers in an expression; and `Memory`.
+/// `TooLong` only where the tree doesn't fit or bytes can't say the codes. What at most 500 words say within the limits of the
+/// language, with at most 32 numbers in an expression, isn't too long, as long as two bytes tell its tests by their numbers.
+/// And `Memory`.
 pub fn description_codes(
     alloc: Global,
     counts: &Counts,

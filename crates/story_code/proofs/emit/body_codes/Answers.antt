@@ -30,7 +30,7 @@ returns-clause-too_long c =
 
 pub returns-then-not-body_fits-clause-short : goal.returns-then-not-body_fits-clause-short
 returns-then-not-body_fits-clause-short c = λ short numbered.
-    absurd (not_from_Decides c.body_fits.result (c.body_fits.ensures c.args.counts.now.own c.args.counts.now.codes) c.if-not-body_fits.true (bodies_fit c.args.counts.now (number_in c.args.strings.now) c.args.first (body_meant c.args.body.now) c.told_in_two_bytes.ensures short).0)
+    absurd (not_from_Decides c.body_fits.result (c.body_fits.ensures c.args.counts.now.own c.args.counts.now.codes) c.if-not-body_fits.true ((bodies_fit c.args.counts.now (number_in c.args.strings.now) c.args.first (body_meant c.args.body.now) c.told_in_two_bytes.ensures short).0 c.args.counts.now.own c.args.counts.now.codes))
 
 pub returns-clause-short : goal.returns-clause-short
 returns-clause-short c = λ short numbered.

@@ -29,7 +29,7 @@ returns-clause-too_long c =
 
 pub returns-then-not-condition_fits-clause-short : goal.returns-then-not-condition_fits-clause-short
 returns-then-not-condition_fits-clause-short c = λ short numbered.
-    absurd (not_from_Decides c.condition_fits.result (c.condition_fits.ensures c.args.counts.now.own c.args.counts.now.codes) c.if-not-condition_fits.true (conditions_fit c.args.counts.now c.args.first (condition_meant c.args.condition.now) c.told_in_two_bytes.ensures short).0)
+    absurd (not_from_Decides c.condition_fits.result (c.condition_fits.ensures c.args.counts.now.own c.args.counts.now.codes) c.if-not-condition_fits.true ((conditions_fit c.args.counts.now c.args.first (condition_meant c.args.condition.now) c.told_in_two_bytes.ensures short).0 c.args.counts.now.own c.args.counts.now.codes))
 
 pub returns-clause-short : goal.returns-clause-short
 returns-clause-short c = λ short numbered.

@@ -30,7 +30,7 @@ returns-clause-too_long c =
 
 pub returns-then-not-description_fits-clause-short : goal.returns-then-not-description_fits-clause-short
 returns-then-not-description_fits-clause-short c = λ short numbered.
-    absurd (not_from_Decides c.description_fits.result (c.description_fits.ensures c.args.counts.now.own c.args.counts.now.codes) c.if-not-description_fits.true (descriptions_fit c.args.counts.now (number_in c.args.strings.now) c.args.first (text_meant c.args.text.now) c.told_in_two_bytes.ensures short).0)
+    absurd (not_from_Decides c.description_fits.result (c.description_fits.ensures c.args.counts.now.own c.args.counts.now.codes) c.if-not-description_fits.true ((descriptions_fit c.args.counts.now (number_in c.args.strings.now) c.args.first (text_meant c.args.text.now) c.told_in_two_bytes.ensures short).0 c.args.counts.now.own c.args.counts.now.codes))
 
 pub returns-clause-short : goal.returns-clause-short
 returns-clause-short c = λ short numbered.
