@@ -49,6 +49,10 @@ sum_sayable (suc n) = (refl, sum_sayable n)
 
 pub rows_are_short : ShortRows
 rows_are_short = record {
+  wears = refl;
+  looks = refl;
+  stops = refl;
+  number = refl;
   increase = refl;
   text = refl;
   long = going_words 125;

@@ -1,10 +1,13 @@
 -- How many words some trees are said by, and what is short in a small story.
-use Rattle.std.specs.Prelude.{◌≡◌, ℕ, suc, zero, pos, List, [], ◌∷◌, Some}
-use Rattle.play_meaning.specs.Trees.{Adjective, And, Body, Bytes, Condition, End, First, IfSaid, InDarkness, IsOne, IsSo, Literal, NotSo, NowNowhere, NowNumber, Object, Or, Plus, PropertyOf, Quality, RoomFrom, Say, Silence, The, Then, Those, Visible}
+use Rattle.std.specs.Prelude.{◌≡◌, ℕ, suc, zero, pos, false, List, [], ◌∷◌, Some}
+use Rattle.play_meaning.specs.Trees.{Adjective, And, Body, Bytes, Condition, CountOf, End, First, If, IfSaid, InDarkness, IsOne, IsSame, IsSo, Leave, Literal, NotSo, Nothing, NowHeld, NowNowhere, NowNumber, Object, Or, Plus, PropertyOf, Quality, RoomFrom, Say, Silence, The, Then, Those, ThoseHeld, Try, Visible}
+use Rattle.play_meaning.specs.declared.outcome.Flow.TheVariants.{Decides}
+use Rattle.play_meaning.specs.declared.outcome.Outcome.TheVariants.{Failure}
+use Rattle.world_meaning.specs.declared.place.Rel.TheVariants.{On, Worn}
 use Rattle.story_code.specs.FittingRows.{repeats, small, sum_of}
 use Rattle.story_code.specs.Sayable.{AdjectiveIsSayable, BodyIsSayable, ConditionIsSayable, NumberIsSayable}
 use Rattle.story_code.specs.ShortLaws.{IsShortBody, IsShortCondition}
-use Rattle.story_code.specs.Shortness.{words_of_body, words_of_condition, words_of_phrase}
+use Rattle.story_code.specs.Shortness.{words_of_body, words_of_condition, words_of_number, words_of_phrase}
 
 -- so many times `now the ball is nowhere`
 abbrev pub going : ℕ → Body
@@ -29,6 +32,14 @@ abbrev pub CanSay : Body → Type 0
 CanSay body = BodyIsSayable small (λ string. 0) 0 body
 
 pub record ShortRows : Type 0 where
+  -- `now Bob wears the hat`
+  pub wears : words_of_phrase (NowHeld (The 0) Worn (The 1)) ≡ 4
+  -- `try looking`
+  pub looks : words_of_phrase (Try false 0 Nothing Nothing) ≡ 2
+  -- `if the room north from the Hall is the Garden, rule fails`
+  pub stops : words_of_phrase (If (IsSame (RoomFrom (The 0) (The 1)) (The 2)) (Then (Leave (Decides Failure)) End) End) ≡ 9
+  -- `the number of not open containers on the table`
+  pub number : words_of_number (CountOf (ThoseHeld (NotSo (Quality 0 First) ∷ []) (Some 1) On (The 2))) ≡ 7
   -- `increase the weight of the ball by 1`
   pub increase : words_of_phrase (NowNumber 0 (The 0) (Plus (PropertyOf 0 (The 0)) (Literal (pos 1)))) ≡ 6
   -- `say "It is [if the ball is lit]lit[end if]."`

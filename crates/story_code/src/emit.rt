@@ -176,7 +176,7 @@ fn description_output(
     Ok(out)
 }
 
-/// What is counted in two bytes is told by a number of two.
+/// Does nothing but read the counts, each of which has two bytes.
 fn told_in_two_bytes(counts: &Counts)
     ensures { IsCountedInTwoBytes counts.now }
 {
