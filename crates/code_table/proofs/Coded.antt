@@ -2,7 +2,8 @@
 use Rattle.std.proofs.Common.{◌≡◌, ◌∙◌, ap, sym, subst, refl, ℕ, suc, ◌+◌, ◌≤◌, ◌<◌, true, List, [], ◌∷◌, ◌++◌, length, drop, take, append_assoc, append-nil, arith, length-append}
 use Rattle.std.specs.List.{AllByRecursion, flat_map}
 use Rattle.std.specs.Prelude.{map}
-use Rattle.play_meaning.specs.Meant.{rule_meant, text_meant}
+use Rattle.play_meaning.specs.Meant.{text_meant}
+use Rattle.play_meaning.specs.Patterns.{rule_meant}
 use Rattle.play_meaning.specs.declared.instruction.Instruction.{Instruction}
 use Rattle.play_meaning.specs.declared.operand.Counts.{Counts}
 use Rattle.play_meaning.specs.declared.tree.rule.MeantRule.{MeantRule}

@@ -4,8 +4,9 @@ use Rattle.std.specs.List.{AllByRecursion, flat_map}
 use Rattle.std.specs.Option.{option_map}
 use Rattle.std.specs.Prelude.{map}
 use Rattle.std.proofs.lemmas.List.{length-map, take_all}
-use Rattle.play_meaning.specs.Meant.{body_meant, condition_meant, rule_meant, text_meant}
-use Rattle.play_meaning.specs.Rules.{AuthorRule}
+use Rattle.play_meaning.specs.Meant.{body_meant, condition_meant, text_meant}
+use Rattle.play_meaning.specs.Patterns.{rule_meant}
+use Rattle.play_meaning.specs.Rules.{Rule}
 use Rattle.play_meaning.specs.TranslatedScripts.{in_list}
 use Rattle.play_meaning.specs.Trees.{Text}
 use Rattle.play_meaning.specs.declared.operand.Counts.{Counts}
@@ -141,7 +142,7 @@ module _ (z : Counts) (string : List ℕ → ℕ) where
       by added.TooMany none = too_many (origins_of texts rules) (map Describes before) _ (text_parted texts before behind text rules parts) (subst (λ n. 65536 ≤ n) first none)
       by added.Memory none = tt
 
-  rule_none : (heads : ℕ) (rules before behind : List AuthorRule) (rule : AuthorRule) (codes tests codes_now tests_now : List (List ℕ)) (number : ℕ) (fault : NotAdded) → rules ≡ before ++ rule ∷ behind → number ≡ length before
+  rule_none : (heads : ℕ) (rules before behind : List Rule) (rule : Rule) (codes tests codes_now tests_now : List (List ℕ)) (number : ℕ) (fault : NotAdded) → rules ≡ before ++ rule ∷ behind → number ≡ length before
       → AddAll z string heads (flat_map origins_of_rule before) codes tests codes_now tests_now → StopIn z string heads (origins_of_rule rule) codes_now tests_now fault
       → RulesHaveNone z string heads rules codes tests (rule_fault number fault)
   rule_none heads rules before behind rule codes tests codes_now tests_now number fault parts place adds stop texts coded count = by fault (stop (origins_of texts before) (adds (map Describes texts) coded))

@@ -1,7 +1,7 @@
 -- How the codes of texts and rules are put together one by one, as relations on lists: what the code is proved equal to.
 use Rattle.std.specs.Prelude.{◌≡◌, ℕ, ◌+◌, ◌≤◌, nat_lt, true, false, List, [], ◌∷◌, ◌++◌, length, map, Option, None, Some, if◌then◌else◌}
 use Rattle.std.specs.List.{AllByRecursion}
-use Rattle.play_meaning.specs.Rules.{AuthorRule}
+use Rattle.play_meaning.specs.Rules.{Rule}
 use Rattle.play_meaning.specs.Trees.{Text}
 use Rattle.play_meaning.specs.declared.operand.Counts.{Counts}
 use Rattle.story_code.specs.Emits.{AreEmitted}
@@ -67,10 +67,10 @@ StopIn z string heads origins codes tests fault = (before : List Origin) → Are
 
 -- so many codes stand in front of the first test, whatever rules there are: why texts have no table with them
 abbrev pub TextsHaveNone : Counts → (List ℕ → ℕ) → ℕ → List Text → TableFault → Type 0
-TextsHaveNone z string heads texts fault = (rules : List AuthorRule) → heads ≡ length (origins_of texts rules) → HaveNoTable z string texts rules fault
+TextsHaveNone z string heads texts fault = (rules : List Rule) → heads ≡ length (origins_of texts rules) → HaveNoTable z string texts rules fault
 
 -- the same of rules, behind whatever texts have these codes and tests
-abbrev pub RulesHaveNone : Counts → (List ℕ → ℕ) → ℕ → List AuthorRule → List (List ℕ) → List (List ℕ) → TableFault → Type 0
+abbrev pub RulesHaveNone : Counts → (List ℕ → ℕ) → ℕ → List Rule → List (List ℕ) → List (List ℕ) → TableFault → Type 0
 RulesHaveNone z string heads rules codes tests fault =
     (texts : List Text) → AreCoded z string heads (map Describes texts) codes tests → heads ≡ length (origins_of texts rules) → HaveNoTable z string texts rules fault
 

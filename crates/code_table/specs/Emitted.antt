@@ -1,7 +1,7 @@
 -- The codes of texts and rules: those of all origins in turn, and behind them all tests that they name, in turn.
 use Rattle.std.specs.Prelude.{◌≡◌, ℕ, ◌+◌, ◌<◌, true, false, List, ◌∷◌, ◌++◌, length, map}
 use Rattle.std.specs.List.{AllByRecursion, flat_map}
-use Rattle.play_meaning.specs.Rules.{AuthorRule}
+use Rattle.play_meaning.specs.Rules.{Rule}
 use Rattle.play_meaning.specs.TranslatedScripts.{codes_emitted, emitted_in_turn}
 use Rattle.play_meaning.specs.Translation.{Emitted}
 use Rattle.play_meaning.specs.Trees.{Text}
@@ -54,10 +54,10 @@ pub record IsLongText (z : Counts) (string : List ℕ → ℕ) (first : ℕ) (te
   pub long : IsTooLong z string first (map Describes before) (Describes text)
 
 -- the condition or the body of the rule of this number is too long
-pub record IsLongRule (z : Counts) (string : List ℕ → ℕ) (first : ℕ) (texts : List Text) (rules : List AuthorRule) (number : ℕ) : Type 0 where
-  pub before : List AuthorRule
-  pub rule : AuthorRule
-  pub behind : List AuthorRule
+pub record IsLongRule (z : Counts) (string : List ℕ → ℕ) (first : ℕ) (texts : List Text) (rules : List Rule) (number : ℕ) : Type 0 where
+  pub before : List Rule
+  pub rule : Rule
+  pub behind : List Rule
   pub parts : rules ≡ before ++ rule ∷ behind
   pub place : number ≡ length before
   -- what stands in front of it in the rule, and behind it
@@ -68,7 +68,7 @@ pub record IsLongRule (z : Counts) (string : List ℕ → ℕ) (first : ℕ) (te
   pub long : IsTooLong z string first (origins_of texts before ++ front) origin
 
 -- why texts and rules have no table of codes
-abbrev pub HaveNoTable : Counts → (List ℕ → ℕ) → List Text → List AuthorRule → TableFault → Type 0
+abbrev pub HaveNoTable : Counts → (List ℕ → ℕ) → List Text → List Rule → TableFault → Type 0
 HaveNoTable z string texts rules (LongText number) = IsLongText z string (length (origins_of texts rules)) texts number
 HaveNoTable z string texts rules (LongRule number) = IsLongRule z string (length (origins_of texts rules)) texts rules number
 HaveNoTable z string texts rules TooMany = 65535 < length (codes_of_origins string (origins_of texts rules))

@@ -4,7 +4,7 @@ use Rattle.std.specs.List.{AllByRecursion, flat_map}
 use Rattle.play_meaning.specs.Codes.{Codes, RunsTo, description_said, test_of}
 use Rattle.play_meaning.specs.Doing.{Inner, do_body}
 use Rattle.play_meaning.specs.Progress.{Progress}
-use Rattle.play_meaning.specs.Rules.{AuthorRule}
+use Rattle.play_meaning.specs.Rules.{Rule}
 use Rattle.play_meaning.specs.Saying.{Telling, said_in}
 use Rattle.play_meaning.specs.Scripts.{scope_of}
 use Rattle.play_meaning.specs.Translation.{strings_of_body, strings_of_text}
@@ -59,7 +59,7 @@ OriginsAreTables = (z : Counts) (string : List ℕ → ℕ) (origins : List Orig
 
 -- nothing but memory is told of why they have no table
 abbrev pub NeverTableAndNone : Type 0
-NeverTableAndNone = (z : Counts) (string : List ℕ → ℕ) (texts : List Text) (rules : List AuthorRule) (fault : TableFault)
+NeverTableAndNone = (z : Counts) (string : List ℕ → ℕ) (texts : List Text) (rules : List Rule) (fault : TableFault)
     → AllFit z string (origins_of texts rules) → CanBeSaid string (origins_of texts rules) → HaveNoTable z string texts rules fault → fault ≡ Memory
 
 -- among the codes of a story, where each string stands by its number, the code of a text's number says it

@@ -1,8 +1,9 @@
 -- What codes are emitted of: the texts that describe, and of each rule its condition, if there is one, and its body.
 use Rattle.std.specs.Prelude.{ℕ, List, [], ◌∷◌, ◌++◌, map}
 use Rattle.std.specs.List.{flat_map}
-use Rattle.play_meaning.specs.Meant.{rule_meant, text_meant}
-use Rattle.play_meaning.specs.Rules.{AuthorRule}
+use Rattle.play_meaning.specs.Meant.{text_meant}
+use Rattle.play_meaning.specs.Patterns.{rule_meant}
+use Rattle.play_meaning.specs.Rules.{Rule}
 use Rattle.play_meaning.specs.TranslatedScripts.{description_part, in_list, test_part}
 use Rattle.play_meaning.specs.Translation.{Part, strings_of_body, strings_of_text}
 use Rattle.play_meaning.specs.Trees.{Body, Condition, Text}
@@ -20,11 +21,11 @@ pub data Origin : Type 0 where
   Does : Body → Origin
 
 -- a rule's condition stands in front of its body
-abbrev pub origins_of_rule : AuthorRule → List Origin
+abbrev pub origins_of_rule : Rule → List Origin
 origins_of_rule rule = map Asks (in_list rule.condition) ++ Does rule.body ∷ []
 
 -- texts stand in front of rules
-abbrev pub origins_of : List Text → List AuthorRule → List Origin
+abbrev pub origins_of : List Text → List Rule → List Origin
 origins_of texts rules = map Describes texts ++ flat_map origins_of_rule rules
 
 -- of those that a source means

@@ -1,7 +1,8 @@
 //! The codes of texts and rules, one behind the other.
 ghost use Rattle.std.specs.Prelude.{◌≡◌, ◌≤◌, IfErr, IfOk, length, map, MatchOption, OnOk};
 ghost use Rattle.object_words.specs.Mentions.{number_in};
-ghost use Rattle.play_meaning.specs.Meant.{rule_meant, text_meant};
+ghost use Rattle.play_meaning.specs.Meant.{text_meant};
+ghost use Rattle.play_meaning.specs.Patterns.{rule_meant};
 ghost use Rattle.std.specs.List.{flat_map};
 ghost use Rattle.code_table.specs.Coding.{AddAll, AreCoded, RulesHaveNone, StopIn, TextsHaveNone, rule_fault, text_fault};
 ghost use Rattle.code_table.specs.Origins.{Describes, origins_meant, origins_of_rule};

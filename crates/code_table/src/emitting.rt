@@ -1,7 +1,8 @@
 //! The codes of texts and rules, as a table.
 ghost use Rattle.std.specs.Prelude.{◌≡◌, ◌<◌, IfErr, IfOk, List, OnOk, length, map};
 ghost use Rattle.object_words.specs.Mentions.{number_in};
-ghost use Rattle.play_meaning.specs.Meant.{rule_meant, text_meant};
+ghost use Rattle.play_meaning.specs.Meant.{text_meant};
+ghost use Rattle.play_meaning.specs.Patterns.{rule_meant};
 ghost use Rattle.story_code.specs.Emits.{AreSpelled};
 ghost use Rattle.story_code.specs.Soundness.{Judged};
 ghost use Rattle.code_table.specs.Emitted.{AllFit, CanBeSaid, HaveNoTable, codes_of_origins};

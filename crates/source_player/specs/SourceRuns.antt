@@ -5,7 +5,7 @@ use Rattle.world_meaning.specs.declared.tale.Tale.{Tale}
 use Rattle.play_meaning.specs.Games.{Game}
 use Rattle.play_meaning.specs.Sessions.{State, opened}
 use Rattle.play_meaning.specs.Transcripts.{IsPlay}
-use Rattle.play_meaning.specs.Rules.{AuthorRule}
+use Rattle.play_meaning.specs.Rules.{Rule}
 use Rattle.play_meaning.specs.Trees.{Text}
 use Rattle.story_format.specs.Holding.{AreHeld}
 use Rattle.story_format.specs.Refusals.{IsRefused as IsNoStory}
@@ -49,7 +49,7 @@ pub record BrokeOffStory (fault : RunFault) (bytes : List ℕ) (echo : Bool) (be
 pub record PlayedSource (source : List ℕ) (echo : Bool) (before after : Streams) (ending : Ending) : Type 0 where
   pub tale : Tale
   pub texts : List Text
-  pub rules : List AuthorRule
+  pub rules : List Rule
   pub means : Means source tale texts rules
   pub held : AreHeld tale texts rules
   pub played : PlayedGame (game_meant tale texts) echo before after ending
@@ -57,7 +57,7 @@ pub record PlayedSource (source : List ℕ) (echo : Bool) (before after : Stream
 pub record BrokeOffSource (fault : RunFault) (source : List ℕ) (echo : Bool) (before after : Streams) : Type 0 where
   pub tale : Tale
   pub texts : List Text
-  pub rules : List AuthorRule
+  pub rules : List Rule
   pub means : Means source tale texts rules
   pub held : AreHeld tale texts rules
   pub broke : BrokeOffGame fault (game_meant tale texts) echo before after
@@ -85,7 +85,7 @@ pub record IsSpelled (bytes : List ℕ) : Type 0 where
 pub record IsMeant (source : List ℕ) : Type 0 where
   pub tale : Tale
   pub texts : List Text
-  pub rules : List AuthorRule
+  pub rules : List Rule
   pub means : Means source tale texts rules
   pub held : AreHeld tale texts rules
 
@@ -109,7 +109,7 @@ LeavesSource (Run fault) source echo before after = BrokeOffSource fault source 
 pub record PlayedBytes (source commands : List ℕ) (echo : Bool) (transcript : List ℕ) (ending : Ending) : Type 0 where
   pub tale : Tale
   pub texts : List Text
-  pub rules : List AuthorRule
+  pub rules : List Rule
   pub means : Means source tale texts rules
   pub held : AreHeld tale texts rules
   pub last : State

@@ -5,7 +5,7 @@ use Rattle.world_meaning.specs.Faults.{out_of_memory}
 use Rattle.world_meaning.specs.declared.fault.Fault.{Fault}
 use Rattle.world_meaning.specs.declared.tale.Object.{Object}
 use Rattle.world_meaning.specs.declared.tale.Tale.{Tale}
-use Rattle.play_meaning.specs.Rules.{AuthorRule}
+use Rattle.play_meaning.specs.Rules.{Rule}
 use Rattle.play_meaning.specs.TranslatedScripts.{in_list}
 use Rattle.play_meaning.specs.Trees.{Text}
 use Rattle.play_meaning.specs.declared.tree.rule.MeantRule.{MeantRule as KeptRule}
@@ -42,12 +42,12 @@ texts_counted k objects texts are = as_many _ (descriptions_of objects) texts ar
 
 -- ---- texts and rules that are handed on
 
-pub of_lent : (F : List Text → List AuthorRule → Type 0) (texts lent_texts : List KeptText) (rules lent_rules : List KeptRule) → lent_texts ≡ texts → lent_rules ≡ rules
+pub of_lent : (F : List Text → List Rule → Type 0) (texts lent_texts : List KeptText) (rules lent_rules : List KeptRule) → lent_texts ≡ texts → lent_rules ≡ rules
     → F (texts_kept lent_texts) (rules_kept lent_rules) → F (texts_kept texts) (rules_kept rules)
 of_lent F texts lent_texts rules lent_rules same_texts same_rules held =
     subst (λ (all : List KeptRule). F (texts_kept texts) (rules_kept all)) same_rules (subst (λ (all : List KeptText). F (texts_kept all) (rules_kept lent_rules)) same_texts held)
 
-pub for_lent : (F : List Text → List AuthorRule → Type 0) (texts lent_texts : List KeptText) (rules lent_rules : List KeptRule) → lent_texts ≡ texts → lent_rules ≡ rules
+pub for_lent : (F : List Text → List Rule → Type 0) (texts lent_texts : List KeptText) (rules lent_rules : List KeptRule) → lent_texts ≡ texts → lent_rules ≡ rules
     → F (texts_kept texts) (rules_kept rules) → F (texts_kept lent_texts) (rules_kept lent_rules)
 for_lent F texts lent_texts rules lent_rules same_texts same_rules held = of_lent F lent_texts texts lent_rules rules (sym same_texts) (sym same_rules) held
 
@@ -59,7 +59,7 @@ module _ (source : List ℕ) (sentences lent : List Sentence) (says : Says sourc
   refused_by fault (inl refused) = unmeant (record { sentences = sentences; says = says; refused = refused_so _ _ _ same refused })
   refused_by fault (inr is) = memory says.spells.readable.short is
 
-  module _ (tale : Tale) (texts : List Text) (rules : List AuthorRule) (meant : AreMeant lent tale texts rules) where
+  module _ (tale : Tale) (texts : List Text) (rules : List Rule) (meant : AreMeant lent tale texts rules) where
     means : Means source tale texts rules
     means = record { sentences = sentences; says = says; meant = subst (λ (all : List Sentence). AreMeant all tale texts rules) same meant }
 

@@ -6,8 +6,8 @@ use Rattle.world_meaning.specs.declared.fault.Fault.{Fault}
 use Rattle.world_meaning.specs.declared.fault.FaultCode.TheVariants.{Memory}
 use Rattle.world_meaning.specs.declared.tale.Object.{Object}
 use Rattle.world_meaning.specs.declared.tale.Tale.{Tale}
-use Rattle.play_meaning.specs.Meant.{rule_meant}
-use Rattle.play_meaning.specs.Rules.{AuthorRule}
+use Rattle.play_meaning.specs.Patterns.{rule_meant}
+use Rattle.play_meaning.specs.Rules.{Rule}
 use Rattle.play_meaning.specs.Trees.{Text}
 use Rattle.i7_conditions.specs.Scopes.{Scope}
 use Rattle.i7_lexer.proofs.LawLemmas.{spelled-refused, tokens-same}
@@ -64,16 +64,16 @@ same_texts law k (bytes ∷ descriptions) (x ∷ texts) (y ∷ others) one secon
 -- ---- rules
 
 -- a rule of a tale, however it is kept
-abbrev author_of : RuleMeant → AuthorRule
+abbrev author_of : RuleMeant → Rule
 author_of meant = record { book = meant.head.book; condition = meant.head.condition; body = meant.body }
 
-abbrev rules_of : ResolutionMeant → List AuthorRule
+abbrev rules_of : ResolutionMeant → List Rule
 rules_of (Both rules texts) = map author_of rules
 rules_of (NoneFor fault) = []
 
 authored : (rules : List SourceRule) → map (λ told. rule_meant told.rule) rules ≡ map author_of (map source_rule_meant rules)
 authored [] = refl
-authored (rule ∷ rules) = ap (λ (all : List AuthorRule). rule_meant rule.rule ∷ all) (authored rules)
+authored (rule ∷ rules) = ap (λ (all : List Rule). rule_meant rule.rule ∷ all) (authored rules)
 
 rules_once : IsOneResolution → (k : Known) (sentences : List Sentence) (one other : Resolved) → IsResolution k sentences (Understood one) → IsResolution k sentences (Understood other) → rules_told one ≡ rules_told other
 rules_once law k sentences one other is again =
@@ -81,7 +81,7 @@ rules_once law k sentences one other is again =
 
 -- ---- tales
 
-module _ (text_law : IsOneText) (law : IsOneResolution) (sentences : List Sentence) (tale other : Tale) (texts others : List Text) (rules more : List AuthorRule) (one : AreMeant sentences tale texts rules) (second : AreMeant sentences other others more) where
+module _ (text_law : IsOneText) (law : IsOneResolution) (sentences : List Sentence) (tale other : Tale) (texts others : List Text) (rules more : List Rule) (one : AreMeant sentences tale texts rules) (second : AreMeant sentences other others more) where
   tale_once : tale ≡ other
   tale_once = same_ok tale other (sym one.tale_is ∙ second.tale_is)
 
@@ -96,7 +96,7 @@ module _ (text_law : IsOneText) (law : IsOneResolution) (sentences : List Senten
   meant_once : (tale ≡ other) × ((texts ≡ others) × (rules ≡ more))
   meant_once = (tale_once, (texts_once, meant_rules_once))
 
-pub same_tale : IsOneText → IsOneResolution → (source : List ℕ) (tale other : Tale) (texts others : List Text) (rules more : List AuthorRule) → Means source tale texts rules → Means source other others more → (tale ≡ other) × ((texts ≡ others) × (rules ≡ more))
+pub same_tale : IsOneText → IsOneResolution → (source : List ℕ) (tale other : Tale) (texts others : List Text) (rules more : List Rule) → Means source tale texts rules → Means source other others more → (tale ≡ other) × ((texts ≡ others) × (rules ≡ more))
 same_tale text_law law source tale other texts others rules more first second =
     let sentences = same_sentences source first.sentences second.sentences first.says second.says in
     meant_once text_law law second.sentences tale other texts others rules more (subst (λ (all : List Sentence). AreMeant all tale texts rules) sentences first.meant) second.meant
@@ -113,7 +113,7 @@ resolved_or_refused law k sentences resolved fault is refused =
     absurd cc
 
 -- sentences that mean a tale aren't refused
-meant_or_refused : IsOneResolution → (sentences : List Sentence) (tale : Tale) (texts : List Text) (rules : List AuthorRule) (fault : Fault) → AreMeant sentences tale texts rules → AreRefused sentences fault → ⊥
+meant_or_refused : IsOneResolution → (sentences : List Sentence) (tale : Tale) (texts : List Text) (rules : List Rule) (fault : Fault) → AreMeant sentences tale texts rules → AreRefused sentences fault → ⊥
 meant_or_refused law sentences tale texts rules fault meant (unmeant refused) = ok_not_err tale fault (sym meant.tale_is ∙ refused)
 meant_or_refused law sentences tale texts rules fault meant (unresolved refused) = resolved_or_refused law (known_said sentences) sentences meant.resolved fault meant.resolved_is refused.refused
 

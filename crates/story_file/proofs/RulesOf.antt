@@ -11,8 +11,8 @@ use Rattle.world_meaning.proofs.Bools.{both, both_are}
 use Rattle.world_meaning.specs.Declarations.{is_below}
 use Rattle.world_meaning.specs.declared.declared.Declared.{Declared}
 use Rattle.world_meaning.specs.declared.tale.Tale.{Tale}
-use Rattle.play_meaning.specs.Meant.{rule_meant}
-use Rattle.play_meaning.specs.Rules.{AuthorRule}
+use Rattle.play_meaning.specs.Patterns.{rule_meant}
+use Rattle.play_meaning.specs.Rules.{Rule}
 use Rattle.play_meaning.specs.Trees.{Text}
 use Rattle.i7_rules.specs.Knowns.{Known}
 use Rattle.i7_rules.specs.RuleList.{Placed, RuleAt, placed, rules_in}
@@ -117,16 +117,16 @@ module _ (k : Known) (d : Declared) (books : length k.rulebooks ≡ d.rulebooks)
 
 -- ---- all of it
 
-pub few_rules : (sentences : List Sentence) (tale : Tale) (texts : List Text) (rules : List AuthorRule) → AreMeant sentences tale texts rules → length rules ≤ 2000
+pub few_rules : (sentences : List Sentence) (tale : Tale) (texts : List Text) (rules : List Rule) → AreMeant sentences tale texts rules → length rules ≤ 2000
 few_rules sentences tale texts rules meant =
     let is = meant.resolved_is in
     let told = told_by (known_said sentences) sentences is.rules is.texts meant.resolved is.told_is is.rules_are in
     let few = few_told (known_said sentences) (reverse (rules_in sentences)) meant.resolved.rules.items told in
-    subst (λ (all : List AuthorRule). length all ≤ 2000) (sym meant.rules_are) (omega (arith, few, length-map meant.resolved.rules.items (λ (one : SourceRule). rule_meant one.rule)))
+    subst (λ (all : List Rule). length all ≤ 2000) (sym meant.rules_are) (omega (arith, few, length-map meant.resolved.rules.items (λ (one : SourceRule). rule_meant one.rule)))
 
-pub rules_in_books : (sentences : List Sentence) (tale : Tale) (texts : List Text) (rules : List AuthorRule) → AreMeant sentences tale texts rules → list_all (is_below (book_count tale.declared)) (books_of rules) ≡ true
+pub rules_in_books : (sentences : List Sentence) (tale : Tale) (texts : List Text) (rules : List Rule) → AreMeant sentences tale texts rules → list_all (is_below (book_count tale.declared)) (books_of rules) ≡ true
 rules_in_books sentences tale texts rules meant =
     let is = meant.resolved_is in
     let told = told_by (known_said sentences) sentences is.rules is.texts meant.resolved is.told_is is.rules_are in
-    subst (λ (all : List AuthorRule). list_all (is_below (book_count tale.declared)) (books_of all) ≡ true) (sym meant.rules_are)
+    subst (λ (all : List Rule). list_all (is_below (book_count tale.declared)) (books_of all) ≡ true) (sym meant.rules_are)
     (books_below (known_said sentences) tale.declared (rulebooks_counted sentences tale meant.tale_is) (scenes_counted sentences tale meant.tale_is) (reverse (rules_in sentences)) meant.resolved.rules.items told.each)

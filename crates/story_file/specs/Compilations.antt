@@ -8,7 +8,7 @@ use Rattle.world_meaning.specs.declared.tale.Tale.{Tale}
 use Rattle.play_meaning.specs.Games.{Game}
 use Rattle.play_meaning.specs.PlainTales.{script_of}
 use Rattle.play_meaning.specs.Scripts.{game_of}
-use Rattle.play_meaning.specs.Rules.{AuthorRule}
+use Rattle.play_meaning.specs.Rules.{Rule}
 use Rattle.play_meaning.specs.Trees.{Text}
 use Rattle.i7_lexer.specs.Readings.{HasTokens}
 use Rattle.i7_lexer.specs.Refusals.{IsRefused as IsUnspelled, longest}
@@ -38,7 +38,7 @@ pub record Says (source : List ℕ) (sentences : List Sentence) : Type 0 where
   pub reads : HasSentences tokens sentences
 
 -- A source's sentences mean this tale, its descriptions say these texts, and these are its rules.
-pub record Means (source : List ℕ) (tale : Tale) (texts : List Text) (rules : List AuthorRule) : Type 0 where
+pub record Means (source : List ℕ) (tale : Tale) (texts : List Text) (rules : List Rule) : Type 0 where
   pub sentences : List Sentence
   pub says : Says source sentences
   pub meant : AreMeant sentences tale texts rules
@@ -48,7 +48,7 @@ pub record Means (source : List ℕ) (tale : Tale) (texts : List Text) (rules : 
 pub record IsCompiled (source bytes : List ℕ) : Type 0 where
   pub tale : Tale
   pub texts : List Text
-  pub rules : List AuthorRule
+  pub rules : List Rule
   pub means : Means source tale texts rules
   pub held : AreHeld tale texts rules
   pub tables : Tables
@@ -81,7 +81,7 @@ IsToldAs sentences objects Memory fault = ⊥
 pub record IsUnheldSource (source : List ℕ) (fault : Fault) : Type 0 where
   pub tale : Tale
   pub texts : List Text
-  pub rules : List AuthorRule
+  pub rules : List Rule
   pub means : Means source tale texts rules
   pub reason : TableFault
   pub not_held : AreNotHeld tale texts rules reason

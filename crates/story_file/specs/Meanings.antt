@@ -5,7 +5,7 @@ use Rattle.world_meaning.specs.declared.fault.Fault.{Fault}
 use Rattle.world_meaning.specs.declared.tale.Object.{Object}
 use Rattle.world_meaning.specs.declared.tale.Tale.{Tale}
 use Rattle.play_meaning.specs.TranslatedScripts.{in_list}
-use Rattle.play_meaning.specs.Rules.{AuthorRule}
+use Rattle.play_meaning.specs.Rules.{Rule}
 use Rattle.play_meaning.specs.Trees.{Text}
 use Rattle.i7_actions.specs.Actions.{standard_actions}
 use Rattle.i7_kinds.specs.Tales.{tale_said}
@@ -44,7 +44,7 @@ AreTexts k objects texts = AllZip (TextSays k) (descriptions_of objects) texts
 
 -- Sentences mean this tale, whose descriptions say these texts, in the order of the objects, and whose rules are these, in the
 -- order of the sentences.
-pub record AreMeant (sentences : List Sentence) (tale : Tale) (texts : List Text) (rules : List AuthorRule) : Type 0 where
+pub record AreMeant (sentences : List Sentence) (tale : Tale) (texts : List Text) (rules : List Rule) : Type 0 where
   pub tale_is : tale_said sentences ≡ Ok tale
   pub resolved : Resolved
   pub resolved_is : IsResolution (known_said sentences) sentences (Says resolved)

@@ -1,6 +1,6 @@
 //! What holds of every source, by the definitions alone.
 ghost use Rattle.std.specs.Prelude.{◌≡◌, ◌≢◌, ℕ, List};
-ghost use Rattle.play_meaning.specs.Rules.{AuthorRule};
+ghost use Rattle.play_meaning.specs.Rules.{Rule};
 ghost use Rattle.play_meaning.specs.Trees.{Text};
 ghost use Rattle.world_meaning.specs.declared.fault.Fault.{Fault};
 ghost use Rattle.world_meaning.specs.declared.fault.FaultCode.TheVariants.{Memory};
@@ -13,7 +13,7 @@ use story_format::never_held_and_not;
 
 /// No source means two tales, or the same with other descriptions or other rules.
 pub fn one_tale()
-    ensures { (source : List ℕ) (tale other : Tale) (texts others : List Text) (rules more : List AuthorRule) → Means source tale texts rules → Means source other others more → (tale ≡ other) × ((texts ≡ others) × (rules ≡ more)) }
+    ensures { (source : List ℕ) (tale other : Tale) (texts others : List Text) (rules more : List Rule) → Means source tale texts rules → Means source other others more → (tale ≡ other) × ((texts ≡ others) × (rules ≡ more)) }
 {
     one_text_is_meant();
     one_resolution();

@@ -24,7 +24,7 @@ use Rattle.play_meaning.specs.Codes.{Codes}
 use Rattle.play_meaning.specs.Grounds.{said_by_code}
 use Rattle.play_meaning.specs.Scripts.{says, undescribed}
 use Rattle.play_meaning.specs.Settings.{Setting}
-use Rattle.play_meaning.specs.Rules.{AuthorRule}
+use Rattle.play_meaning.specs.Rules.{Rule}
 use Rattle.play_meaning.specs.Trees.{Text}
 use Rattle.play_meaning.specs.Worlds.{World}
 use Rattle.play_meaning.specs.declared.action.ActionNow.{ActionNow}
@@ -167,10 +167,10 @@ origins_stand : (ws : List Worded) (origins : List Origin) → length (strings_o
     → AllByRecursion (λ bytes. text_at (strings_of ws origins) (number_in (strings_of ws origins) bytes) ≡ bytes) (strings_of_origin origin)
 origins_stand ws origins few n origin at = let strings = strings_of ws origins in strings_stand strings (strings_of_origin origin) (origin_known strings origins n origin (said_known ws origins) at) few
 
-described_at : (texts : List Text) (rules : List AuthorRule) (n : ℕ) (text : Text) → slice_get texts n ≡ Some text → slice_get (origins_of texts rules) n ≡ Some (Describes text)
+described_at : (texts : List Text) (rules : List Rule) (n : ℕ) (text : Text) → slice_get texts n ≡ Some text → slice_get (origins_of texts rules) n ≡ Some (Describes text)
 described_at texts rules n text at = get_front (map Describes texts) (origins_in rules) n (Describes text) (slice_get-map Describes texts n ∙ ap (option_map Describes) at)
 
-module _ (z : Counts) (c : Codes) (string : List ℕ → ℕ) (texts : List Text) (rules : List AuthorRule) (fit : AllFit z string (origins_of texts rules)) (codes : c.codes ≡ codes_of_origins string (origins_of texts rules))
+module _ (z : Counts) (c : Codes) (string : List ℕ → ℕ) (texts : List Text) (rules : List Rule) (fit : AllFit z string (origins_of texts rules)) (codes : c.codes ≡ codes_of_origins string (origins_of texts rules))
     (strings : (n : ℕ) (origin : Origin) → slice_get (origins_of texts rules) n ≡ Some origin → AllByRecursion (λ bytes. text_at c.strings (string bytes) ≡ bytes) (strings_of_origin origin)) where
   described_so : (s : Setting) (now : ActionNow) (w : World) (n : Option ℕ) (text : Option Text) → Told texts n text → said_by_code c s now w n ≡ says (undescribed s) now w text
   described_so s now w None None told = refl
@@ -268,7 +268,7 @@ start_carried parents rooms strings (player ∷ others) h =
 
 -- ---- all of it
 
-module _ (t : Tale) (texts : List Text) (rules : List AuthorRule) (held : IsHeld t) (are : AreHeld t texts rules) where
+module _ (t : Tale) (texts : List Text) (rules : List Rule) (held : IsHeld t) (are : AreHeld t texts rules) where
   code_says : (o : ℕ) (s : Setting) (now : ActionNow) (w : World) → said_by_code (codes_told (tables_of t texts rules)) s now w (description_code_of (tables_of t texts rules) o) ≡ says (undescribed s) now w (text_of t texts o)
   unfolding tables_with
   code_says o s now w =

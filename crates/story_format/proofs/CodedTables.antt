@@ -6,7 +6,7 @@ use Rattle.std.proofs.lemmas.Bool.{and_parts, lt-ltb, ltb-true}
 use Rattle.world_meaning.proofs.Bools.{both}
 use Rattle.world_meaning.specs.declared.tale.Tale.{Tale}
 use Rattle.object_words.specs.Mentions.{number_in}
-use Rattle.play_meaning.specs.Rules.{AuthorRule}
+use Rattle.play_meaning.specs.Rules.{Rule}
 use Rattle.play_meaning.specs.Trees.{Text}
 use Rattle.play_meaning.specs.declared.instruction.Instruction.{Instruction}
 use Rattle.code_table.specs.Emitted.{AllFit, CanBeSaid, HaveNoTable, IsLongRule, IsLongText, codes_of_origins}
@@ -36,7 +36,7 @@ pub on_both : {T E P Q R : Type 0} (r : Result T E) → OnOk r P → OnOk r Q �
 on_both (Ok x) p q f = f p q
 on_both (Err e) p q f = tt
 
-module _ (t : Tale) (texts : List Text) (rules : List AuthorRule) (strings : List (List ℕ)) (tables : Tables) (strings_are : strings ≡ strings_of (worded t.objects) (origins_of texts rules))
+module _ (t : Tale) (texts : List Text) (rules : List Rule) (strings : List (List ℕ)) (tables : Tables) (strings_are : strings ≡ strings_of (worded t.objects) (origins_of texts rules))
     (tables_are : tables ≡ tables_but_codes t.declared (worded t.objects) rules (strings_of (worded t.objects) (origins_of texts rules))) where
   pub coded_is : (coded : Tables) → coded ≡ record tables { codes = code_bytes strings (origins_of texts rules) } → coded ≡ tables_of t texts rules
   unfolding tables_with

@@ -24,7 +24,7 @@ use Rattle.world_meaning.specs.declared.declared.Declared.{Declared}
 use Rattle.world_meaning.specs.declared.tale.Object.{Object}
 use Rattle.object_words.specs.Mentions.{mention, number_or_none, number_in}
 use Rattle.code_table.specs.Origins.{Origin}
-use Rattle.play_meaning.specs.Rules.{AuthorRule}
+use Rattle.play_meaning.specs.Rules.{Rule}
 use Rattle.object_words.proofs.StringLemmas.{length_mapped}
 use Rattle.story_format.specs.Formats.{fits_optional}
 use Rattle.story_format.specs.Layout.{entry_layout, way_layout, exits_layout, tables_layout}
@@ -218,7 +218,7 @@ ways_few parents (w ∷ ws) =
 
 -- ---- all of it
 
-pub tables_fit : (d : Declared) (objects : List Object) (rules : List AuthorRule) (said : List Origin) → IsWellMade (record { declared = d; objects = objects }) → list_all has_short_texts objects ≡ true → list_all has_few_words (worded objects) ≡ true
+pub tables_fit : (d : Declared) (objects : List Object) (rules : List Rule) (said : List Origin) → IsWellMade (record { declared = d; objects = objects }) → list_all has_short_texts objects ≡ true → list_all has_few_words (worded objects) ≡ true
     → length rules ≤ 2000 → list_all (is_below (book_count d)) (books_of rules) ≡ true → length (strings_of (worded objects) said) < 65535 → list_all is_short (strings_said said) ≡ true → length (code_bytes (strings_of (worded objects) said) said) < 65536 → list_all is_short (code_bytes (strings_of (worded objects) said) said) ≡ true
     → tables_layout.format.fits (tables_with d (worded objects) rules said) ≡ true
 unfolding tables_layout tables_with

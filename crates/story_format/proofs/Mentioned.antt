@@ -6,8 +6,9 @@ use Rattle.std.specs.List.{flat_map}
 use Rattle.std.specs.Prelude.{fold, map}
 use Rattle.object_words.specs.Mentions.{mention}
 use Rattle.object_words.proofs.Folds.{fold_both}
-use Rattle.play_meaning.specs.Meant.{parts_meant, piece_meant, pieces_meant, rule_meant, said_meant, text_meant}
-use Rattle.play_meaning.specs.Rules.{AuthorRule}
+use Rattle.play_meaning.specs.Meant.{parts_meant, piece_meant, pieces_meant, said_meant, text_meant}
+use Rattle.play_meaning.specs.Patterns.{rule_meant}
+use Rattle.play_meaning.specs.Rules.{Rule}
 use Rattle.play_meaning.specs.Translation.{strings_of_body, strings_of_text}
 use Rattle.play_meaning.specs.Trees as tree
 use Rattle.play_meaning.specs.Trees.{Condition}
@@ -47,7 +48,7 @@ texts_mentioned : (texts : List Text) → flat_map strings_of_origin (map Descri
 texts_mentioned [] = refl
 texts_mentioned (text ∷ texts) = λ i. text_mentioned text i ++ texts_mentioned texts i
 
-rule_mentioned : (rule : AuthorRule) (c : Option Condition) → rule.condition ≡ c → flat_map strings_of_origin (origins_of_rule rule) ≡ strings_of_body rule.body
+rule_mentioned : (rule : Rule) (c : Option Condition) → rule.condition ≡ c → flat_map strings_of_origin (origins_of_rule rule) ≡ strings_of_body rule.body
 rule_mentioned rule None is = rw is (append-nil (strings_of_body rule.body))
 rule_mentioned rule (Some condition) is = rw is (append-nil (strings_of_body rule.body))
 

@@ -7,7 +7,7 @@ use Rattle.std.proofs.lemmas.List.{length-map, map-append}
 use Rattle.world_meaning.proofs.Bools.{both, both_are, either}
 use Rattle.world_meaning.specs.Declarations.{is_below}
 use Rattle.world_meaning.specs.declared.declared.Declared.{Declared}
-use Rattle.play_meaning.specs.Rules.{AuthorRule}
+use Rattle.play_meaning.specs.Rules.{Rule}
 use Rattle.play_meaning.specs.StandardActions.{standard_needs}
 use Rattle.play_meaning.specs.TranslatedScripts.{in_list}
 use Rattle.play_meaning.specs.Trees.{Condition, Body as RuleText}
@@ -55,7 +55,7 @@ abbrev codes_by : ℕ → Option Condition → List ℕ
 codes_by next None = next ∷ []
 codes_by next (Some condition) = next ∷ (next + 1) ∷ []
 
-codes_are : (next : ℕ) (rule : AuthorRule) (c : Option Condition) → rule.condition ≡ c → next + condition_count c < 65535 → codes_in_rule (rule_entry next rule) ≡ codes_by next c
+codes_are : (next : ℕ) (rule : Rule) (c : Option Condition) → rule.condition ≡ c → next + condition_count c < 65535 → codes_in_rule (rule_entry next rule) ≡ codes_by next c
 codes_are next rule None is lt =
     let own : min (next + 0) 65535 ≡ next = omega (arith, lt) in
     rw (is, own) refl
@@ -65,7 +65,7 @@ codes_are next rule (Some condition) is lt =
     let told : eqb next 65535 ≡ false = ne_eqb _ _ (λ k. omega (arith, k, lt)) in
     rw (is, first, own, told) refl
 
-uses_are : (next : ℕ) (rule : AuthorRule) (c : Option Condition) → rule.condition ≡ c → next + condition_count c < 65535 → uses_in_rule (rule_entry next rule) ≡ map use_for (origins_of_rule rule)
+uses_are : (next : ℕ) (rule : Rule) (c : Option Condition) → rule.condition ≡ c → next + condition_count c < 65535 → uses_in_rule (rule_entry next rule) ≡ map use_for (origins_of_rule rule)
 uses_are next rule None is lt = rw is refl
 uses_are next rule (Some condition) is lt =
     let first : min next 65535 ≡ next = omega (arith, lt) in
@@ -82,20 +82,20 @@ by_count next None = refl
 by_count next (Some condition) = refl
 
 -- each origin has a code
-origin_count : (rule : AuthorRule) (c : Option Condition) → rule.condition ≡ c → length (origins_of_rule rule) ≡ condition_count c + 1
+origin_count : (rule : Rule) (c : Option Condition) → rule.condition ≡ c → length (origins_of_rule rule) ≡ condition_count c + 1
 origin_count rule None is = rw is refl
 origin_count rule (Some condition) is = rw is refl
 
-abbrev pub origins_in : List AuthorRule → List Origin
+abbrev pub origins_in : List Rule → List Origin
 origins_in rules = flat_map origins_of_rule rules
 
-pub counted : (rule : AuthorRule) → length (origins_of_rule rule) ≡ rule_count rule
+pub counted : (rule : Rule) → length (origins_of_rule rule) ≡ rule_count rule
 counted rule = origin_count rule rule.condition refl
 
-pub counted_more : (rule : AuthorRule) (rules : List AuthorRule) → length (origins_in (rule ∷ rules)) ≡ rule_count rule + length (origins_in rules)
+pub counted_more : (rule : Rule) (rules : List Rule) → length (origins_in (rule ∷ rules)) ≡ rule_count rule + length (origins_in rules)
 counted_more rule rules = length-append (origins_of_rule rule) (origins_in rules) ∙ ap (λ n. n + length (origins_in rules)) (counted rule)
 
-pub rules_in_turn : (rules : List AuthorRule) (next : ℕ) → next + length (origins_in rules) ≤ 65535 → are_in_turn next (codes_in_rules (rule_entries next rules)) ≡ true
+pub rules_in_turn : (rules : List Rule) (next : ℕ) → next + length (origins_in rules) ≤ 65535 → are_in_turn next (codes_in_rules (rule_entries next rules)) ≡ true
 unfolding rule_entries are_in_turn
 rules_in_turn [] next le = refl
 rules_in_turn (rule ∷ rules) next le =
@@ -105,7 +105,7 @@ rules_in_turn (rule ∷ rules) next le =
     turn_joined (codes_in_rule (rule_entry next rule)) (codes_in_rules (rule_entries (next + rule_count rule) rules)) next (ap (are_in_turn next) own ∙ by_turn next rule.condition)
     (ap (λ n. are_in_turn (next + n) (codes_in_rules (rule_entries (next + rule_count rule) rules))) long ∙ rules_in_turn rules (next + rule_count rule) (omega (arith, le, more)))
 
-pub rules_used : (rules : List AuthorRule) (next : ℕ) → next + length (origins_in rules) ≤ 65535 → uses_in_rules (rule_entries next rules) ≡ map use_for (origins_in rules)
+pub rules_used : (rules : List Rule) (next : ℕ) → next + length (origins_in rules) ≤ 65535 → uses_in_rules (rule_entries next rules) ≡ map use_for (origins_in rules)
 unfolding rule_entries
 rules_used [] next le = refl
 rules_used (rule ∷ rules) next le =
@@ -114,10 +114,10 @@ rules_used (rule ∷ rules) next le =
     ∙ sym (map-append use_for (origins_of_rule rule) (origins_in rules))
 
 -- the codes that the entries of objects and rules name
-abbrev pub heads_by : List (List ℕ) → List Worded → List AuthorRule → List ℕ
+abbrev pub heads_by : List (List ℕ) → List Worded → List Rule → List ℕ
 heads_by strings ws rules = codes_named (entries_of strings 0 ws) ++ codes_in_rules (rule_entries (described_in ws) rules)
 
-pub heads_in_turn : (strings : List (List ℕ)) (ws : List Worded) (rules : List AuthorRule) → length ws ≤ 1000 → described_in ws + length (origins_in rules) ≤ 65535 → are_in_turn 0 (heads_by strings ws rules) ≡ true
+pub heads_in_turn : (strings : List (List ℕ)) (ws : List Worded) (rules : List Rule) → length ws ≤ 1000 → described_in ws + length (origins_in rules) ≤ 65535 → are_in_turn 0 (heads_by strings ws rules) ≡ true
 heads_in_turn strings ws rules few le =
     let described = codes_counted strings ws 0 (omega (arith, few)) in
     let there : 0 + length (codes_named (entries_of strings 0 ws)) ≡ described_in ws = omega (arith, described) in
@@ -151,13 +151,13 @@ condition_right next count (Some condition) lt le =
     let there : ltb next count ≡ true = lt-ltb _ _ (omega (arith, lt)) in
     rw first (or_right (eqb next 65535) (ltb next count) there)
 
-rule_right : (z : Counts) (next : ℕ) (rule : AuthorRule) → rule.book < z.books → next + condition_count rule.condition < z.codes → z.codes ≤ 65535 → is_right_rule z (rule_entry next rule) ≡ true
+rule_right : (z : Counts) (next : ℕ) (rule : Rule) → rule.book < z.books → next + condition_count rule.condition < z.codes → z.codes ≤ 65535 → is_right_rule z (rule_entry next rule) ≡ true
 unfolding is_right_rule is_right_aspect is_right_body
 rule_right z next rule book lt le =
     let own : min (next + condition_count rule.condition) 65535 ≡ next + condition_count rule.condition = omega (arith, lt, le) in
     rw (lt-ltb _ _ book, condition_right next z.codes rule.condition lt le, own, lt-ltb _ _ lt) refl
 
-pub rules_right : (z : Counts) (rules : List AuthorRule) (next : ℕ) → list_all (is_below z.books) (books_of rules) ≡ true → next + length (origins_in rules) ≤ z.codes → z.codes ≤ 65535 → list_all (is_right_rule z) (rule_entries next rules) ≡ true
+pub rules_right : (z : Counts) (rules : List Rule) (next : ℕ) → list_all (is_below z.books) (books_of rules) ≡ true → next + length (origins_in rules) ≤ z.codes → z.codes ≤ 65535 → list_all (is_right_rule z) (rule_entries next rules) ≡ true
 unfolding rule_entries
 rules_right z [] next books le few = refl
 rules_right z (rule ∷ rules) next books le few =
@@ -199,13 +199,13 @@ actions_same : are_same_actions action_entries action_entries ≡ true
 unfolding are_same_actions action_entries standard_needs
 actions_same = refl
 
-pub length_entries : (rules : List AuthorRule) (next : ℕ) → length (rule_entries next rules) ≡ length rules
+pub length_entries : (rules : List Rule) (next : ℕ) → length (rule_entries next rules) ≡ length rules
 unfolding rule_entries
 length_entries [] next = refl
 length_entries (rule ∷ rules) next = ap suc (length_entries rules (next + rule_count rule))
 
 -- tables 8 to 12 are right, where there are so many codes and these books
-pub rule_tables_right : (d : Declared) (z : Counts) (rules : List AuthorRule) (next : ℕ) → length d.scenes ≤ 50 → d.rulebooks ≤ 100 → length rules ≤ 2000 → z.books ≡ book_count d → list_all (is_below (book_count d)) (books_of rules) ≡ true
+pub rule_tables_right : (d : Declared) (z : Counts) (rules : List Rule) (next : ℕ) → length d.scenes ≤ 50 → d.rulebooks ≤ 100 → length rules ≤ 2000 → z.books ≡ book_count d → list_all (is_below (book_count d)) (books_of rules) ≡ true
     → next + length (origins_in rules) ≤ z.codes → z.codes ≤ 65535 → are_right_rules z (rules_of d next rules) ≡ true
 unfolding are_right_rules rules_of
 rule_tables_right d z rules next few_scenes few_own few all books le codes =
@@ -229,13 +229,13 @@ condition_fits : (next : ℕ) (c : Option Condition) → ltb (condition_number n
 condition_fits next None = refl
 condition_fits next (Some condition) = lt-ltb _ _ (omega arith)
 
-rule_fits : (next : ℕ) (rule : AuthorRule) → rule.book < 65536 → rule_layout.format.fits (rule_entry next rule) ≡ true
+rule_fits : (next : ℕ) (rule : Rule) → rule.book < 65536 → rule_layout.format.fits (rule_entry next rule) ≡ true
 unfolding rule_layout aspect_layout body_layout
 rule_fits next rule lt =
     let own : ltb (min (next + condition_count rule.condition) 65535) 65536 ≡ true = lt-ltb _ _ (omega arith) in
     rw (lt-ltb _ _ lt, condition_fits next rule.condition, own) refl
 
-rules_fit : (rules : List AuthorRule) (next count : ℕ) → count ≤ 65536 → list_all (is_below count) (books_of rules) ≡ true → list_all rule_layout.format.fits (rule_entries next rules) ≡ true
+rules_fit : (rules : List Rule) (next count : ℕ) → count ≤ 65536 → list_all (is_below count) (books_of rules) ≡ true → list_all rule_layout.format.fits (rule_entries next rules) ≡ true
 unfolding rule_entries
 rules_fit [] next count le books = refl
 rules_fit (rule ∷ rules) next count le books =
@@ -256,7 +256,7 @@ book_fits : book_layout.format.fits empty_book ≡ true
 unfolding book_layout
 book_fits = refl
 
-pub rule_tables_fit : (d : Declared) (rules : List AuthorRule) (next : ℕ) → length d.scenes ≤ 50 → d.rulebooks ≤ 100 → length rules ≤ 2000 → list_all (is_below (book_count d)) (books_of rules) ≡ true → rules_layout.format.fits (rules_of d next rules) ≡ true
+pub rule_tables_fit : (d : Declared) (rules : List Rule) (next : ℕ) → length d.scenes ≤ 50 → d.rulebooks ≤ 100 → length rules ≤ 2000 → list_all (is_below (book_count d)) (books_of rules) ≡ true → rules_layout.format.fits (rules_of d next rules) ≡ true
 unfolding rules_layout rules_of
 rule_tables_fit d rules next few_scenes few_own few books =
     let scene_count : ltb (length (map scene_entry d.scenes)) 65536 ≡ true = lt-ltb _ _ (omega (arith, length-map d.scenes scene_entry, few_scenes)) in

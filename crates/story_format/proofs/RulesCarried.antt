@@ -6,7 +6,7 @@ use Rattle.std.proofs.lemmas.Bool.{ne_eqb}
 use Rattle.play_meaning.specs.Codes.{Codes, RunsTo, test_of}
 use Rattle.play_meaning.specs.Doing.{Inner, do_body}
 use Rattle.play_meaning.specs.Progress.{Progress}
-use Rattle.play_meaning.specs.Rules.{AuthorRule}
+use Rattle.play_meaning.specs.Rules.{Rule}
 use Rattle.play_meaning.specs.Saying.{Telling}
 use Rattle.play_meaning.specs.Scripts.{scope_of}
 use Rattle.play_meaning.specs.Trees.{Body, Condition}
@@ -27,10 +27,10 @@ use Rattle.story_format.proofs.StoryLemmas.{behind_there}
 -- ---- places in lists
 
 -- a rule's condition, if there is one, stands first, and then its body
-condition_first : (rule : AuthorRule) (more : List Origin) (condition : Condition) → rule.condition ≡ Some condition → slice_get (origins_of_rule rule ++ more) 0 ≡ Some (Asks condition)
+condition_first : (rule : Rule) (more : List Origin) (condition : Condition) → rule.condition ≡ Some condition → slice_get (origins_of_rule rule ++ more) 0 ≡ Some (Asks condition)
 condition_first rule more condition is = rw is refl
 
-body_behind : (rule : AuthorRule) (more : List Origin) (c : Option Condition) → rule.condition ≡ c → slice_get (origins_of_rule rule ++ more) (condition_count c) ≡ Some (Does rule.body)
+body_behind : (rule : Rule) (more : List Origin) (c : Option Condition) → rule.condition ≡ c → slice_get (origins_of_rule rule ++ more) (condition_count c) ≡ Some (Does rule.body)
 body_behind rule more None is = rw is refl
 body_behind rule more (Some condition) is = rw is refl
 
@@ -52,7 +52,7 @@ done_so c n body lt f = let own : min n 65535 ≡ n = omega (arith, lt) in rw ow
 
 module _ (z : Counts) (c : Codes) (string : List ℕ → ℕ) (origins : List Origin) (fit : AllFit z string origins) (codes : c.codes ≡ codes_of_origins string origins)
     (strings : (n : ℕ) (origin : Origin) → slice_get origins n ≡ Some origin → AllByRecursion (λ bytes. text_at c.strings (string bytes) ≡ bytes) (strings_of_origin origin)) where
-  one_carried : (front : List Origin) (rule : AuthorRule) (more : List Origin) → origins ≡ front ++ (origins_of_rule rule ++ more) → length front + condition_count rule.condition < 65535 → CarriesRule c (rule_entry (length front) rule) rule
+  one_carried : (front : List Origin) (rule : Rule) (more : List Origin) → origins ≡ front ++ (origins_of_rule rule ++ more) → length front + condition_count rule.condition < 65535 → CarriesRule c (rule_entry (length front) rule) rule
   one_carried front rule more parts lt = record {
     book = refl;
     bare = record { action = refl; noun = refl; second = refl; place = refl; scene = refl };
@@ -71,7 +71,7 @@ module _ (z : Counts) (c : Codes) (string : List ℕ → ℕ) (origins : List Or
           ap (λ os. slice_get os (length front)) parts ∙ ap (slice_get (front ++ (origins_of_rule rule ++ more))) place
           ∙ behind_there front (origins_of_rule rule ++ more) 0 (Asks condition) (condition_first rule more condition is)
 
-  pub rules_carried : (rules : List AuthorRule) (front : List Origin) (next : ℕ) → next ≡ length front → origins ≡ front ++ origins_in rules → next + length (origins_in rules) ≤ 65535 → AllZip (CarriesRule c) (rule_entries next rules) rules
+  pub rules_carried : (rules : List Rule) (front : List Origin) (next : ℕ) → next ≡ length front → origins ≡ front ++ origins_in rules → next + length (origins_in rules) ≤ 65535 → AllZip (CarriesRule c) (rule_entries next rules) rules
   unfolding rule_entries
   rules_carried [] front next is parts le = tt
   rules_carried (rule ∷ rules) front next is parts le =

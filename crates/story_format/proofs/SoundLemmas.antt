@@ -11,7 +11,7 @@ use Rattle.object_words.specs.Mentions.{number_in}
 use Rattle.play_meaning.specs.Instructions.{sizes}
 use Rattle.play_meaning.specs.TranslatedScripts.{emitted_in_turn}
 use Rattle.play_meaning.specs.Translation.{Emitted}
-use Rattle.play_meaning.specs.Rules.{AuthorRule}
+use Rattle.play_meaning.specs.Rules.{Rule}
 use Rattle.play_meaning.specs.Trees.{Text}
 use Rattle.code_table.specs.Origins.{Describes, Origin, origins_of, part_of, use_for}
 use Rattle.play_meaning.specs.declared.instruction.Instruction.{Instruction}
@@ -101,15 +101,15 @@ described_used : (texts : List Text) → map use_for (map Describes texts) ≡ r
 described_used [] = refl
 described_used (text ∷ texts) = ap (λ uses. Describing ∷ uses) (described_used texts)
 
-origins_used : (texts : List Text) (rules : List AuthorRule) → map use_for (origins_of texts rules) ≡ replicate (length texts) Describing ++ map use_for (origins_in rules)
+origins_used : (texts : List Text) (rules : List Rule) → map use_for (origins_of texts rules) ≡ replicate (length texts) Describing ++ map use_for (origins_in rules)
 origins_used texts rules = map-append use_for (map Describes texts) (origins_in rules) ∙ ap (λ uses. uses ++ map use_for (origins_in rules)) (described_used texts)
 
-pub origins_counted : (texts : List Text) (rules : List AuthorRule) → length (origins_of texts rules) ≡ length texts + length (origins_in rules)
+pub origins_counted : (texts : List Text) (rules : List Rule) → length (origins_of texts rules) ≡ length texts + length (origins_in rules)
 origins_counted texts rules = length-append (map Describes texts) (origins_in rules) ∙ ap (λ n. n + length (origins_in rules)) (length-map texts Describes)
 
 -- ---- the codes of a tale
 
-pub tables_sound : (d : Declared) (ws : List Worded) (texts : List Text) (rules : List AuthorRule) → length (strings_of ws (origins_of texts rules)) < 65535 → length ws ≤ 1000 → length texts ≡ described_in ws
+pub tables_sound : (d : Declared) (ws : List Worded) (texts : List Text) (rules : List Rule) → length (strings_of ws (origins_of texts rules)) < 65535 → length ws ≤ 1000 → length texts ≡ described_in ws
     → AllFit (counts_of (tables_with d ws rules (origins_of texts rules))) (number_in (strings_of ws (origins_of texts rules))) (origins_of texts rules) → CanBeSaid (number_in (strings_of ws (origins_of texts rules))) (origins_of texts rules)
     → AreSound (tables_with d ws rules (origins_of texts rules))
 unfolding strings_read tables_with counts_of rules_of

@@ -3,7 +3,7 @@ use Rattle.std.proofs.Common.{◌≡◌, ◌+◌, ◌≤◌, List, length, sym, 
 use Rattle.world_meaning.specs.WellMade.{sorts_in}
 use Rattle.world_meaning.specs.declared.tale.Tale.{Tale}
 use Rattle.object_words.proofs.StringLemmas.{length_mapped}
-use Rattle.play_meaning.specs.Rules.{AuthorRule}
+use Rattle.play_meaning.specs.Rules.{Rule}
 use Rattle.play_meaning.specs.Trees.{Text}
 use Rattle.code_table.specs.Origins.{origins_of}
 use Rattle.story_format.specs.Holding.{AreHeld, IsHeld}
@@ -26,7 +26,7 @@ few_objects t held =
 pub described_back : (t : Tale) → described_in (worded t.objects) ≡ codes_in t.objects
 described_back t = ap codes_in (objects_back 0 t.objects)
 
-pub tale_is_story : (t : Tale) (texts : List Text) (rules : List AuthorRule) → IsHeld t → AreHeld t texts rules → IsStory (tables_of t texts rules)
+pub tale_is_story : (t : Tale) (texts : List Text) (rules : List Rule) → IsHeld t → AreHeld t texts rules → IsStory (tables_of t texts rules)
 tale_is_story t texts rules held said =
     let ws = worded t.objects in
     let origins = origins_of texts rules in

@@ -26,7 +26,7 @@ use Rattle.world_meaning.specs.declared.declared.Declared.{Declared}
 use Rattle.world_meaning.specs.declared.tale.Object.{Object}
 use Rattle.object_words.specs.Mentions.{number_in}
 use Rattle.code_table.specs.Origins.{Origin}
-use Rattle.play_meaning.specs.Rules.{AuthorRule}
+use Rattle.play_meaning.specs.Rules.{Rule}
 use Rattle.object_words.specs.Words.{words_for}
 use Rattle.object_words.proofs.StringLemmas.{length_mapped}
 use Rattle.story_format.specs.declared.row.Sizes.{Sizes}
@@ -313,7 +313,7 @@ kinds_of_world d = refl
 
 -- ---- how many there are
 
-module _ (d : Declared) (ws : List Worded) (rules : List AuthorRule) (said : List Origin) where
+module _ (d : Declared) (ws : List Worded) (rules : List Rule) (said : List Origin) where
   books_counted : length d.scenes ≤ 50 → d.rulebooks ≤ 100 → (counts_of (tables_with d ws rules said)).books ≡ book_count d
   unfolding counts_of tables_with rules_of
   books_counted few few_own = omega (arith, length_replicated empty_book (book_count d), few, few_own)
@@ -330,7 +330,7 @@ module _ (d : Declared) (ws : List Worded) (rules : List AuthorRule) (said : Lis
   unfolding tables_with rules_of
   heads_told h = h
 
-pub tables_right : (d : Declared) (objects : List Object) (rules : List AuthorRule) (said : List Origin) → IsWellMade (record { declared = d; objects = objects }) → list_all has_short_texts objects ≡ true → list_all has_few_words (worded objects) ≡ true
+pub tables_right : (d : Declared) (objects : List Object) (rules : List Rule) (said : List Origin) → IsWellMade (record { declared = d; objects = objects }) → list_all has_short_texts objects ≡ true → list_all has_few_words (worded objects) ≡ true
     → length rules ≤ 2000 → list_all (is_below (book_count d)) (books_of rules) ≡ true → length (strings_of (worded objects) said) < 65535 → length (code_bytes (strings_of (worded objects) said) said) < 65536
     → described_in (worded objects) + length (origins_in rules) ≤ length (code_bytes (strings_of (worded objects) said) said) → are_right (tables_with d (worded objects) rules said) ≡ true
 unfolding are_right is_right_frame are_right_objects stand_rightly are_right_ways tables_with

@@ -6,7 +6,7 @@ use Rattle.play_meaning.specs.Codes.{Codes, RunsTo, test_of}
 use Rattle.play_meaning.specs.Doing.{Inner, do_body}
 use Rattle.play_meaning.specs.Grounds.{said_by_code}
 use Rattle.play_meaning.specs.Progress.{Progress}
-use Rattle.play_meaning.specs.Rules.{AuthorRule}
+use Rattle.play_meaning.specs.Rules.{Rule}
 use Rattle.play_meaning.specs.Saying.{Telling}
 use Rattle.play_meaning.specs.Scripts.{says, scope_of, undescribed}
 use Rattle.play_meaning.specs.Settings.{Setting}
@@ -51,7 +51,7 @@ pub record IsBare (r : RuleEntry) : Type 0 where
   pub place : r.place ≡ Anything
   pub scene : r.scene ≡ 255
 
-pub record CarriesRule (c : Codes) (r : RuleEntry) (rule : AuthorRule) : Type 0 where
+pub record CarriesRule (c : Codes) (r : RuleEntry) (rule : Rule) : Type 0 where
   pub book : r.book ≡ rule.book
   pub bare : IsBare r
   pub condition : IsAnsweredBy c (code_if_some r.condition) rule.condition
@@ -60,7 +60,7 @@ pub record CarriesRule (c : Codes) (r : RuleEntry) (rule : AuthorRule) : Type 0 
 -- ---- all of it
 
 -- where these texts are said of the objects that are described, in order, and these are the rules
-pub record Carries (tables : Tables) (tale : Tale) (texts : List Text) (rules : List AuthorRule) : Type 0 where
+pub record Carries (tables : Tables) (tale : Tale) (texts : List Text) (rules : List Rule) : Type 0 where
   pub count : object_count_of tables ≡ length tale.objects
   pub names : (o : ℕ) → name_of tables o ≡ told_name tale o
   pub words : (o : ℕ) → words_of tables o ≡ told_words tale o

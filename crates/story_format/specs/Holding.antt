@@ -6,7 +6,7 @@ use Rattle.world_meaning.specs.WellMade.{IsWellMade}
 use Rattle.world_meaning.specs.declared.tale.Object.{Object}
 use Rattle.world_meaning.specs.declared.tale.Tale.{Tale}
 use Rattle.object_words.specs.Mentions.{number_in}
-use Rattle.play_meaning.specs.Rules.{AuthorRule}
+use Rattle.play_meaning.specs.Rules.{Rule}
 use Rattle.play_meaning.specs.Trees.{Text}
 use Rattle.play_meaning.specs.StandardRules.{plain}
 use Rattle.code_table.specs.Emitted.{AllFit, CanBeSaid, IsLongRule, IsLongText, codes_of_origins}
@@ -38,11 +38,11 @@ pub record IsHeld (t : Tale) : Type 0 where
   pub texts : list_all has_short_texts t.objects ≡ true
   pub words : list_all has_few_words (worded t.objects) ≡ true
 
-abbrev pub books_of : List AuthorRule → List ℕ
+abbrev pub books_of : List Rule → List ℕ
 books_of rules = map (λ rule. rule.book) rules
 
 -- What may be said of a tale: a text of each description, and rules, 2,000 at most, each in a book that there is.
-pub record AreOf (t : Tale) (texts : List Text) (rules : List AuthorRule) : Type 0 where
+pub record AreOf (t : Tale) (texts : List Text) (rules : List Rule) : Type 0 where
   pub many : length texts ≡ codes_in t.objects
   pub few : length rules ≤ 2000
   pub books : list_all (is_below (book_count t.declared)) (books_of rules) ≡ true
@@ -52,7 +52,7 @@ strings_in t origins = strings_of (worded t.objects) origins
 
 -- The texts of its descriptions, in the order of the objects, and the rules that a story file says: strings of 65,535 bytes at
 -- most, no more than two bytes number, of texts and rules that fit what is there and whose codes bytes can say.
-pub record AreHeld (t : Tale) (texts : List Text) (rules : List AuthorRule) : Type 0 where
+pub record AreHeld (t : Tale) (texts : List Text) (rules : List Rule) : Type 0 where
   pub are_of : AreOf t texts rules
   pub short : list_all is_short (strings_said (origins_of texts rules)) ≡ true
   pub few : length (strings_in t (origins_of texts rules)) < 65535
@@ -64,7 +64,7 @@ abbrev pub AreTooMany : Tale → List Origin → Type 0
 AreTooMany t origins = length (strings_in t origins) < 65535 → list_all is_short (strings_said origins) ≡ true → 65535 < length (codes_of_origins (number_in (strings_in t origins)) origins)
 
 -- why a story file doesn't say texts and rules: one is the first whose code is too long, or there is too much of them
-abbrev pub AreNotHeld : Tale → List Text → List AuthorRule → TableFault → Type 0
+abbrev pub AreNotHeld : Tale → List Text → List Rule → TableFault → Type 0
 AreNotHeld t texts rules (LongText number) =
     IsLongText (counts_of (tables_of t texts rules)) (number_in (strings_in t (origins_of texts rules))) (length (origins_of texts rules)) texts number
 AreNotHeld t texts rules (LongRule number) =
@@ -74,7 +74,7 @@ AreNotHeld t texts rules Memory = Unit {0}
 
 -- what a story file says isn't among what it doesn't, memory aside
 abbrev pub NeverHeldAndNot : Type 0
-NeverHeldAndNot = (t : Tale) (texts : List Text) (rules : List AuthorRule) (fault : TableFault) → AreHeld t texts rules → AreNotHeld t texts rules fault → fault ≡ Memory
+NeverHeldAndNot = (t : Tale) (texts : List Text) (rules : List Rule) (fault : TableFault) → AreHeld t texts rules → AreNotHeld t texts rules fault → fault ≡ Memory
 
 -- texts of bytes alone, each at most 65,535, are said where there is no rule
 abbrev pub PlainTextsAreHeld : Type 0

@@ -12,7 +12,7 @@ use Rattle.world_meaning.specs.declared.tale.Object.{Object}
 use Rattle.world_meaning.specs.declared.tale.Tale.{Tale}
 use Rattle.world_meaning.specs.declared.declared.Declared.{Declared}
 use Rattle.world_meaning.specs.Kinds.{is_under, room_kind}
-use Rattle.play_meaning.specs.Rules.{AuthorRule}
+use Rattle.play_meaning.specs.Rules.{Rule}
 use Rattle.play_meaning.specs.Trees.{Text}
 use Rattle.code_table.specs.Emitted.{codes_of_origins}
 use Rattle.code_table.specs.Origins.{Origin, origins_of, strings_of_origin}
@@ -127,7 +127,7 @@ abbrev pub described_in : List Worded → ℕ
 described_in ws = codes_in (map (λ w. w.object) ws)
 
 -- the tables, but for the codes
-abbrev pub tables_but_codes : Declared → List Worded → List AuthorRule → List (List ℕ) → Tables
+abbrev pub tables_but_codes : Declared → List Worded → List Rule → List (List ℕ) → Tables
 tables_but_codes d ws rules strings = record {
   strings = strings;
   world = world_of d;
@@ -141,15 +141,15 @@ tables_but_codes d ws rules strings = record {
 abbrev pub code_bytes : List (List ℕ) → List Origin → List (List ℕ)
 code_bytes strings origins = map spelling (codes_of_origins (number_in strings) origins)
 
-unfoldable pub tables_with : Declared → List Worded → List AuthorRule → List Origin → Tables
+unfoldable pub tables_with : Declared → List Worded → List Rule → List Origin → Tables
 tables_with d ws rules origins = record (tables_but_codes d ws rules (strings_of ws origins)) { codes = code_bytes (strings_of ws origins) origins }
 
 -- the tables of a tale whose descriptions say these texts, in the order of the objects that are described, and whose rules are these
-abbrev pub tables_of : Tale → List Text → List AuthorRule → Tables
+abbrev pub tables_of : Tale → List Text → List Rule → Tables
 tables_of t texts rules = tables_with t.declared (worded t.objects) rules (origins_of texts rules)
 
 -- its strings
-abbrev pub strings_with : Tale → List Text → List AuthorRule → List (List ℕ)
+abbrev pub strings_with : Tale → List Text → List Rule → List (List ℕ)
 strings_with t texts rules = strings_of (worded t.objects) (origins_of texts rules)
 
 -- ---- what is said of each object

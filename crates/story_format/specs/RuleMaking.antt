@@ -2,7 +2,7 @@
 -- scenes without what begins or ends them.
 use Rattle.std.specs.Prelude.{ℕ, ◌+◌, ◌*◌, Bool, true, false, List, [], ◌∷◌, length, map, min, replicate, Option, None, Some, if◌then◌else◌}
 use Rattle.world_meaning.specs.declared.declared.Declared.{Declared}
-use Rattle.play_meaning.specs.Rules.{AuthorRule}
+use Rattle.play_meaning.specs.Rules.{Rule}
 use Rattle.play_meaning.specs.StandardActions.{standard_needs}
 use Rattle.play_meaning.specs.Trees.{Condition}
 use Rattle.play_meaning.specs.declared.action.Needs.{Needs}
@@ -49,7 +49,7 @@ condition_count None = 0
 condition_count (Some condition) = 1
 
 -- a rule's condition, if it has one, and its body
-abbrev pub rule_count : AuthorRule → ℕ
+abbrev pub rule_count : Rule → ℕ
 rule_count rule = condition_count rule.condition + 1
 
 abbrev pub condition_number : ℕ → Option Condition → ℕ
@@ -57,7 +57,7 @@ condition_number next None = 65535
 condition_number next (Some condition) = min next 65535
 
 -- it is about nothing but its condition
-abbrev pub rule_entry : ℕ → AuthorRule → RuleEntry
+abbrev pub rule_entry : ℕ → Rule → RuleEntry
 rule_entry next rule = record {
   book = rule.book;
   action = 255;
@@ -70,7 +70,7 @@ rule_entry next rule = record {
 }
 
 -- an entry for each rule; each condition and each body has the next code
-unfoldable pub rule_entries : ℕ → List AuthorRule → List RuleEntry
+unfoldable pub rule_entries : ℕ → List Rule → List RuleEntry
 rule_entries next [] = []
 rule_entries next (rule ∷ rules) = rule_entry next rule ∷ rule_entries (next + rule_count rule) rules
 
@@ -87,7 +87,7 @@ abbrev pub scene_entry : Bool → SceneEntry
 scene_entry recurs = record { recurring = mark_if 1 recurs; begins = 65535; ends = 65535 }
 
 -- tables 8 to 12 of what a source declares and of its rules, the first code of these having this number
-unfoldable pub rules_of : Declared → ℕ → List AuthorRule → RuleTables
+unfoldable pub rules_of : Declared → ℕ → List Rule → RuleTables
 rules_of d next rules = record {
   actions = action_entries;
   grammar = [];

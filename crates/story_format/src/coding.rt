@@ -2,7 +2,8 @@
 ghost use Rattle.std.specs.Prelude.{◌≡◌, ◌&&◌, IfErr, IfOk, OnOk, length, map, nat_lt};
 ghost use Rattle.std.specs.List.{list_all};
 ghost use Rattle.object_words.specs.Mentions.{number_in};
-ghost use Rattle.play_meaning.specs.Meant.{rule_meant, text_meant};
+ghost use Rattle.play_meaning.specs.Meant.{text_meant};
+ghost use Rattle.play_meaning.specs.Patterns.{rule_meant};
 ghost use Rattle.code_table.specs.Emitted.{AllFit, CanBeSaid, HaveNoTable};
 ghost use Rattle.code_table.specs.Origins.{origins_meant};
 ghost use Rattle.story_format.specs.Codes.{counts_of};

@@ -1,6 +1,6 @@
 //! What holds of stories whatever the bytes are.
 ghost use Rattle.std.specs.Prelude.{◌≡◌, ◌≢◌, ◌⊎◌, ℕ, List, true};
-ghost use Rattle.play_meaning.specs.Rules.{AuthorRule};
+ghost use Rattle.play_meaning.specs.Rules.{Rule};
 ghost use Rattle.play_meaning.specs.Trees.{Text};
 ghost use Rattle.world_meaning.specs.Sorts.{is_at};
 ghost use Rattle.world_meaning.specs.Standing.{is_at_or_none};
@@ -47,13 +47,13 @@ pub fn spelled_or_refused()
 
 /// The tables of a tale that a story file holds, with texts of its descriptions and rules that it says, are a story's.
 pub fn tales_are_stories()
-    ensures { (tale : Tale) (texts : List Text) (rules : List AuthorRule) → IsHeld tale → AreHeld tale texts rules → IsStory (tables_of tale texts rules) }
+    ensures { (tale : Tale) (texts : List Text) (rules : List Rule) → IsHeld tale → AreHeld tale texts rules → IsStory (tables_of tale texts rules) }
 {}
 
 /// They say of each object's name and ways, and of the start, what the tale says, of each object the text that describes
 /// it, and of each rule what it asks and does.
 pub fn story_carries_tale()
-    ensures { (tale : Tale) (texts : List Text) (rules : List AuthorRule) → IsHeld tale → AreHeld tale texts rules → Carries (tables_of tale texts rules) tale texts rules }
+    ensures { (tale : Tale) (texts : List Text) (rules : List Rule) → IsHeld tale → AreHeld tale texts rules → Carries (tables_of tale texts rules) tale texts rules }
 {}
 
 /// A story file says descriptions that say bytes alone, each at most 65,535, where there is no rule.

@@ -4,7 +4,7 @@ ghost use Rattle.std.specs.List.{flat_map};
 ghost use Rattle.object_words.specs.Mentions.{mention, number_in};
 ghost use Rattle.object_words.specs.Words.{words_for};
 ghost use Rattle.code_table.specs.Origins.{origins_meant};
-ghost use Rattle.play_meaning.specs.Meant.{rule_meant};
+ghost use Rattle.play_meaning.specs.Patterns.{rule_meant};
 ghost use Rattle.story_format.specs.Making.{worded_from, worded, article_number, relation_number, place_relation, place_holder, code_number, entry_strings, strings_of, entry_of, entries_of, ways_of, described_in, tables_but_codes};
 ghost use Rattle.story_format.specs.WordedViews.{worded_of, all_worded};
 

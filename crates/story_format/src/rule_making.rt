@@ -1,6 +1,6 @@
 //! The rule tables of a tale.
 ghost use Rattle.std.specs.Prelude.{◌≡◌, ◌≤◌, [], IfOk, length, map, min, replicate};
-ghost use Rattle.play_meaning.specs.Meant.{rule_meant};
+ghost use Rattle.play_meaning.specs.Patterns.{rule_meant};
 ghost use Rattle.story_format.specs.RuleMaking.{book_count, condition_number, rule_count, rule_entries, rule_entry, rules_of, scene_entry};
 
 use crate::actions::{action_entries, mark_if};

@@ -1,6 +1,7 @@
 //! Writing a tale as a story.
 ghost use Rattle.std.specs.Prelude.{◌≡◌, IfErr, IfOk, OnOk, ◌++◌, length, map};
-ghost use Rattle.play_meaning.specs.Meant.{rule_meant, text_meant};
+ghost use Rattle.play_meaning.specs.Meant.{text_meant};
+ghost use Rattle.play_meaning.specs.Patterns.{rule_meant};
 ghost use Rattle.story_format.specs.Holding.{AreHeld, AreNotHeld, AreOf, IsHeld};
 ghost use Rattle.story_format.specs.Layout.{tables_layout};
 ghost use Rattle.story_format.specs.Making.{tables_of};

@@ -22,7 +22,7 @@ use Rattle.play_meaning.specs.PlainReading.{reads_plainly}
 use Rattle.play_meaning.specs.Grounds.{said_by_code}
 use Rattle.play_meaning.specs.PlainTales.{script_of, story_of_script}
 use Rattle.play_meaning.specs.Scripts.{says, undescribed}
-use Rattle.play_meaning.specs.Rules.{AuthorRule}
+use Rattle.play_meaning.specs.Rules.{Rule}
 use Rattle.play_meaning.specs.Trees.{Text}
 use Rattle.play_meaning.specs.Worlds.{World}
 use Rattle.play_meaning.specs.declared.action.ActionNow.{ActionNow}
@@ -115,7 +115,7 @@ doors_found parents sorts strings ws o direction (Some w) e h =
 
 -- ---- what never changes
 
-settings_agree : (t : Tale) (texts : List Text) (rules : List AuthorRule) → IsHeld t → AreHeld t texts rules → SettingsAgree (setting_of (tables_of t texts rules)) (told_setting t)
+settings_agree : (t : Tale) (texts : List Text) (rules : List Rule) → IsHeld t → AreHeld t texts rules → SettingsAgree (setting_of (tables_of t texts rules)) (told_setting t)
 unfolding setting_of told_setting tables_with world_of entry_of
 settings_agree t texts rules held said =
     let carries = tale_carried t texts rules held said in
@@ -152,11 +152,11 @@ number_started d property strings next w h =
       | inr isnt ↦ rw isnt refl
     ]
 
-flags_started : (t : Tale) (texts : List Text) (rules : List AuthorRule) → IsHeld t → (property : ℕ) → start_flags (tables_of t texts rules) property ≡ map (is_true_at_start property) t.objects
+flags_started : (t : Tale) (texts : List Text) (rules : List Rule) → IsHeld t → (property : ℕ) → start_flags (tables_of t texts rules) property ≡ map (is_true_at_start property) t.objects
 unfolding tables_with entry_of
 flags_started t texts rules held property = said_of_all (suits_kind t.declared) (starts_true property) (is_true_at_start property) (λ strings next w h. refl) (strings_with t texts rules) 0 0 t.objects held.made.suited
 
-numbers_started : (t : Tale) (texts : List Text) (rules : List AuthorRule) → IsHeld t → (property : ℕ) → start_numbers (tables_of t texts rules) property ≡ map (number_at_start t.declared property) t.objects
+numbers_started : (t : Tale) (texts : List Text) (rules : List Rule) → IsHeld t → (property : ℕ) → start_numbers (tables_of t texts rules) property ≡ map (number_at_start t.declared property) t.objects
 unfolding tables_with
 numbers_started t texts rules held property = said_of_all (suits_kind t.declared) (start_number (world_of t.declared) property) (number_at_start t.declared property) (number_started t.declared property) (strings_with t texts rules) 0 0 t.objects held.made.suited
 
@@ -165,7 +165,7 @@ none_begun : (scenes : List Bool) → replicate (length (map scene_entry scenes)
 none_begun [] = refl
 none_begun (recurs ∷ scenes) = ap (λ all. not_begun ∷ all) (none_begun scenes)
 
-one_start : (t : Tale) (texts : List Text) (rules : List AuthorRule) → IsHeld t → start_world (tables_of t texts rules) ≡ start_of t
+one_start : (t : Tale) (texts : List Text) (rules : List Rule) → IsHeld t → start_world (tables_of t texts rules) ≡ start_of t
 unfolding start_world start_of tables_with world_of rules_of
 one_start t texts rules held =
     let places = places_back (strings_with t texts rules) 0 (worded t.objects) ∙ ap (λ (objects : List Object). map (λ object. object.place) objects) (objects_back 0 t.objects) in
@@ -182,7 +182,7 @@ one_start t texts rules held =
 
 -- ---- all of it
 
-pub tables_game : (t : Tale) (texts : List Text) (rules : List AuthorRule) → IsHeld t → AreHeld t texts rules → plain_story (tables_of t texts rules) ≡ story_of_script (script_of t (text_of t texts))
+pub tables_game : (t : Tale) (texts : List Text) (rules : List Rule) → IsHeld t → AreHeld t texts rules → plain_story (tables_of t texts rules) ≡ story_of_script (script_of t (text_of t texts))
 unfolding plain_story script_of story_of_script
 tables_game t texts rules held said =
     let setting = one_setting (setting_of (tables_of t texts rules)) (told_setting t) (settings_agree t texts rules held said) in

@@ -1,6 +1,6 @@
 use Rattle.std.proofs.Common.{subst, sym, map, arith}
 use Rattle.object_words.specs.Mentions.{number_in}
-use Rattle.play_meaning.specs.Meant.{rule_meant}
+use Rattle.play_meaning.specs.Patterns.{rule_meant}
 use Rattle.code_table.specs.Coding.{RulesHaveNone}
 use Rattle.code_table.specs.Origins.{origins_of_rule}
 use Rattle.code_table.proofs.Stopped.{grows_on, rule_stops, rules_left}

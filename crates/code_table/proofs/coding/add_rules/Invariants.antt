@@ -1,7 +1,7 @@
 use Rattle.std.proofs.Common.{length}
 use Rattle.object_words.specs.Mentions.{number_in}
 use Rattle.std.specs.Prelude.{map}
-use Rattle.play_meaning.specs.Meant.{rule_meant}
+use Rattle.play_meaning.specs.Patterns.{rule_meant}
 use Rattle.code_table.specs.Origins.{origins_of_rule}
 use Rattle.code_table.proofs.Stopped.{IsOnWay}
 use Rattle.code_table.proofs.coding.add_rules.Given as goal

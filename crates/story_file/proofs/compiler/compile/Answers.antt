@@ -1,5 +1,5 @@
 use Rattle.std.proofs.Common.{List}
-use Rattle.play_meaning.specs.Rules.{AuthorRule}
+use Rattle.play_meaning.specs.Rules.{Rule}
 use Rattle.play_meaning.specs.Trees.{Text}
 use Rattle.story_format.specs.Holding.{AreHeld, AreNotHeld, AreOf}
 use Rattle.story_format.specs.Making.{tables_of}
@@ -26,7 +26,7 @@ pub returns-in-Ok-write : goal.returns-in-Ok-write
 returns-in-Ok-write c =
     let tale = c.in-Ok.meant.tale in
     let bytes = c.in-Ok-write.bytes.items in
-    let lent = λ (F : List Text → List AuthorRule → Type 0). of_lent F c.in-Ok.meant.texts.items c.as_slice.result.now c.in-Ok.meant.rules.items c.as_slice-2.result.now c.as_slice.ensures.value c.as_slice-2.ensures.value in
+    let lent = λ (F : List Text → List Rule → Type 0). of_lent F c.in-Ok.meant.texts.items c.as_slice.result.now c.in-Ok.meant.rules.items c.as_slice-2.result.now c.as_slice.ensures.value c.as_slice-2.ensures.value in
     compiled_by c.args.source.now c.in_ok-sentences.sentences.items c.as_slice-sentences.result.now c.in_ok-sentences.ensures.said c.as_slice-sentences.ensures.value tale (texts_kept c.in-Ok.meant.texts.items) (rules_kept c.in-Ok.meant.rules.items) c.in-Ok.ensures.meant
     bytes (lent (AreHeld tale) c.in-Ok-write.ensures.said) (lent (λ texts rules. Spells bytes (tables_of tale texts rules)) c.in-Ok-write.ensures.spelled)
 

@@ -1,6 +1,6 @@
 use Rattle.std.proofs.Common.{◌∙◌, ap, map}
 use Rattle.std.proofs.lemmas.Simd.{map-map}
-use Rattle.play_meaning.specs.Meant.{rule_meant}
+use Rattle.play_meaning.specs.Patterns.{rule_meant}
 use Rattle.i7_rules.specs.declared.source_rules.SourceRule.{SourceRule}
 use Rattle.story_file.proofs.meaning.kept_of.Goals as goal
 

@@ -1,7 +1,8 @@
 use Rattle.std.proofs.Common.{arith}
 use Rattle.std.specs.Prelude.{map}
 use Rattle.std.proofs.lemmas.Result.{IfErr-weaker, IfOk-weaker}
-use Rattle.play_meaning.specs.Meant.{rule_meant, text_meant}
+use Rattle.play_meaning.specs.Meant.{text_meant}
+use Rattle.play_meaning.specs.Patterns.{rule_meant}
 use Rattle.story_format.specs.Making.{worded}
 use Rattle.story_format.proofs.DeclaredLemmas.{declared_parts}
 use Rattle.story_format.proofs.OrderLemmas.{codes_few}

@@ -1,5 +1,5 @@
 use Rattle.std.proofs.Common.{◌≡◌, ◌++◌, ◌+◌, ◌*◌, ◌≤◌, length, map}
-use Rattle.play_meaning.specs.Meant.{rule_meant}
+use Rattle.play_meaning.specs.Patterns.{rule_meant}
 use Rattle.story_format.specs.RuleMaking.{rule_entries}
 use Rattle.story_format.proofs.rule_making.rule_entries.Given as goal
 

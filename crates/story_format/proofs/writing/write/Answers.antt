@@ -1,6 +1,7 @@
 use Rattle.std.proofs.Common.{◌++◌, subst, sym, ap, ◌∙◌}
 use Rattle.std.specs.Prelude.{map}
-use Rattle.play_meaning.specs.Meant.{rule_meant, text_meant}
+use Rattle.play_meaning.specs.Meant.{text_meant}
+use Rattle.play_meaning.specs.Patterns.{rule_meant}
 use Rattle.story_format.specs.Layout.{tables_layout}
 use Rattle.story_format.specs.Spells.{IsStory, head}
 use Rattle.story_format.proofs.Stories.{tale_is_story}
