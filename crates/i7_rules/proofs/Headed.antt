@@ -57,8 +57,8 @@ book_known k rule book number e h = subst (IsBookFound k rule.book) e h
 
 headed_so : (k : Known) (rule : Rule) (book : ℕ) (asked : Found (Option Condition)) → IsBook k rule.book book → IsFoundAs (IsAsked k rule.condition) is_asked_over asked
     → IsFoundAs (IsHead k rule) head_is_over (one (head_of book) asked)
-headed_so k rule book (Read c) is h = (record { book = is; condition = h.0 }, h.1)
-headed_so k rule book TooMany is h = (head_of book h.0, record { book = is; condition = h.1 }, h.2)
+headed_so k rule book (Read c) is h = (record { book = is; about = refl; condition = h.0; listed = refl }, h.1)
+headed_so k rule book TooMany is h = (head_of book h.0, record { book = is; about = refl; condition = h.1; listed = refl }, h.2)
 headed_so k rule book Unread is h = λ head heads. h head.condition heads.condition
 
 pub head_found : (k : Known) (rule : Rule) (book : ℕ) (asked : Found (Option Condition)) (head : Found Head) → IsFoundAs (IsAsked k rule.condition) is_asked_over asked → head ≡ one (head_of book) asked

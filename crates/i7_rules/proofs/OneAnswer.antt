@@ -100,8 +100,8 @@ book_once k book.EveryTurn a b one other = one ∙ sym other
 book_once k book.PlayBegins a b one other = one ∙ sym other
 book_once k (book.Own words) a b one other = own_once k.rulebooks k.scenes words a b one other
 
-head_same : (a b : Head) → a.book ≡ b.book → a.condition ≡ b.condition → a ≡ b
-head_same a b books conditions = λ i. record { book = books i; condition = conditions i }
+head_same : (a b : Head) → a.book ≡ b.book → a.about ≡ b.about → a.condition ≡ b.condition → a.listed ≡ b.listed → a ≡ b
+head_same a b books patterns conditions places = λ i. record { book = books i; about = patterns i; condition = conditions i; listed = places i }
 
 -- lines are one body at most
 abbrev pub IsOneBody : Type 0
@@ -124,7 +124,8 @@ module _ (laws : AreOnce) (law : IsOneBody) (k : Known) where
 
   head_once : (rule : Rule) (a b : Head) → IsHead k rule a → IsHead k rule b → a ≡ b
   head_once rule a b one other =
-      head_same a b (book_once k rule.book a.book b.book one.book other.book) (asked_once laws k rule.condition a.condition b.condition one.condition other.condition)
+      head_same a b (book_once k rule.book a.book b.book one.book other.book) (one.about ∙ sym other.about)
+      (asked_once laws k rule.condition a.condition b.condition one.condition other.condition) (one.listed ∙ sym other.listed)
 
   told_once : (r : RuleAt) (a b : SourceRule) → IsTold k r a → IsTold k r b → rule_meant a ≡ rule_meant b
   told_once r a b one other =

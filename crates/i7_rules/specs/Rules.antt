@@ -8,6 +8,8 @@ use Rattle.i7_sentences.specs.declared.rule.RuleBook.{RuleBook}
 use Rattle.i7_sentences.specs.declared.rule.RuleBook.TheVariants as book
 use Rattle.play_meaning.specs.Consulting.{every_turn_book, play_begins_book}
 use Rattle.play_meaning.specs.Meant.{body_meant, condition_meant}
+use Rattle.play_meaning.specs.Patterns.{Pattern, anything, listing_meant, pattern_meant}
+use Rattle.play_meaning.specs.Rules.{InOrder, Listed}
 use Rattle.play_meaning.specs.Trees.{Condition}
 use Rattle.play_meaning.specs.declared.tree.condition.Condition.{Condition as Asked}
 use Rattle.i7_actions.specs.Books.{IsOwn}
@@ -48,14 +50,19 @@ IsAsked k (Some words) condition = AsksSo k words condition
 
 pub record Head : Type 0 where
   pub book : ℕ
+  pub about : Pattern
   pub condition : Option Condition
+  pub listed : Listed
 
+-- about nothing but its condition, and listed by no sentence
 abbrev pub head_of : ℕ → Option Condition → Head
-head_of book condition = record { book = book; condition = condition }
+head_of book condition = record { book = book; about = anything; condition = condition; listed = InOrder }
 
 pub record IsHead (k : Known) (rule : Rule) (head : Head) : Type 0 where
   pub book : IsBook k rule.book head.book
+  pub about : head.about ≡ anything
   pub condition : IsAsked k rule.condition head.condition
+  pub listed : head.listed ≡ InOrder
 
 abbrev pub is_asked_over : Option Condition → Bool
 is_asked_over None = false
@@ -82,7 +89,7 @@ abbrev pub found_asked : Found (Option Asked) → Found (Option Condition)
 found_asked = one (option_map condition_meant)
 
 abbrev pub heading : Kept → Head
-heading head = record { book = head.book; condition = option_map condition_meant head.condition }
+heading head = record { book = head.book; about = pattern_meant head.pattern; condition = option_map condition_meant head.condition; listed = listing_meant head.listing }
 
 abbrev pub found_head : Found Kept → Found Head
 found_head = one heading

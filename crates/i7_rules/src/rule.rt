@@ -10,7 +10,7 @@ use crate::known::Known;
 use i7_actions::own_book_of;
 use i7_conditions::{Found, Scope, condition_of};
 use i7_sentences::{Rule, RuleBook};
-use play_meaning::tree::{Condition, MeantRule, RuleHead};
+use play_meaning::tree::{Condition, Listing, MeantRule, Pattern, RuleHead};
 use std::alloc::{AllocError, Global};
 use world_meaning::TextBytes;
 
@@ -95,7 +95,12 @@ fn headed(book: u16, condition: Found<Option<Condition>>) -> Found<RuleHead>
     ensures { found_head result ≡ one (head_of book) (found_asked condition) }
 {
     match condition {
-        Found::Read(condition) => Found::Read(RuleHead { book, condition }),
+        Found::Read(condition) => Found::Read(RuleHead {
+            book,
+            pattern: Pattern::anything(),
+            condition,
+            listing: Listing::InOrder,
+        }),
         Found::TooMany => Found::TooMany,
         Found::Unread => Found::Unread,
     }

@@ -1,4 +1,7 @@
 //! What rules are about, and where sentences list them (*Writing with Inform*, chapters 7 and 19).
+ghost use Rattle.std.specs.Prelude.{◌≡◌};
+ghost use Rattle.play_meaning.specs.Patterns.{anything, pattern_meant};
+
 use crate::action::ActNo;
 use crate::tree::object::Adjective;
 use world_meaning::{KindNo, Listed, ObjNo};
@@ -22,6 +25,21 @@ pub struct Pattern {
     pub place: Aspect,
     /// The number of a scene that happens.
     pub scene: Option<u8>,
+}
+
+impl Pattern {
+    /// Of a rule that is about nothing but its condition.
+    pub const fn anything() -> Pattern
+        ensures { pattern_meant result ≡ anything }
+    {
+        Pattern {
+            action: None,
+            noun: Aspect::Anything,
+            second: Aspect::Anything,
+            place: Aspect::Anything,
+            scene: None,
+        }
+    }
 }
 
 /// Where sentences list a rule, by the latest of them.
