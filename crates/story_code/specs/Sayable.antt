@@ -1,5 +1,5 @@
--- Which trees can be said of a story: what they name is there, and they keep the limits of the language, which joins 32
--- numbers at most in one expression. `k` loops are open around a tree.
+-- Which trees can be said of a story: what they name is there, they keep the limits of the language, and they join at most
+-- 32 numbers in one expression. `k` loops are open around a tree.
 use Rattle.std.specs.Prelude.{◌≡◌, ℕ, ◌+◌, ◌<◌, ◌≤◌, max, true, List, [], ◌∷◌, length, Option, None, Some}
 use Rattle.play_meaning.specs.declared.operand.Counts.{Counts}
 use Rattle.play_meaning.specs.declared.operand.Use.{Use}
