@@ -8,10 +8,10 @@ use Rattle.std.proofs.lemmas.List.{length-map, length-reverse, reverse-reverse}
 use Rattle.std.proofs.lemmas.List.Elements.{All-head, All-tail}
 use Rattle.std.proofs.lemmas.List.Folds.{list_all-append}
 use Rattle.world_meaning.proofs.Bools.{both, both_are}
-use Rattle.world_meaning.specs.Declarations.{is_below}
 use Rattle.world_meaning.specs.declared.declared.Declared.{Declared}
 use Rattle.world_meaning.specs.declared.tale.Tale.{Tale}
-use Rattle.play_meaning.specs.Patterns.{rule_meant}
+use Rattle.play_meaning.specs.Patterns.{Pattern, anything, pattern_meant, rule_meant}
+use Rattle.play_meaning.specs.declared.tree.rule.MeantRule.{MeantRule}
 use Rattle.play_meaning.specs.Rules.{Rule}
 use Rattle.play_meaning.specs.Trees.{Text}
 use Rattle.i7_rules.specs.Knowns.{Known}
@@ -31,7 +31,7 @@ use Rattle.i7_resolution.specs.declared.resolution.Resolution.TheVariants as res
 use Rattle.i7_resolution.specs.declared.resolution.Resolved.{Resolved}
 use Rattle.i7_resolution.specs.declared.source_texts.TextsFound.{TextsFound}
 use Rattle.i7_resolution.specs.declared.source_texts.TextsFound.TheVariants as found
-use Rattle.story_format.specs.Holding.{books_of}
+use Rattle.story_format.specs.Holding.{is_asked, is_of, is_there, named_by, named_in}
 use Rattle.story_format.specs.RuleMaking.{book_count}
 use Rattle.story_file.specs.Meanings.{AreMeant, known_said}
 use Rattle.story_file.proofs.Counted.{rulebooks_counted, scenes_counted}
@@ -93,27 +93,42 @@ module _ (k : Known) (d : Declared) (books : length k.rulebooks ≡ d.rulebooks)
   book_below named.PlayBegins number is = omega (arith, is)
   book_below (named.Own words) number is = omega (arith, is.numbered, there_below k.rulebooks is.k is.name is.at, books, scenes)
 
-  abbrev has_book : SourceRule → Bool
-  has_book told = is_below (book_count d) told.rule.head.book
+  -- of a book that there is, and about nothing
+  abbrev is_of_tale : ℕ → SourceRule → Bool
+  is_of_tale objects told = is_of (named_by d objects) (rule_meant told.rule)
 
-  told_below : (r : RuleAt) (told : SourceRule) → IsTold k r told → has_book told ≡ true
-  told_below r told is =
+  bare_of : (objects : ℕ) (rule : MeantRule) → rule.head.book < book_count d → pattern_meant rule.head.pattern ≡ anything → is_of (named_by d objects) (rule_meant rule) ≡ true
+  unfolding is_of
+  bare_of objects rule book about =
+      let z = named_by d objects in
+      rw (
+        lt-ltb rule.head.book (book_count d) book,
+        ap (λ (p : Pattern). is_there 16 p.action) about,
+        ap (λ (p : Pattern). is_asked z p.noun) about,
+        ap (λ (p : Pattern). is_asked z p.second) about,
+        ap (λ (p : Pattern). is_asked z p.place) about,
+        ap (λ (p : Pattern). is_there z.scenes p.scene) about,
+      ) refl
+
+  told_of : (objects : ℕ) (r : RuleAt) (told : SourceRule) → IsTold k r told → is_of_tale objects told ≡ true
+  told_of objects r told is =
       let head : IsWithin k r.rule (heading told.rule.head) = (is.rule).0 in
-      lt-ltb told.rule.head.book (book_count d) (book_below r.rule.book told.rule.head.book (head.0).book)
+      bare_of objects told.rule (book_below r.rule.book told.rule.head.book (head.0).book) (head.0).about
 
-  all_below : (rules : List RuleAt) (told : List SourceRule) → AllZip (IsTold k) rules told → list_all has_book told ≡ true
-  all_below [] [] each = refl
-  all_below [] (one ∷ told) each = absurd each
-  all_below (rule ∷ rules) [] each = absurd each
-  all_below (rule ∷ rules) (one ∷ told) each = both (has_book one) (list_all has_book told) (told_below rule one each.0) (all_below rules told each.1)
+  all_of : (objects : ℕ) (rules : List RuleAt) (told : List SourceRule) → AllZip (IsTold k) rules told → list_all (is_of_tale objects) told ≡ true
+  all_of objects [] [] each = refl
+  all_of objects [] (one ∷ told) each = absurd each
+  all_of objects (rule ∷ rules) [] each = absurd each
+  all_of objects (rule ∷ rules) (one ∷ told) each = both (is_of_tale objects one) (list_all (is_of_tale objects) told) (told_of objects rule one each.0) (all_of objects rules told each.1)
 
-  tested : (told : List SourceRule) → list_all (is_below (book_count d)) (books_of (map (λ one. rule_meant one.rule) told)) ≡ list_all has_book told
-  tested [] = refl
-  tested (one ∷ told) = ap (λ (b : Bool). has_book one && b) (tested told)
+  tested : (objects : ℕ) (told : List SourceRule) → list_all (is_of (named_by d objects)) (map (λ one. rule_meant one.rule) told) ≡ list_all (is_of_tale objects) told
+  tested objects [] = refl
+  tested objects (one ∷ told) = ap (λ (b : Bool). is_of_tale objects one && b) (tested objects told)
 
-  books_below : (rules : List RuleAt) (told : List SourceRule) → AllZip (IsTold k) rules (reverse told) → list_all (is_below (book_count d)) (books_of (map (λ one. rule_meant one.rule) told)) ≡ true
-  books_below rules told each =
-      tested told ∙ ap (list_all has_book) (sym (reverse-reverse told)) ∙ list_all_back has_book (reverse told) (all_below rules (reverse told) each)
+  told_rules_of : (objects : ℕ) (rules : List RuleAt) (told : List SourceRule) → AllZip (IsTold k) rules (reverse told)
+      → list_all (is_of (named_by d objects)) (map (λ one. rule_meant one.rule) told) ≡ true
+  told_rules_of objects rules told each =
+      tested objects told ∙ ap (list_all (is_of_tale objects)) (sym (reverse-reverse told)) ∙ list_all_back (is_of_tale objects) (reverse told) (all_of objects rules (reverse told) each)
 
 -- ---- all of it
 
@@ -124,9 +139,10 @@ few_rules sentences tale texts rules meant =
     let few = few_told (known_said sentences) (reverse (rules_in sentences)) meant.resolved.rules.items told in
     subst (λ (all : List Rule). length all ≤ 2000) (sym meant.rules_are) (omega (arith, few, length-map meant.resolved.rules.items (λ (one : SourceRule). rule_meant one.rule)))
 
-pub rules_in_books : (sentences : List Sentence) (tale : Tale) (texts : List Text) (rules : List Rule) → AreMeant sentences tale texts rules → list_all (is_below (book_count tale.declared)) (books_of rules) ≡ true
-rules_in_books sentences tale texts rules meant =
+-- of books that there are, and about nothing but their conditions
+pub rules_named : (sentences : List Sentence) (tale : Tale) (texts : List Text) (rules : List Rule) → AreMeant sentences tale texts rules → list_all (is_of (named_in tale)) rules ≡ true
+rules_named sentences tale texts rules meant =
     let is = meant.resolved_is in
     let told = told_by (known_said sentences) sentences is.rules is.texts meant.resolved is.told_is is.rules_are in
-    subst (λ (all : List Rule). list_all (is_below (book_count tale.declared)) (books_of all) ≡ true) (sym meant.rules_are)
-    (books_below (known_said sentences) tale.declared (rulebooks_counted sentences tale meant.tale_is) (scenes_counted sentences tale meant.tale_is) (reverse (rules_in sentences)) meant.resolved.rules.items told.each)
+    subst (λ (all : List Rule). list_all (is_of (named_in tale)) all ≡ true) (sym meant.rules_are)
+    (told_rules_of (known_said sentences) tale.declared (rulebooks_counted sentences tale meant.tale_is) (scenes_counted sentences tale meant.tale_is) (length tale.objects) (reverse (rules_in sentences)) meant.resolved.rules.items told.each)

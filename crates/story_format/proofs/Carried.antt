@@ -35,7 +35,8 @@ use Rattle.code_table.proofs.Said.{text_said}
 use Rattle.story_format.specs.Carrying.{Carries, CarriesRule}
 use Rattle.story_format.specs.Codes.{codes_told, counts_of}
 use Rattle.story_format.specs.Facts.{description_code_in, description_code_of, exits_at, holder_in, is_room_in, name_in, rooms_before, text_at, way_in, words_in}
-use Rattle.story_format.specs.Holding.{AreHeld, IsHeld}
+use Rattle.story_format.proofs.AboutRules.{small_names}
+use Rattle.story_format.specs.Holding.{named_in, AreHeld, IsHeld}
 use Rattle.story_format.specs.RuleMaking.{rules_of}
 use Rattle.story_format.specs.Making.{Worded, code_count, code_number, codes_in, described_in, entries_of, entry_of, entry_strings, place_holder, strings_of, strings_said, tables_of, tables_with, text_in, text_of, ways_of, worded, worded_at, worded_from, world_of}
 use Rattle.story_format.specs.Placed.{is_room_entry}
@@ -289,8 +290,9 @@ module _ (t : Tale) (texts : List Text) (rules : List Rule) (held : IsHeld t) (a
       let origins = origins_of texts rules in
       let strings = strings_of ws origins in
       let next : described_in ws ≡ length (map Describes texts) = described_back t ∙ sym are.are_of.many ∙ sym (length-map texts Describes) in
-      rules_carried (counts_of (tables_of t texts rules)) (codes_told (tables_of t texts rules)) (number_in strings) origins are.fit (bytes_told strings origins are.said) (origins_stand ws origins are.few) rules (map Describes texts)
-      (described_in ws) next refl (omega (arith, next, length-append (map Describes texts) (origins_in rules), bytes_enough strings origins, bytes_few strings origins are.said))
+      rules_carried (counts_of (tables_of t texts rules)) (codes_told (tables_of t texts rules)) (number_in strings) origins are.fit (bytes_told strings origins are.said) (origins_stand ws origins are.few)
+      (named_in t) (small_names t.declared (length t.objects) (few_begin t.declared.kinds (sorts_in t).rooms t.objects held.made.begins) held.made.declared) rules (map Describes texts)
+      (described_in ws) are.are_of.named next refl (omega (arith, next, length-append (map Describes texts) (origins_in rules), bytes_enough strings origins, bytes_few strings origins are.said))
 
   pub tale_carried : Carries (tables_of t texts rules) t texts rules
   unfolding tables_with world_of

@@ -180,6 +180,9 @@ numbers_fit (z ∷ zs) h = let t = both_are (is_number z) (list_all is_number zs
 few_fit : (n : ℕ) → n ≤ 100 → ltb n 65536 ≡ true
 few_fit n le = lt-ltb _ _ (omega (arith, le))
 
+pub few_grants : (kinds : ℕ) (granted : List Granted) → are_right_grants kinds granted ≡ true → length granted ≤ 100
+few_grants kinds granted h = leb-true _ _ (both_are (leb (length granted) 100) (list_all (is_right_grant kinds) granted) h).0
+
 grants_fit : (kinds : ℕ) (granted : List Granted) → kinds ≤ 100 → are_right_grants kinds granted ≡ true → (ltb (length granted) 65536 ≡ true) × (list_all granted_layout.format.fits granted ≡ true)
 grants_fit kinds granted le h =
     let t = both_are (leb (length granted) 100) (list_all (is_right_grant kinds) granted) h in

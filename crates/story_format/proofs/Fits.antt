@@ -30,9 +30,10 @@ use Rattle.story_format.specs.Formats.{fits_optional}
 use Rattle.story_format.specs.Layout.{entry_layout, way_layout, exits_layout, tables_layout}
 use Rattle.story_format.specs.Making.{Worded, worded, code_bytes, code_count, described_in, numbers_of, entry_strings, strings_of, strings_said, article_number, relation_number, place_relation, place_holder, code_number, entry_of, entries_of, ways_of, tables_with}
 use Rattle.story_format.specs.RuleMaking.{book_count}
-use Rattle.story_format.specs.Holding.{books_of, has_few_words, has_short_texts, is_short, is_short_or_none}
+use Rattle.story_format.specs.Holding.{is_of, named_by, has_few_words, has_short_texts, is_short, is_short_or_none}
 use Rattle.story_format.proofs.StoryLemmas.{all_both, all_mapped, all_weaker, few_begin, three}
 use Rattle.story_format.proofs.OrderLemmas.{mention_new, mention_old}
+use Rattle.story_format.proofs.AboutRules.{small_names}
 use Rattle.story_format.proofs.DeclaredLemmas.{all_own_fit, are_bytes, declared_parts, few_kinds, fits_own, is_word, world_fits}
 use Rattle.story_format.proofs.WordFacts.{all_mentioned, is_good}
 use Rattle.story_format.proofs.EntryLemmas.{objects_back, objects_in, rooms_lead}
@@ -219,10 +220,10 @@ ways_few parents (w ∷ ws) =
 -- ---- all of it
 
 pub tables_fit : (d : Declared) (objects : List Object) (rules : List Rule) (said : List Origin) → IsWellMade (record { declared = d; objects = objects }) → list_all has_short_texts objects ≡ true → list_all has_few_words (worded objects) ≡ true
-    → length rules ≤ 2000 → list_all (is_below (book_count d)) (books_of rules) ≡ true → length (strings_of (worded objects) said) < 65535 → list_all is_short (strings_said said) ≡ true → length (code_bytes (strings_of (worded objects) said) said) < 65536 → list_all is_short (code_bytes (strings_of (worded objects) said) said) ≡ true
+    → length rules ≤ 2000 → list_all (is_of (named_by d (length objects))) rules ≡ true → length (strings_of (worded objects) said) < 65535 → list_all is_short (strings_said said) ≡ true → length (code_bytes (strings_of (worded objects) said) said) < 65536 → list_all is_short (code_bytes (strings_of (worded objects) said) said) ≡ true
     → tables_layout.format.fits (tables_with d (worded objects) rules said) ≡ true
 unfolding tables_layout tables_with
-tables_fit d objects rules said made texts few_words few_rules books few short few_codes codes_short =
+tables_fit d objects rules said made texts few_words few_rules named few short few_codes codes_short =
     let ws = worded objects in
     let strings = strings_of ws said in
     let back : objects_in ws ≡ objects = objects_back 0 objects in
@@ -239,5 +240,5 @@ tables_fit d objects rules said made texts few_words few_rules books few short f
     let exits = all_weaker (lead_rightly sorts) exits_layout.format.fits (exits_fit d.kinds (kinds_of objects) few_of_kinds) (flat_map (ways_of d.kinds) ws) (rooms_lead d.kinds sorts ws (ap (list_all (has_right_exits d.kinds sorts)) back ∙ made.exits)) in
     let code_few : ltb (length (code_bytes strings said)) 65536 ≡ true = lt-ltb _ _ few_codes in
     let declared = declared_parts d made.declared in
-    let rules_so = rule_tables_fit d rules (described_in ws) declared.scenes declared.rulebooks few_rules books in
+    let rules_so = rule_tables_fit d (named_by d (length objects)) rules (described_in ws) declared.scenes declared.rulebooks few_rules (small_names d (length objects) few_objects made.declared) named in
     rw (string_count, strings_fit, world_fits d made.declared, entry_count, entries, way_count, exits, rules_so, code_few, codes_short) refl

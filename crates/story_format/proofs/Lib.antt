@@ -1,3 +1,4 @@
+pub mod AboutRules
 pub mod Loops
 pub mod StoryLemmas
 pub mod DeclaredLemmas

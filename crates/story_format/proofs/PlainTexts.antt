@@ -101,7 +101,7 @@ plain_held t xs held many short =
     let few : length strings < 65535 = omega (arith, few_strings ws origins held.words, ap length said, few_bytes, le) in
     let known : list_all (is_known strings) xs ≡ true = ap (list_all (is_known strings)) (sym said) ∙ said_known ws origins in
     record {
-      are_of = record { many = length-map xs plain ∙ many; few = omega arith; books = refl };
+      are_of = record { many = length-map xs plain ∙ many; few = omega arith; named = refl };
       short = ap (list_all is_short) said ∙ short;
       few = few;
       fit = fit_plain (number_in strings) (counts_of (tables_of t texts [])) xs (all_within strings xs (small (length strings)) (omega (arith, few)) known few);

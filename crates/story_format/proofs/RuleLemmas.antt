@@ -16,16 +16,17 @@ use Rattle.play_meaning.specs.declared.operand.Use.{Use}
 use Rattle.play_meaning.specs.declared.operand.Use.TheVariants.{Body, Test}
 use Rattle.code_table.specs.Origins.{Asks, Does, Origin, origins_of_rule, use_for}
 use Rattle.story_format.specs.Checks.{codes_named}
-use Rattle.story_format.specs.Holding.{books_of}
-use Rattle.story_format.specs.Layout.{action_layout, aspect_layout, body_layout, book_layout, rule_layout, rules_layout, scene_layout}
+use Rattle.story_format.specs.Holding.{Named, is_of}
+use Rattle.story_format.specs.Layout.{action_layout, body_layout, book_layout, rule_layout, rules_layout, scene_layout}
 use Rattle.story_format.specs.Making.{Worded, described_in, entries_of}
-use Rattle.story_format.specs.RuleChecks.{are_right_books, are_right_rules, are_right_scenes, are_same_actions, code_of_body, codes_in_rule, codes_in_rules, is_right_aspect, is_right_body, is_right_rule, is_right_scene, lists_none, use_in_body, uses_in_rule, uses_in_rules}
-use Rattle.story_format.specs.RuleMaking.{action_entries, book_count, condition_count, condition_number, first_own_book, rule_count, rule_entries, rule_entry, rules_of, scene_entry}
+use Rattle.story_format.specs.RuleChecks.{are_right_books, are_right_rules, are_right_scenes, are_same_actions, code_of_body, codes_in_rule, codes_in_rules, is_number_or_none, is_right_body, is_right_rule, is_right_scene, lists_none, use_in_body, uses_in_rule, uses_in_rules}
+use Rattle.story_format.specs.RuleMaking.{action_entries, book_count, condition_count, condition_number, first_own_book, number_or_none, rule_count, rule_entries, rule_entry, rules_of, scene_entry}
 use Rattle.story_format.specs.Soundness.{are_in_turn}
 use Rattle.story_format.specs.declared.rule_entry.RuleBody.{RuleBody}
 use Rattle.story_format.specs.declared.rule_entry.RuleBody.TheVariants.{Code, Standard, Unknown}
 use Rattle.story_format.specs.declared.rule_entry.RuleEntry.{RuleEntry}
 use Rattle.story_format.specs.declared.rule_tables.Book.{Book}
+use Rattle.story_format.proofs.AboutRules.{IsSmall, aspect_fits, aspect_right, named_of, named_parts, number_fits, number_right}
 use Rattle.story_format.proofs.EntryLemmas.{objects_in}
 use Rattle.story_format.proofs.Known.{or_right}
 use Rattle.story_format.proofs.OrderLemmas.{codes_counted, codes_in_turn}
@@ -151,20 +152,32 @@ condition_right next count (Some condition) lt le =
     let there : ltb next count ≡ true = lt-ltb _ _ (omega (arith, lt)) in
     rw first (or_right (eqb next 65535) (ltb next count) there)
 
-rule_right : (z : Counts) (next : ℕ) (rule : Rule) → rule.book < z.books → next + condition_count rule.condition < z.codes → z.codes ≤ 65535 → is_right_rule z (rule_entry next rule) ≡ true
-unfolding is_right_rule is_right_aspect is_right_body
-rule_right z next rule book lt le =
+rule_right : (z : Counts) (next : ℕ) (rule : Rule) → z.actions ≡ 16 → is_of (named_of z) rule ≡ true → next + condition_count rule.condition < z.codes → z.codes ≤ 65535 → is_right_rule z (rule_entry next rule) ≡ true
+unfolding is_right_rule is_right_body
+rule_right z next rule actions is lt le =
+    let p = named_parts (named_of z) rule is in
     let own : min (next + condition_count rule.condition) 65535 ≡ next + condition_count rule.condition = omega (arith, lt, le) in
-    rw (lt-ltb _ _ book, condition_right next z.codes rule.condition lt le, own, lt-ltb _ _ lt) refl
+    let action : is_number_or_none 255 z.actions (number_or_none rule.action) ≡ true = ap (λ n. is_number_or_none 255 n (number_or_none rule.action)) actions ∙ number_right 16 rule.action p.action in
+    rw (
+      lt-ltb _ _ p.book,
+      action,
+      aspect_right z rule.noun p.noun,
+      aspect_right z rule.second p.second,
+      aspect_right z rule.place p.place,
+      number_right z.scenes rule.scene p.scene,
+      condition_right next z.codes rule.condition lt le,
+      own,
+      lt-ltb _ _ lt,
+    ) refl
 
-pub rules_right : (z : Counts) (rules : List Rule) (next : ℕ) → list_all (is_below z.books) (books_of rules) ≡ true → next + length (origins_in rules) ≤ z.codes → z.codes ≤ 65535 → list_all (is_right_rule z) (rule_entries next rules) ≡ true
+pub rules_right : (z : Counts) (rules : List Rule) (next : ℕ) → z.actions ≡ 16 → list_all (is_of (named_of z)) rules ≡ true → next + length (origins_in rules) ≤ z.codes → z.codes ≤ 65535 → list_all (is_right_rule z) (rule_entries next rules) ≡ true
 unfolding rule_entries
-rules_right z [] next books le few = refl
-rules_right z (rule ∷ rules) next books le few =
+rules_right z [] next actions named le few = refl
+rules_right z (rule ∷ rules) next actions named le few =
     let more = counted_more rule rules in
-    let t = both_are (is_below z.books rule.book) (list_all (is_below z.books) (books_of rules)) books in
+    let t = both_are (is_of (named_of z) rule) (list_all (is_of (named_of z)) rules) named in
     both (is_right_rule z (rule_entry next rule)) (list_all (is_right_rule z) (rule_entries (next + rule_count rule) rules))
-    (rule_right z next rule (ltb-true _ _ t.0) (omega (arith, le, more)) few) (rules_right z rules (next + rule_count rule) t.1 (omega (arith, le, more)) few)
+    (rule_right z next rule actions t.0 (omega (arith, le, more)) few) (rules_right z rules (next + rule_count rule) actions t.1 (omega (arith, le, more)) few)
 
 -- ---- books and scenes
 
@@ -205,15 +218,15 @@ length_entries [] next = refl
 length_entries (rule ∷ rules) next = ap suc (length_entries rules (next + rule_count rule))
 
 -- tables 8 to 12 are right, where there are so many codes and these books
-pub rule_tables_right : (d : Declared) (z : Counts) (rules : List Rule) (next : ℕ) → length d.scenes ≤ 50 → d.rulebooks ≤ 100 → length rules ≤ 2000 → z.books ≡ book_count d → list_all (is_below (book_count d)) (books_of rules) ≡ true
+pub rule_tables_right : (d : Declared) (z : Counts) (rules : List Rule) (next : ℕ) → length d.scenes ≤ 50 → d.rulebooks ≤ 100 → length rules ≤ 2000 → z.actions ≡ 16 → list_all (is_of (named_of z)) rules ≡ true
     → next + length (origins_in rules) ≤ z.codes → z.codes ≤ 65535 → are_right_rules z (rules_of d next rules) ≡ true
 unfolding are_right_rules rules_of
-rule_tables_right d z rules next few_scenes few_own few all books le codes =
+rule_tables_right d z rules next few_scenes few_own few actions named le codes =
     let count : length (map scene_entry d.scenes) ≡ length d.scenes = length-map d.scenes scene_entry in
     let scenes : leb (length (map scene_entry d.scenes)) 50 ≡ true = le-leb _ _ (omega (arith, count, few_scenes)) in
     let own_books : are_right_books (length (map scene_entry d.scenes)) (replicate (book_count d) empty_book) ≡ true = ap (λ n. are_right_books n (replicate (book_count d) empty_book)) count ∙ books_right (length d.scenes) d.rulebooks few_own in
     let few_entries : leb (length (rule_entries next rules)) 2000 ≡ true = le-leb _ _ (omega (arith, length_entries rules next, few)) in
-    rw (scenes, each_scene_right d.scenes, own_books, actions_same, few_entries) (rules_right z rules next (ap (λ n. list_all (is_below n) (books_of rules)) all ∙ books) le codes)
+    rw (scenes, each_scene_right d.scenes, own_books, actions_same, few_entries) (rules_right z rules next actions named le codes)
 
 -- ---- there is room for each in its bytes
 
@@ -229,19 +242,28 @@ condition_fits : (next : ℕ) (c : Option Condition) → ltb (condition_number n
 condition_fits next None = refl
 condition_fits next (Some condition) = lt-ltb _ _ (omega arith)
 
-rule_fits : (next : ℕ) (rule : Rule) → rule.book < 65536 → rule_layout.format.fits (rule_entry next rule) ≡ true
-unfolding rule_layout aspect_layout body_layout
-rule_fits next rule lt =
+rule_fits : (z : Named) (next : ℕ) (rule : Rule) → IsSmall z → is_of z rule ≡ true → rule_layout.format.fits (rule_entry next rule) ≡ true
+unfolding rule_layout body_layout
+rule_fits z next rule small is =
+    let p = named_parts z rule is in
     let own : ltb (min (next + condition_count rule.condition) 65535) 65536 ≡ true = lt-ltb _ _ (omega arith) in
-    rw (lt-ltb _ _ lt, condition_fits next rule.condition, own) refl
+    rw (
+      lt-ltb rule.book 65536 (omega (arith, p.book, small.books)),
+      number_fits 16 rule.action (omega arith) p.action,
+      aspect_fits z rule.noun small p.noun,
+      aspect_fits z rule.second small p.second,
+      aspect_fits z rule.place small p.place,
+      number_fits z.scenes rule.scene small.scenes p.scene,
+      condition_fits next rule.condition,
+      own,
+    ) refl
 
-rules_fit : (rules : List Rule) (next count : ℕ) → count ≤ 65536 → list_all (is_below count) (books_of rules) ≡ true → list_all rule_layout.format.fits (rule_entries next rules) ≡ true
+rules_fit : (z : Named) (rules : List Rule) (next : ℕ) → IsSmall z → list_all (is_of z) rules ≡ true → list_all rule_layout.format.fits (rule_entries next rules) ≡ true
 unfolding rule_entries
-rules_fit [] next count le books = refl
-rules_fit (rule ∷ rules) next count le books =
-    let t = both_are (is_below count rule.book) (list_all (is_below count) (books_of rules)) books in
-    let low : rule.book < count = ltb-true _ _ t.0 in
-    both (rule_layout.format.fits (rule_entry next rule)) (list_all rule_layout.format.fits (rule_entries (next + rule_count rule) rules)) (rule_fits next rule (omega (arith, low, le))) (rules_fit rules (next + rule_count rule) count le t.1)
+rules_fit z [] next small named = refl
+rules_fit z (rule ∷ rules) next small named =
+    let t = both_are (is_of z rule) (list_all (is_of z) rules) named in
+    both (rule_layout.format.fits (rule_entry next rule)) (list_all rule_layout.format.fits (rule_entries (next + rule_count rule) rules)) (rule_fits z next rule small t.0) (rules_fit z rules (next + rule_count rule) small t.1)
 
 scene_fits : (recurs : Bool) → scene_layout.format.fits (scene_entry recurs) ≡ true
 unfolding scene_layout
@@ -256,10 +278,10 @@ book_fits : book_layout.format.fits empty_book ≡ true
 unfolding book_layout
 book_fits = refl
 
-pub rule_tables_fit : (d : Declared) (rules : List Rule) (next : ℕ) → length d.scenes ≤ 50 → d.rulebooks ≤ 100 → length rules ≤ 2000 → list_all (is_below (book_count d)) (books_of rules) ≡ true → rules_layout.format.fits (rules_of d next rules) ≡ true
+pub rule_tables_fit : (d : Declared) (z : Named) (rules : List Rule) (next : ℕ) → length d.scenes ≤ 50 → d.rulebooks ≤ 100 → length rules ≤ 2000 → IsSmall z → list_all (is_of z) rules ≡ true → rules_layout.format.fits (rules_of d next rules) ≡ true
 unfolding rules_layout rules_of
-rule_tables_fit d rules next few_scenes few_own few books =
+rule_tables_fit d z rules next few_scenes few_own few small named =
     let scene_count : ltb (length (map scene_entry d.scenes)) 65536 ≡ true = lt-ltb _ _ (omega (arith, length-map d.scenes scene_entry, few_scenes)) in
     let all : ltb (length (replicate (book_count d) empty_book)) 65536 ≡ true = lt-ltb _ _ (omega (arith, length_replicated empty_book (book_count d), few_scenes, few_own)) in
     let rule_few : ltb (length (rule_entries next rules)) 65536 ≡ true = lt-ltb _ _ (omega (arith, length_entries rules next, few)) in
-    rw (action_count, actions_fit, rule_few, rules_fit rules next (book_count d) (omega (arith, few_scenes, few_own)) books, all, replicated book_layout.format.fits empty_book (book_count d) book_fits, scene_count) (scenes_fit d.scenes)
+    rw (action_count, actions_fit, rule_few, rules_fit z rules next small named, all, replicated book_layout.format.fits empty_book (book_count d) book_fits, scene_count) (scenes_fit d.scenes)

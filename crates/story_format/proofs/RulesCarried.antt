@@ -1,7 +1,7 @@
--- The codes of a tale's rules answer their conditions and do their bodies.
+-- A tale's rules are about what their entries say, and their codes answer their conditions and do their bodies.
 use Rattle.std.proofs.Common.{◌≡◌, ◌∙◌, ap, sym, refl, ℕ, zero, suc, ◌+◌, ◌<◌, ◌≤◌, false, eqb, List, [], ◌∷◌, ◌++◌, length, Option, Some, None, append_assoc, length-append, arith}
 use Rattle.std.specs.Prelude.{min, slice_get}
-use Rattle.std.specs.List.{AllByRecursion, AllZip}
+use Rattle.std.specs.List.{AllByRecursion, AllZip, list_all}
 use Rattle.std.proofs.lemmas.Bool.{ne_eqb}
 use Rattle.play_meaning.specs.Codes.{Codes, RunsTo, test_of}
 use Rattle.play_meaning.specs.Doing.{Inner, do_body}
@@ -19,8 +19,11 @@ use Rattle.code_table.specs.Origins.{Asks, Does, Origin, origins_of_rule, string
 use Rattle.code_table.proofs.Said.{body_done, condition_answered}
 use Rattle.story_format.specs.Carrying.{CarriesRule, IsAnsweredBy, IsDoneBy, code_if_some}
 use Rattle.story_format.specs.Facts.{text_at}
+use Rattle.story_format.specs.Holding.{Named, is_of}
 use Rattle.story_format.specs.RuleMaking.{condition_count, condition_number, rule_count, rule_entries, rule_entry}
 use Rattle.story_format.specs.declared.rule_entry.RuleBody.TheVariants.{Code}
+use Rattle.world_meaning.proofs.Bools.{both_are}
+use Rattle.story_format.proofs.AboutRules.{IsSmall, rule_about}
 use Rattle.story_format.proofs.RuleLemmas.{counted, counted_more, origins_in}
 use Rattle.story_format.proofs.StoryLemmas.{behind_there}
 
@@ -51,12 +54,13 @@ done_so c n body lt f = let own : min n 65535 ≡ n = omega (arith, lt) in rw ow
 -- ---- all of them
 
 module _ (z : Counts) (c : Codes) (string : List ℕ → ℕ) (origins : List Origin) (fit : AllFit z string origins) (codes : c.codes ≡ codes_of_origins string origins)
-    (strings : (n : ℕ) (origin : Origin) → slice_get origins n ≡ Some origin → AllByRecursion (λ bytes. text_at c.strings (string bytes) ≡ bytes) (strings_of_origin origin)) where
-  one_carried : (front : List Origin) (rule : Rule) (more : List Origin) → origins ≡ front ++ (origins_of_rule rule ++ more) → length front + condition_count rule.condition < 65535 → CarriesRule c (rule_entry (length front) rule) rule
-  one_carried front rule more parts lt = record {
+    (strings : (n : ℕ) (origin : Origin) → slice_get origins n ≡ Some origin → AllByRecursion (λ bytes. text_at c.strings (string bytes) ≡ bytes) (strings_of_origin origin))
+    (named : Named) (small : IsSmall named) where
+  one_carried : (front : List Origin) (rule : Rule) (more : List Origin) → is_of named rule ≡ true → origins ≡ front ++ (origins_of_rule rule ++ more) → length front + condition_count rule.condition < 65535 → CarriesRule c (rule_entry (length front) rule) rule
+  one_carried front rule more is parts lt = record {
     book = refl;
-    bare = record { action = refl; noun = refl; second = refl; place = refl; scene = refl };
-    condition = answered_so c (length front) rule.condition lt (λ condition is t now w. condition_answered string z c origins (length front) condition t now w fit codes (first condition is));
+    about = rule_about named (length front) rule small is;
+    condition = answered_so c (length front) rule.condition lt (λ condition asked t now w. condition_answered string z c origins (length front) condition t now w fit codes (first condition asked));
     body =
         let n = length front + condition_count rule.condition in
         done_so c n rule.body lt (λ t inner now p. body_done string z c origins n rule.body t inner now p fit codes own (strings n (Does rule.body) own));
@@ -71,14 +75,15 @@ module _ (z : Counts) (c : Codes) (string : List ℕ → ℕ) (origins : List Or
           ap (λ os. slice_get os (length front)) parts ∙ ap (slice_get (front ++ (origins_of_rule rule ++ more))) place
           ∙ behind_there front (origins_of_rule rule ++ more) 0 (Asks condition) (condition_first rule more condition is)
 
-  pub rules_carried : (rules : List Rule) (front : List Origin) (next : ℕ) → next ≡ length front → origins ≡ front ++ origins_in rules → next + length (origins_in rules) ≤ 65535 → AllZip (CarriesRule c) (rule_entries next rules) rules
+  pub rules_carried : (rules : List Rule) (front : List Origin) (next : ℕ) → list_all (is_of named) rules ≡ true → next ≡ length front → origins ≡ front ++ origins_in rules → next + length (origins_in rules) ≤ 65535 → AllZip (CarriesRule c) (rule_entries next rules) rules
   unfolding rule_entries
-  rules_carried [] front next is parts le = tt
-  rules_carried (rule ∷ rules) front next is parts le =
+  rules_carried [] front next all is parts le = tt
+  rules_carried (rule ∷ rules) front next all is parts le =
+      let named_here = both_are (is_of named rule) (list_all (is_of named) rules) all in
       let more = counted_more rule rules in
       let later : next + rule_count rule ≡ length (front ++ origins_of_rule rule) = omega (arith, is, length-append front (origins_of_rule rule), counted rule) in
-      let here = one_carried front rule (origins_in rules) parts (omega (arith, is, le, more)) in
-      (ap_rule here, rules_carried rules (front ++ origins_of_rule rule) (next + rule_count rule) later (parts ∙ sym (append_assoc front (origins_of_rule rule) (origins_in rules))) (omega (arith, le, more)))
+      let here = one_carried front rule (origins_in rules) named_here.0 parts (omega (arith, is, le, more)) in
+      (ap_rule here, rules_carried rules (front ++ origins_of_rule rule) (next + rule_count rule) named_here.1 later (parts ∙ sym (append_assoc front (origins_of_rule rule) (origins_in rules))) (omega (arith, le, more)))
     where
       ap_rule : CarriesRule c (rule_entry (length front) rule) rule → CarriesRule c (rule_entry next rule) rule
       ap_rule h = rw is h

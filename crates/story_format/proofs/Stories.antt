@@ -34,9 +34,9 @@ tale_is_story t texts rules held said =
     let of = said.are_of in
     let few = bytes_few strings origins said.said in
     let enough : described_in ws + length (origins_in rules) ≤ length (code_bytes strings origins) = omega (arith, origins_counted texts rules, of.many, described_back t, bytes_enough strings origins) in
-    let right = tables_right t.declared t.objects rules origins held.made held.texts held.words of.few of.books said.few few enough in
+    let right = tables_right t.declared t.objects rules origins held.made held.texts held.words of.few of.named said.few few enough in
     record {
-      fits = tables_fit t.declared t.objects rules origins held.made held.texts held.words of.few of.books said.few said.short few (bytes_short strings origins said.said);
+      fits = tables_fit t.declared t.objects rules origins held.made held.texts held.words of.few of.named said.few said.short few (bytes_short strings origins said.said);
       right = right;
       sound = tables_sound t.declared ws texts rules said.few (few_objects t held) (of.many ∙ sym (described_back t)) said.fit said.said;
       ordered = right_ordered (tables_of t texts rules) right;

@@ -1,11 +1,11 @@
 -- The tables of a tale are right.
 use Rattle.std.proofs.Common.{◌≡◌, ℕ, zero, suc, ◌+◌, ◌<◌, ◌≤◌, Bool, true, false, not, ◌&&◌, ◌||◌, ltb, leb, eqb, List, [], ◌∷◌, ◌++◌, length, map, take, drop, Option, Some, None, refl, sym, ap, ◌∙◌, arith, inl, inr}
-use Rattle.std.specs.Prelude.{min, is_none, codes, count_by, slice_get}
+use Rattle.std.specs.Prelude.{min, is_none, codes, count_by, replicate, slice_get}
 use Rattle.std.specs.List.{list_any, list_all, flat_map}
 use Rattle.std.specs.Str.{bytes_eq}
 use Rattle.std.specs.Option.{option_map}
 use Rattle.std.proofs.lemmas.Bool.{lt-ltb, eq-eqb, ne_eqb, le-leb}
-use Rattle.std.proofs.lemmas.List.{take-map}
+use Rattle.std.proofs.lemmas.List.{length-map, take-map}
 use Rattle.std.proofs.lemmas.Option.{slice_get-map, get_or_from_slice_get}
 use Rattle.std.proofs.lemmas.Slice.Eq.{bytes_eq-Decides}
 use Rattle.world_meaning.proofs.Bools.{both, both_are, either}
@@ -34,8 +34,8 @@ use Rattle.story_format.specs.declared.tables.Entry.{Entry}
 use Rattle.story_format.specs.Making.{Worded, worded_at, worded_from, worded, code_bytes, code_count, codes_in, described_in, entry_strings, strings_of, strings_said, article_number, relation_number, place_relation, place_holder, code_number, entry_of, entries_of, ways_of, tables_with, world_of}
 use Rattle.story_format.specs.Counts.{counts_of}
 use Rattle.story_format.specs.RuleChecks.{are_right_rules}
-use Rattle.story_format.specs.RuleMaking.{book_count, rules_of}
-use Rattle.story_format.specs.Holding.{books_of, has_few_words, has_short_texts, is_short, is_short_or_none}
+use Rattle.story_format.specs.RuleMaking.{action_entries, book_count, rules_of, scene_entry}
+use Rattle.story_format.specs.Holding.{is_of, named_by, has_few_words, has_short_texts, is_short, is_short_or_none}
 use Rattle.story_format.specs.Sizes.{are_different, is_right_entry}
 use Rattle.story_format.specs.Placed.{is_room_entry, kinds_in, places_in}
 use Rattle.story_format.specs.Checks.{are_named_in_order, heads_named, is_named, begin_with, has_words, have_words, is_small, is_small_at, has_small_words, is_player_entry, is_direction_entry, are_direction_entries, are_in_place, are_right_objects, are_right_ways, is_right_frame, stand_rightly, are_right}
@@ -44,7 +44,9 @@ use Rattle.story_format.proofs.EntryLemmas.{kinds_back, objects_back, objects_in
 use Rattle.story_format.proofs.Known.{or_right, text_is_itself, found_by_number, is_known, texts_known, any_left, any_right, fold_finds}
 use Rattle.story_format.proofs.OrderLemmas.{at_most_one, in_turn_in_order, strings_distinct, strings_in_order}
 use Rattle.story_format.proofs.RuleLemmas.{empty_book, heads_by, heads_in_turn, length_replicated, origins_in, rule_tables_right}
-use Rattle.story_format.proofs.DeclaredLemmas.{all_suit, declared_parts, world_right}
+use Rattle.story_format.proofs.DeclaredLemmas.{all_suit, declared_parts, few_grants, few_kinds, world_right}
+use Rattle.play_meaning.specs.StandardActions.{standard_needs}
+use Rattle.story_format.proofs.AboutRules.{named_of}
 use Rattle.story_format.proofs.WordFacts.{differ, is_good, words_differ, words_good}
 
 -- ---- each entry is plain
@@ -318,6 +320,20 @@ module _ (d : Declared) (ws : List Worded) (rules : List Rule) (said : List Orig
   unfolding counts_of tables_with rules_of
   books_counted few few_own = omega (arith, length_replicated empty_book (book_count d), few, few_own)
 
+  actions_counted : (counts_of (tables_with d ws rules said)).actions ≡ 16
+  unfolding counts_of tables_with rules_of action_entries standard_needs
+  actions_counted = refl
+
+  names_counted : (objects : ℕ) → length ws ≡ objects → objects ≤ 1000 → length d.kinds ≤ 100 → length d.flags ≤ 100 → length d.scenes ≤ 50 → d.rulebooks ≤ 100 → named_of (counts_of (tables_with d ws rules said)) ≡ named_by d objects
+  unfolding counts_of tables_with rules_of world_of
+  names_counted objects count few_objects few_of_kinds few_of_flags few_scenes few_own =
+      let of_objects : min (length (entries_of (strings_of ws said) 0 ws)) 65535 ≡ objects = omega (arith, entries_counted (strings_of ws said) 0 ws, count, few_objects) in
+      let of_kinds : min (length d.kinds) 65535 ≡ length d.kinds = omega (arith, few_of_kinds) in
+      let of_flags : min (length d.flags) 65535 ≡ length d.flags = omega (arith, few_of_flags) in
+      let of_scenes : min (length (map scene_entry d.scenes)) 65535 ≡ length d.scenes = omega (arith, length-map d.scenes scene_entry, few_scenes) in
+      let of_books : min (length (replicate (book_count d) empty_book)) 65535 ≡ book_count d = omega (arith, length_replicated empty_book (book_count d), few_scenes, few_own) in
+      λ i. record { books = of_books i; objects = of_objects i; kinds = of_kinds i; flags = of_flags i; scenes = of_scenes i }
+
   codes_counted : length (code_bytes (strings_of ws said) said) < 65536 → (counts_of (tables_with d ws rules said)).codes ≡ length (code_bytes (strings_of ws said) said)
   unfolding counts_of tables_with
   codes_counted few = omega (arith, few)
@@ -331,10 +347,10 @@ module _ (d : Declared) (ws : List Worded) (rules : List Rule) (said : List Orig
   heads_told h = h
 
 pub tables_right : (d : Declared) (objects : List Object) (rules : List Rule) (said : List Origin) → IsWellMade (record { declared = d; objects = objects }) → list_all has_short_texts objects ≡ true → list_all has_few_words (worded objects) ≡ true
-    → length rules ≤ 2000 → list_all (is_below (book_count d)) (books_of rules) ≡ true → length (strings_of (worded objects) said) < 65535 → length (code_bytes (strings_of (worded objects) said) said) < 65536
+    → length rules ≤ 2000 → list_all (is_of (named_by d (length objects))) rules ≡ true → length (strings_of (worded objects) said) < 65535 → length (code_bytes (strings_of (worded objects) said) said) < 65536
     → described_in (worded objects) + length (origins_in rules) ≤ length (code_bytes (strings_of (worded objects) said) said) → are_right (tables_with d (worded objects) rules said) ≡ true
 unfolding are_right is_right_frame are_right_objects stand_rightly are_right_ways tables_with
-tables_right d objects rules said made texts few_words few_rules books few few_codes enough =
+tables_right d objects rules said made texts few_words few_rules named few few_codes enough =
     let ws = worded objects in
     let strings = strings_of ws said in
     let back : objects_in ws ≡ objects = objects_back 0 objects in
@@ -346,7 +362,7 @@ tables_right d objects rules said made texts few_words few_rules books few few_c
     let declared = declared_parts d made.declared in
     let all_codes = codes_counted d ws rules said few_codes in
     let rules_so : are_right_rules z (rules_of d (described_in ws) rules) ≡ true =
-    rule_tables_right d z rules (described_in ws) declared.scenes declared.rulebooks few_rules (books_counted d ws rules said declared.scenes declared.rulebooks) books (omega (arith, enough, all_codes)) (omega (arith, few_codes, all_codes)) in
+    rule_tables_right d z rules (described_in ws) declared.scenes declared.rulebooks few_rules (actions_counted d ws rules said) (ap (λ n. list_all (is_of n) rules) (names_counted d ws rules said (length objects) count few_objects (few_kinds d.kinds declared.kinds) (few_grants (length d.kinds) d.flags declared.flags) declared.scenes declared.rulebooks) ∙ named) (omega (arith, enough, all_codes)) (omega (arith, few_codes, all_codes)) in
     let order : are_named_in_order 0 (heads_named (tables_with d ws rules said)) ≡ true =
     heads_told d ws rules said (in_turn_in_order (heads_by strings ws rules) 0 (heads_in_turn strings ws rules (omega (arith, few_objects, count)) (omega (arith, enough, few_codes)))) in
     let entry_count : leb (length (entries_of strings 0 ws)) 1000 ≡ true = le-leb _ _ (omega (arith, few_objects, count, entries_counted strings 0 ws)) in

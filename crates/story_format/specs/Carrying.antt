@@ -1,23 +1,26 @@
 -- Tables that carry a tale: they say of each object's name, words and ways, and of the start, what the tale says; its
--- description's code says its text; and its rules' codes answer their conditions and do their bodies.
-use Rattle.std.specs.Prelude.{◌≡◌, ℕ, [], is_some, length, List, Option, None, Some, if◌then◌else◌, ◌==◌}
+-- description's code says its text; and its rules are about the same, and their codes answer their conditions and do their
+-- bodies.
+use Rattle.std.specs.Prelude.{◌≡◌, ℕ, [], is_some, length, map, List, Option, None, Some, if◌then◌else◌, ◌==◌}
 use Rattle.std.specs.List.{AllZip}
 use Rattle.play_meaning.specs.Codes.{Codes, RunsTo, test_of}
 use Rattle.play_meaning.specs.Doing.{Inner, do_body}
 use Rattle.play_meaning.specs.Grounds.{said_by_code}
 use Rattle.play_meaning.specs.Progress.{Progress}
-use Rattle.play_meaning.specs.Rules.{Rule}
+use Rattle.play_meaning.specs.Rules.{Anything, Aspect, Exactly, OfKind, Rule}
 use Rattle.play_meaning.specs.Saying.{Telling}
 use Rattle.play_meaning.specs.Scripts.{says, scope_of, undescribed}
 use Rattle.play_meaning.specs.Settings.{Setting}
-use Rattle.play_meaning.specs.Trees.{Body, Condition, Text}
+use Rattle.play_meaning.specs.Trees.{Adjective, Body, Condition, First, NotSo, Quality, Second, Text}
 use Rattle.play_meaning.specs.Truth.{truth_in}
 use Rattle.play_meaning.specs.Worlds.{World}
 use Rattle.play_meaning.specs.declared.action.ActionNow.{ActionNow}
 use Rattle.world_meaning.specs.Tale.{description_of as told_description, name_of as told_name, start_of as told_start, way_of as told_way}
 use Rattle.world_meaning.specs.declared.tale.Tale.{Tale}
 use Rattle.object_words.specs.Words.{words_of as told_words}
-use Rattle.story_format.specs.declared.rule_entry.Aspect.TheVariants.{Anything}
+use Rattle.story_format.specs.declared.rule_entry.Aspect.{Aspect as Asked}
+use Rattle.story_format.specs.declared.rule_entry.Aspect.TheVariants as aspects
+use Rattle.story_format.specs.declared.rule_entry.PropertySide.{PropertySide}
 use Rattle.story_format.specs.declared.rule_entry.RuleBody.{RuleBody}
 use Rattle.story_format.specs.declared.rule_entry.RuleBody.TheVariants.{Code}
 use Rattle.story_format.specs.declared.rule_entry.RuleEntry.{RuleEntry}
@@ -43,17 +46,31 @@ IsDoneBy c _ body = ⊥
 abbrev pub code_if_some : ℕ → Option ℕ
 code_if_some n = if n == 65535 then None else Some n
 
--- about nothing but its condition
-pub record IsBare (r : RuleEntry) : Type 0 where
-  pub action : r.action ≡ 255
-  pub noun : r.noun ≡ Anything
-  pub second : r.second ≡ Anything
-  pub place : r.place ≡ Anything
-  pub scene : r.scene ≡ 255
+abbrev pub number_if_some : ℕ → Option ℕ
+number_if_some n = if n == 255 then None else Some n
+
+-- an entry asks of a noun or of the place what a rule does
+abbrev pub asked_by : PropertySide → Option Adjective
+asked_by side = if side.side == 1 then Some (Quality side.property First) else (if side.side == 0 then Some (Quality side.property Second)
+    else (if side.side == 3 then Some (NotSo (Quality side.property First)) else (if side.side == 2 then Some (NotSo (Quality side.property Second)) else None)))
+
+abbrev pub AsksSo : Asked → Aspect → Type 0
+AsksSo aspects.Anything Anything = Unit {0}
+AsksSo (aspects.Object n) (Exactly o) = n ≡ o
+AsksSo (aspects.Kind k) (OfKind kind adjectives) = (k.kind ≡ kind) × (map asked_by k.properties ≡ map Some adjectives)
+AsksSo _ _ = ⊥
+
+-- what the rule is about, its condition aside
+pub record IsAbout (r : RuleEntry) (rule : Rule) : Type 0 where
+  pub action : number_if_some r.action ≡ rule.action
+  pub noun : AsksSo r.noun rule.noun
+  pub second : AsksSo r.second rule.second
+  pub place : AsksSo r.place rule.place
+  pub scene : number_if_some r.scene ≡ rule.scene
 
 pub record CarriesRule (c : Codes) (r : RuleEntry) (rule : Rule) : Type 0 where
   pub book : r.book ≡ rule.book
-  pub bare : IsBare r
+  pub about : IsAbout r rule
   pub condition : IsAnsweredBy c (code_if_some r.condition) rule.condition
   pub body : IsDoneBy c r.body rule.body
 

@@ -1,13 +1,13 @@
 -- The tales that a story file holds, and the texts and rules that it says of them.
-use Rattle.std.specs.Prelude.{◌≡◌, ◌<◌, ◌≤◌, ℕ, Bool, true, ◌&&◌, nat_lt, nat_le, List, [], length, map, Option, Some, None}
+use Rattle.std.specs.Prelude.{◌≡◌, ◌<◌, ◌≤◌, ℕ, Bool, true, false, ◌&&◌, nat_lt, nat_le, List, [], length, map, Option, Some, None}
 use Rattle.std.specs.List.{list_all}
-use Rattle.world_meaning.specs.Declarations.{is_below}
 use Rattle.world_meaning.specs.WellMade.{IsWellMade}
+use Rattle.world_meaning.specs.declared.declared.Declared.{Declared}
 use Rattle.world_meaning.specs.declared.tale.Object.{Object}
 use Rattle.world_meaning.specs.declared.tale.Tale.{Tale}
 use Rattle.object_words.specs.Mentions.{number_in}
-use Rattle.play_meaning.specs.Rules.{Rule}
-use Rattle.play_meaning.specs.Trees.{Text}
+use Rattle.play_meaning.specs.Rules.{Anything, Aspect, Exactly, OfKind, Rule}
+use Rattle.play_meaning.specs.Trees.{Adjective, NotSo, Quality, Text}
 use Rattle.play_meaning.specs.StandardRules.{plain}
 use Rattle.code_table.specs.Emitted.{AllFit, CanBeSaid, IsLongRule, IsLongText, codes_of_origins}
 use Rattle.code_table.specs.Origins.{Origin, origins_of}
@@ -38,14 +38,47 @@ pub record IsHeld (t : Tale) : Type 0 where
   pub texts : list_all has_short_texts t.objects ≡ true
   pub words : list_all has_few_words (worded t.objects) ≡ true
 
-abbrev pub books_of : List Rule → List ℕ
-books_of rules = map (λ rule. rule.book) rules
+-- how many there are of what rules are about
+pub record Named : Type 0 where
+  pub books : ℕ
+  pub objects : ℕ
+  pub kinds : ℕ
+  pub flags : ℕ
+  pub scenes : ℕ
 
--- What may be said of a tale: a text of each description, and rules, 2,000 at most, each in a book that there is.
+abbrev pub named_by : Declared → ℕ → Named
+named_by d objects = record { books = book_count d; objects = objects; kinds = length d.kinds; flags = length d.flags; scenes = length d.scenes }
+
+abbrev pub named_in : Tale → Named
+named_in t = named_by t.declared (length t.objects)
+
+-- one of so many, if there is one
+abbrev pub is_there : ℕ → Option ℕ → Bool
+is_there count None = true
+is_there count (Some n) = nat_lt n count
+
+-- an either-or property, perhaps denied
+abbrev pub is_property : ℕ → Adjective → Bool
+is_property flags (Quality p side) = nat_lt p flags
+is_property flags (NotSo (Quality p side)) = nat_lt p flags
+is_property flags _ = false
+
+-- no more than nine adjectives
+abbrev pub is_asked : Named → Aspect → Bool
+is_asked z Anything = true
+is_asked z (Exactly o) = nat_lt o z.objects
+is_asked z (OfKind kind adjectives) = nat_lt kind z.kinds && (nat_le (length adjectives) 9 && list_all (is_property z.flags) adjectives)
+
+-- a rule of a book that there is, about what is there
+unfoldable pub is_of : Named → Rule → Bool
+is_of z rule =
+    nat_lt rule.book z.books && is_there 16 rule.action && is_asked z rule.noun && is_asked z rule.second && is_asked z rule.place && is_there z.scenes rule.scene
+
+-- What may be said of a tale: a text of each description, and rules, 2,000 at most.
 pub record AreOf (t : Tale) (texts : List Text) (rules : List Rule) : Type 0 where
   pub many : length texts ≡ codes_in t.objects
   pub few : length rules ≤ 2000
-  pub books : list_all (is_below (book_count t.declared)) (books_of rules) ≡ true
+  pub named : list_all (is_of (named_in t)) rules ≡ true
 
 abbrev pub strings_in : Tale → List Origin → List (List ℕ)
 strings_in t origins = strings_of (worded t.objects) origins

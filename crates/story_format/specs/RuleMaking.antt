@@ -1,14 +1,17 @@
--- The rule tables of a tale: the sixteen actions, its rules with the numbers of their codes, its books without their rules, its
--- scenes without what begins or ends them.
+-- The rule tables of a tale: the sixteen actions, its rules with what they are about and the numbers of their codes, its books
+-- without their rules, its scenes without what begins or ends them.
 use Rattle.std.specs.Prelude.{ℕ, ◌+◌, ◌*◌, Bool, true, false, List, [], ◌∷◌, length, map, min, replicate, Option, None, Some, if◌then◌else◌}
 use Rattle.world_meaning.specs.declared.declared.Declared.{Declared}
-use Rattle.play_meaning.specs.Rules.{Rule}
+use Rattle.play_meaning.specs.Rules.{Anything, Aspect, Exactly, OfKind, Rule}
 use Rattle.play_meaning.specs.StandardActions.{standard_needs}
+use Rattle.play_meaning.specs.Trees as tree
 use Rattle.play_meaning.specs.Trees.{Condition}
 use Rattle.play_meaning.specs.declared.action.Needs.{Needs}
 use Rattle.play_meaning.specs.declared.action.Slot.{Slot}
 use Rattle.play_meaning.specs.declared.action.Slot.TheVariants.{Absent, Visible, Touched, Carried}
+use Rattle.story_format.specs.declared.rule_entry.Aspect.{Aspect as Asked}
 use Rattle.story_format.specs.declared.rule_entry.Aspect.TheVariants as aspects
+use Rattle.story_format.specs.declared.rule_entry.PropertySide.{PropertySide}
 use Rattle.story_format.specs.declared.rule_entry.RuleBody.TheVariants as bodies
 use Rattle.story_format.specs.declared.rule_entry.RuleEntry.{RuleEntry}
 use Rattle.story_format.specs.declared.rule_tables.ActionEntry.{ActionEntry}
@@ -56,15 +59,32 @@ abbrev pub condition_number : ℕ → Option Condition → ℕ
 condition_number next None = 65535
 condition_number next (Some condition) = min next 65535
 
--- it is about nothing but its condition
+-- the number of an action or of a scene, if one is asked for
+abbrev pub number_or_none : Option ℕ → ℕ
+number_or_none None = 255
+number_or_none (Some n) = n
+
+-- which name of a property is asked, and whether it is denied; 4 where a story file can't say it
+abbrev pub side_of : tree.Adjective → PropertySide
+side_of (tree.Quality p tree.First) = record { property = p; side = 1 }
+side_of (tree.Quality p tree.Second) = record { property = p; side = 0 }
+side_of (tree.NotSo (tree.Quality p tree.First)) = record { property = p; side = 3 }
+side_of (tree.NotSo (tree.Quality p tree.Second)) = record { property = p; side = 2 }
+side_of _ = record { property = 0; side = 4 }
+
+abbrev pub aspect_entry : Aspect → Asked
+aspect_entry Anything = aspects.Anything
+aspect_entry (Exactly o) = aspects.Object o
+aspect_entry (OfKind kind adjectives) = aspects.Kind (record { kind = kind; properties = map side_of adjectives })
+
 abbrev pub rule_entry : ℕ → Rule → RuleEntry
 rule_entry next rule = record {
   book = rule.book;
-  action = 255;
-  noun = aspects.Anything;
-  second = aspects.Anything;
-  place = aspects.Anything;
-  scene = 255;
+  action = number_or_none rule.action;
+  noun = aspect_entry rule.noun;
+  second = aspect_entry rule.second;
+  place = aspect_entry rule.place;
+  scene = number_or_none rule.scene;
   condition = condition_number next rule.condition;
   body = bodies.Code (min (next + condition_count rule.condition) 65535);
 }

@@ -1,16 +1,18 @@
 //! The rule tables of a tale.
 ghost use Rattle.std.specs.Prelude.{◌≡◌, ◌≤◌, [], IfOk, length, map, min, replicate};
-ghost use Rattle.play_meaning.specs.Patterns.{rule_meant};
-ghost use Rattle.story_format.specs.RuleMaking.{book_count, condition_number, rule_count, rule_entries, rule_entry, rules_of, scene_entry};
+ghost use Rattle.play_meaning.specs.Meant.{adjective_meant};
+ghost use Rattle.play_meaning.specs.Patterns.{aspect_meant, rule_meant};
+ghost use Rattle.story_format.specs.RuleMaking.{aspect_entry, book_count, condition_number, number_or_none, rule_count, rule_entries, rule_entry, rules_of, scene_entry, side_of};
 
 use crate::actions::{action_entries, mark_if};
 use crate::place::NONE;
-use crate::rule_entry::{Aspect, RuleBody, RuleEntry};
+use crate::rule_entry::{Aspect, KindAspect, PropertySide, RuleBody, RuleEntry};
 use crate::rule_tables::{Book, RuleTables, SceneEntry};
 use crate::table::Table;
-use play_meaning::tree::MeantRule;
+use play_meaning::ActNo;
+use play_meaning::tree::{self, Adjective, MeantRule, Quality, Side};
 use std::alloc::{AllocError, Global};
-use world_meaning::Declared;
+use world_meaning::{Declared, Listed};
 
 /// A number as two bytes say it.
 fn small(number: usize) -> u16
@@ -38,21 +40,75 @@ fn rule_count(rule: &MeantRule) -> usize
     }
 }
 
-/// The entry of a rule whose first code has this number.
-fn rule_entry(next: usize, rule: &MeantRule) -> RuleEntry
-    requires { next ≤ 5000 }
-    ensures { result ≡ rule_entry next (rule_meant rule.now) }
+/// The number of an action or of a scene, if one is asked for.
+fn number_or_none(number: Option<u8>) -> u8
+    ensures { result ≡ number_or_none number }
 {
-    RuleEntry {
+    number.unwrap_or(255)
+}
+
+/// Which name of a property is asked, and whether it is denied; side 4 where a story file can't say it.
+fn side_of(adjective: Adjective) -> PropertySide
+    ensures { result ≡ side_of (adjective_meant adjective) }
+{
+    match adjective.quality {
+        Quality::Is(property, Side::First) => PropertySide {
+            property,
+            side: if adjective.denied { 3 } else { 1 },
+        },
+        Quality::Is(property, Side::Second) => PropertySide {
+            property,
+            side: if adjective.denied { 2 } else { 0 },
+        },
+        Quality::Visible | Quality::Touchable => PropertySide {
+            property: 0,
+            side: 4,
+        },
+    }
+}
+
+fn sides_of(alloc: Global, adjectives: &[Adjective]) -> Result<Listed<PropertySide>, AllocError>
+    ensures { IfOk result (λ sides. sides ≡ map side_of (map adjective_meant adjectives.now)) }
+{
+    let mut sides = Vec::new(alloc);
+    let mut rest = adjectives;
+    while let [adjective, after @ ..] = rest {
+        sides.push(side_of(*adjective))?;
+        rest = after;
+    }
+    Ok(Listed::new(sides))
+}
+
+/// What a rule asks of a noun or of the place, as its entry says it.
+fn aspect_entry(alloc: Global, aspect: &tree::Aspect) -> Result<Aspect, AllocError>
+    ensures { IfOk result (λ entry. entry ≡ aspect_entry (aspect_meant aspect.now)) }
+{
+    match aspect {
+        tree::Aspect::Anything => Ok(Aspect::Anything),
+        tree::Aspect::Exactly(object) => Ok(Aspect::Object(object.get())),
+        tree::Aspect::OfKind(kind, adjectives) => Ok(Aspect::Kind(KindAspect {
+            kind: kind.get(),
+            properties: sides_of(alloc, adjectives.as_slice())?,
+        })),
+    }
+}
+
+/// The entry of a rule whose first code has this number.
+fn rule_entry(alloc: Global, next: usize, rule: &MeantRule) -> Result<RuleEntry, AllocError>
+    requires { next ≤ 5000 }
+    ensures { IfOk result (λ entry. entry ≡ rule_entry next (rule_meant rule.now)) }
+{
+    let pattern = &rule.head.pattern;
+    Ok(RuleEntry {
         book: rule.head.book,
-        action: 255,
-        noun: Aspect::Anything,
-        second: Aspect::Anything,
-        place: Aspect::Anything,
-        scene: 255,
+        action: number_or_none(pattern.action.map(ActNo::get)),
+        noun: aspect_entry(alloc, &pattern.noun)?,
+        second: aspect_entry(alloc, &pattern.second)?,
+        place: aspect_entry(alloc, &pattern.place)?,
+        scene: number_or_none(pattern.scene),
         condition: condition_number(next, rule),
         body: RuleBody::Code(small(next + rule_count(rule) - 1)),
-    }
+    })
 }
 
 /// The entries of rules, the first code having this number.
@@ -70,7 +126,7 @@ fn rule_entries(
     let mut next = first;
     let mut rest = rules;
     while let [rule, after @ ..] = rest {
-        entries.push(rule_entry(next, rule))?;
+        entries.push(rule_entry(alloc, next, rule)?)?;
         next += rule_count(rule);
         rest = after;
     }
