@@ -3,4 +3,5 @@ mod EntryLemmas
 mod HeadingLemmas
 mod KeyLemmas
 mod ListingLemmas
+mod Renumbering
 mod Uniqueness

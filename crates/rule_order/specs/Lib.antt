@@ -1,5 +1,6 @@
 pub mod Books
 pub mod Entries
+pub mod Handing
 pub mod Headings
 pub mod KeyLists
 pub mod Keys

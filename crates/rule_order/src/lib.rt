@@ -12,5 +12,5 @@ mod specificity;
 
 pub use books::{Books, order};
 pub use heading::Heading;
-pub use laws::one_order;
+pub use laws::{one_order, order_of_handing_is_nothing};
 pub use listing::{Front, ListingSentence, listings};
