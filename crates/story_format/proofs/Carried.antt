@@ -40,7 +40,7 @@ use Rattle.story_format.specs.Holding.{named_in, AreHeld, IsHeld}
 use Rattle.story_format.specs.RuleMaking.{rules_of}
 use Rattle.story_format.specs.Making.{Worded, code_count, code_number, codes_in, described_in, entries_of, entry_of, entry_strings, place_holder, strings_of, strings_said, tables_of, tables_with, text_in, text_of, ways_of, worded, worded_at, worded_from, world_of}
 use Rattle.story_format.specs.Placed.{is_room_entry}
-use Rattle.story_format.proofs.StoryLemmas.{all_at, get_dropped, get_front, get_within, parts, player_parts}
+use Rattle.story_format.proofs.StoryLemmas.{all_at, few_begin, get_dropped, get_front, get_within, parts, player_parts}
 use Rattle.story_format.proofs.Known.{found_by_number, is_known, said_known}
 use Rattle.story_format.proofs.OrderLemmas.{at_most_one}
 use Rattle.story_format.proofs.RuleLemmas.{origins_in}
