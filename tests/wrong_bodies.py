@@ -17,7 +17,7 @@ kept = top / "tests" / "wrong_bodies"
 def tried(crate):
     """Whether the prover refuses each edit of the crate: they stand in its folder only while they are tried."""
     folder = top / "crates" / crate / "must-fail"
-    folder.mkdir()
+    folder.mkdir(exist_ok=True)
     try:
         for edit in sorted((kept / crate).glob("*.edit")):
             shutil.copy(edit, folder)
