@@ -58,9 +58,12 @@ at_times book n (suc j) (rule ∷ rules) =
 from_none : (k : ℕ) → k ≡ 0 + k
 from_none k = omega arith
 
+pub listed_times : (rules : List Rule) (book rule : ℕ) → times rule (listed_from book 0 rules) ≡ (if is_of_book book (slice_get rules rule) then 1 else 0)
+listed_times rules book rule = ap (λ k. times k (listed_from book 0 rules)) (from_none rule) ∙ at_times book 0 rule rules
+
 pub book_times : (s : Setting) (rules : List Rule) (book rule : ℕ) → times rule (book_of s rules book) ≡ (if is_of_book book (slice_get rules rule) then 1 else 0)
 unfolding book_of
-book_times s rules book rule = sorted_times (is_before s rules) rule (listed_from book 0 rules) ∙ ap (λ k. times k (listed_from book 0 rules)) (from_none rule) ∙ at_times book 0 rule rules
+book_times s rules book rule = sorted_times (is_before s rules) rule (listed_from book 0 rules) ∙ listed_times rules book rule
 
 -- ---- rising
 

@@ -21,6 +21,14 @@ pub mod Places
 pub mod Rooms
 pub mod SaidTexts
 pub mod Served
+pub mod ShortConditions
+pub mod ShortDescriptions
+pub mod ShortFits
+pub mod ShortJoined
+pub mod ShortParts
+pub mod ShortPhrases
+pub mod ShortShown
+pub mod ShortWholes
 pub mod SoundAnywhere
 pub mod SoundBytes
 pub mod SoundConditions

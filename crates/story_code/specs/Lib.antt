@@ -10,6 +10,10 @@ pub mod Fronts
 pub mod Laws
 pub mod Passes
 pub mod Runs
+pub mod Sayable
+pub mod ShortLaws
+pub mod ShortRows
+pub mod Shortness
 pub mod SoundlyEmitted
 pub mod Soundness
 pub mod Spelling

@@ -8,6 +8,7 @@ ghost use Rattle.play_meaning.specs.declared.operand.Use.TheVariants as role;
 ghost use Rattle.story_code.specs.Emits.{AreEmitted, AreSpelled, whole_body};
 ghost use Rattle.story_code.specs.Emitting.{can_say_all, emitted, nothing_from};
 ghost use Rattle.story_code.specs.Fitting.{BodyFits, ConditionFits, TextFits};
+ghost use Rattle.story_code.specs.ShortLaws.{IsCountedInTwoBytes, IsNumberedFrom, IsShortBody, IsShortCondition, IsShortDescription};
 ghost use Rattle.story_code.specs.SoundlyEmitted.{AreSoundAnywhere, among};
 
 use crate::emitting::condition::emit_condition;
@@ -41,7 +42,9 @@ pub enum EmitFault {
 ///
 /// # Errors
 ///
-/// `TooLong` only where the tree doesn't fit or bytes can't say the codes, and `Memory`.
+/// `TooLong` only where the tree doesn't fit or bytes can't say the codes. What at most 500 words say within the limits of the
+/// language, with at most 32 numbers in an expression, isn't too long, as long as two bytes tell its tests by their numbers.
+/// And `Memory`.
 pub fn body_codes(
     alloc: Global,
     counts: &Counts,
@@ -54,7 +57,10 @@ pub fn body_codes(
     ensures sound { IfOk result (λ codes. AreSoundAnywhere counts.now role.Body first (whole_body (number_in strings.now) (body_meant body.now) first 0) codes.items) }
     ensures too_long { IfErr result (λ fault. fault ≡ EmitFault.TooLong → BodyFits counts.now (number_in strings.now) 0 (body_meant body.now)
         → can_say_all (whole_body (number_in strings.now) (body_meant body.now) first 0) ≡ false) }
+    ensures short { IsShortBody counts.now (number_in strings.now) (body_meant body.now) → IsNumberedFrom first (whole_body (number_in strings.now) (body_meant body.now) first 0)
+        → IfErr result (λ fault. fault ≡ EmitFault.Memory) }
 {
+    told_in_two_bytes(counts);
     if !body_fits(counts, strings, body) {
         return Err(EmitFault::TooLong);
     }
@@ -69,7 +75,9 @@ pub fn body_codes(
 ///
 /// # Errors
 ///
-/// `TooLong` only where the tree doesn't fit or bytes can't say the codes, and `Memory`.
+/// `TooLong` only where the tree doesn't fit or bytes can't say the codes. What at most 500 words say within the limits of the
+/// language, with at most 32 numbers in an expression, isn't too long, as long as two bytes tell its tests by their numbers.
+/// And `Memory`.
 pub fn condition_codes(
     alloc: Global,
     counts: &Counts,
@@ -81,7 +89,9 @@ pub fn condition_codes(
     ensures sound { IfOk result (λ codes. AreSoundAnywhere counts.now (role.Test 0) first (test_part (condition_meant condition.now) first 0) codes.items) }
     ensures too_long { IfErr result (λ fault. fault ≡ EmitFault.TooLong → ConditionFits counts.now 0 0 (condition_meant condition.now)
         → can_say_all (test_part (condition_meant condition.now) first 0) ≡ false) }
+    ensures short { IsShortCondition counts.now (condition_meant condition.now) → IsNumberedFrom first (test_part (condition_meant condition.now) first 0) → IfErr result (λ fault. fault ≡ EmitFault.Memory) }
 {
+    told_in_two_bytes(counts);
     if !condition_fits(counts, condition) {
         return Err(EmitFault::TooLong);
     }
@@ -96,7 +106,9 @@ pub fn condition_codes(
 ///
 /// # Errors
 ///
-/// `TooLong` only where the tree doesn't fit or bytes can't say the codes, and `Memory`.
+/// `TooLong` only where the tree doesn't fit or bytes can't say the codes. What at most 500 words say within the limits of the
+/// language, with at most 32 numbers in an expression, isn't too long, as long as two bytes tell its tests by their numbers.
+/// And `Memory`.
 pub fn description_codes(
     alloc: Global,
     counts: &Counts,
@@ -109,7 +121,9 @@ pub fn description_codes(
     ensures sound { IfOk result (λ codes. AreSoundAnywhere counts.now role.Describing first (description_part (number_in strings.now) (text_meant text.now) first 0) codes.items) }
     ensures too_long { IfErr result (λ fault. fault ≡ EmitFault.TooLong → TextFits counts.now role.Describing (number_in strings.now) 0 (text_meant text.now)
         → can_say_all (description_part (number_in strings.now) (text_meant text.now) first 0) ≡ false) }
+    ensures short { IsShortDescription counts.now (number_in strings.now) (text_meant text.now) → IsNumberedFrom first (description_part (number_in strings.now) (text_meant text.now) first 0) → IfErr result (λ fault. fault ≡ EmitFault.Memory) }
 {
+    told_in_two_bytes(counts);
     if !description_fits(counts, strings, text) {
         return Err(EmitFault::TooLong);
     }
@@ -160,6 +174,15 @@ fn description_output(
     emit_text(alloc, &mut out, strings, 0, text)?;
     out.push(Instruction::Done)?;
     Ok(out)
+}
+
+/// Does nothing but read the counts, each of which has two bytes.
+fn told_in_two_bytes(counts: &Counts)
+    ensures { IsCountedInTwoBytes counts.now }
+{
+    let _objects = counts.objects;
+    let _strings = counts.strings;
+    let _books = counts.books;
 }
 
 /// The bytes of what was emitted, whatever it was.

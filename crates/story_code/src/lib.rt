@@ -29,6 +29,7 @@ mod operands;
 mod plain;
 mod reading;
 mod row;
+mod short_laws;
 mod sizes;
 mod state;
 mod step;
@@ -51,6 +52,7 @@ pub use laws::{
 };
 pub use plain::read_plain;
 pub use row::size;
+pub use short_laws::{rows_of_what_is_short, what_is_short_fits, what_words_mean_is_joined_so};
 pub use sizes::Sizes;
 pub use state::RunState;
 pub use step::Step;

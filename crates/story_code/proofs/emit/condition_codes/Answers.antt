@@ -3,6 +3,7 @@ use Rattle.std.proofs.lemmas.Result.{IfErr-weaker, IfOk-weaker}
 use Rattle.play_meaning.specs.Meant.{condition_meant}
 use Rattle.play_meaning.specs.TranslatedScripts.{test_part}
 use Rattle.story_code.proofs.SoundAnywhere.{condition_anywhere}
+use Rattle.story_code.proofs.ShortWholes.{conditions_fit, only_memory}
 use Rattle.story_code.proofs.emit.condition_codes.Goals as goal
 
 pub returns-then-not-condition_fits-clause-too_long : goal.returns-then-not-condition_fits-clause-too_long
@@ -25,3 +26,12 @@ returns-clause-sound c =
 pub returns-clause-too_long : goal.returns-clause-too_long
 returns-clause-too_long c =
     IfErr-weaker c.finish.result _ _ (λ fault told is fits. told is) (c.finish.ensures.too_long c.args.first (test_part (condition_meant c.args.condition.now)) c.in-Ok.ensures)
+
+pub returns-then-not-condition_fits-clause-short : goal.returns-then-not-condition_fits-clause-short
+returns-then-not-condition_fits-clause-short c = λ short numbered.
+    absurd (not_from_Decides c.condition_fits.result (c.condition_fits.ensures c.args.counts.now.own c.args.counts.now.codes) c.if-not-condition_fits.true ((conditions_fit c.args.counts.now c.args.first (condition_meant c.args.condition.now) c.told_in_two_bytes.ensures short).0 c.args.counts.now.own c.args.counts.now.codes))
+
+pub returns-clause-short : goal.returns-clause-short
+returns-clause-short c = λ short numbered.
+    IfErr-weaker c.finish.result _ _ (λ fault told. only_memory fault _ told ((conditions_fit c.args.counts.now c.args.first (condition_meant c.args.condition.now) c.told_in_two_bytes.ensures short).1.said numbered))
+    (c.finish.ensures.too_long c.args.first (test_part (condition_meant c.args.condition.now)) c.in-Ok.ensures)

@@ -1,0 +1,45 @@
+//! As many rules as a source may have, in one rulebook.
+use crate::books::ordered;
+use play_meaning::tree::{Aspect, Listing, Pattern};
+use rule_order::Heading;
+use std::alloc::{AllocError, Global};
+use std::test::Fail;
+use world_meaning::ObjNo;
+
+/// As many rules of every turn as a source may have: of each two the second is about an object.
+fn rules(alloc: Global) -> Result<Vec<Heading>, AllocError> {
+    let mut rules = Vec::new(alloc);
+    for number in 0..2000u16 {
+        rules.push(Heading {
+            book: 6,
+            pattern: Pattern {
+                action: None,
+                noun: if number % 2 == 0 {
+                    Aspect::Anything
+                } else {
+                    Aspect::Exactly(ObjNo::new(number))
+                },
+                second: Aspect::Anything,
+                place: Aspect::Anything,
+                scene: None,
+            },
+            is_conditional: false,
+            listing: Listing::InOrder,
+        })?;
+    }
+    Ok(rules)
+}
+
+#[test]
+fn two_thousand_rules_are_put_in_order(rt: HostRuntime) -> Result<(), Fail> {
+    let alloc = rt.alloc();
+    let books = ordered(alloc, rules(alloc)?.as_slice())?;
+    let book = books.book(6);
+    assert_eq!(rt; book.len(), 2000);
+    for place in 0..1000u16 {
+        assert_eq!(rt; book.get(usize::from(place)), Some(&(2 * place + 1)));
+        assert_eq!(rt; book.get(1000 + usize::from(place)), Some(&(2 * place)));
+    }
+    assert!(rt; books.book(5).is_empty() && books.book(7).is_empty());
+    Ok(())
+}

@@ -1,0 +1,6 @@
+mod BookLemmas
+mod EntryLemmas
+mod HeadingLemmas
+mod KeyLemmas
+mod ListingLemmas
+mod Uniqueness

@@ -1,0 +1,16 @@
+//! The order of rulebooks: which of a story's rules a rulebook holds, and which of them is asked first
+//! (*Writing with Inform*, 19.16).
+#![tactic(auto)]
+
+mod books;
+mod entry;
+mod heading;
+mod key;
+mod laws;
+mod listing;
+mod specificity;
+
+pub use books::{Books, order};
+pub use heading::Heading;
+pub use laws::one_order;
+pub use listing::{Front, ListingSentence, listings};

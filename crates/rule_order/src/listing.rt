@@ -1,0 +1,68 @@
+//! Where the sentences of a source list its rules (*Writing with Inform*, 19.16): of each rule the latest counts.
+ghost use Rattle.std.specs.Prelude.{◌≡◌, ◌+◌, ◌≤◌, length, replicate, slice_get, IfOk};
+ghost use Rattle.std.specs.List.{slice_set};
+ghost use Rattle.play_meaning.specs.declared.tree.pattern.Listing.TheVariants.{InOrder};
+ghost use Rattle.rule_order.specs.Listings.{AreListings, listed_after, listing_by, listings_after};
+
+use play_meaning::tree::Listing;
+use std::alloc::{AllocError, Global};
+
+/// Where a sentence lists a rule.
+#[derive(Clone, Copy, Debug, PartialEq, Eq)]
+pub enum Front {
+    /// `is listed first in`
+    First,
+    /// `is listed last in`
+    Last,
+    /// `is not listed in any rulebook`
+    Nowhere,
+}
+
+/// A sentence that lists a rule.
+#[derive(Clone, Copy, Debug, PartialEq, Eq)]
+pub struct ListingSentence {
+    /// The rule, by its number.
+    pub rule: u16,
+    pub at: Front,
+}
+
+/// Where the sentence of this number lists its rule.
+fn listing_by(number: u32, at: Front) -> Listing
+    ensures { result ≡ listing_by number at }
+{
+    match at {
+        Front::First => Listing::First(number),
+        Front::Last => Listing::Last(number),
+        Front::Nowhere => Listing::Unlisted,
+    }
+}
+
+/// The rules' listings with that of one more sentence, if its rule is there.
+fn list(listings: &mut Vec<Listing>, number: u32, sentence: ListingSentence)
+    ensures { listings.new.items ≡ listed_after listings.old.items number sentence }
+{
+    if let Some(listing) = listings.get_mut(usize::from(sentence.rule)) {
+        *listing = listing_by(number, sentence.at);
+    }
+}
+
+/// Where so many rules are listed, by their numbers: as the latest sentence about each says, the sentences being numbered in
+/// order from 0; else in order.
+pub fn listings(
+    alloc: Global,
+    rules: u16,
+    sentences: &[ListingSentence],
+) -> Result<Vec<Listing>, AllocError>
+    requires countable { length sentences.now ≤ 4294967295 }
+    ensures { IfOk result (λ listings. AreListings rules sentences.now listings.items) }
+{
+    let mut listings = vec![in alloc; Listing::InOrder; usize::from(rules)]?;
+    let mut number = 0u32;
+    let mut rest = sentences;
+    while let [sentence, after @ ..] = rest {
+        list(&mut listings, number, *sentence);
+        number += 1;
+        rest = after;
+    }
+    Ok(listings)
+}
