@@ -17,7 +17,7 @@ use Rattle.i7_conditions.specs.Words.{Word, without_article}
 use Rattle.i7_conditions.proofs.Described.{same_cut}
 use Rattle.i7_conditions.proofs.Listing.{IsOnce, at_once, first_once, made_once}
 use Rattle.i7_conditions.proofs.Readings.{meant_once}
-use Rattle.i7_patterns.specs.ActionForms.{aspects_of}
+use Rattle.i7_patterns.specs.ActionForms.{in_place}
 use Rattle.i7_patterns.specs.Actions.{AsksAround, AsksAt, AsksBehind, AsksBy, AsksFirst, AsksLast, AsksNouns, AsksPlace, IsOmitted, Nouns}
 use Rattle.i7_patterns.specs.Aspects.{AsksKind, AsksNothing, AsksNoun, AsksObject, AsksOne}
 use Rattle.i7_patterns.specs.Lowest.{IsLowest}
@@ -95,7 +95,7 @@ at_number_once : (s : Scope) (a : Action) (words : List Word) (n : ℕ) → IsOn
 at_number_once s a words n x y p q =
     let nouns : x.nouns ≡ y.nouns = lowest_is_once (AsksNouns s a (take n words)) (by_once s a.nouns a.name (take n words)) x.nouns y.nouns p.nouns q.nouns in
     let place : x.place ≡ y.place = place_once s (drop n words) x.place y.place p.place q.place in
-    ap (λ (nouns : Nouns). aspects_of nouns x.place) nouns ∙ ap (λ (place : Aspect). aspects_of y.nouns place) place
+    ap (in_place x.place) nouns ∙ ap (λ (place : Aspect). in_place place y.nouns) place
 
 -- ---- patterns
 

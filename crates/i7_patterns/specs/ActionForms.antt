@@ -1,5 +1,5 @@
 -- What words ask of an action's nouns and of the place, by going over the words from the left.
-use Rattle.std.specs.Prelude.{ℕ, List, [], ◌∷◌, take, Option, Some, None, if◌then◌else◌}
+use Rattle.std.specs.Prelude.{ℕ, Bool, List, [], ◌∷◌, take, Option, Some, None, is_some, if◌then◌else◌}
 use Rattle.std.specs.Option.{option_map}
 use Rattle.play_meaning.specs.Patterns.{aspect_meant}
 use Rattle.play_meaning.specs.Rules.{Anything, Aspect}
@@ -82,16 +82,20 @@ place_asked s (word ∷ words) = if is_in word then one_asked s words else None
 abbrev pub aspects_meant : KeptAspects → Aspects
 aspects_meant x = record { nouns = nouns_meant x.nouns; place = aspect_meant x.place }
 
-abbrev pub aspects_of : Nouns → Aspect → Aspects
-aspects_of nouns place = record { nouns = nouns; place = place }
+abbrev pub in_place : Aspect → Nouns → Aspects
+in_place place nouns = record { nouns = nouns; place = place }
 
 abbrev pub aspects_around : Scope → Action → List Word → List Word → Option Aspects
-aspects_around s a front place = with_both aspects_of (nouns_asked s a front) (one_asked s place)
+aspects_around s a front place = with_both in_place (one_asked s place) (nouns_asked s a front)
 
 -- the action is the first n words, and the rest is nothing, or the place
 abbrev pub aspects_at : Scope → Action → List Word → ℕ → List Word → Option Aspects
-aspects_at s a words n [] = with_both aspects_of (nouns_asked s a (take n words)) (Some Anything)
+aspects_at s a words n [] = option_map (in_place Anything) (nouns_asked s a (take n words))
 aspects_at s a words n (word ∷ rest) = if is_in word then aspects_around s a (take n words) rest else None
 
+abbrev pub begins : List Word → List Word → Bool
+begins part words = is_some (behind part words)
+
+-- words that don't begin with the first part of an action's name aren't read further
 unfoldable pub aspects_asked : Scope → Action → List Word → Option Aspects
-aspects_asked s a words = lowest_from (aspects_at s a words) 0 words
+aspects_asked s a words = if begins (first_part a.name) words then lowest_from (aspects_at s a words) 0 words else None

@@ -1,5 +1,4 @@
 //! What words ask, if they ask something.
-ghost use Rattle.std.specs.Prelude.{◌≡◌};
 
 /// What words ask.
 #[derive(Debug, Drop)]

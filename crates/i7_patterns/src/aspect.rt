@@ -3,7 +3,7 @@ ghost use Rattle.std.specs.Prelude.{◌≡◌, ◌≤◌, length, option_map, If
 ghost use Rattle.std.specs.List.{list_all};
 ghost use Rattle.i7_conditions.specs.Objects.{found_meant};
 ghost use Rattle.i7_conditions.specs.Scopes.{scope_of};
-ghost use Rattle.i7_patterns.specs.AspectForms.{exactly, kind_asked, noun_asked, nothing_asked, object_asked, one_asked};
+ghost use Rattle.i7_patterns.specs.AspectForms.{exactly, kind_asked, noun_asked, object_asked, one_asked};
 ghost use Rattle.i7_patterns.specs.Aspects.{is_either_or, is_either_or_quality, is_something, says_something};
 ghost use Rattle.play_meaning.specs.Meant.{object_meant};
 ghost use Rattle.play_meaning.specs.Patterns.{aspect_meant};

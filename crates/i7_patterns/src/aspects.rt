@@ -1,15 +1,15 @@
 //! What words ask of an action's nouns and of the place: `taking the ball in the Hall`.
-ghost use Rattle.std.specs.Prelude.{◌≡◌, ◌≤◌, length, option_map, Some, IfOk};
+ghost use Rattle.std.specs.Prelude.{◌≡◌, ◌≤◌, length, option_map, IfOk};
+ghost use Rattle.i7_actions.specs.Parts.{first_part};
 ghost use Rattle.i7_conditions.specs.Scopes.{scope_of};
-ghost use Rattle.i7_patterns.specs.ActionForms.{aspects_around, aspects_asked, aspects_at, aspects_meant, aspects_of, nouns_asked, nouns_meant, place_asked, with_both};
+ghost use Rattle.i7_patterns.specs.ActionForms.{aspects_around, aspects_asked, aspects_at, aspects_meant, begins, in_place, nouns_asked, nouns_meant, place_asked};
 ghost use Rattle.i7_patterns.specs.Actions.{is_in};
 ghost use Rattle.i7_patterns.specs.Lowest.{lowest_from};
 ghost use Rattle.play_meaning.specs.Patterns.{aspect_meant};
-ghost use Rattle.play_meaning.specs.Rules.{Anything};
 
 use crate::aspect::one_asked;
 use crate::nouns::{Nouns, nouns_asked};
-use i7_actions::Action;
+use i7_actions::{Action, behind, parts_of};
 use i7_conditions::Scope;
 use play_meaning::tree::Aspect;
 use std::alloc::{AllocError, Global};
@@ -51,26 +51,13 @@ pub fn place_asked(
     }
 }
 
-/// The nouns, and the place.
-fn with_place(nouns: Nouns, place: Option<Aspect>) -> Option<Aspects>
-    ensures { option_map aspects_meant result ≡ option_map (aspects_of (nouns_meant nouns)) (option_map aspect_meant place) }
-{
-    match place {
-        None => None,
-        Some(place) => Some(Aspects { nouns, place }),
-    }
-}
-
-/// The nouns, and nothing of the place.
-fn anywhere(nouns: Option<Nouns>) -> Option<Aspects>
-    ensures { option_map aspects_meant result ≡ with_both aspects_of (option_map nouns_meant nouns) (Some Anything) }
+/// The place, and the nouns.
+fn in_place(place: Aspect, nouns: Option<Nouns>) -> Option<Aspects>
+    ensures { option_map aspects_meant result ≡ option_map (in_place (aspect_meant place)) (option_map nouns_meant nouns) }
 {
     match nouns {
         None => None,
-        Some(nouns) => Some(Aspects {
-            nouns,
-            place: Aspect::Anything,
-        }),
+        Some(nouns) => Some(Aspects { nouns, place }),
     }
 }
 
@@ -85,11 +72,11 @@ fn aspects_around(
     requires few { length (scope_of scope.now).repeats ≤ 255 }
     ensures { IfOk result (λ aspects. option_map aspects_meant aspects ≡ aspects_around (scope_of scope.now) action.now front.now place.now) }
 {
-    match nouns_asked(alloc, scope, action, front)? {
+    match one_asked(alloc, scope, place)? {
         None => Ok(None),
-        Some(nouns) => {
-            let place = one_asked(alloc, scope, place)?;
-            Ok(with_place(nouns, place))
+        Some(place) => {
+            let nouns = nouns_asked(alloc, scope, action, front)?;
+            Ok(in_place(place, nouns))
         }
     }
 }
@@ -111,7 +98,7 @@ fn aspects_at(
     match rest {
         [] => {
             let nouns = nouns_asked(alloc, scope, action, front)?;
-            Ok(anywhere(nouns))
+            Ok(in_place(Aspect::Anything, nouns))
         }
         [word, place @ ..] => {
             if is_in(word) {
@@ -123,16 +110,15 @@ fn aspects_at(
     }
 }
 
-/// What words ask of an action whose place begins as early as can be.
-#[tactic(auto, unfolding(crate::specs::ActionForms::aspects_asked))]
-pub fn aspects_asked(
+/// What words ask where the place begins as early as can be.
+fn aspects_in(
     alloc: Global,
     scope: &Scope<'_>,
     action: &Action,
     words: &[TextBytes],
 ) -> Result<Option<Aspects>, AllocError>
     requires few { length (scope_of scope.now).repeats ≤ 255 }
-    ensures { IfOk result (λ aspects. option_map aspects_meant aspects ≡ aspects_asked (scope_of scope.now) action.now words.now) }
+    ensures { IfOk result (λ aspects. option_map aspects_meant aspects ≡ lowest_from (aspects_at (scope_of scope.now) action.now words.now) 0 words.now) }
 {
     let mut len = 0;
     let mut rest = words;
@@ -145,4 +131,30 @@ pub fn aspects_asked(
         rest = after;
     }
     Ok(aspects_at(alloc, scope, action, words, len, rest)?)
+}
+
+/// Whether words begin with the first part of a name.
+fn begins(name: &[TextBytes], words: &[TextBytes]) -> bool
+    ensures { result ≡ begins (first_part name.now) words.now }
+{
+    let (first, _) = parts_of(name);
+    behind(first, words).is_some()
+}
+
+/// What words ask of an action, and of the place, which begins as early as can be.
+#[tactic(auto, unfolding(crate::specs::ActionForms::aspects_asked))]
+pub fn aspects_asked(
+    alloc: Global,
+    scope: &Scope<'_>,
+    action: &Action,
+    words: &[TextBytes],
+) -> Result<Option<Aspects>, AllocError>
+    requires few { length (scope_of scope.now).repeats ≤ 255 }
+    ensures { IfOk result (λ aspects. option_map aspects_meant aspects ≡ aspects_asked (scope_of scope.now) action.now words.now) }
+{
+    if begins(action.name.as_slice(), words) {
+        Ok(aspects_in(alloc, scope, action, words)?)
+    } else {
+        Ok(None)
+    }
 }

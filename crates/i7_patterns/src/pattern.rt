@@ -1,6 +1,6 @@
 //! Patterns by their words (*Writing with Inform*, chapters 7 and 12): what stands behind `before` or `check`, without a
 //! `during` or a `when`; and the place behind `every turn in`.
-ghost use Rattle.std.specs.Prelude.{◌≡◌, ◌≤◌, ℕ, List, length, option_map, IfOk};
+ghost use Rattle.std.specs.Prelude.{◌≡◌, ◌≤◌, List, length, option_map, IfOk};
 ghost use Rattle.i7_actions.specs.declared.action.Action.{Action as Row};
 ghost use Rattle.i7_conditions.specs.Scopes.{Scope as Names, scope_of};
 ghost use Rattle.i7_conditions.specs.Words.{Word};

@@ -1,5 +1,5 @@
 //! Which places are right: rooms, and descriptions of rooms.
-ghost use Rattle.std.specs.Prelude.{◌≡◌, map};
+ghost use Rattle.std.specs.Prelude.{◌≡◌};
 ghost use Rattle.play_meaning.specs.Patterns.{aspect_meant};
 ghost use Rattle.i7_patterns.specs.Places.{is_long, is_place, is_room};
 ghost use Rattle.std.specs.List.{slice_get};

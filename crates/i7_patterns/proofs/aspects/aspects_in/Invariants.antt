@@ -2,7 +2,7 @@ use Rattle.std.proofs.Common.{◌≡◌, ◌+◌, ◌≤◌, length}
 use Rattle.i7_conditions.specs.Scopes.{scope_of}
 use Rattle.i7_patterns.specs.ActionForms.{aspects_at}
 use Rattle.i7_patterns.specs.Lowest.{lowest_from}
-use Rattle.i7_patterns.proofs.aspects.aspects_asked.Given as goal
+use Rattle.i7_patterns.proofs.aspects.aspects_in.Given as goal
 
 abbrev pub invariant-loop-rest : goal.invariant-loop-rest
 invariant-loop-rest l = record {
