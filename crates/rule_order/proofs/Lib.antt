@@ -1,3 +1,4 @@
+mod Apart
 mod BookLemmas
 mod EntryLemmas
 mod HeadingLemmas
