@@ -4,4 +4,5 @@ mod EntryLemmas
 mod HeadingLemmas
 mod KeyLemmas
 mod ListingLemmas
+mod Ruled
 mod Uniqueness

@@ -20,3 +20,8 @@ pub fn one_order()
 pub fn rules_are_listed_apart()
     ensures { (sentences : List ListingSentence) (headings : List Heading) (rules : List Rule) → AreListings (length headings) sentences (map (λ h. h.listing) headings) → AllZip IsRuleOf headings rules → AreListedApart rules }
 {}
+
+/// Whatever headings are given, there are rules with them, so that what is said of all such rules is said of some.
+pub fn headings_are_of_rules()
+    ensures { (headings : List Heading) → (rules : List Rule) × AllZip IsRuleOf headings rules }
+{}

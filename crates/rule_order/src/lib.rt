@@ -12,5 +12,5 @@ mod specificity;
 
 pub use books::{Books, order};
 pub use heading::Heading;
-pub use laws::{one_order, rules_are_listed_apart};
+pub use laws::{headings_are_of_rules, one_order, rules_are_listed_apart};
 pub use listing::{Front, ListingSentence, listings};
