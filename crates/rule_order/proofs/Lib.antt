@@ -1,8 +1,8 @@
-mod Apart
+mod AnyRules
 mod BookLemmas
 mod EntryLemmas
 mod HeadingLemmas
 mod KeyLemmas
+mod ListedApart
 mod ListingLemmas
-mod Ruled
 mod Uniqueness

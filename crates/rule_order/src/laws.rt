@@ -1,27 +1,12 @@
 //! What holds of orders.
-ghost use Rattle.std.specs.Prelude.{◌≡◌, ℕ, List, length, map};
-ghost use Rattle.std.specs.List.{AllZip};
+ghost use Rattle.std.specs.Prelude.{◌≡◌, ℕ, List};
 ghost use Rattle.play_meaning.specs.Order.{book_of};
 ghost use Rattle.play_meaning.specs.Rules.{Rule};
 ghost use Rattle.play_meaning.specs.Settings.{Setting};
 ghost use Rattle.rule_order.specs.Books.{AreListedApart, IsInOrder};
-ghost use Rattle.rule_order.specs.Headings.{IsRuleOf};
-ghost use Rattle.rule_order.specs.Listings.{AreListings};
-ghost use Rattle.rule_order.specs.declared.heading.Heading.{Heading};
-ghost use Rattle.rule_order.specs.declared.listing.ListingSentence.{ListingSentence};
 
 /// Where each listing sentence is about one rule, a rulebook has one order, and that is the one in which it is consulted.
 pub fn one_order()
     ensures one { (s : Setting) (rules : List Rule) (book : ℕ) (numbers others : List ℕ) → AreListedApart rules → IsInOrder s rules book numbers → IsInOrder s rules book others → numbers ≡ others }
     ensures consulted { (s : Setting) (rules : List Rule) (book : ℕ) (numbers : List ℕ) → AreListedApart rules → IsInOrder s rules book numbers → numbers ≡ book_of s rules book }
-{}
-
-/// Rules that are listed as sentences say are listed so: each listing sentence is about one rule.
-pub fn rules_are_listed_apart()
-    ensures { (sentences : List ListingSentence) (headings : List Heading) (rules : List Rule) → AreListings (length headings) sentences (map (λ h. h.listing) headings) → AllZip IsRuleOf headings rules → AreListedApart rules }
-{}
-
-/// Whatever headings are given, there are rules with them, so that what is said of all such rules is said of some.
-pub fn headings_are_of_rules()
-    ensures { (headings : List Heading) → (rules : List Rule) × AllZip IsRuleOf headings rules }
 {}

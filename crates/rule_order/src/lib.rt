@@ -8,9 +8,11 @@ mod heading;
 mod key;
 mod laws;
 mod listing;
+mod listing_laws;
 mod specificity;
 
 pub use books::{Books, order};
 pub use heading::Heading;
-pub use laws::{headings_are_of_rules, one_order, rules_are_listed_apart};
+pub use laws::one_order;
 pub use listing::{Front, ListingSentence, listings};
+pub use listing_laws::{headings_are_of_rules, rules_are_listed_apart};
