@@ -7,7 +7,7 @@ use Rattle.std.proofs.lemmas.List.Elements.{All-from_recursion, recursion_from_A
 use Rattle.std.proofs.lemmas.List.Sorted.{All-permutation}
 use Rattle.play_meaning.specs.Order.{Rises, is_before, times}
 use Rattle.play_meaning.proofs.Ordering.{listed_times}
-use Rattle.rule_order.specs.Books.{AreBooksOf, IsInOrder, book_in}
+use Rattle.rule_order.specs.Books.{AreBooksOf, book_in}
 use Rattle.rule_order.specs.Entries.{books_from, count_from, count_of, entries_from, numbers_of}
 use Rattle.rule_order.specs.declared.entry.Entry.{Entry}
 use Rattle.rule_order.specs.declared.heading.Heading.{Heading}

@@ -1,9 +1,9 @@
 -- The entries of headings are those of their rules.
-use Rattle.std.proofs.Common.{◌≡◌, ◌∙◌, ap, sym, refl, ℕ, zero, suc, ◌+◌, ◌*◌, ℤ, pos, Bool, true, false, List, [], ◌∷◌, ◌++◌, length, arith}
+use Rattle.std.proofs.Common.{◌≡◌, ◌∙◌, ap, sym, refl, ℕ, suc, ◌+◌, ◌*◌, pos, Bool, true, false, List, [], ◌∷◌, ◌++◌, length, arith}
 use Rattle.std.specs.Prelude.{◌==◌, ◌&&◌, Option, Some, None, is_some, slice_get, if◌then◌else◌}
 use Rattle.std.specs.List.{AllByRecursion, AllZip}
 use Rattle.std.specs.Option.{option_to_list}
-use Rattle.play_meaning.specs.Order.{asks, aspects, count_of, grade, is_listed, is_of_book, key_at, key_by as rule_key_by, key_in, listed_from, minus}
+use Rattle.play_meaning.specs.Order.{asks, aspects, count_of, grade, is_listed, is_of_book, key_at, key_by as rule_key_by, listed_from, minus}
 use Rattle.play_meaning.specs.Patterns.{aspect_meant, listing_meant}
 use Rattle.play_meaning.specs.Rules.{Anything, Aspect, Exactly, OfKind, Rule}
 use Rattle.play_meaning.specs.Settings.{Setting}
@@ -12,7 +12,6 @@ use Rattle.play_meaning.specs.declared.tree.pattern.Listing.{Listing}
 use Rattle.play_meaning.specs.declared.tree.pattern.Listing.TheVariants as listing
 use Rattle.rule_order.specs.Entries.{entries_from, entry_by, entry_of, numbers_of}
 use Rattle.rule_order.specs.Headings.{IsRuleOf, aspects_of, grade_of, one_if}
-use Rattle.rule_order.specs.KeyLists.{key_list}
 use Rattle.rule_order.specs.Keys.{key_by, key_of}
 use Rattle.rule_order.specs.declared.entry.Entry.{Entry}
 use Rattle.rule_order.specs.declared.heading.Heading.{Heading}

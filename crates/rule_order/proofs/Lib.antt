@@ -1,7 +1,9 @@
+mod AnyRules
 mod BookLemmas
 mod EntryLemmas
 mod HeadingLemmas
 mod KeyLemmas
+mod ListedApart
 mod ListingLemmas
 mod Renumbering
 mod Uniqueness

@@ -1,6 +1,6 @@
 -- Sentence by sentence, each rule is listed as the latest about it says.
-use Rattle.std.proofs.Common.{◌≡◌, ◌∙◌, ap, sym, subst, refl, ℕ, zero, suc, ◌+◌, ◌<◌, Bool, true, false, List, [], ◌∷◌, length, arith, replicate}
-use Rattle.std.specs.Prelude.{◌==◌, Option, None, Some, slice_get, slice_set, if◌then◌else◌}
+use Rattle.std.proofs.Common.{◌≡◌, ◌∙◌, sym, subst, refl, ℕ, zero, suc, ◌+◌, ◌<◌, Bool, true, false, List, [], ◌∷◌, length, arith, replicate}
+use Rattle.std.specs.Prelude.{◌==◌, Some, slice_get, slice_set, if◌then◌else◌}
 use Rattle.std.proofs.lemmas.List.{length-set, length-replicate}
 use Rattle.play_meaning.specs.declared.tree.pattern.Listing.{Listing}
 use Rattle.play_meaning.specs.declared.tree.pattern.Listing.TheVariants as listing

@@ -1,12 +1,12 @@
 -- A rulebook has one order where no sentence lists two rules: two of its rules never have one key.
-use Rattle.std.proofs.Common.{◌≡◌, ◌∙◌, ap, sym, subst, refl, ℕ, zero, suc, ◌+◌, ◌<◌, ◌≤◌, ℤ, pos, negsuc, Bool, true, false, true≢false, List, [], ◌∷◌, arith}
+use Rattle.std.proofs.Common.{◌≡◌, ◌∙◌, ap, sym, subst, refl, ℕ, zero, suc, ◌+◌, ◌<◌, ℤ, Bool, true, false, List, [], ◌∷◌, arith}
 use Rattle.std.specs.Prelude.{◌==◌, ◌&&◌, Option, None, Some, nat_abs, slice_get, if◌then◌else◌}
 use Rattle.std.specs.FinMap.{int_cmp-IsAntisymmetric, slice_cmp-IsAntisymmetric}
 use Rattle.std.specs.Cmp.{IsTotalOrder}
 use Rattle.std.specs.Cmp.Lexicographic.{slice_cmp}
 use Rattle.std.proofs.lemmas.Cmp.{int_cmp_total, lists_total}
 use Rattle.std.specs.List.{AllByRecursion}
-use Rattle.std.specs.Ordering.{int_cmp, is_lt, ordering_reverse, ordering_then}
+use Rattle.std.specs.Ordering.{int_cmp, is_lt, ordering_reverse}
 use Rattle.std.specs.declared.cmp.Ordering.{Ordering}
 use Rattle.std.specs.declared.cmp.Ordering.TheVariants.{Less, Equal, Greater}
 use Rattle.play_meaning.specs.Order.{Rises, book_of, is_before, is_listed, is_of_book, key_at, key_by, key_in, minus, times}

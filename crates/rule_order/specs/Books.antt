@@ -1,5 +1,5 @@
 -- What the rulebooks of rules are.
-use Rattle.std.specs.Prelude.{◌≡◌, ℕ, List, [], ◌∷◌, Option, None, Some, slice_get, if◌then◌else◌}
+use Rattle.std.specs.Prelude.{◌≡◌, ℕ, List, [], Option, None, Some, slice_get, if◌then◌else◌}
 use Rattle.std.specs.List.{AllZip}
 use Rattle.play_meaning.specs.Order.{Rises, is_before, is_of_book, times}
 use Rattle.play_meaning.specs.Rules.{Listed, ListedFirst, ListedLast, Rule}

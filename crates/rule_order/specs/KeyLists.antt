@@ -1,5 +1,5 @@
 -- A rule's key as the list of numbers by which rules are compared.
-use Rattle.std.specs.Prelude.{ℕ, ℤ, pos, List, [], ◌∷◌}
+use Rattle.std.specs.Prelude.{ℤ, pos, List, [], ◌∷◌}
 use Rattle.play_meaning.specs.Order.{minus}
 use Rattle.rule_order.specs.declared.key.Key.{Key}
 use Rattle.rule_order.specs.declared.key.Key.TheVariants as key

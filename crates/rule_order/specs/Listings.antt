@@ -1,5 +1,5 @@
 -- Where the sentences of a source list its rules.
-use Rattle.std.specs.Prelude.{◌≡◌, ℕ, ◌+◌, ◌<◌, Bool, ◌==◌, List, [], ◌∷◌, length, Option, None, Some, slice_get, slice_set, if◌then◌else◌}
+use Rattle.std.specs.Prelude.{◌≡◌, ℕ, ◌+◌, ◌<◌, ◌==◌, List, [], ◌∷◌, length, Some, slice_get, slice_set, if◌then◌else◌}
 use Rattle.play_meaning.specs.declared.tree.pattern.Listing.{Listing}
 use Rattle.play_meaning.specs.declared.tree.pattern.Listing.TheVariants as listing
 use Rattle.rule_order.specs.declared.listing.Front.{Front}

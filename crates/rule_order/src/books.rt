@@ -49,7 +49,8 @@ fn books_from(alloc: Global, entries: &[Entry]) -> Result<Books, AllocError>
 }
 
 /// The rulebooks of these rules, each rule's number being its place among them: those listed first, the latest sentence in
-/// front; then the more specific before the less, and of equals the earlier; then those listed last. In time n log n.
+/// front; then the more specific before the less, and of equals the earlier; then those listed last. It takes time n log n,
+/// and goes over the rules once for each rulebook.
 pub fn order(
     alloc: Global,
     kinds: &[Option<KindNo>],

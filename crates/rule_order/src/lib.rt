@@ -8,9 +8,11 @@ mod heading;
 mod key;
 mod laws;
 mod listing;
+mod listing_laws;
 mod specificity;
 
 pub use books::{Books, order};
 pub use heading::Heading;
 pub use laws::{one_order, order_of_handing_is_nothing};
 pub use listing::{Front, ListingSentence, listings};
+pub use listing_laws::{headings_are_of_rules, rules_are_listed_apart};

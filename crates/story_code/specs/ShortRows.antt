@@ -24,7 +24,7 @@ abbrev pub unseen : ℕ → List Adjective
 unseen zero = []
 unseen (suc n) = NotSo Visible ∷ unseen n
 
--- an object said by 382 words, which is asked about 22 times
+-- an object said by 382 words, which is asked about 20 times
 abbrev pub hardest : Condition
 hardest = IsOne (beyond 7) (Those (unseen 9) (Some 1))
 

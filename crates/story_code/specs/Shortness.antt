@@ -1,5 +1,5 @@
--- How many words the language says trees by, at the least: articles, commas and colons don't count, a text counts as one
--- word, and the words between its brackets count beside it.
+-- How many words the language says trees by, at the least: articles that may be left out, commas and colons don't count, a
+-- text counts as one word, and the words between its brackets count beside it.
 use Rattle.std.specs.Prelude.{ℕ, ◌+◌, max, List, [], ◌∷◌, Option, None, Some}
 use Rattle.play_meaning.specs.Trees.{Adjective, And, Body, Bytes, Condition, CountOf, Description, DescriptionOf, DoorFrom, Encloses, End, EndStory, Equals, Figure, Follow, Happens, Has, HasDescription, If, IfSaid, InDarkness, Instead, IsAtMost, IsHeld, IsHeldByOne, IsLess, IsOne, IsSame, IsSo, Leave, Listing, Minus, Move, Name, Not, NotSo, Nothing, NowHeld, NowIs, NowNowhere, NowNumber, NowVariable, Number, Object, Or, Phrase, Plus, PropertyOf, Repeat, RoomFrom, Say, Silence, Text, Then, Those, ThoseHeld, Times, Try, TurnCount}
 

@@ -1,6 +1,6 @@
 use Rattle.std.proofs.Common.{◌≡◌, ◌∙◌, ap, arith, ℕ, List, ◌+◌, ◌-◌, ◌++◌, ◌∷◌, [], map}
 use Rattle.std.specs.List.{range_with_len}
-use Rattle.rule_order.specs.Entries.{count_of, numbers_of}
+use Rattle.rule_order.specs.Entries.{numbers_of}
 use Rattle.rule_order.proofs.BookLemmas.{one_more}
 use Rattle.rule_order.proofs.books.books_from.Goals as goal
 

@@ -1,5 +1,5 @@
 -- The rulebooks so far, and those that are left.
-use Rattle.std.proofs.Common.{◌≡◌, ◌-◌, ◌≤◌, ◌++◌, map}
+use Rattle.std.proofs.Common.{◌≡◌, ◌-◌, ◌++◌, map}
 use Rattle.std.specs.List.{range_with_len}
 use Rattle.rule_order.specs.Entries.{count_of, numbers_of}
 use Rattle.rule_order.proofs.books.books_from.Given as goal

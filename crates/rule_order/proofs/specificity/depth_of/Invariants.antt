@@ -1,5 +1,5 @@
 -- So far so many kinds, and from here on as many as are missing.
-use Rattle.std.proofs.Common.{◌≡◌, ◌≤◌, length, ℕ, ◌+◌}
+use Rattle.std.proofs.Common.{◌≡◌, ◌≤◌, length, ◌+◌}
 use Rattle.play_meaning.specs.Tales.{depth_of, depth_within}
 use Rattle.rule_order.proofs.specificity.depth_of.Given as goal
 
