@@ -17,7 +17,7 @@ use Rattle.play_meaning.proofs.Ordering.{book_rises, book_times}
 
 -- ---- lists that rise
 
-counted : (k n : ℕ) (ns : List ℕ) (test : Bool) → (n == k) ≡ test → times k (n ∷ ns) ≡ (if test then 1 else 0) + times k ns
+pub counted : (k n : ℕ) (ns : List ℕ) (test : Bool) → (n == k) ≡ test → times k (n ∷ ns) ≡ (if test then 1 else 0) + times k ns
 counted k n ns test is = ap (λ t. (if t then 1 else 0) + times k ns) is
 
 all_at : (P : ℕ → Type 0) (k : ℕ) (ns : List ℕ) → AllByRecursion P ns → 0 < times k ns → P k
@@ -125,7 +125,7 @@ is_there : (o : Option Rule) (book : ℕ) → is_of_book book o ≡ true → (ru
 is_there None book is = absurd cc
 is_there (Some rule) book is = (rule, (refl, both_so (rule.book == book) (is_listed rule.listed) is))
 
-held : (s : Setting) (rules : List Rule) (book n : ℕ) (ns : List ℕ) → IsInOrder s rules book ns → 0 < times n ns → is_of_book book (slice_get rules n) ≡ true
+pub held : (s : Setting) (rules : List Rule) (book n : ℕ) (ns : List ℕ) → IsInOrder s rules book ns → 0 < times n ns → is_of_book book (slice_get rules n) ≡ true
 held s rules book n ns order there =
     let count : Bool → ℕ = λ test. if test then 1 else 0 in
     let Goal : Bool → Type 0 = λ test. is_of_book book (slice_get rules n) ≡ test → is_of_book book (slice_get rules n) ≡ true in
