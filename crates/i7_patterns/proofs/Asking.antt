@@ -19,7 +19,8 @@ use Rattle.i7_patterns.specs.Asked.{IsAsked, judged}
 use Rattle.i7_patterns.specs.AspectForms.{one_asked}
 use Rattle.i7_patterns.specs.Aspects.{AsksOne}
 use Rattle.i7_patterns.specs.PatternForms.{action_asked, action_by, anything_by, can_ask, pattern_asked}
-use Rattle.i7_patterns.specs.Patterns.{AsksAction, AsksAnything, IsPattern, Pattern, any_in, behind_anything, is_in_place, pattern_is_over, pattern_of}
+use Rattle.i7_patterns.specs.Patterns.{AsksAction, AsksAnything, IsPattern, any_in, behind_anything, is_in_place, pattern_is_over, pattern_of}
+use Rattle.play_meaning.specs.Patterns.{Pattern}
 use Rattle.i7_patterns.specs.Places.{is_long, is_place}
 use Rattle.i7_patterns.specs.declared.asked.Asked.{Asked}
 use Rattle.i7_patterns.proofs.Described.{one_given}

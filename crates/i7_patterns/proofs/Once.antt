@@ -21,7 +21,8 @@ use Rattle.i7_patterns.specs.ActionForms.{in_place}
 use Rattle.i7_patterns.specs.Actions.{AsksAround, AsksAt, AsksBehind, AsksBy, AsksFirst, AsksLast, AsksNouns, AsksPlace, IsOmitted, Nouns}
 use Rattle.i7_patterns.specs.Aspects.{AsksKind, AsksNothing, AsksNoun, AsksObject, AsksOne}
 use Rattle.i7_patterns.specs.Lowest.{IsLowest}
-use Rattle.i7_patterns.specs.Patterns.{AsksAction, AsksAnything, IsPattern, Pattern, any_in, behind_anything, pattern_of}
+use Rattle.i7_patterns.specs.Patterns.{AsksAction, AsksAnything, IsPattern, any_in, behind_anything, pattern_of}
+use Rattle.play_meaning.specs.Patterns.{Pattern}
 
 -- ---- one noun, or the place
 

@@ -1,7 +1,7 @@
 -- The pattern that words are, by going over the actions by number.
 use Rattle.std.specs.Prelude.{Bool, is_some, List, Option, Some, None}
 use Rattle.std.specs.Option.{option_map, option_or}
-use Rattle.play_meaning.specs.Patterns.{aspect_meant}
+use Rattle.play_meaning.specs.Patterns.{Pattern, aspect_meant, pattern_meant}
 use Rattle.play_meaning.specs.Rules.{Aspect}
 use Rattle.play_meaning.specs.declared.tree.pattern.Aspect.{Aspect as KeptAspect}
 use Rattle.play_meaning.specs.declared.tree.pattern.Pattern.{Pattern as Kept}
@@ -10,14 +10,11 @@ use Rattle.i7_actions.specs.declared.action.Action.{Action}
 use Rattle.i7_conditions.specs.Scopes.{Scope}
 use Rattle.i7_conditions.specs.Words.{Word}
 use Rattle.i7_patterns.specs.ActionForms.{aspects_asked, place_asked}
-use Rattle.i7_patterns.specs.Patterns.{Pattern, any_in, behind_anything, pattern_of}
+use Rattle.i7_patterns.specs.Patterns.{any_in, behind_anything, pattern_of}
 use Rattle.i7_patterns.specs.declared.asked.Asked.{Asked}
 use Rattle.i7_patterns.specs.declared.asked.Asked.TheVariants.{Read, TooMany, Unread, WrongPlace}
 
 -- ---- as they are kept
-
-abbrev pub pattern_meant : Kept → Pattern
-pattern_meant p = record { action = p.action; noun = aspect_meant p.noun; second = aspect_meant p.second; place = aspect_meant p.place; scene = p.scene }
 
 abbrev pub with_meaning : {A B : Type 0} → (A → B) → Asked A → Asked B
 with_meaning meant (Read x) = Read (meant x)

@@ -3,6 +3,7 @@ use Rattle.std.specs.Prelude.{◌≡◌, ℕ, Bool, ◌&&◌, ◌||◌, List, []
 use Rattle.std.specs.List.{slice_get}
 use Rattle.world_meaning.specs.Spelling.{is_spelled}
 use Rattle.world_meaning.specs.declared.tale.Object.{Object}
+use Rattle.play_meaning.specs.Patterns.{Pattern}
 use Rattle.play_meaning.specs.Rules.{Anything, Aspect}
 use Rattle.i7_actions.specs.Trying.{GoesBefore}
 use Rattle.i7_actions.specs.declared.action.Action.{Action}
@@ -12,13 +13,6 @@ use Rattle.i7_conditions.specs.Words.{Word}
 use Rattle.i7_patterns.specs.Actions.{Aspects, AsksAt, AsksPlace}
 use Rattle.i7_patterns.specs.Lowest.{IsLowest}
 use Rattle.i7_patterns.specs.Places.{is_long, is_place}
-
-pub record Pattern : Type 0 where
-  pub action : Option ℕ
-  pub noun : Aspect
-  pub second : Aspect
-  pub place : Aspect
-  pub scene : Option ℕ
 
 -- no scene is asked for by these words
 abbrev pub pattern_of : Option ℕ → Aspects → Pattern

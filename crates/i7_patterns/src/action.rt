@@ -2,7 +2,8 @@
 ghost use Rattle.std.specs.Prelude.{◌≡◌, ◌≤◌, length, option_map, Some, IfOk};
 ghost use Rattle.i7_conditions.specs.Scopes.{scope_of};
 ghost use Rattle.i7_patterns.specs.ActionForms.{aspects_meant};
-ghost use Rattle.i7_patterns.specs.PatternForms.{action_asked, pattern_meant};
+ghost use Rattle.i7_patterns.specs.PatternForms.{action_asked};
+ghost use Rattle.play_meaning.specs.Patterns.{pattern_meant};
 ghost use Rattle.i7_patterns.specs.Patterns.{pattern_of};
 
 use crate::aspects::{Aspects, aspects_asked};

@@ -1,9 +1,9 @@
 //! `doing anything`, whatever the action and its nouns are.
 ghost use Rattle.std.specs.Prelude.{◌≡◌, ◌≤◌, length, None, option_map, IfOk};
 ghost use Rattle.i7_conditions.specs.Scopes.{scope_of};
-ghost use Rattle.i7_patterns.specs.PatternForms.{anything_by, pattern_meant};
+ghost use Rattle.i7_patterns.specs.PatternForms.{anything_by};
+ghost use Rattle.play_meaning.specs.Patterns.{aspect_meant, pattern_meant};
 ghost use Rattle.i7_patterns.specs.Patterns.{any_in, behind_anything, is_doing_anything, pattern_of};
-ghost use Rattle.play_meaning.specs.Patterns.{aspect_meant};
 
 use crate::aspects::place_asked;
 use i7_conditions::Scope;

@@ -7,10 +7,10 @@ ghost use Rattle.i7_conditions.specs.Words.{Word};
 ghost use Rattle.i7_patterns.specs.AspectForms.{one_asked};
 ghost use Rattle.i7_patterns.specs.Aspects.{AsksOne};
 ghost use Rattle.i7_patterns.specs.Asked.{IsAsked, judged};
-ghost use Rattle.i7_patterns.specs.PatternForms.{asked_aspect, asked_pattern, pattern_asked, pattern_meant};
-ghost use Rattle.i7_patterns.specs.Patterns.{IsPattern, Pattern as Meant, is_in_place, pattern_is_over};
+ghost use Rattle.i7_patterns.specs.PatternForms.{asked_aspect, asked_pattern, pattern_asked};
+ghost use Rattle.play_meaning.specs.Patterns.{Pattern as Meant, aspect_meant, pattern_meant};
+ghost use Rattle.i7_patterns.specs.Patterns.{IsPattern, is_in_place, pattern_is_over};
 ghost use Rattle.i7_patterns.specs.Places.{is_long, is_place};
-ghost use Rattle.play_meaning.specs.Patterns.{aspect_meant};
 ghost use Rattle.play_meaning.specs.Rules.{Aspect as Meaning};
 
 use crate::action::action_asked;
