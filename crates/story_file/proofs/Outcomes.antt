@@ -65,7 +65,17 @@ same_texts law k (bytes ∷ descriptions) (x ∷ texts) (y ∷ others) one secon
 
 -- a rule of a tale, however it is kept
 abbrev author_of : RuleMeant → Rule
-author_of meant = record { book = meant.head.book; condition = meant.head.condition; body = meant.body }
+author_of meant = record {
+  book = meant.head.book;
+  action = meant.head.about.action;
+  noun = meant.head.about.noun;
+  second = meant.head.about.second;
+  place = meant.head.about.place;
+  scene = meant.head.about.scene;
+  condition = meant.head.condition;
+  body = meant.body;
+  listed = meant.head.listed;
+}
 
 abbrev rules_of : ResolutionMeant → List Rule
 rules_of (Both rules texts) = map author_of rules
