@@ -1,5 +1,5 @@
 -- Rules that are handed in in another order stand in the same order.
-use Rattle.std.proofs.Common.{◌≡◌, ◌∙◌, ap, sym, subst, refl, ℕ, ◌+◌, ◌<◌, ◌≤◌, ℤ, pos, Bool, true, false, true≢false, nat_lt, cond, List, [], ◌∷◌, map, arith}
+use Rattle.std.proofs.Common.{◌≡◌, ◌∙◌, ap, sym, refl, ℕ, ◌+◌, ◌<◌, ◌≤◌, ℤ, pos, Bool, true, false, true≢false, nat_lt, cond, List, [], ◌∷◌, map, arith}
 use Rattle.std.specs.Prelude.{◌==◌, ◌&&◌, Option, None, Some, slice_get, if◌then◌else◌}
 use Rattle.std.specs.Cmp.{IsTotalOrder}
 use Rattle.std.proofs.lemmas.Cmp.{int_cmp_total, lists_total}
@@ -9,7 +9,7 @@ use Rattle.std.specs.List.{AllByRecursion}
 use Rattle.std.specs.Ordering.{int_cmp, is_lt, ordering_reverse, ordering_then}
 use Rattle.std.specs.declared.cmp.Ordering.{Ordering}
 use Rattle.std.specs.declared.cmp.Ordering.TheVariants.{Less, Equal, Greater}
-use Rattle.play_meaning.specs.Order.{Rises, aspects, grade, is_before, is_listed, is_of_book, key_at, key_by, key_in, key_of, minus, times}
+use Rattle.play_meaning.specs.Order.{Rises, aspects, grade, is_before, is_listed, is_of_book, key_at, key_by, key_in, minus, times}
 use Rattle.play_meaning.specs.Rules.{InOrder, Listed, ListedFirst, ListedLast, Rule, Unlisted}
 use Rattle.play_meaning.specs.Settings.{Setting}
 use Rattle.rule_order.specs.Books.{IsInOrder}

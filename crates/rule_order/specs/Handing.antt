@@ -1,6 +1,6 @@
 -- The same rules handed in in another order: the order of a rulebook is the same, as long as rules that are equally specific
 -- are handed in one before the other as they were.
-use Rattle.std.specs.Prelude.{◌≡◌, ℕ, ◌<◌, List, Option, Some, slice_get}
+use Rattle.std.specs.Prelude.{◌≡◌, ℕ, ◌<◌, List, Some, slice_get}
 use Rattle.play_meaning.specs.Order.{key_by}
 use Rattle.play_meaning.specs.Rules.{InOrder, Rule}
 use Rattle.play_meaning.specs.Settings.{Setting}
