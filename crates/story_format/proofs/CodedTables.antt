@@ -9,7 +9,7 @@ use Rattle.object_words.specs.Mentions.{number_in}
 use Rattle.play_meaning.specs.Rules.{Rule}
 use Rattle.play_meaning.specs.Trees.{Text}
 use Rattle.play_meaning.specs.declared.instruction.Instruction.{Instruction}
-use Rattle.code_table.specs.Emitted.{AllFit, CanBeSaid, HaveNoTable, IsLongRule, IsLongText, codes_of_origins}
+use Rattle.code_table.specs.Emitted.{AllFit, CanBeSaid, HaveNoTable, codes_of_origins}
 use Rattle.code_table.specs.Laws.{NeverTableAndNone}
 use Rattle.code_table.specs.Origins.{origins_of}
 use Rattle.code_table.specs.declared.fault.TableFault.{TableFault}

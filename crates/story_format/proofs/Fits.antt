@@ -29,7 +29,6 @@ use Rattle.object_words.proofs.StringLemmas.{length_mapped}
 use Rattle.story_format.specs.Formats.{fits_optional}
 use Rattle.story_format.specs.Layout.{entry_layout, way_layout, exits_layout, tables_layout}
 use Rattle.story_format.specs.Making.{Worded, worded, code_bytes, code_count, described_in, numbers_of, entry_strings, strings_of, strings_said, article_number, relation_number, place_relation, place_holder, code_number, entry_of, entries_of, ways_of, tables_with}
-use Rattle.story_format.specs.RuleMaking.{book_count}
 use Rattle.story_format.specs.Holding.{is_of, named_by, has_few_words, has_short_texts, is_short, is_short_or_none}
 use Rattle.story_format.proofs.StoryLemmas.{all_both, all_mapped, all_weaker, few_begin, three}
 use Rattle.story_format.proofs.OrderLemmas.{mention_new, mention_old}

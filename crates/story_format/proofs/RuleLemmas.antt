@@ -1,25 +1,22 @@
 -- The rules of a tale: their codes are named in turn, each for its use, and their tables are a story's.
-use Rattle.std.proofs.Common.{◌≡◌, ℕ, zero, suc, ◌+◌, ◌*◌, ◌<◌, ◌≤◌, Bool, true, false, cond, ◌&&◌, ◌||◌, ltb, leb, eqb, List, [], ◌∷◌, ◌++◌, length, map, Option, Some, None, refl, sym, ap, ◌∙◌, arith, inl, inr, length-append}
+use Rattle.std.proofs.Common.{◌≡◌, ℕ, zero, suc, ◌+◌, ◌<◌, ◌≤◌, Bool, true, false, cond, ◌||◌, ltb, leb, eqb, List, [], ◌∷◌, ◌++◌, length, map, Option, Some, None, refl, sym, ap, ◌∙◌, arith, inl, inr, length-append}
 use Rattle.std.specs.Prelude.{min, replicate}
 use Rattle.std.specs.List.{flat_map, list_all}
-use Rattle.std.proofs.lemmas.Bool.{lt-ltb, ltb-true, le-leb, ne_eqb, eq-eqb}
+use Rattle.std.proofs.lemmas.Bool.{lt-ltb, le-leb, ne_eqb, eq-eqb}
 use Rattle.std.proofs.lemmas.List.{length-map, map-append}
 use Rattle.world_meaning.proofs.Bools.{both, both_are, either}
-use Rattle.world_meaning.specs.Declarations.{is_below}
 use Rattle.world_meaning.specs.declared.declared.Declared.{Declared}
 use Rattle.play_meaning.specs.Rules.{Rule}
 use Rattle.play_meaning.specs.StandardActions.{standard_needs}
-use Rattle.play_meaning.specs.TranslatedScripts.{in_list}
-use Rattle.play_meaning.specs.Trees.{Condition, Body as RuleText}
+use Rattle.play_meaning.specs.Trees.{Condition}
 use Rattle.play_meaning.specs.declared.operand.Counts.{Counts}
-use Rattle.play_meaning.specs.declared.operand.Use.{Use}
-use Rattle.play_meaning.specs.declared.operand.Use.TheVariants.{Body, Test}
-use Rattle.code_table.specs.Origins.{Asks, Does, Origin, origins_of_rule, use_for}
+use Rattle.play_meaning.specs.declared.operand.Use.TheVariants.{Test}
+use Rattle.code_table.specs.Origins.{Origin, origins_of_rule, use_for}
 use Rattle.story_format.specs.Checks.{codes_named}
 use Rattle.story_format.specs.Holding.{Named, is_of}
 use Rattle.story_format.specs.Layout.{action_layout, body_layout, book_layout, rule_layout, rules_layout, scene_layout}
 use Rattle.story_format.specs.Making.{Worded, described_in, entries_of}
-use Rattle.story_format.specs.RuleChecks.{are_right_books, are_right_rules, are_right_scenes, are_same_actions, code_of_body, codes_in_rule, codes_in_rules, is_number_or_none, is_right_body, is_right_rule, is_right_scene, lists_none, use_in_body, uses_in_rule, uses_in_rules}
+use Rattle.story_format.specs.RuleChecks.{are_right_books, are_right_rules, are_same_actions, code_of_body, codes_in_rule, codes_in_rules, is_number_or_none, is_right_body, is_right_rule, is_right_scene, lists_none, use_in_body, uses_in_rule, uses_in_rules}
 use Rattle.story_format.specs.RuleMaking.{action_entries, book_count, condition_count, condition_number, first_own_book, number_or_none, rule_count, rule_entries, rule_entry, rules_of, scene_entry}
 use Rattle.story_format.specs.Soundness.{are_in_turn}
 use Rattle.story_format.specs.declared.rule_entry.RuleBody.{RuleBody}
@@ -27,7 +24,6 @@ use Rattle.story_format.specs.declared.rule_entry.RuleBody.TheVariants.{Code, St
 use Rattle.story_format.specs.declared.rule_entry.RuleEntry.{RuleEntry}
 use Rattle.story_format.specs.declared.rule_tables.Book.{Book}
 use Rattle.story_format.proofs.AboutRules.{IsSmall, aspect_fits, aspect_right, named_of, named_parts, number_fits, number_right}
-use Rattle.story_format.proofs.EntryLemmas.{objects_in}
 use Rattle.story_format.proofs.Known.{or_right}
 use Rattle.story_format.proofs.OrderLemmas.{codes_counted, codes_in_turn}
 

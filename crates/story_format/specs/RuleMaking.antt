@@ -1,6 +1,6 @@
 -- The rule tables of a tale: the sixteen actions, its rules with what they are about and the numbers of their codes, its books
 -- without their rules, its scenes without what begins or ends them.
-use Rattle.std.specs.Prelude.{ℕ, ◌+◌, ◌*◌, Bool, true, false, List, [], ◌∷◌, length, map, min, replicate, Option, None, Some, if◌then◌else◌}
+use Rattle.std.specs.Prelude.{ℕ, ◌+◌, ◌*◌, Bool, List, [], ◌∷◌, length, map, min, replicate, Option, None, Some, if◌then◌else◌}
 use Rattle.world_meaning.specs.declared.declared.Declared.{Declared}
 use Rattle.play_meaning.specs.Rules.{Anything, Aspect, Exactly, OfKind, Rule}
 use Rattle.play_meaning.specs.StandardActions.{standard_needs}
