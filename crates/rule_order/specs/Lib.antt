@@ -5,3 +5,4 @@ pub mod Headings
 pub mod KeyLists
 pub mod Keys
 pub mod Listings
+pub mod OrderLaws
