@@ -21,7 +21,7 @@ folder = pathlib.Path(__file__).resolve().parent
 source = folder / "rows/two_rooms/source.i7"
 # Every so many of the sources of tests/bodies.
 STEP = 90
-FAULTS = ["L1 BadMagic", "L2 BadVersion", "L3 Truncated", "L4 TooLong", "L5 BadTable", "L6 BadCode"]
+FAULTS = ["L1 BadMagic", "L2 BadVersion", "L3 Truncated", "L4 TooLong", "L5 BadTable", "L6 BadCode", "L7 BadOrder"]
 
 
 def with_changes(chance, story, count, values):

@@ -80,11 +80,12 @@ LONGEST = 65535
 HALL = bytes.fromhex("22 0020 37")
 ROOM = bytes.fromhex("11 00 13 01 3b")
 ANYTHING = (0,)
+NO_BOOKS = [[] for _ in range(8)]
 def save(name, rules, codes, strings=(), **others):
     """Saves the story of two rooms with these rules, with codes behind that of the Hall, with strings behind its own, and perhaps
     with other tables."""
     texts = table(u(2, len(text)) + text for text in [*STRINGS, *strings])
-    told = rules_written({**tables(data), "rules": rules, **others})
+    told = rules_written({**tables(data), "rules": rules, "books": NO_BOOKS, **others})
     open(name + ".story", "wb").write(data[:6] + texts + WORLD + told + table(u(2, len(code)) + code for code in [HALL, *codes]))
 def does(code):
     """A rule that does this code."""
@@ -129,11 +130,24 @@ save("L6_operands", FOUR, [bytes.fromhex("04") * (LONGEST - 1) + b"\x37"] * 4)
 save("L6_jumps_into_arguments", FOUR, [bytes.fromhex("19 32 fffb") * 16383 + b"\x37"] * 4)
 save("L5_many_rules", [does(1)] * LONGEST, [b"\x37"])
 save("L5_many_books", [], [], books=[[]] * LONGEST)
-save("L5_long_books", [does(1)], [b"\x37"], books=[[0] * LONGEST] * 8)
+save("L7_long_books", [does(1)], [b"\x37"], books=[[0] * LONGEST] * 8)
+def standard(book):
+    """A rule of this book that does what the first standard rule does."""
+    return (book, NONE8, ANYTHING, ANYTHING, ANYTHING, NONE8, NONE16, (1, 1))
+def in_every_turn(listed):
+    return NO_BOOKS[:6] + [listed] + NO_BOOKS[7:]
+save("plays_full_book", [standard(6)] * 2000, [], books=in_every_turn(list(range(1999, -1, -1))))
+save("L7_last_again", [standard(6)] * 2000, [], books=in_every_turn([*range(2000), 1999]))
+save("L7_last_of_another", [standard(6)] * 1999 + [standard(7)], [], books=in_every_turn(list(range(2000))))
+save("L5_listed_behind", [standard(6)] * 2000, [], books=in_every_turn(list(range(2001))))
 save("L5_many_scenes", [], [], books=[[]] * LONGEST, scenes=[b"\0" + b"\xff" * 4] * LONGEST)
 save("L5_many_actions", [], [], actions=[bytes([1, 1, 255, 0])] * LONGEST)
-kind = (2, 4, [(2, 0)] * 255)
-save("plays_properties", [(6, NONE8, kind, kind, kind, NONE8, NONE16, (1, 1))] * 2000, [])
+def described(count):
+    """A rule about three kinds with so many properties each."""
+    kind = (2, 4, [(2, 0)] * count)
+    return (6, NONE8, kind, kind, kind, NONE8, NONE16, (1, 1))
+save("plays_properties", [described(9)] * 2000, [])
+save("L5_properties", [described(9)] * 1999 + [described(255)], [])
 PY
 # The least address space, in KiB, in which an empty source is answered.
 least_space() {

@@ -1,7 +1,7 @@
 """Sources with rules, by a plain reading: where their sentences begin and end, and what these put into tables 8 to 12 of the story."""
 import re
 
-from plain_stories import ACTIONS, BUILT_IN_BOOKS, EVERY_TURN, NONE8, NONE16
+from plain_stories import ACTIONS, BUILT_IN_BOOKS, EVERY_TURN, NONE8, NONE16, standard_rules
 
 RULE = re.compile(r"(?:Every turn|When play begins|(?:An?|The) ([\w' -]+?) rule)\b(?= when | *[,:(]|$)")
 COMMENT = re.compile(r'("[^"]*")|\[[^]]*\]')
@@ -68,17 +68,25 @@ def head_of(sentence, rulebooks, scenes):
     return BUILT_IN_BOOKS + 2 * len(scenes) + rulebooks.index(found[1].lower()), asks
 
 
+def in_order(rules, book):
+    """The rules of a book: those that ask more stand in front, and of others the earlier."""
+    def asks(number):
+        _, action, *_, condition, _ = rules[number]
+        return (action != NONE8) + (condition != NONE16)
+    return sorted((number for number, rule in enumerate(rules) if rule[0] == book), key=lambda number: -asks(number))
+
+
 def tables_of(source, described):
     """Tables 8 to 12 of a source's story, as a plain reader of stories gives them, where so many objects are described."""
     told = list(sentences(source))
     rulebooks, scenes = declared(told)
     heads = [head for sentence in told if (head := head_of(sentence, rulebooks, scenes))]
-    rules, code = [], described
+    rules, code = standard_rules(), described
     for book, asks in heads:
         rules.append((book, NONE8, (0,), (0,), (0,), NONE8, code if asks else NONE16, (0, code + asks)))
         code += asks + 1
     return {
         "actions": ACTIONS, "grammar": [], "rules": rules,
-        "books": [[] for _ in range(BUILT_IN_BOOKS + 2 * len(scenes) + len(rulebooks))],
+        "books": [in_order(rules, book) for book in range(BUILT_IN_BOOKS + 2 * len(scenes) + len(rulebooks))],
         "scenes": [bytes([recurs]) + b"\xff" * 4 for recurs in scenes.values()],
     }

@@ -12,7 +12,7 @@ import subprocess
 import sys
 import tempfile
 
-from plain_stories import NONE16, Fault, has, opening, tables
+from plain_stories import NONE16, STANDARD_RULES, Fault, has, opening, tables
 from row_files import report, rows_of
 
 program = pathlib.Path(sys.argv[1]).resolve()
@@ -92,8 +92,9 @@ def numbers_of(told, asked):
 
 def rules_of(told):
     """What a row of rules tells of a story."""
-    rules = [(rule[0], rule[6], rule[7][1]) for rule in told["rules"]]
-    said = ", ".join(f"{book} {'-' if test == NONE16 else test} {body}" for book, test, body in rules)
+    own = list(enumerate(told["rules"]))[STANDARD_RULES:]
+    rules = [(rule[0], rule[6], rule[7][1], told["books"][rule[0]].index(number)) for number, rule in own]
+    said = ", ".join(f"{book} {'-' if test == NONE16 else test} {body} {place}" for book, test, body, place in rules)
     scenes = " ".join(str(scene[0]) for scene in told["scenes"])
     return [said or "-", str(len(told["books"])), scenes or "-"]
 

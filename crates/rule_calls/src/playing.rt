@@ -23,13 +23,18 @@ pub fn story_of(alloc: Global, source: &str) -> Result<Rc<Story>, Unplayed> {
     Ok(Rc::new(alloc, story)?)
 }
 
-/// The number of the code that does what a story's one rule does.
+/// The number of the code that does what the author's one rule does; none where there are more.
 fn only_body(story: &Story) -> Option<u16> {
-    if story.rule_count() == 1 {
-        story.body_of_rule(0)
-    } else {
-        None
+    let mut only = None;
+    for rule in 0..story.rule_count() {
+        if let Some(body) = story.body_of_rule(rule) {
+            if only.is_some() {
+                return None;
+            }
+            only = Some(body);
+        }
     }
+    only
 }
 
 /// Does the body of a source's one rule once, in the world with which its story begins.
@@ -88,22 +93,38 @@ fn number_told(alloc: Global, number: Option<u16>) -> Result<String, AllocError>
     }
 }
 
-/// A rule of a story: its rulebook, the code of its condition and that of its body.
+/// The place of a rule among those that its rulebook lists.
+fn place_of(story: &Story, rule: usize) -> Option<u16> {
+    let book = story.book_of_rule(rule)?;
+    let mut place = 0u16;
+    for listed in story.rules_listed(book) {
+        if usize::from(*listed) == rule {
+            return Some(place);
+        }
+        place = place.saturating_add(1);
+    }
+    None
+}
+
+/// A rule of a story: its rulebook, the code of its condition, that of its body, and its place in the rulebook.
 fn rule_told(alloc: Global, story: &Story, rule: usize) -> Result<String, AllocError> {
     let book = number_told(alloc, story.book_of_rule(rule))?;
     let condition = number_told(alloc, story.condition_of_rule(rule))?;
     let body = number_told(alloc, story.body_of_rule(rule))?;
-    format!(in alloc; "{book} {condition} {body}")
+    let place = number_told(alloc, place_of(story, rule))?;
+    format!(in alloc; "{book} {condition} {body} {place}")
 }
 
-/// The rules of a story, a comma in between.
+/// The author's rules of a story, a comma in between: the others have no code.
 fn all_rules_told(alloc: Global, story: &Story) -> Result<String, AllocError> {
     let mut all = String::new(alloc);
     for rule in 0..story.rule_count() {
-        if !all.is_empty() {
-            all.push_str(", ")?;
+        if story.body_of_rule(rule).is_some() {
+            if !all.is_empty() {
+                all.push_str(", ")?;
+            }
+            all.push_str(rule_told(alloc, story, rule)?.as_str())?;
         }
-        all.push_str(rule_told(alloc, story, rule)?.as_str())?;
     }
     Ok(all)
 }

@@ -2,10 +2,8 @@
 #![tactic(auto)]
 
 mod furnished;
-mod two_rooms;
 
 pub use furnished::{FURNISHED, GATE};
-pub use two_rooms::TWO_ROOMS_STORY;
 
 /// A Hall with a description, and a Garden north of it.
 pub const TWO_ROOMS: &[u8] =

@@ -7,5 +7,6 @@ pub mod MadeObjects
 pub mod MadePlaces
 pub mod Outcomes
 pub mod Ranges
+pub mod RulesApart
 pub mod RulesOf
 pub mod Understood

@@ -43,7 +43,7 @@ abbrev resolved_or : Resolved → Resolution → Resolved
 resolved_or other (resolution.Says resolved) = resolved
 resolved_or other (resolution.Refused fault) = other
 
-told_by : (k : Known) (sentences : List Sentence) (rules : RulesFound) (texts : TextsFound) (resolved : Resolved) → resolution.Says resolved ≡ joined rules texts → IsRulesFound k sentences rules
+pub told_by : (k : Known) (sentences : List Sentence) (rules : RulesFound) (texts : TextsFound) (resolved : Resolved) → resolution.Says resolved ≡ joined rules texts → IsRulesFound k sentences rules
     → AreTold k (reverse (rules_in sentences)) (reverse resolved.rules.items)
 told_by k sentences (ruled.Says rules) (found.Says texts) resolved told are =
     subst (λ (r : Resolved). AreTold k (reverse (rules_in sentences)) (reverse r.rules.items)) (sym (ap (resolved_or resolved) told)) are
@@ -70,7 +70,7 @@ as_many R [] (y ∷ ys) zip = absurd zip
 as_many R (x ∷ xs) [] zip = absurd zip
 as_many R (x ∷ xs) (y ∷ ys) zip = ap suc (as_many R xs ys zip.1)
 
-few_told : (k : Known) (rules : List RuleAt) (told : List SourceRule) → AreTold k rules (reverse told) → length told ≤ 2000
+few_told : (k : Known) (rules : List RuleAt) (told : List SourceRule) → AreTold k rules (reverse told) → length told ≤ 1939
 unfolding most_rules
 few_told k rules told are = omega (arith, few_placed k rules are.within, as_many (IsTold k) rules (reverse told) are.each, length-reverse told)
 
@@ -81,7 +81,7 @@ there_below [] n x there = absurd cc
 there_below (y ∷ xs) zero x there = omega arith
 there_below (y ∷ xs) (suc n) x there = omega (arith, there_below xs n x there)
 
-list_all_back : {A : Type 0} (p : A → Bool) (xs : List A) → list_all p xs ≡ true → list_all p (reverse xs) ≡ true
+pub list_all_back : {A : Type 0} (p : A → Bool) (xs : List A) → list_all p xs ≡ true → list_all p (reverse xs) ≡ true
 list_all_back p [] all = refl
 list_all_back p (x ∷ xs) all =
     let t = both_are (p x) (list_all p xs) all in
@@ -132,12 +132,12 @@ module _ (k : Known) (d : Declared) (books : length k.rulebooks ≡ d.rulebooks)
 
 -- ---- all of it
 
-pub few_rules : (sentences : List Sentence) (tale : Tale) (texts : List Text) (rules : List Rule) → AreMeant sentences tale texts rules → length rules ≤ 2000
+pub few_rules : (sentences : List Sentence) (tale : Tale) (texts : List Text) (rules : List Rule) → AreMeant sentences tale texts rules → length rules ≤ 1939
 few_rules sentences tale texts rules meant =
     let is = meant.resolved_is in
     let told = told_by (known_said sentences) sentences is.rules is.texts meant.resolved is.told_is is.rules_are in
     let few = few_told (known_said sentences) (reverse (rules_in sentences)) meant.resolved.rules.items told in
-    subst (λ (all : List Rule). length all ≤ 2000) (sym meant.rules_are) (omega (arith, few, length-map meant.resolved.rules.items (λ (one : SourceRule). rule_meant one.rule)))
+    subst (λ (all : List Rule). length all ≤ 1939) (sym meant.rules_are) (omega (arith, few, length-map meant.resolved.rules.items (λ (one : SourceRule). rule_meant one.rule)))
 
 -- of books that there are, and about nothing but their conditions
 pub rules_named : (sentences : List Sentence) (tale : Tale) (texts : List Text) (rules : List Rule) → AreMeant sentences tale texts rules → list_all (is_of (named_in tale)) rules ≡ true

@@ -1,5 +1,5 @@
 -- What rules are about stands in their entries, rightly, and there is room for it.
-use Rattle.std.proofs.Common.{◌≡◌, refl, ℕ, ◌<◌, ◌≤◌, true, false, ◌&&◌, ltb, leb, eqb, List, [], ◌∷◌, length, map, Option, Some, None, arith}
+use Rattle.std.proofs.Common.{◌≡◌, ◌∙◌, ap, refl, ℕ, ◌<◌, ◌≤◌, true, false, ◌&&◌, ltb, leb, eqb, List, [], ◌∷◌, length, map, Option, Some, None, arith}
 use Rattle.std.specs.List.{list_all}
 use Rattle.std.proofs.lemmas.Bool.{lt-ltb, ltb-true, leb-true, ne_eqb}
 use Rattle.std.proofs.lemmas.List.{length-map}
@@ -13,7 +13,8 @@ use Rattle.story_format.specs.Carrying.{AsksSo, IsAbout, asked_by, number_if_som
 use Rattle.story_format.specs.Holding.{Named, named_by, is_asked, is_of, is_property, is_there}
 use Rattle.story_format.specs.Layout.{aspect_layout, kind_aspect_layout, side_layout}
 use Rattle.story_format.specs.RuleChecks.{is_number_or_none, is_right_aspect, is_right_side}
-use Rattle.story_format.specs.RuleMaking.{aspect_entry, number_or_none, rule_entry, side_of}
+use Rattle.story_format.specs.RuleMaking.{aspect_entry, entry_with, number_or_none, side_of}
+use Rattle.story_format.specs.declared.rule_entry.RuleBody.{RuleBody}
 use Rattle.story_format.proofs.DeclaredLemmas.{declared_parts, few_grants, few_kinds}
 use Rattle.story_format.proofs.Known.{or_right}
 
@@ -76,7 +77,9 @@ aspect_right z (Exactly o) h = h
 aspect_right z (OfKind kind qs) h =
     let t = both_are (ltb kind z.kinds) (leb (length qs) 9 && list_all (is_property z.flags) qs) h in
     let u = both_are (leb (length qs) 9) (list_all (is_property z.flags) qs) t.1 in
-    both (ltb kind z.kinds) (list_all (is_right_side z.flags) (map side_of qs)) t.0 (sides_right z.flags qs u.1)
+    let few : leb (length (map side_of qs)) 9 ≡ true = ap (λ n. leb n 9) (length-map qs side_of) ∙ u.0 in
+    both (ltb kind z.kinds) (leb (length (map side_of qs)) 9 && list_all (is_right_side z.flags) (map side_of qs)) t.0
+    (both (leb (length (map side_of qs)) 9) (list_all (is_right_side z.flags) (map side_of qs)) few (sides_right z.flags qs u.1))
 
 -- ---- there is room for them
 
@@ -163,8 +166,8 @@ aspect_told z (OfKind kind qs) h =
     let u = both_are (leb (length qs) 9) (list_all (is_property z.flags) qs) t.1 in
     (refl, sides_told z.flags qs u.1)
 
-pub rule_about : (z : Named) (next : ℕ) (rule : Rule) → IsSmall z → is_of z rule ≡ true → IsAbout (rule_entry next rule) rule
-rule_about z next rule small h =
+pub entry_about : (z : Named) (rule : Rule) (condition : ℕ) (body : RuleBody) → IsSmall z → is_of z rule ≡ true → IsAbout (entry_with rule condition body) rule
+entry_about z rule condition body small h =
     let p = named_parts z rule h in
     record {
       action = number_told 16 rule.action (omega arith) p.action;

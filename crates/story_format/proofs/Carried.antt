@@ -27,6 +27,9 @@ use Rattle.play_meaning.specs.Settings.{Setting}
 use Rattle.play_meaning.specs.Rules.{Rule}
 use Rattle.play_meaning.specs.Trees.{Text}
 use Rattle.play_meaning.specs.Worlds.{World}
+use Rattle.play_meaning.specs.Order.{book_of}
+use Rattle.play_meaning.specs.StandardRules.{standard_rules}
+use Rattle.play_meaning.specs.Tales.{setting_of}
 use Rattle.play_meaning.specs.declared.action.ActionNow.{ActionNow}
 use Rattle.play_meaning.specs.declared.operand.Counts.{Counts}
 use Rattle.code_table.specs.Emitted.{AllFit, codes_of_origins}
@@ -34,17 +37,19 @@ use Rattle.code_table.specs.Origins.{Describes, Origin, origins_of, strings_of_o
 use Rattle.code_table.proofs.Said.{text_said}
 use Rattle.story_format.specs.Carrying.{Carries, CarriesRule}
 use Rattle.story_format.specs.Codes.{codes_told, counts_of}
-use Rattle.story_format.specs.Facts.{description_code_in, description_code_of, exits_at, holder_in, is_room_in, name_in, rooms_before, text_at, way_in, words_in}
-use Rattle.story_format.proofs.AboutRules.{small_names}
+use Rattle.story_format.specs.Facts.{description_code_in, description_code_of, exits_at, holder_in, is_room_in, name_in, rooms_before, rules_listed, text_at, way_in, words_in}
+use Rattle.story_format.proofs.AboutRules.{IsSmall, small_names}
 use Rattle.story_format.specs.Holding.{named_in, AreHeld, IsHeld}
-use Rattle.story_format.specs.RuleMaking.{rules_of}
-use Rattle.story_format.specs.Making.{Worded, code_count, code_number, codes_in, described_in, entries_of, entry_of, entry_strings, place_holder, strings_of, strings_said, tables_of, tables_with, text_in, text_of, ways_of, worded, worded_at, worded_from, world_of}
+use Rattle.story_format.specs.RuleMaking.{rule_entries, rules_of, standard_entries}
+use Rattle.story_format.specs.Making.{Worded, code_count, code_number, codes_in, described_in, entries_of, entry_of, entry_strings, place_holder, story_rules, strings_of, strings_said, tables_of, tables_with, text_in, text_of, ways_of, worded, worded_at, worded_from, world_of}
 use Rattle.story_format.specs.Placed.{is_room_entry}
 use Rattle.story_format.proofs.StoryLemmas.{all_at, few_begin, get_dropped, get_front, get_within, parts, player_parts}
 use Rattle.story_format.proofs.Known.{found_by_number, is_known, said_known}
 use Rattle.story_format.proofs.OrderLemmas.{at_most_one}
 use Rattle.story_format.proofs.RuleLemmas.{origins_in}
-use Rattle.story_format.proofs.RulesCarried.{rules_carried}
+use Rattle.story_format.proofs.OwnBooks.{all_within, books_listed}
+use Rattle.story_format.proofs.RulesCarried.{all_standard_carried, rules_carried}
+use Rattle.story_format.proofs.StandardRuleRows.{zip_append}
 use Rattle.story_format.proofs.SoundLemmas.{bytes_enough, bytes_few, bytes_told}
 use Rattle.story_format.proofs.EntryLemmas.{counted_more, counted_same, entry_room, objects_back, objects_in}
 use Rattle.story_format.proofs.TableLemmas.{all_known, entries_counted, entry_strings_known, knows}
@@ -283,16 +288,30 @@ module _ (t : Tale) (texts : List Text) (rules : List Rule) (held : IsHeld t) (a
       (description_code_of (tables_of t texts rules) o) (text_of t texts o)
       (subst (λ objects. Told texts (description_code_in (slice_get (entries_of strings 0 ws) o)) (text_in objects texts o)) back (descriptions_told strings texts ws 0 o (omega (arith, le)) many))
 
-  rules_so : AllZip (CarriesRule (codes_told (tables_of t texts rules))) (tables_of t texts rules).rules.rules rules
+  small : IsSmall (named_in t)
+  small = small_names t.declared (length t.objects) (few_begin t.declared.kinds (sorts_in t).rooms t.objects held.made.begins) held.made.declared
+
+  author_so : AllZip (CarriesRule (codes_told (tables_of t texts rules))) (rule_entries (described_in (worded t.objects)) rules) rules
   unfolding tables_with rules_of
-  rules_so =
+  author_so =
       let ws = worded t.objects in
       let origins = origins_of texts rules in
       let strings = strings_of ws origins in
       let next : described_in ws ≡ length (map Describes texts) = described_back t ∙ sym are.are_of.many ∙ sym (length-map texts Describes) in
       rules_carried (counts_of (tables_of t texts rules)) (codes_told (tables_of t texts rules)) (number_in strings) origins are.fit (bytes_told strings origins are.said) (origins_stand ws origins are.few)
-      (named_in t) (small_names t.declared (length t.objects) (few_begin t.declared.kinds (sorts_in t).rooms t.objects held.made.begins) held.made.declared) rules (map Describes texts)
+      (named_in t) small rules (map Describes texts)
       (described_in ws) are.are_of.named next refl (omega (arith, next, length-append (map Describes texts) (origins_in rules), bytes_enough strings origins, bytes_few strings origins are.said))
+
+  rules_so : AllZip (CarriesRule (codes_told (tables_of t texts rules))) (tables_of t texts rules).rules.rules (story_rules rules)
+  unfolding tables_with rules_of
+  rules_so =
+      let codes = codes_told (tables_of t texts rules) in
+      zip_append (CarriesRule codes) standard_entries standard_rules (rule_entries (described_in (worded t.objects)) rules) rules
+      (all_standard_carried codes (named_in t) small (omega arith)) author_so
+
+  books_so : (book : ℕ) → rules_listed (tables_of t texts rules) book ≡ book_of (setting_of t) (story_rules rules) book
+  unfolding tables_with rules_of
+  books_so book = books_listed t rules (all_within (named_in t) rules (omega arith) are.are_of.named) book
 
   pub tale_carried : Carries (tables_of t texts rules) t texts rules
   unfolding tables_with world_of
@@ -314,4 +333,5 @@ module _ (t : Tale) (texts : List Text) (rules : List Rule) (held : IsHeld t) (a
         ways = λ o direction. ways_found parents sorts strings ws o direction (slice_get ws o) refl exits ∙ ap (λ (objects : List Object). told_way (slice_get objects o) direction) back;
         start = start_carried parents sorts.rooms strings ws (ap (begin_rightly parents sorts.rooms) back ∙ held.made.begins) ∙ ap (λ (objects : List Object). told_place (slice_get objects 0)) back;
         rules_are = rules_so;
+        books = books_so;
       }

@@ -19,7 +19,7 @@ use Rattle.story_code.specs.Emits.{AreSpelled}
 use Rattle.story_code.specs.Spelling.{spelling}
 use Rattle.story_format.specs.Codes.{counts_of}
 use Rattle.story_format.specs.Holding.{AreHeld, AreNotHeld, AreOf, AreTooMany, IsHeld, NeverHeldAndNot, has_short_texts, is_short}
-use Rattle.story_format.specs.Making.{code_bytes, strings_of, strings_said, tables_but_codes, tables_of, tables_with, worded}
+use Rattle.story_format.specs.Making.{books_of, code_bytes, strings_of, strings_said, tables_but_codes, tables_of, tables_with, worded}
 use Rattle.story_format.specs.declared.tables.Tables.{Tables}
 use Rattle.story_format.proofs.EntryLemmas.{objects_back}
 use Rattle.story_format.proofs.Fits.{strings_short}
@@ -37,7 +37,7 @@ on_both (Ok x) p q f = f p q
 on_both (Err e) p q f = tt
 
 module _ (t : Tale) (texts : List Text) (rules : List Rule) (strings : List (List ℕ)) (tables : Tables) (strings_are : strings ≡ strings_of (worded t.objects) (origins_of texts rules))
-    (tables_are : tables ≡ tables_but_codes t.declared (worded t.objects) rules (strings_of (worded t.objects) (origins_of texts rules))) where
+    (tables_are : tables ≡ tables_but_codes t.declared (books_of t rules) (worded t.objects) rules (strings_of (worded t.objects) (origins_of texts rules))) where
   pub coded_is : (coded : Tables) → coded ≡ record tables { codes = code_bytes strings (origins_of texts rules) } → coded ≡ tables_of t texts rules
   unfolding tables_with
   coded_is coded is = is ∙ (λ i. record (tables_are i) { codes = code_bytes (strings_are i) (origins_of texts rules) })
@@ -76,7 +76,7 @@ module _ (t : Tale) (texts : List Text) (rules : List Rule) (strings : List (Lis
   abbrev Long : TableFault → Counts → List (List ℕ) → Type 0
   Long fault z l = HaveNoTable z (number_in l) texts rules fault
 
-  moved : (fault : TableFault) → HaveNoTable (counts_of tables) (number_in strings) texts rules fault → HaveNoTable (counts_of (tables_but_codes t.declared (worded t.objects) rules (strings_of (worded t.objects) (origins_of texts rules)))) (number_in (strings_of (worded t.objects) (origins_of texts rules))) texts rules fault
+  moved : (fault : TableFault) → HaveNoTable (counts_of tables) (number_in strings) texts rules fault → HaveNoTable (counts_of (tables_but_codes t.declared (books_of t rules) (worded t.objects) rules (strings_of (worded t.objects) (origins_of texts rules)))) (number_in (strings_of (worded t.objects) (origins_of texts rules))) texts rules fault
   moved fault none = subst (λ (x : Tables). Long fault (counts_of x) (strings_of (worded t.objects) (origins_of texts rules))) tables_are (subst (Long fault (counts_of tables)) strings_are none)
 
   long_text : (number : ℕ) → HaveNoTable (counts_of tables) (number_in strings) texts rules (LongText number) → AreNotHeld t texts rules (LongText number)

@@ -1,5 +1,5 @@
 -- No bytes stand for two faults.
-use Rattle.std.proofs.Common.{◌≡◌, ◌≢◌, ℕ, ◌+◌, ◌<◌, Bool, true, false, cond, eqb, List, [], ◌∷◌, ◌++◌, length, take, drop, Option, Some, Result, Ok, Err, refl, sym, ap, ◌∙◌, arith, inl, inr, ◌⊎◌}
+use Rattle.std.proofs.Common.{◌≡◌, ◌≢◌, ℕ, ◌+◌, ◌<◌, Bool, true, false, cond, eqb, List, [], ◌∷◌, ◌++◌, length, take, drop, Option, Some, Result, Ok, Err, refl, sym, ap, subst, ◌∙◌, arith, inl, inr, ◌⊎◌}
 use Rattle.std.specs.Str.{bytes_eq}
 use Rattle.std.specs.Int.{w16, to_be_bytes}
 use Rattle.std.proofs.Math.Dec.{eqb-suc-zero}
@@ -16,7 +16,8 @@ use Rattle.story_format.specs.Spells.{magic, head}
 use Rattle.story_format.specs.Checks.{are_right}
 use Rattle.story_format.specs.Reading.{whole, body_at, body_read, tables_in, tables_read}
 use Rattle.story_format.specs.Refusals.{IsRefused}
-use Rattle.story_format.proofs.ReadingLemmas.{read_whole, right_ordered, same_version}
+use Rattle.story_format.specs.Soundness.{AreSound}
+use Rattle.story_format.proofs.ReadingLemmas.{ok_is, read_whole, same_version}
 
 -- the fault of what was read
 abbrev fault_told : Result Tables LoadFault → LoadFault
@@ -43,14 +44,15 @@ more_is_long : (t : Tables) (rest : List ℕ) → rest ≢ [] → whole (Some (t
 more_is_long t [] some = absurd (some refl)
 more_is_long t (x ∷ rest) some = let isnt : eqb (length (x ∷ rest)) 0 ≡ false = eqb-suc-zero (length rest) in rw isnt refl
 
-told_or_cut : (bytes : List ℕ) (fault : LoadFault) → IsRefused fault bytes → fault ≢ Memory → (fault ≡ fault_told (tables_read bytes)) ⊎ ((fault ≡ Truncated) × IsRefused Truncated bytes)
+-- books that are out of order are told apart from codes that aren't sound by the tables that stand there
+told_or_cut : (bytes : List ℕ) (fault : LoadFault) → IsRefused fault bytes → fault ≢ Memory → (fault ≡ fault_told (tables_read bytes)) ⊎ (((fault ≡ BadOrder) × IsRefused BadOrder bytes) ⊎ ((fault ≡ Truncated) × IsRefused Truncated bytes))
 told_or_cut bytes BadMagic h other = inl (sym (ap fault_told (no_magic_read bytes h)))
 told_or_cut bytes BadVersion (version, rest, is_other, lt, parts) other = inl (sym (ap fault_told (ap tables_read parts ∙ other_version_read version rest is_other lt)))
-told_or_cut bytes Truncated h other = inr (refl, h)
+told_or_cut bytes Truncated h other = inr (inr (refl, h))
 told_or_cut bytes TooLong (t, rest, some, holds) other = inl (sym (ap fault_told (ap tables_read holds.1 ∙ read_whole t rest holds.0 ∙ more_is_long t rest some)))
 told_or_cut bytes BadTable (t, holds, wrong) other = inl (sym (ap fault_told (ap tables_read holds.1 ∙ read_whole t [] holds.0) ∙ ap (λ (b : Bool). cond b BadCode BadTable) wrong))
 told_or_cut bytes BadCode (t, holds, right, unsound) other = inl (sym (ap fault_told (ap tables_read holds.1 ∙ read_whole t [] holds.0) ∙ ap (λ (b : Bool). cond b BadCode BadTable) right))
-told_or_cut bytes BadOrder (t, holds, right, sound, disordered) other = let z : true ≡ false = sym (right_ordered t right) ∙ disordered in absurd cc
+told_or_cut bytes BadOrder h other = inr (inl (refl, h))
 told_or_cut bytes Memory h other = absurd (other refl)
 
 -- ---- where the tables are cut, nothing else stands
@@ -88,13 +90,30 @@ only_cut bytes BadCode h (t, holds, right, unsound) other = absurd (no_tables by
 only_cut bytes BadOrder h (t, holds, right, sound, disordered) other = absurd (no_tables bytes [] t h holds.0 holds.1)
 only_cut bytes Memory h k other = absurd (other refl)
 
+-- ---- codes that aren't sound, and books that are out of order
+
+never_code_and_order : (bytes : List ℕ) (fault : LoadFault) → fault ≡ fault_told (tables_read bytes) → IsRefused fault bytes → IsRefused BadOrder bytes → ⊥
+never_code_and_order bytes fault told h (u, holds, right, sound, disordered) =
+    let read : tables_read bytes ≡ Ok u = ap tables_read holds.1 ∙ read_whole u [] holds.0 in
+    let code : fault ≡ BadCode = told ∙ ap fault_told read ∙ ap (λ (b : Bool). cond b BadCode BadTable) right in
+    let unsound : IsRefused BadCode bytes = subst (λ (x : LoadFault). IsRefused x bytes) code h in
+    let own : tables_read bytes ≡ Ok unsound.0 = ap tables_read unsound.1.1 ∙ read_whole unsound.0 [] unsound.1.0 in
+    unsound.3 (subst AreSound (ok_is u unsound.0 (sym read ∙ own)) sound)
+
 pub same_fault : (bytes : List ℕ) (fault other : LoadFault) → IsRefused fault bytes → IsRefused other bytes → fault ≢ Memory → other ≢ Memory → fault ≡ other
 same_fault bytes fault other h k f g =
     elim (told_or_cut bytes fault h f) [
       | inl told ↦
           elim (told_or_cut bytes other k g) [
             | inl too ↦ told ∙ sym too
-            | inr cut ↦ only_cut bytes fault cut.1 h f ∙ sym cut.0
+            | inr (inl ordered) ↦ absurd (never_code_and_order bytes fault told h ordered.1)
+            | inr (inr cut) ↦ only_cut bytes fault cut.1 h f ∙ sym cut.0
           ]
-      | inr cut ↦ cut.0 ∙ sym (only_cut bytes other cut.1 k g)
+      | inr (inl ordered) ↦
+          elim (told_or_cut bytes other k g) [
+            | inl too ↦ absurd (never_code_and_order bytes other too k ordered.1)
+            | inr (inl both) ↦ ordered.0 ∙ sym both.0
+            | inr (inr cut) ↦ only_cut bytes fault cut.1 h f ∙ sym cut.0
+          ]
+      | inr (inr cut) ↦ cut.0 ∙ sym (only_cut bytes other cut.1 k g)
     ]

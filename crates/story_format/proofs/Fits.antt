@@ -27,6 +27,7 @@ use Rattle.code_table.specs.Origins.{Origin}
 use Rattle.play_meaning.specs.Rules.{Rule}
 use Rattle.object_words.proofs.StringLemmas.{length_mapped}
 use Rattle.story_format.specs.Formats.{fits_optional}
+use Rattle.story_format.specs.declared.rule_tables.Book.{Book}
 use Rattle.story_format.specs.Layout.{entry_layout, way_layout, exits_layout, tables_layout}
 use Rattle.story_format.specs.Making.{Worded, worded, code_bytes, code_count, described_in, numbers_of, entry_strings, strings_of, strings_said, article_number, relation_number, place_relation, place_holder, code_number, entry_of, entries_of, ways_of, tables_with}
 use Rattle.story_format.specs.Holding.{is_of, named_by, has_few_words, has_short_texts, is_short, is_short_or_none}
@@ -36,7 +37,7 @@ use Rattle.story_format.proofs.AboutRules.{small_names}
 use Rattle.story_format.proofs.DeclaredLemmas.{all_own_fit, are_bytes, declared_parts, few_kinds, fits_own, is_word, world_fits}
 use Rattle.story_format.proofs.WordFacts.{all_mentioned, is_good}
 use Rattle.story_format.proofs.EntryLemmas.{objects_back, objects_in, rooms_lead}
-use Rattle.story_format.proofs.RuleLemmas.{rule_tables_fit}
+use Rattle.story_format.proofs.RuleLemmas.{AreRightBooks, rule_tables_fit}
 use Rattle.story_format.proofs.TableLemmas.{all_good_words, entries_counted, good_words}
 
 -- ---- how many strings there are
@@ -218,11 +219,11 @@ ways_few parents (w ∷ ws) =
 
 -- ---- all of it
 
-pub tables_fit : (d : Declared) (objects : List Object) (rules : List Rule) (said : List Origin) → IsWellMade (record { declared = d; objects = objects }) → list_all has_short_texts objects ≡ true → list_all has_few_words (worded objects) ≡ true
-    → length rules ≤ 2000 → list_all (is_of (named_by d (length objects))) rules ≡ true → length (strings_of (worded objects) said) < 65535 → list_all is_short (strings_said said) ≡ true → length (code_bytes (strings_of (worded objects) said) said) < 65536 → list_all is_short (code_bytes (strings_of (worded objects) said) said) ≡ true
-    → tables_layout.format.fits (tables_with d (worded objects) rules said) ≡ true
+pub tables_fit : (d : Declared) (books : List Book) (objects : List Object) (rules : List Rule) (said : List Origin) → IsWellMade (record { declared = d; objects = objects }) → list_all has_short_texts objects ≡ true → list_all has_few_words (worded objects) ≡ true
+    → length rules ≤ 1939 → AreRightBooks d books (61 + length rules) → list_all (is_of (named_by d (length objects))) rules ≡ true → length (strings_of (worded objects) said) < 65535 → list_all is_short (strings_said said) ≡ true → length (code_bytes (strings_of (worded objects) said) said) < 65536 → list_all is_short (code_bytes (strings_of (worded objects) said) said) ≡ true
+    → tables_layout.format.fits (tables_with d books (worded objects) rules said) ≡ true
 unfolding tables_layout tables_with
-tables_fit d objects rules said made texts few_words few_rules named few short few_codes codes_short =
+tables_fit d books objects rules said made texts few_words few_rules known_books named few short few_codes codes_short =
     let ws = worded objects in
     let strings = strings_of ws said in
     let back : objects_in ws ≡ objects = objects_back 0 objects in
@@ -239,5 +240,5 @@ tables_fit d objects rules said made texts few_words few_rules named few short f
     let exits = all_weaker (lead_rightly sorts) exits_layout.format.fits (exits_fit d.kinds (kinds_of objects) few_of_kinds) (flat_map (ways_of d.kinds) ws) (rooms_lead d.kinds sorts ws (ap (list_all (has_right_exits d.kinds sorts)) back ∙ made.exits)) in
     let code_few : ltb (length (code_bytes strings said)) 65536 ≡ true = lt-ltb _ _ few_codes in
     let declared = declared_parts d made.declared in
-    let rules_so = rule_tables_fit d (named_by d (length objects)) rules (described_in ws) declared.scenes declared.rulebooks few_rules (small_names d (length objects) few_objects made.declared) named in
+    let rules_so = rule_tables_fit d books (named_by d (length objects)) rules (described_in ws) declared.scenes declared.rulebooks few_rules known_books (small_names d (length objects) few_objects made.declared) named in
     rw (string_count, strings_fit, world_fits d made.declared, entry_count, entries, way_count, exits, rules_so, code_few, codes_short) refl

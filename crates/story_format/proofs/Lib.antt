@@ -12,6 +12,9 @@ pub mod EntryLemmas
 pub mod KindLemmas
 pub mod TableLemmas
 pub mod Fits
+pub mod StandardRuleRows
+pub mod OnceLemmas
+pub mod OwnBooks
 pub mod RuleLemmas
 pub mod Stories
 pub mod RulesCarried

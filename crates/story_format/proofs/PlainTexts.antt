@@ -20,6 +20,7 @@ use Rattle.story_format.proofs.EntryLemmas.{objects_back, objects_in}
 use Rattle.story_format.proofs.Fits.{few_strings}
 use Rattle.story_format.proofs.Known.{is_known, passes_at, said_known}
 use Rattle.story_format.proofs.OrderLemmas.{codes_few, number_is_place}
+use Rattle.story_format.proofs.StandardRuleRows.{in_order_apart}
 use Rattle.story_format.proofs.Stories.{few_objects}
 
 -- ---- texts that say bytes
@@ -101,7 +102,7 @@ plain_held t xs held many short =
     let few : length strings < 65535 = omega (arith, few_strings ws origins held.words, ap length said, few_bytes, le) in
     let known : list_all (is_known strings) xs ≡ true = ap (list_all (is_known strings)) (sym said) ∙ said_known ws origins in
     record {
-      are_of = record { many = length-map xs plain ∙ many; few = omega arith; named = refl };
+      are_of = record { many = length-map xs plain ∙ many; few = omega arith; apart = in_order_apart [] refl; named = refl };
       short = ap (list_all is_short) said ∙ short;
       few = few;
       fit = fit_plain (number_in strings) (counts_of (tables_of t texts [])) xs (all_within strings xs (small (length strings)) (omega (arith, few)) known few);

@@ -1,6 +1,5 @@
 -- What is known of bytes whose tables were read, and of bytes that were refused.
 use Rattle.std.proofs.Common.{◌≡◌, ◌≢◌, ℕ, ◌+◌, ◌<◌, ◌≤◌, Bool, true, false, ◌&&◌, cond, ltb, leb, eqb, List, [], ◌∷◌, ◌++◌, length, take, drop, Option, Some, None, Result, Ok, Err, refl, sym, ap, subst, ◌∙◌, arith, inl, inr, ◌⊎◌}
-use Rattle.std.specs.List.{list_all}
 use Rattle.std.specs.Str.{bytes_eq}
 use Rattle.std.specs.Int.{w16, to_be_bytes, from_be_bytes}
 use Rattle.std.proofs.Math.Dec.{eqb-suc-zero}
@@ -16,14 +15,9 @@ use Rattle.story_format.specs.FormatLaws.{number16_lawful, IsBytes-drop}
 use Rattle.story_format.specs.Reading.{whole, body_at, body_read, tables_in, tables_read, FaultGiven}
 use Rattle.story_format.specs.Refusals.{Holds, IsRefused}
 use Rattle.story_format.specs.Layout.{tables_layout}
-use Rattle.story_format.specs.Checks.{are_distinct, are_right_objects, are_right_ways, is_right_frame, stand_rightly, are_right}
-use Rattle.story_format.specs.Counts.{counts_of}
-use Rattle.story_format.specs.RuleChecks.{are_right_books, are_right_rules, are_right_scenes, are_same_actions, is_right_rule, lists_none}
-use Rattle.story_format.specs.RuleMaking.{action_entries, first_own_book}
+use Rattle.story_format.specs.Checks.{are_right}
 use Rattle.story_format.specs.Soundness.{AreSound}
-use Rattle.story_format.specs.WorldChecks.{is_right_world}
 use Rattle.story_format.specs.Spells.{magic, head, are_ordered, Spells}
-use Rattle.story_format.proofs.StoryLemmas.{last_of_five, four, three}
 use Rattle.story_format.proofs.SoundOrNot.{codes_are_bytes, sound_or_not}
 
 -- ---- reading what was put
@@ -32,7 +26,7 @@ pub read_whole : (t : Tables) (rest : List ℕ) → tables_layout.format.fits t 
 unfolding body_read
 read_whole t rest fits = ap (λ (o : Option (ℕ × List ℕ)). tables_in (body_at o)) (number16_lawful.again 1 (tables_layout.format.put t ++ rest) refl) ∙ ap whole (tables_layout.lawful.again t rest fits)
 
-ok_is : {A : Type 0} (x y : A) → (let left : Result A LoadFault = Ok x in let right : Result A LoadFault = Ok y in left ≡ right) → x ≡ y
+pub ok_is : {A : Type 0} (x y : A) → (let left : Result A LoadFault = Ok x in let right : Result A LoadFault = Ok y in left ≡ right) → x ≡ y
 ok_is x y e = cc
 
 pub some_is : {A : Type 0} (x y : A) → Some x ≡ Some y → x ≡ y
@@ -180,25 +174,13 @@ table_fault bytes t fits e h = (t, tables_stand bytes t fits e, h)
 pub code_fault : (bytes : List ℕ) (t : Tables) → IsBytes bytes → tables_read bytes ≡ Ok t → are_right t ≡ true → (AreSound t → ⊥) → IsRefused BadCode bytes
 code_fault bytes t fits e right unsound = (t, tables_stand bytes t fits e, right, unsound)
 
+pub order_fault : (bytes : List ℕ) (t : Tables) → IsBytes bytes → tables_read bytes ≡ Ok t → are_right t ≡ true → AreSound t → are_ordered t ≡ false → IsRefused BadOrder bytes
+order_fault bytes t fits e right sound disordered = (t, tables_stand bytes t fits e, right, sound, disordered)
+
 pub memory_fault : (bytes : List ℕ) (t : Tables) → IsBytes bytes → tables_read bytes ≡ Ok t → IsRefused Memory bytes
 memory_fault bytes t fits e = (t, tables_stand bytes t fits e)
 
 -- ---- stories
-
--- no book of right tables lists a rule, so none is out of order
-none_listed : (t : Tables) → are_right t ≡ true → list_all lists_none t.rules.books ≡ true
-unfolding are_right is_right_frame are_right_rules are_right_books
-none_listed t right =
-    let p = last_of_five (is_right_frame t) (are_distinct t.strings) (are_right_objects t) (stand_rightly t) (are_right_ways t) right in
-    let z = counts_of t in
-    let r = t.rules in
-    let q = four (is_right_world t.world) (are_right_rules z r) (leb (length t.objects) 1000) (ltb (length t.strings) 65535) p.0 in
-    let books = (last_of_five (are_right_scenes r.scenes) (are_right_books (length r.scenes) r.books) (are_same_actions r.actions action_entries) (eqb (length r.grammar) 0) (leb (length r.rules) 2000 && list_all (is_right_rule z) r.rules) q.1).1 in
-    (three (leb (first_own_book (length r.scenes)) (length r.books)) (leb (length r.books) (first_own_book (length r.scenes) + 100)) (list_all lists_none r.books) books).2
-
-pub right_ordered : (t : Tables) → are_right t ≡ true → are_ordered t ≡ true
-unfolding are_ordered
-right_ordered t right = none_listed t right
 
 pub spelled_read : (bytes : List ℕ) (t : Tables) → Spells bytes t → tables_read bytes ≡ Ok t
 spelled_read bytes t h =
@@ -207,10 +189,10 @@ spelled_read bytes t h =
 pub same_story : (bytes : List ℕ) (t u : Tables) → Spells bytes t → Spells bytes u → t ≡ u
 same_story bytes t u h k = ok_is t u (sym (spelled_read bytes t h) ∙ spelled_read bytes u k)
 
-pub story_there : (bytes : List ℕ) (t : Tables) → IsBytes bytes → tables_read bytes ≡ Ok t → are_right t ≡ true → AreSound t → Spells bytes t
-story_there bytes t fits e right sound =
+pub story_there : (bytes : List ℕ) (t : Tables) → IsBytes bytes → tables_read bytes ≡ Ok t → are_right t ≡ true → AreSound t → are_ordered t ≡ true → Spells bytes t
+story_there bytes t fits e right sound ordered =
     let holds = tables_stand bytes t fits e in
-    record { story = record { fits = holds.0; right = right; sound = sound; ordered = right_ordered t right }; spelled = holds.1 ∙ ap (λ (body : List ℕ). head ++ body) (append-nil (tables_layout.format.put t)) }
+    record { story = record { fits = holds.0; right = right; sound = sound; ordered = ordered }; spelled = holds.1 ∙ ap (λ (body : List ℕ). head ++ body) (append-nil (tables_layout.format.put t)) }
 
 -- the tables that are read of a story's bytes are the story's
 pub read_is : (bytes : List ℕ) (t u : Tables) → Spells bytes t → tables_read bytes ≡ Ok u → t ≡ u
@@ -222,6 +204,9 @@ right_if_spelled bytes t u h e = ap are_right (sym (read_is bytes t u h e)) ∙ 
 pub sound_if_spelled : (bytes : List ℕ) (t u : Tables) → Spells bytes t → tables_read bytes ≡ Ok u → AreSound u
 sound_if_spelled bytes t u h e = subst AreSound (read_is bytes t u h e) h.story.sound
 
+pub ordered_if_spelled : (bytes : List ℕ) (t u : Tables) → Spells bytes t → tables_read bytes ≡ Ok u → are_ordered u ≡ true
+ordered_if_spelled bytes t u h e = ap are_ordered (sym (read_is bytes t u h e)) ∙ h.story.ordered
+
 pub only_memory : (bytes : List ℕ) (t : Tables) (fault : LoadFault) → Spells bytes t → FaultGiven fault (tables_read bytes) → fault ≡ Memory
 only_memory bytes t fault h e = sym (given_ok fault t (subst (FaultGiven fault) (spelled_read bytes t h) e))
 
@@ -232,7 +217,11 @@ story_or_fault bytes t fits e =
     elim (either (are_right t)) [
       | inl right ↦
           elim (sound_or_not t (codes_are_bytes bytes t [] fits (tables_stand bytes t fits e).1)) [
-            | inl sound ↦ inl (t, story_there bytes t fits e right sound)
+            | inl sound ↦
+                elim (either (are_ordered t)) [
+                  | inl ordered ↦ inl (t, story_there bytes t fits e right sound ordered)
+                  | inr disordered ↦ inr (BadOrder, λ e. absurd cc, order_fault bytes t fits e right sound disordered)
+                ]
             | inr unsound ↦ inr (BadCode, λ e. absurd cc, code_fault bytes t fits e right unsound)
           ]
       | inr wrong ↦ inr (BadTable, λ e. absurd cc, table_fault bytes t fits e wrong)
@@ -282,5 +271,7 @@ not_refused bytes t BadTable h (u, holds, wrong) =
 not_refused bytes t BadCode h (u, holds, right, unsound) =
     let read : tables_read bytes ≡ Ok u = ap tables_read holds.1 ∙ read_whole u [] holds.0 in
     absurd (unsound (sound_if_spelled bytes t u h read))
-not_refused bytes t BadOrder h (u, holds, right, sound, disordered) = let z : true ≡ false = sym (right_ordered u right) ∙ disordered in absurd cc
+not_refused bytes t BadOrder h (u, holds, right, sound, disordered) =
+    let read : tables_read bytes ≡ Ok u = ap tables_read holds.1 ∙ read_whole u [] holds.0 in
+    let z : true ≡ false = sym (ordered_if_spelled bytes t u h read) ∙ disordered in absurd cc
 not_refused bytes t Memory h r = refl

@@ -4,20 +4,23 @@ use Rattle.std.specs.Prelude.{min, replicate}
 use Rattle.std.specs.List.{flat_map, list_all}
 use Rattle.std.proofs.lemmas.Bool.{lt-ltb, le-leb, ne_eqb, eq-eqb}
 use Rattle.std.proofs.lemmas.List.{length-map, map-append}
+use Rattle.std.proofs.lemmas.List.Folds.{list_all-append}
+use Rattle.std.proofs.lemmas.Grind.{flat_map-append}
 use Rattle.world_meaning.proofs.Bools.{both, both_are, either}
 use Rattle.world_meaning.specs.declared.declared.Declared.{Declared}
 use Rattle.play_meaning.specs.Rules.{Rule}
 use Rattle.play_meaning.specs.StandardActions.{standard_needs}
+use Rattle.play_meaning.specs.StandardRules.{rules_of_closing, rules_of_dropping, rules_of_examining, rules_of_going, rules_of_inserting, rules_of_inventory, rules_of_looking, rules_of_opening, rules_of_putting, rules_of_switching, rules_of_taking, rules_of_wearing, standard_rules}
 use Rattle.play_meaning.specs.Trees.{Condition}
 use Rattle.play_meaning.specs.declared.operand.Counts.{Counts}
 use Rattle.play_meaning.specs.declared.operand.Use.TheVariants.{Test}
 use Rattle.code_table.specs.Origins.{Origin, origins_of_rule, use_for}
 use Rattle.story_format.specs.Checks.{codes_named}
 use Rattle.story_format.specs.Holding.{Named, is_of}
-use Rattle.story_format.specs.Layout.{action_layout, body_layout, book_layout, rule_layout, rules_layout, scene_layout}
+use Rattle.story_format.specs.Layout.{action_layout, aspect_layout, body_layout, book_layout, kind_aspect_layout, rule_layout, rules_layout, scene_layout, side_layout}
 use Rattle.story_format.specs.Making.{Worded, described_in, entries_of}
-use Rattle.story_format.specs.RuleChecks.{are_right_books, are_right_rules, are_same_actions, code_of_body, codes_in_rule, codes_in_rules, is_number_or_none, is_right_body, is_right_rule, is_right_scene, lists_none, use_in_body, uses_in_rule, uses_in_rules}
-use Rattle.story_format.specs.RuleMaking.{action_entries, book_count, condition_count, condition_number, first_own_book, number_or_none, rule_count, rule_entries, rule_entry, rules_of, scene_entry}
+use Rattle.story_format.specs.RuleChecks.{are_right_books, are_right_rules, are_same_actions, code_of_body, codes_in_rule, codes_in_rules, is_number_or_none, is_right_body, is_right_rule, is_right_scene, lists_what_is_there, use_in_body, uses_in_rule, uses_in_rules}
+use Rattle.story_format.specs.RuleMaking.{action_entries, all_entries, book_count, condition_count, condition_number, entry_with, first_own_book, number_or_none, rule_count, rule_entries, rule_entry, rules_of, scene_entry, standard_entries, standard_entry, standard_from}
 use Rattle.story_format.specs.Soundness.{are_in_turn}
 use Rattle.story_format.specs.declared.rule_entry.RuleBody.{RuleBody}
 use Rattle.story_format.specs.declared.rule_entry.RuleBody.TheVariants.{Code, Standard, Unknown}
@@ -26,6 +29,7 @@ use Rattle.story_format.specs.declared.rule_tables.Book.{Book}
 use Rattle.story_format.proofs.AboutRules.{IsSmall, aspect_fits, aspect_right, named_of, named_parts, number_fits, number_right}
 use Rattle.story_format.proofs.Known.{or_right}
 use Rattle.story_format.proofs.OrderLemmas.{codes_counted, codes_in_turn}
+use Rattle.story_format.proofs.StandardRuleRows.{all_bare, each_of, no_codes, no_uses, standard_count}
 
 -- ---- numbers in turn
 
@@ -110,7 +114,15 @@ rules_used (rule ∷ rules) next le =
     (λ i. uses_are next rule rule.condition refl (omega (arith, le, more)) i ++ rules_used rules (next + rule_count rule) (omega (arith, le, more)) i)
     ∙ sym (map-append use_for (origins_of_rule rule) (origins_in rules))
 
--- the codes that the entries of objects and rules name
+-- the rules that every story has name no code
+
+pub codes_in_all : (rules : List Rule) (next : ℕ) → codes_in_rules (all_entries next rules) ≡ codes_in_rules (rule_entries next rules)
+codes_in_all rules next = flat_map-append codes_in_rule standard_entries (rule_entries next rules) ∙ ap (λ codes. codes ++ codes_in_rules (rule_entries next rules)) no_codes
+
+pub uses_in_all : (rules : List Rule) (next : ℕ) → uses_in_rules (all_entries next rules) ≡ uses_in_rules (rule_entries next rules)
+uses_in_all rules next = flat_map-append uses_in_rule standard_entries (rule_entries next rules) ∙ ap (λ uses. uses ++ uses_in_rules (rule_entries next rules)) no_uses
+
+-- the codes that the entries of objects and of the author's rules name
 abbrev pub heads_by : List (List ℕ) → List Worded → List Rule → List ℕ
 heads_by strings ws rules = codes_named (entries_of strings 0 ws) ++ codes_in_rules (rule_entries (described_in ws) rules)
 
@@ -148,11 +160,10 @@ condition_right next count (Some condition) lt le =
     let there : ltb next count ≡ true = lt-ltb _ _ (omega (arith, lt)) in
     rw first (or_right (eqb next 65535) (ltb next count) there)
 
-rule_right : (z : Counts) (next : ℕ) (rule : Rule) → z.actions ≡ 16 → is_of (named_of z) rule ≡ true → next + condition_count rule.condition < z.codes → z.codes ≤ 65535 → is_right_rule z (rule_entry next rule) ≡ true
-unfolding is_right_rule is_right_body
-rule_right z next rule actions is lt le =
+entry_right : (z : Counts) (rule : Rule) (condition : ℕ) (body : RuleBody) → z.actions ≡ 16 → is_of (named_of z) rule ≡ true → is_number_or_none 65535 z.codes condition ≡ true → is_right_body z.codes body ≡ true → is_right_rule z (entry_with rule condition body) ≡ true
+unfolding is_right_rule
+entry_right z rule condition body actions is asked done =
     let p = named_parts (named_of z) rule is in
-    let own : min (next + condition_count rule.condition) 65535 ≡ next + condition_count rule.condition = omega (arith, lt, le) in
     let action : is_number_or_none 255 z.actions (number_or_none rule.action) ≡ true = ap (λ n. is_number_or_none 255 n (number_or_none rule.action)) actions ∙ number_right 16 rule.action p.action in
     rw (
       lt-ltb _ _ p.book,
@@ -161,10 +172,16 @@ rule_right z next rule actions is lt le =
       aspect_right z rule.second p.second,
       aspect_right z rule.place p.place,
       number_right z.scenes rule.scene p.scene,
-      condition_right next z.codes rule.condition lt le,
-      own,
-      lt-ltb _ _ lt,
+      asked,
+      done,
     ) refl
+
+rule_right : (z : Counts) (next : ℕ) (rule : Rule) → z.actions ≡ 16 → is_of (named_of z) rule ≡ true → next + condition_count rule.condition < z.codes → z.codes ≤ 65535 → is_right_rule z (rule_entry next rule) ≡ true
+unfolding is_right_body
+rule_right z next rule actions is lt le =
+    let own : min (next + condition_count rule.condition) 65535 ≡ next + condition_count rule.condition = omega (arith, lt, le) in
+    let there : is_right_body z.codes (Code (min (next + condition_count rule.condition) 65535)) ≡ true = rw own (lt-ltb _ _ lt) in
+    entry_right z rule (condition_number next rule.condition) (Code (min (next + condition_count rule.condition) 65535)) actions is (condition_right next z.codes rule.condition lt le) there
 
 pub rules_right : (z : Counts) (rules : List Rule) (next : ℕ) → z.actions ≡ 16 → list_all (is_of (named_of z)) rules ≡ true → next + length (origins_in rules) ≤ z.codes → z.codes ≤ 65535 → list_all (is_right_rule z) (rule_entries next rules) ≡ true
 unfolding rule_entries
@@ -175,25 +192,35 @@ rules_right z (rule ∷ rules) next actions named le few =
     both (is_right_rule z (rule_entry next rule)) (list_all (is_right_rule z) (rule_entries (next + rule_count rule) rules))
     (rule_right z next rule actions t.0 (omega (arith, le, more)) few) (rules_right z rules (next + rule_count rule) actions t.1 (omega (arith, le, more)) few)
 
+-- ---- the entries of the rules that every story has are right
+
+standard_right : (z : Counts) (rules : List Rule) (number : ℕ) → z.actions ≡ 16 → list_all (is_of (named_of z)) rules ≡ true → 1 ≤ number → number + length rules ≤ 62 → list_all (is_right_rule z) (standard_from number rules) ≡ true
+unfolding is_right_body
+standard_right z [] number actions named first last = refl
+standard_right z (rule ∷ rules) number actions named first last =
+    let t = both_are (is_of (named_of z) rule) (list_all (is_of (named_of z)) rules) named in
+    let there : is_right_body z.codes (Standard number) ≡ true = both (leb 1 number) (leb number 61) (le-leb 1 number first) (le-leb number 61 (omega (arith, last))) in
+    both (is_right_rule z (standard_entry number rule)) (list_all (is_right_rule z) (standard_from (number + 1) rules))
+    (entry_right z rule 65535 (Standard number) actions t.0 refl there) (standard_right z rules (number + 1) actions t.1 (omega arith) (omega (arith, last)))
+
+all_standard_right : (z : Counts) → z.actions ≡ 16 → 8 ≤ z.books → list_all (is_right_rule z) standard_entries ≡ true
+unfolding standard_entries
+all_standard_right z actions books = standard_right z standard_rules 1 actions (each_of (named_of z) standard_rules books all_bare) (omega arith) (omega (arith, standard_count))
+
+pub length_standard : length standard_entries ≡ 61
+unfolding standard_entries standard_rules rules_of_looking rules_of_examining rules_of_taking rules_of_dropping rules_of_putting rules_of_inserting rules_of_opening rules_of_closing rules_of_going rules_of_wearing rules_of_inventory rules_of_switching
+length_standard = refl
+
 -- ---- books and scenes
-
-abbrev pub empty_book : Book
-empty_book = record { rules = [] }
-
-replicated : {A : Type 0} (p : A → Bool) (a : A) (n : ℕ) → p a ≡ true → list_all p (replicate n a) ≡ true
-replicated p a zero h = refl
-replicated p a (suc n) h = both (p a) (list_all p (replicate n a)) h (replicated p a n h)
 
 pub length_replicated : {A : Type 0} (a : A) (n : ℕ) → length (replicate n a) ≡ n
 length_replicated a zero = refl
 length_replicated a (suc n) = ap suc (length_replicated a n)
 
-books_right : (scenes own : ℕ) → own ≤ 100 → are_right_books scenes (replicate (first_own_book scenes + own) empty_book) ≡ true
+books_right : (scenes own rules : ℕ) (books : List Book) → own ≤ 100 → length books ≡ first_own_book scenes + own → list_all (lists_what_is_there rules) books ≡ true → are_right_books scenes rules books ≡ true
 unfolding are_right_books
-books_right scenes own le =
-    let count = length_replicated empty_book (first_own_book scenes + own) in
-    rw (le-leb (first_own_book scenes) (length (replicate (first_own_book scenes + own) empty_book)) (omega (arith, count)), le-leb (length (replicate (first_own_book scenes + own) empty_book)) (first_own_book scenes + 100) (omega (arith, count, le)))
-    (replicated lists_none empty_book (first_own_book scenes + own) refl)
+books_right scenes own rules books le count there =
+    rw (le-leb (first_own_book scenes) (length books) (omega (arith, count)), le-leb (length books) (first_own_book scenes + 100) (omega (arith, count, le))) there
 
 scene_right : (recurs : Bool) → is_right_scene (scene_entry recurs) ≡ true
 unfolding is_right_scene
@@ -213,16 +240,32 @@ unfolding rule_entries
 length_entries [] next = refl
 length_entries (rule ∷ rules) next = ap suc (length_entries rules (next + rule_count rule))
 
+pub length_all : (rules : List Rule) (next : ℕ) → length (all_entries next rules) ≡ 61 + length rules
+length_all rules next = omega (arith, length-append standard_entries (rule_entries next rules), length_standard, length_entries rules next)
+
+all_right : (z : Counts) (rules : List Rule) (next : ℕ) → z.actions ≡ 16 → 8 ≤ z.books → list_all (is_of (named_of z)) rules ≡ true → next + length (origins_in rules) ≤ z.codes → z.codes ≤ 65535 → list_all (is_right_rule z) (all_entries next rules) ≡ true
+all_right z rules next actions books named le codes =
+    list_all-append (is_right_rule z) standard_entries (rule_entries next rules)
+    ∙ both (list_all (is_right_rule z) standard_entries) (list_all (is_right_rule z) (rule_entries next rules)) (all_standard_right z actions books) (rules_right z rules next actions named le codes)
+
+-- what is known of the books of a tale with so many rules, those that every story has among them
+pub record AreRightBooks (d : Declared) (books : List Book) (count : ℕ) : Type 0 where
+  pub count_is : length books ≡ book_count d
+  pub there : list_all (lists_what_is_there count) books ≡ true
+  pub fit : list_all book_layout.format.fits books ≡ true
+
 -- tables 8 to 12 are right, where there are so many codes and these books
-pub rule_tables_right : (d : Declared) (z : Counts) (rules : List Rule) (next : ℕ) → length d.scenes ≤ 50 → d.rulebooks ≤ 100 → length rules ≤ 2000 → z.actions ≡ 16 → list_all (is_of (named_of z)) rules ≡ true
-    → next + length (origins_in rules) ≤ z.codes → z.codes ≤ 65535 → are_right_rules z (rules_of d next rules) ≡ true
+pub rule_tables_right : (d : Declared) (books : List Book) (z : Counts) (rules : List Rule) (next : ℕ) → length d.scenes ≤ 50 → d.rulebooks ≤ 100 → length rules ≤ 1939 → AreRightBooks d books (61 + length rules) → z.actions ≡ 16 → 8 ≤ z.books
+    → list_all (is_of (named_of z)) rules ≡ true → next + length (origins_in rules) ≤ z.codes → z.codes ≤ 65535 → are_right_rules z (rules_of d books next rules) ≡ true
 unfolding are_right_rules rules_of
-rule_tables_right d z rules next few_scenes few_own few actions named le codes =
+rule_tables_right d books z rules next few_scenes few_own few known actions built_in named le codes =
     let count : length (map scene_entry d.scenes) ≡ length d.scenes = length-map d.scenes scene_entry in
     let scenes : leb (length (map scene_entry d.scenes)) 50 ≡ true = le-leb _ _ (omega (arith, count, few_scenes)) in
-    let own_books : are_right_books (length (map scene_entry d.scenes)) (replicate (book_count d) empty_book) ≡ true = ap (λ n. are_right_books n (replicate (book_count d) empty_book)) count ∙ books_right (length d.scenes) d.rulebooks few_own in
-    let few_entries : leb (length (rule_entries next rules)) 2000 ≡ true = le-leb _ _ (omega (arith, length_entries rules next, few)) in
-    rw (scenes, each_scene_right d.scenes, own_books, actions_same, few_entries) (rules_right z rules next actions named le codes)
+    let many = length_all rules next in
+    let own_books : are_right_books (length (map scene_entry d.scenes)) (length (all_entries next rules)) books ≡ true =
+    (λ i. are_right_books (count i) (many i) books) ∙ books_right (length d.scenes) d.rulebooks (61 + length rules) books few_own known.count_is known.there in
+    let few_entries : leb (length (all_entries next rules)) 2000 ≡ true = le-leb _ _ (omega (arith, many, few)) in
+    rw (scenes, each_scene_right d.scenes, own_books, actions_same, few_entries) (all_right z rules next actions built_in named le codes)
 
 -- ---- there is room for each in its bytes
 
@@ -270,14 +313,20 @@ scenes_fit : (scenes : List Bool) → list_all scene_layout.format.fits (map sce
 scenes_fit [] = refl
 scenes_fit (recurs ∷ scenes) = both (scene_layout.format.fits (scene_entry recurs)) (list_all scene_layout.format.fits (map scene_entry scenes)) (scene_fits recurs) (scenes_fit scenes)
 
-book_fits : book_layout.format.fits empty_book ≡ true
-unfolding book_layout
-book_fits = refl
+standard_fit : list_all rule_layout.format.fits standard_entries ≡ true
+unfolding rule_layout body_layout aspect_layout kind_aspect_layout side_layout standard_entries standard_rules rules_of_looking rules_of_examining rules_of_taking rules_of_dropping rules_of_putting rules_of_inserting rules_of_opening rules_of_closing rules_of_going rules_of_wearing rules_of_inventory rules_of_switching
+standard_fit = refl
 
-pub rule_tables_fit : (d : Declared) (z : Named) (rules : List Rule) (next : ℕ) → length d.scenes ≤ 50 → d.rulebooks ≤ 100 → length rules ≤ 2000 → IsSmall z → list_all (is_of z) rules ≡ true → rules_layout.format.fits (rules_of d next rules) ≡ true
+all_fit : (z : Named) (rules : List Rule) (next : ℕ) → IsSmall z → list_all (is_of z) rules ≡ true → list_all rule_layout.format.fits (all_entries next rules) ≡ true
+all_fit z rules next small named =
+    list_all-append rule_layout.format.fits standard_entries (rule_entries next rules)
+    ∙ both (list_all rule_layout.format.fits standard_entries) (list_all rule_layout.format.fits (rule_entries next rules)) standard_fit (rules_fit z rules next small named)
+
+pub rule_tables_fit : (d : Declared) (books : List Book) (z : Named) (rules : List Rule) (next : ℕ) → length d.scenes ≤ 50 → d.rulebooks ≤ 100 → length rules ≤ 1939 → AreRightBooks d books (61 + length rules) → IsSmall z
+    → list_all (is_of z) rules ≡ true → rules_layout.format.fits (rules_of d books next rules) ≡ true
 unfolding rules_layout rules_of
-rule_tables_fit d z rules next few_scenes few_own few small named =
+rule_tables_fit d books z rules next few_scenes few_own few known small named =
     let scene_count : ltb (length (map scene_entry d.scenes)) 65536 ≡ true = lt-ltb _ _ (omega (arith, length-map d.scenes scene_entry, few_scenes)) in
-    let all : ltb (length (replicate (book_count d) empty_book)) 65536 ≡ true = lt-ltb _ _ (omega (arith, length_replicated empty_book (book_count d), few_scenes, few_own)) in
-    let rule_few : ltb (length (rule_entries next rules)) 65536 ≡ true = lt-ltb _ _ (omega (arith, length_entries rules next, few)) in
-    rw (action_count, actions_fit, rule_few, rules_fit z rules next small named, all, replicated book_layout.format.fits empty_book (book_count d) book_fits, scene_count) (scenes_fit d.scenes)
+    let all : ltb (length books) 65536 ≡ true = lt-ltb _ _ (omega (arith, known.count_is, few_scenes, few_own)) in
+    let rule_few : ltb (length (all_entries next rules)) 65536 ≡ true = lt-ltb _ _ (omega (arith, length_all rules next, few)) in
+    rw (action_count, actions_fit, rule_few, all_fit z rules next small named, all, known.fit, scene_count) (scenes_fit d.scenes)

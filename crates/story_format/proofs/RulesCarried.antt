@@ -1,7 +1,8 @@
 -- A tale's rules are about what their entries say, and their codes answer their conditions and do their bodies.
-use Rattle.std.proofs.Common.{◌≡◌, ◌∙◌, ap, sym, refl, ℕ, ◌+◌, ◌<◌, ◌≤◌, true, false, eqb, List, [], ◌∷◌, ◌++◌, length, Option, Some, None, append_assoc, length-append, arith}
+use Rattle.std.proofs.Common.{◌≡◌, ◌∙◌, ap, subst, sym, refl, ℕ, suc, ◌+◌, ◌<◌, ◌≤◌, true, false, eqb, List, [], ◌∷◌, ◌++◌, length, Option, Some, None, append_assoc, length-append, arith}
 use Rattle.std.specs.Prelude.{min, slice_get}
 use Rattle.std.specs.List.{AllByRecursion, AllZip, list_all}
+use Rattle.std.specs.Option.{option_map}
 use Rattle.std.proofs.lemmas.Bool.{ne_eqb}
 use Rattle.play_meaning.specs.Codes.{Codes, RunsTo, test_of}
 use Rattle.play_meaning.specs.Doing.{Inner, do_body}
@@ -9,6 +10,7 @@ use Rattle.play_meaning.specs.Progress.{Progress}
 use Rattle.play_meaning.specs.Rules.{Rule}
 use Rattle.play_meaning.specs.Saying.{Telling}
 use Rattle.play_meaning.specs.Scripts.{scope_of}
+use Rattle.play_meaning.specs.StandardRules.{standard_rules}
 use Rattle.play_meaning.specs.Trees.{Body, Condition}
 use Rattle.play_meaning.specs.Truth.{truth_in}
 use Rattle.play_meaning.specs.Worlds.{World}
@@ -17,14 +19,15 @@ use Rattle.play_meaning.specs.declared.operand.Counts.{Counts}
 use Rattle.code_table.specs.Emitted.{AllFit, codes_of_origins}
 use Rattle.code_table.specs.Origins.{Asks, Does, Origin, origins_of_rule, strings_of_origin}
 use Rattle.code_table.proofs.Said.{body_done, condition_answered}
-use Rattle.story_format.specs.Carrying.{CarriesRule, IsAnsweredBy, IsDoneBy, code_if_some}
+use Rattle.story_format.specs.Carrying.{CarriesRule, IsAnsweredBy, IsDoneBy, code_if_some, standard_body}
 use Rattle.story_format.specs.Facts.{text_at}
 use Rattle.story_format.specs.Holding.{Named, is_of}
-use Rattle.story_format.specs.RuleMaking.{condition_count, condition_number, rule_count, rule_entries, rule_entry}
-use Rattle.story_format.specs.declared.rule_entry.RuleBody.TheVariants.{Code}
+use Rattle.story_format.specs.RuleMaking.{condition_count, condition_number, rule_count, rule_entries, rule_entry, standard_entries, standard_entry, standard_from}
+use Rattle.story_format.specs.declared.rule_entry.RuleBody.TheVariants.{Code, Standard}
 use Rattle.world_meaning.proofs.Bools.{both_are}
-use Rattle.story_format.proofs.AboutRules.{IsSmall, rule_about}
+use Rattle.story_format.proofs.AboutRules.{IsSmall, entry_about}
 use Rattle.story_format.proofs.RuleLemmas.{counted, counted_more, origins_in}
+use Rattle.story_format.proofs.StandardRuleRows.{all_bare, bare_is, each_of, is_bare}
 use Rattle.story_format.proofs.StoryLemmas.{behind_there}
 
 -- ---- places in lists
@@ -51,6 +54,34 @@ answered_so c next (Some condition) lt f =
 done_so : (c : Codes) (n : ℕ) (body : Body) → n < 65535 → ((t : Telling) (inner : Inner) (now : ActionNow) (p : Progress) → RunsTo c t inner n now p (do_body t inner body (scope_of now) p)) → IsDoneBy c (Code (min n 65535)) body
 done_so c n body lt f = let own : min n 65535 ≡ n = omega (arith, lt) in rw own f
 
+-- ---- the rules that every story has
+
+standard_there : (front : List Rule) (rule : Rule) (rules : List Rule) → standard_rules ≡ front ++ rule ∷ rules → standard_body (suc (length front)) ≡ Some rule.body
+standard_there front rule rules parts =
+    let place : length front ≡ length front + 0 = omega arith in
+    ap (option_map (λ (r : Rule). r.body)) (ap (λ all. slice_get all (length front)) parts ∙ ap (slice_get (front ++ rule ∷ rules)) place ∙ behind_there front (rule ∷ rules) 0 rule refl)
+
+standard_carried : (c : Codes) (z : Named) (front rules : List Rule) (number : ℕ) → standard_rules ≡ front ++ rules → number ≡ suc (length front) → IsSmall z → list_all (is_of z) rules ≡ true → list_all is_bare rules ≡ true
+    → AllZip (CarriesRule c) (standard_from number rules) rules
+standard_carried c z front [] number parts is small named bare = tt
+standard_carried c z front (rule ∷ rules) number parts is small named bare =
+    let t = both_are (is_of z rule) (list_all (is_of z) rules) named in
+    let u = both_are (is_bare rule) (list_all is_bare rules) bare in
+    let none : rule.condition ≡ None = (bare_is rule u.0).condition in
+    let later : number + 1 ≡ suc (length (front ++ rule ∷ [])) = omega (arith, is, length-append front (rule ∷ [])) in (
+      record {
+        book = refl;
+        about = entry_about z rule 65535 (Standard number) small t.0;
+        condition = subst (IsAnsweredBy c None) (sym none) tt;
+        body = ap standard_body is ∙ standard_there front rule rules parts;
+      },
+      standard_carried c z (front ++ rule ∷ []) rules (number + 1) (parts ∙ sym (append_assoc front (rule ∷ []) rules)) later small t.1 u.1,
+    )
+
+pub all_standard_carried : (c : Codes) (z : Named) → IsSmall z → 8 ≤ z.books → AllZip (CarriesRule c) standard_entries standard_rules
+unfolding standard_entries
+all_standard_carried c z small books = standard_carried c z [] standard_rules 1 refl refl small (each_of z standard_rules books all_bare) all_bare
+
 -- ---- all of them
 
 module _ (z : Counts) (c : Codes) (string : List ℕ → ℕ) (origins : List Origin) (fit : AllFit z string origins) (codes : c.codes ≡ codes_of_origins string origins)
@@ -59,7 +90,7 @@ module _ (z : Counts) (c : Codes) (string : List ℕ → ℕ) (origins : List Or
   one_carried : (front : List Origin) (rule : Rule) (more : List Origin) → is_of named rule ≡ true → origins ≡ front ++ (origins_of_rule rule ++ more) → length front + condition_count rule.condition < 65535 → CarriesRule c (rule_entry (length front) rule) rule
   one_carried front rule more is parts lt = record {
     book = refl;
-    about = rule_about named (length front) rule small is;
+    about = entry_about named rule (condition_number (length front) rule.condition) (Code (min (length front + condition_count rule.condition) 65535)) small is;
     condition = answered_so c (length front) rule.condition lt (λ condition asked t now w. condition_answered string z c origins (length front) condition t now w fit codes (first condition asked));
     body =
         let n = length front + condition_count rule.condition in

@@ -1,5 +1,5 @@
 -- The tables of a tale that a story file holds are a story's.
-use Rattle.std.proofs.Common.{◌≡◌, ◌+◌, ◌≤◌, List, length, sym, ap, ◌∙◌, arith}
+use Rattle.std.proofs.Common.{◌≡◌, ◌+◌, ◌≤◌, true, List, length, sym, ap, ◌∙◌, arith}
 use Rattle.world_meaning.specs.WellMade.{sorts_in}
 use Rattle.world_meaning.specs.declared.tale.Tale.{Tale}
 use Rattle.object_words.proofs.StringLemmas.{length_mapped}
@@ -7,13 +7,14 @@ use Rattle.play_meaning.specs.Rules.{Rule}
 use Rattle.play_meaning.specs.Trees.{Text}
 use Rattle.code_table.specs.Origins.{origins_of}
 use Rattle.story_format.specs.Holding.{AreHeld, IsHeld}
-use Rattle.story_format.specs.Making.{Worded, code_bytes, codes_in, described_in, strings_of, tables_of, worded}
-use Rattle.story_format.specs.Spells.{IsStory}
-use Rattle.story_format.proofs.ReadingLemmas.{right_ordered}
+use Rattle.story_format.specs.Making.{Worded, books_of, code_bytes, codes_in, described_in, strings_of, tables_of, tables_with, worded}
+use Rattle.story_format.specs.RuleMaking.{all_entries, rules_of}
+use Rattle.story_format.specs.Spells.{IsStory, are_ordered}
 use Rattle.story_format.proofs.StoryLemmas.{few_begin}
 use Rattle.story_format.proofs.SoundLemmas.{bytes_enough, bytes_few, bytes_short, origins_counted, tables_sound}
 use Rattle.story_format.proofs.EntryLemmas.{objects_back}
-use Rattle.story_format.proofs.RuleLemmas.{origins_in}
+use Rattle.story_format.proofs.OwnBooks.{books_counted, books_fit, books_own, books_there, have_books, story_count}
+use Rattle.story_format.proofs.RuleLemmas.{AreRightBooks, origins_in}
 use Rattle.story_format.proofs.TableLemmas.{tables_right}
 use Rattle.story_format.proofs.Fits.{tables_fit}
 
@@ -26,6 +27,23 @@ few_objects t held =
 pub described_back : (t : Tale) → described_in (worded t.objects) ≡ codes_in t.objects
 described_back t = ap codes_in (objects_back 0 t.objects)
 
+-- ---- books
+
+right_books : (t : Tale) (rules : List Rule) → length rules ≤ 1939 → AreRightBooks t.declared (books_of t rules) (61 + length rules)
+right_books t rules few =
+    let many = story_count rules in
+    record {
+      count_is = books_counted t rules;
+      there = books_there t rules (61 + length rules) many;
+      fit = books_fit t rules (61 + length rules) many (omega (arith, few));
+    }
+
+tale_ordered : (t : Tale) (texts : List Text) (rules : List Rule) → are_ordered (tables_of t texts rules) ≡ true
+unfolding are_ordered tables_with rules_of
+tale_ordered t texts rules = books_own t rules (all_entries (described_in (worded t.objects)) rules) (have_books rules (described_in (worded t.objects)))
+
+-- ---- all of it
+
 pub tale_is_story : (t : Tale) (texts : List Text) (rules : List Rule) → IsHeld t → AreHeld t texts rules → IsStory (tables_of t texts rules)
 tale_is_story t texts rules held said =
     let ws = worded t.objects in
@@ -34,10 +52,11 @@ tale_is_story t texts rules held said =
     let of = said.are_of in
     let few = bytes_few strings origins said.said in
     let enough : described_in ws + length (origins_in rules) ≤ length (code_bytes strings origins) = omega (arith, origins_counted texts rules, of.many, described_back t, bytes_enough strings origins) in
-    let right = tables_right t.declared t.objects rules origins held.made held.texts held.words of.few of.named said.few few enough in
+    let books = books_of t rules in
+    let known = right_books t rules of.few in
     record {
-      fits = tables_fit t.declared t.objects rules origins held.made held.texts held.words of.few of.named said.few said.short few (bytes_short strings origins said.said);
-      right = right;
-      sound = tables_sound t.declared ws texts rules said.few (few_objects t held) (of.many ∙ sym (described_back t)) said.fit said.said;
-      ordered = right_ordered (tables_of t texts rules) right;
+      fits = tables_fit t.declared books t.objects rules origins held.made held.texts held.words of.few known of.named said.few said.short few (bytes_short strings origins said.said);
+      right = tables_right t.declared books t.objects rules origins held.made held.texts held.words of.few known of.named said.few few enough;
+      sound = tables_sound t.declared books ws texts rules said.few (few_objects t held) (of.many ∙ sym (described_back t)) said.fit said.said;
+      ordered = tale_ordered t texts rules;
     }

@@ -1,16 +1,20 @@
 -- Tables that carry a tale: they say of each object's name, words and ways, and of the start, what the tale says; its
--- description's code says its text; and its rules are about the same, and their codes answer their conditions and do their
--- bodies.
-use Rattle.std.specs.Prelude.{◌≡◌, ℕ, [], is_some, length, map, List, Option, None, Some, if◌then◌else◌, ◌==◌}
+-- description's code says its text; its rules are about the same, and their codes answer their conditions and do their
+-- bodies; and its books list them in the order in which they are asked.
+use Rattle.std.specs.Prelude.{◌≡◌, ℕ, zero, suc, [], is_some, length, map, slice_get, List, Option, None, Some, if◌then◌else◌, ◌==◌}
 use Rattle.std.specs.List.{AllZip}
+use Rattle.std.specs.Option.{option_map}
 use Rattle.play_meaning.specs.Codes.{Codes, RunsTo, test_of}
 use Rattle.play_meaning.specs.Doing.{Inner, do_body}
 use Rattle.play_meaning.specs.Grounds.{said_by_code}
+use Rattle.play_meaning.specs.Order.{book_of}
 use Rattle.play_meaning.specs.Progress.{Progress}
 use Rattle.play_meaning.specs.Rules.{Anything, Aspect, Exactly, OfKind, Rule}
 use Rattle.play_meaning.specs.Saying.{Telling}
 use Rattle.play_meaning.specs.Scripts.{says, scope_of, undescribed}
 use Rattle.play_meaning.specs.Settings.{Setting}
+use Rattle.play_meaning.specs.StandardRules.{standard_rules}
+use Rattle.play_meaning.specs.Tales.{setting_of}
 use Rattle.play_meaning.specs.Trees.{Adjective, Body, Condition, First, NotSo, Quality, Second, Text}
 use Rattle.play_meaning.specs.Truth.{truth_in}
 use Rattle.play_meaning.specs.Worlds.{World}
@@ -22,12 +26,12 @@ use Rattle.story_format.specs.declared.rule_entry.Aspect.{Aspect as Asked}
 use Rattle.story_format.specs.declared.rule_entry.Aspect.TheVariants as aspects
 use Rattle.story_format.specs.declared.rule_entry.PropertySide.{PropertySide}
 use Rattle.story_format.specs.declared.rule_entry.RuleBody.{RuleBody}
-use Rattle.story_format.specs.declared.rule_entry.RuleBody.TheVariants.{Code}
+use Rattle.story_format.specs.declared.rule_entry.RuleBody.TheVariants.{Code, Standard}
 use Rattle.story_format.specs.declared.rule_entry.RuleEntry.{RuleEntry}
 use Rattle.story_format.specs.declared.tables.Tables.{Tables}
 use Rattle.story_format.specs.Codes.{codes_told}
-use Rattle.story_format.specs.Facts.{description_code_of, name_of, object_count_of, start_of, way_of, words_of}
-use Rattle.story_format.specs.Making.{text_of}
+use Rattle.story_format.specs.Facts.{description_code_of, name_of, object_count_of, rules_listed, start_of, way_of, words_of}
+use Rattle.story_format.specs.Making.{story_rules, text_of}
 
 -- ---- rules
 
@@ -38,9 +42,16 @@ IsAnsweredBy c None (Some condition) = ⊥
 IsAnsweredBy c (Some n) None = ⊥
 IsAnsweredBy c (Some n) (Some condition) = (t : Telling) (now : ActionNow) (w : World) → test_of c t now n [] w ≡ truth_in t.setting (scope_of now) w condition
 
--- it is a code, and a run of it does what the body means, whatever the actions that it tries and the books that it follows do
+-- what the standard rule of this number does, from 1
+abbrev pub standard_body : ℕ → Option Body
+standard_body zero = None
+standard_body (suc n) = option_map (λ rule. rule.body) (slice_get standard_rules n)
+
+-- it is a code, and a run of it does what the body means, whatever the actions that it tries and the books that it follows do; or
+-- it is a standard rule, which does that
 abbrev pub IsDoneBy : Codes → RuleBody → Body → Type 0
 IsDoneBy c (Code n) body = (t : Telling) (inner : Inner) (now : ActionNow) (p : Progress) → RunsTo c t inner n now p (do_body t inner body (scope_of now) p)
+IsDoneBy c (Standard n) body = standard_body n ≡ Some body
 IsDoneBy c _ body = ⊥
 
 abbrev pub code_if_some : ℕ → Option ℕ
@@ -76,7 +87,7 @@ pub record CarriesRule (c : Codes) (r : RuleEntry) (rule : Rule) : Type 0 where
 
 -- ---- all of it
 
--- where these texts are said of the objects that are described, in order, and these are the rules
+-- where these texts are said of the objects that are described, in order, and these are the author's rules
 pub record Carries (tables : Tables) (tale : Tale) (texts : List Text) (rules : List Rule) : Type 0 where
   pub count : object_count_of tables ≡ length tale.objects
   pub names : (o : ℕ) → name_of tables o ≡ told_name tale o
@@ -86,4 +97,7 @@ pub record Carries (tables : Tables) (tale : Tale) (texts : List Text) (rules : 
   pub descriptions : (o : ℕ) (s : Setting) (now : ActionNow) (w : World) → said_by_code (codes_told tables) s now w (description_code_of tables o) ≡ says (undescribed s) now w (text_of tale texts o)
   pub ways : (o direction : ℕ) → way_of tables o direction ≡ told_way tale o direction
   pub start : start_of tables ≡ told_start tale
-  pub rules_are : AllZip (CarriesRule (codes_told tables)) tables.rules.rules rules
+  -- those that every story has, and behind them the author's
+  pub rules_are : AllZip (CarriesRule (codes_told tables)) tables.rules.rules (story_rules rules)
+  -- each book lists its rules in the order in which they are asked
+  pub books : (book : ℕ) → rules_listed tables book ≡ book_of (setting_of tale) (story_rules rules) book

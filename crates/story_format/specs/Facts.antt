@@ -6,6 +6,7 @@ use Rattle.story_format.specs.Placed.{is_room_entry}
 use Rattle.story_format.specs.declared.rule_entry.RuleBody.{RuleBody}
 use Rattle.story_format.specs.declared.rule_entry.RuleBody.TheVariants.{Code}
 use Rattle.story_format.specs.declared.rule_entry.RuleEntry.{RuleEntry}
+use Rattle.story_format.specs.declared.rule_tables.Book.{Book}
 use Rattle.story_format.specs.declared.tables.Entry.{Entry}
 use Rattle.story_format.specs.declared.tables.Tables.{Tables}
 
@@ -69,6 +70,14 @@ abbrev pub start_of : Tables → ℕ
 start_of t = holder_in (slice_get t.objects 0)
 
 -- ---- rules
+
+abbrev pub rules_in : Option Book → List ℕ
+rules_in None = []
+rules_in (Some book) = book.rules
+
+-- the rules that a book lists, by their numbers, in order
+abbrev pub rules_listed : Tables → ℕ → List ℕ
+rules_listed t book = rules_in (slice_get t.rules.books book)
 
 abbrev pub book_in : Option RuleEntry → Option ℕ
 book_in None = None

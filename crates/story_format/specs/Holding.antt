@@ -14,7 +14,8 @@ use Rattle.code_table.specs.Origins.{Origin, origins_of}
 use Rattle.code_table.specs.declared.fault.TableFault.{TableFault}
 use Rattle.code_table.specs.declared.fault.TableFault.TheVariants.{LongText, LongRule, TooMany, Memory}
 use Rattle.story_format.specs.Codes.{counts_of}
-use Rattle.story_format.specs.Making.{Worded, codes_in, strings_of, strings_said, tables_of, worded}
+use Rattle.rule_order.specs.Books.{AreListedApart}
+use Rattle.story_format.specs.Making.{Worded, codes_in, story_rules, strings_of, strings_said, tables_of, worded}
 use Rattle.story_format.specs.RuleMaking.{book_count}
 
 abbrev pub is_short : List ℕ → Bool
@@ -74,10 +75,11 @@ unfoldable pub is_of : Named → Rule → Bool
 is_of z rule =
     nat_lt rule.book z.books && is_there 16 rule.action && is_asked z rule.noun && is_asked z rule.second && is_asked z rule.place && is_there z.scenes rule.scene
 
--- What may be said of a tale: a text of each description, and rules, 2,000 at most.
+-- What may be said of a tale: a text of each description, and rules, with the sixty-one 2,000 at most, of which no sentence lists two.
 pub record AreOf (t : Tale) (texts : List Text) (rules : List Rule) : Type 0 where
   pub many : length texts ≡ codes_in t.objects
-  pub few : length rules ≤ 2000
+  pub few : length rules ≤ 1939
+  pub apart : AreListedApart (story_rules rules)
   pub named : list_all (is_of (named_in t)) rules ≡ true
 
 abbrev pub strings_in : Tale → List Origin → List (List ℕ)

@@ -6,8 +6,11 @@ pub mod Codes
 pub mod KindTables
 pub mod Layout
 pub mod Sizes
+pub mod Once
 pub mod Counts
 pub mod RuleMaking
+pub mod RuleHeadings
+pub mod StandardRows
 pub mod RuleChecks
 pub mod WorldChecks
 pub mod Checks
@@ -15,6 +18,7 @@ pub mod Soundness
 pub mod Facts
 pub mod InPlay
 pub mod FaultTexts
+pub mod BookRules
 pub mod Spells
 pub mod Telling
 pub mod Placed

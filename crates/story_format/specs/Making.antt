@@ -1,6 +1,6 @@
 -- The tables of a tale.
 use Rattle.std.specs.Prelude.{ℕ, zero, suc, ℤ, ◌+◌, List, [], ◌∷◌, ◌++◌, drop, is_some, map, min, slice_get, Option, Some, None, if◌then◌else◌}
-use Rattle.std.specs.List.{flat_map}
+use Rattle.std.specs.List.{flat_map, range_with_len}
 use Rattle.std.specs.Int.{w32, cast_unsigned}
 use Rattle.world_meaning.specs.declared.article.Article.{Article}
 use Rattle.world_meaning.specs.declared.article.Article.TheVariants as articles
@@ -12,12 +12,16 @@ use Rattle.world_meaning.specs.declared.tale.Object.{Object}
 use Rattle.world_meaning.specs.declared.tale.Tale.{Tale}
 use Rattle.world_meaning.specs.declared.declared.Declared.{Declared}
 use Rattle.world_meaning.specs.Kinds.{is_under, room_kind}
+use Rattle.play_meaning.specs.Order.{book_of}
 use Rattle.play_meaning.specs.Rules.{Rule}
+use Rattle.play_meaning.specs.StandardRules.{standard_rules}
+use Rattle.play_meaning.specs.Tales.{setting_of}
 use Rattle.play_meaning.specs.Trees.{Text}
 use Rattle.code_table.specs.Emitted.{codes_of_origins}
 use Rattle.code_table.specs.Origins.{Origin, origins_of, strings_of_origin}
 use Rattle.story_code.specs.Spelling.{spelling}
-use Rattle.story_format.specs.RuleMaking.{rules_of}
+use Rattle.story_format.specs.RuleMaking.{book_count, rules_of}
+use Rattle.story_format.specs.declared.rule_tables.Book.{Book}
 use Rattle.story_format.specs.declared.tables.Entry.{Entry}
 use Rattle.story_format.specs.declared.tables.Tables.{Tables}
 use Rattle.story_format.specs.declared.world_tables.Variable.{Variable}
@@ -126,14 +130,26 @@ world_of d = record { kinds = d.kinds; flags = d.flags; numbers = d.numbers; var
 abbrev pub described_in : List Worded → ℕ
 described_in ws = codes_in (map (λ w. w.object) ws)
 
+-- ---- books
+
+-- all rules of a story, by number: those that every story has, and behind them the author's
+abbrev pub story_rules : List Rule → List Rule
+story_rules rules = standard_rules ++ rules
+
+-- its rulebooks, each with its rules in the order in which they are asked
+unfoldable pub books_of : Tale → List Rule → List Book
+books_of t rules = map (λ book. record { rules = book_of (setting_of t) (story_rules rules) book }) (range_with_len 0 (book_count t.declared))
+
+-- ---- all of it
+
 -- the tables, but for the codes
-abbrev pub tables_but_codes : Declared → List Worded → List Rule → List (List ℕ) → Tables
-tables_but_codes d ws rules strings = record {
+abbrev pub tables_but_codes : Declared → List Book → List Worded → List Rule → List (List ℕ) → Tables
+tables_but_codes d books ws rules strings = record {
   strings = strings;
   world = world_of d;
   objects = entries_of strings 0 ws;
   ways = flat_map (ways_of d.kinds) ws;
-  rules = rules_of d (described_in ws) rules;
+  rules = rules_of d books (described_in ws) rules;
   codes = [];
 }
 
@@ -141,12 +157,12 @@ tables_but_codes d ws rules strings = record {
 abbrev pub code_bytes : List (List ℕ) → List Origin → List (List ℕ)
 code_bytes strings origins = map spelling (codes_of_origins (number_in strings) origins)
 
-unfoldable pub tables_with : Declared → List Worded → List Rule → List Origin → Tables
-tables_with d ws rules origins = record (tables_but_codes d ws rules (strings_of ws origins)) { codes = code_bytes (strings_of ws origins) origins }
+unfoldable pub tables_with : Declared → List Book → List Worded → List Rule → List Origin → Tables
+tables_with d books ws rules origins = record (tables_but_codes d books ws rules (strings_of ws origins)) { codes = code_bytes (strings_of ws origins) origins }
 
 -- the tables of a tale whose descriptions say these texts, in the order of the objects that are described, and whose rules are these
 abbrev pub tables_of : Tale → List Text → List Rule → Tables
-tables_of t texts rules = tables_with t.declared (worded t.objects) rules (origins_of texts rules)
+tables_of t texts rules = tables_with t.declared (books_of t rules) (worded t.objects) rules (origins_of texts rules)
 
 -- its strings
 abbrev pub strings_with : Tale → List Text → List Rule → List (List ℕ)

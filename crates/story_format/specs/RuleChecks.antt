@@ -36,10 +36,11 @@ is_number_or_none none count n = (n == none) || nat_lt n count
 abbrev pub is_right_side : ℕ → PropertySide → Bool
 is_right_side flags side = nat_lt side.property flags && nat_le side.side 3
 
+-- no more than nine properties of a kind
 unfoldable pub is_right_aspect : Counts → Aspect → Bool
 is_right_aspect z aspects.Anything = true
 is_right_aspect z (aspects.Object o) = nat_lt o z.objects
-is_right_aspect z (aspects.Kind k) = nat_lt k.kind z.kinds && list_all (is_right_side z.flags) k.properties
+is_right_aspect z (aspects.Kind k) = nat_lt k.kind z.kinds && (nat_le (length k.properties) 9 && list_all (is_right_side z.flags) k.properties)
 is_right_aspect z (aspects.Unknown tag) = false
 
 -- a code, or one of the sixty-one standard rules, from 1
@@ -76,14 +77,16 @@ uses_in_rule r = (if r.condition == 65535 then [] else Test 0 ∷ []) ++ use_in_
 abbrev pub uses_in_rules : List RuleEntry → List Use
 uses_in_rules rules = flat_map uses_in_rule rules
 
--- ---- tables 11 and 12: books without rules, scenes without codes
+-- ---- tables 11 and 12: books, scenes without codes
 
-abbrev pub lists_none : Book → Bool
-lists_none book = length book.rules == 0
+-- where there are so many rules
+abbrev pub lists_what_is_there : ℕ → Book → Bool
+lists_what_is_there rules book = list_all (λ rule. nat_lt rule rules) book.rules
 
 -- the author's own are 100 at most
-unfoldable pub are_right_books : ℕ → List Book → Bool
-are_right_books scenes books = nat_le (first_own_book scenes) (length books) && nat_le (length books) (first_own_book scenes + 100) && list_all lists_none books
+unfoldable pub are_right_books : ℕ → ℕ → List Book → Bool
+are_right_books scenes rules books =
+    nat_le (first_own_book scenes) (length books) && nat_le (length books) (first_own_book scenes + 100) && list_all (lists_what_is_there rules) books
 
 unfoldable pub is_right_scene : SceneEntry → Bool
 is_right_scene scene = nat_le scene.recurring 1 && (scene.begins == 65535) && (scene.ends == 65535)
@@ -93,8 +96,9 @@ are_right_scenes scenes = nat_le (length scenes) 50 && list_all is_right_scene s
 
 -- ---- all of it
 
--- tables 8 to 12 are those of a story: no grammar so far, 2,000 rules and 50 scenes at most
+-- tables 8 to 12 are those of a story: no grammar so far, 2,000 rules and 50 scenes at most; whether a book's rules are its own is
+-- asked apart
 unfoldable pub are_right_rules : Counts → RuleTables → Bool
 are_right_rules z r =
-    are_right_scenes r.scenes && are_right_books (length r.scenes) r.books && are_same_actions r.actions action_entries && (length r.grammar == 0)
+    are_right_scenes r.scenes && are_right_books (length r.scenes) (length r.rules) r.books && are_same_actions r.actions action_entries && (length r.grammar == 0)
     && (nat_le (length r.rules) 2000 && list_all (is_right_rule z) r.rules)

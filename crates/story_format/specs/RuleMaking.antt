@@ -1,9 +1,10 @@
--- The rule tables of a tale: the sixteen actions, its rules with what they are about and the numbers of their codes, its books
--- without their rules, its scenes without what begins or ends them.
-use Rattle.std.specs.Prelude.{ℕ, ◌+◌, ◌*◌, Bool, List, [], ◌∷◌, length, map, min, replicate, Option, None, Some, if◌then◌else◌}
+-- The rule tables of a tale: the sixteen actions, the rules that every story has and behind them its own, with what they are
+-- about and the numbers of their codes, its books, its scenes without what begins or ends them.
+use Rattle.std.specs.Prelude.{ℕ, ◌+◌, ◌*◌, Bool, List, [], ◌∷◌, ◌++◌, length, map, min, Option, None, Some, if◌then◌else◌}
 use Rattle.world_meaning.specs.declared.declared.Declared.{Declared}
 use Rattle.play_meaning.specs.Rules.{Anything, Aspect, Exactly, OfKind, Rule}
 use Rattle.play_meaning.specs.StandardActions.{standard_needs}
+use Rattle.play_meaning.specs.StandardRules.{standard_rules}
 use Rattle.play_meaning.specs.Trees as tree
 use Rattle.play_meaning.specs.Trees.{Condition}
 use Rattle.play_meaning.specs.declared.action.Needs.{Needs}
@@ -12,9 +13,11 @@ use Rattle.play_meaning.specs.declared.action.Slot.TheVariants.{Absent, Visible,
 use Rattle.story_format.specs.declared.rule_entry.Aspect.{Aspect as Asked}
 use Rattle.story_format.specs.declared.rule_entry.Aspect.TheVariants as aspects
 use Rattle.story_format.specs.declared.rule_entry.PropertySide.{PropertySide}
+use Rattle.story_format.specs.declared.rule_entry.RuleBody.{RuleBody}
 use Rattle.story_format.specs.declared.rule_entry.RuleBody.TheVariants as bodies
 use Rattle.story_format.specs.declared.rule_entry.RuleEntry.{RuleEntry}
 use Rattle.story_format.specs.declared.rule_tables.ActionEntry.{ActionEntry}
+use Rattle.story_format.specs.declared.rule_tables.Book.{Book}
 use Rattle.story_format.specs.declared.rule_tables.RuleTables.{RuleTables}
 use Rattle.story_format.specs.declared.rule_tables.SceneEntry.{SceneEntry}
 
@@ -77,22 +80,44 @@ aspect_entry Anything = aspects.Anything
 aspect_entry (Exactly o) = aspects.Object o
 aspect_entry (OfKind kind adjectives) = aspects.Kind (record { kind = kind; properties = map side_of adjectives })
 
-abbrev pub rule_entry : ℕ → Rule → RuleEntry
-rule_entry next rule = record {
+-- what the rule is about, with the code of its condition and its body
+abbrev pub entry_with : Rule → ℕ → RuleBody → RuleEntry
+entry_with rule condition body = record {
   book = rule.book;
   action = number_or_none rule.action;
   noun = aspect_entry rule.noun;
   second = aspect_entry rule.second;
   place = aspect_entry rule.place;
   scene = number_or_none rule.scene;
-  condition = condition_number next rule.condition;
-  body = bodies.Code (min (next + condition_count rule.condition) 65535);
+  condition = condition;
+  body = body;
 }
+
+-- the next code is that of its condition, if it has one
+abbrev pub rule_entry : ℕ → Rule → RuleEntry
+rule_entry next rule = entry_with rule (condition_number next rule.condition) (bodies.Code (min (next + condition_count rule.condition) 65535))
 
 -- an entry for each rule; each condition and each body has the next code
 unfoldable pub rule_entries : ℕ → List Rule → List RuleEntry
 rule_entries next [] = []
 rule_entries next (rule ∷ rules) = rule_entry next rule ∷ rule_entries (next + rule_count rule) rules
+
+-- the entry of the standard rule of this number, which names no code
+abbrev pub standard_entry : ℕ → Rule → RuleEntry
+standard_entry number rule = entry_with rule 65535 (bodies.Standard number)
+
+-- the first of them having this number
+abbrev pub standard_from : ℕ → List Rule → List RuleEntry
+standard_from number [] = []
+standard_from number (rule ∷ rules) = standard_entry number rule ∷ standard_from (number + 1) rules
+
+-- those of the sixty-one
+unfoldable pub standard_entries : List RuleEntry
+standard_entries = standard_from 1 standard_rules
+
+-- table 10: the sixty-one, and behind them the author's, whose first code has this number
+abbrev pub all_entries : ℕ → List Rule → List RuleEntry
+all_entries next rules = standard_entries ++ rule_entries next rules
 
 -- ---- books and scenes
 
@@ -106,12 +131,12 @@ book_count d = first_own_book (length d.scenes) + d.rulebooks
 abbrev pub scene_entry : Bool → SceneEntry
 scene_entry recurs = record { recurring = mark_if 1 recurs; begins = 65535; ends = 65535 }
 
--- tables 8 to 12 of what a source declares and of its rules, the first code of these having this number
-unfoldable pub rules_of : Declared → ℕ → List Rule → RuleTables
-rules_of d next rules = record {
+-- tables 8 to 12 of what a source declares, of its books and of its rules, the first code of these having this number
+unfoldable pub rules_of : Declared → List Book → ℕ → List Rule → RuleTables
+rules_of d books next rules = record {
   actions = action_entries;
   grammar = [];
-  rules = rule_entries next rules;
-  books = replicate (book_count d) (record { rules = [] });
+  rules = all_entries next rules;
+  books = books;
   scenes = map scene_entry d.scenes;
 }

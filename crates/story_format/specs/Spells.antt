@@ -1,11 +1,10 @@
 -- What a story's bytes are.
 use Rattle.std.specs.Prelude.{◌≡◌, ℕ, Bool, true, List, [], ◌∷◌, ◌++◌}
-use Rattle.std.specs.List.{list_all}
 use Rattle.std.specs.Int.{w16, to_be_bytes}
 use Rattle.story_format.specs.declared.tables.Tables.{Tables}
 use Rattle.story_format.specs.Layout.{tables_layout}
 use Rattle.story_format.specs.Checks.{are_right}
-use Rattle.story_format.specs.RuleChecks.{lists_none}
+use Rattle.story_format.specs.BookRules.{list_their_own}
 use Rattle.story_format.specs.Soundness.{AreSound}
 
 -- `I7ST`, and the version
@@ -15,9 +14,9 @@ magic = 73 ∷ 55 ∷ 83 ∷ 84 ∷ []
 abbrev pub head : List ℕ
 head = magic ++ to_be_bytes w16 1
 
--- no book lists a rule so far, so that none is out of order
+-- each book lists rules of its own, and none twice
 unfoldable pub are_ordered : Tables → Bool
-are_ordered t = list_all lists_none t.rules.books
+are_ordered t = list_their_own t.rules.rules 0 t.rules.books
 
 -- The tables are a story's.
 pub record IsStory (t : Tables) : Type 0 where
@@ -27,7 +26,7 @@ pub record IsStory (t : Tables) : Type 0 where
   pub right : are_right t ≡ true
   -- the codes are sound, and everything is named
   pub sound : AreSound t
-  -- the books are in order, as those of right tables are so far
+  -- the books list rules of their own
   pub ordered : are_ordered t ≡ true
 
 -- The bytes spell the story of these tables.

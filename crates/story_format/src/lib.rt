@@ -3,6 +3,7 @@
 #![tactic(auto)]
 
 mod actions;
+mod book_rules;
 mod checks;
 mod codes;
 mod coding;
@@ -18,6 +19,8 @@ mod making;
 mod mentioning;
 mod mentioning_rules;
 mod number;
+mod once;
+mod ordering;
 mod place;
 mod row;
 mod rule_checks;
@@ -27,6 +30,7 @@ mod rule_facts;
 mod rule_making;
 mod rule_tables;
 mod soundness;
+mod standard_rules;
 mod standing;
 mod story;
 mod table;

@@ -9,6 +9,7 @@ ghost use Rattle.story_format.specs.Refusals.{IsRefused};
 ghost use Rattle.story_format.specs.declared.fault.LoadFault.TheVariants.{Memory};
 ghost use Rattle.story_format.specs.declared.tables.Tables.{Tables};
 
+use crate::book_rules::are_ordered;
 use crate::checks::are_right;
 use crate::codes::codes_of;
 use crate::fault::LoadFault;
@@ -71,7 +72,13 @@ pub fn load(alloc: Global, bytes: &[u8]) -> Result<Story, LoadFault>
         return Err(LoadFault::BadTable);
     }
     match codes_of(alloc, &tables)? {
-        Some(codes) => Ok(Story::new(tables, codes)),
         None => Err(LoadFault::BadCode),
+        Some(codes) => {
+            if are_ordered(alloc, &tables)? {
+                Ok(Story::new(tables, codes))
+            } else {
+                Err(LoadFault::BadOrder)
+            }
+        }
     }
 }

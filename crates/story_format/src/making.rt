@@ -5,13 +5,16 @@ ghost use Rattle.object_words.specs.Mentions.{mention, number_in};
 ghost use Rattle.object_words.specs.Words.{words_for};
 ghost use Rattle.code_table.specs.Origins.{origins_meant};
 ghost use Rattle.play_meaning.specs.Patterns.{rule_meant};
-ghost use Rattle.story_format.specs.Making.{worded_from, worded, article_number, relation_number, place_relation, place_holder, code_number, entry_strings, strings_of, entry_of, entries_of, ways_of, described_in, tables_but_codes};
+ghost use Rattle.rule_order.specs.Books.{AreListedApart};
+ghost use Rattle.story_format.specs.Making.{books_of, story_rules, worded_from, worded, article_number, relation_number, place_relation, place_holder, code_number, entry_strings, strings_of, entry_of, entries_of, ways_of, described_in, tables_but_codes};
 ghost use Rattle.story_format.specs.WordedViews.{worded_of, all_worded};
 
 use crate::mentioning::mention_texts;
 use crate::mentioning_rules::mention_rules;
+use crate::ordering::books_of;
 use crate::place::NONE;
 use crate::rule_making::rules_of;
+use crate::rule_tables::Book;
 use crate::table::Table;
 use crate::tables::{Entry, Tables};
 use crate::world_making::{numbers_of, world_of};
@@ -263,22 +266,21 @@ fn described_in(worded: &[Worded<'_>]) -> usize
 fn tables_but_codes(
     alloc: Global,
     declared: &Declared,
+    books: Table<Book>,
     worded: &[Worded<'_>],
     rules: &[MeantRule],
     strings: &Strings,
 ) -> Result<Tables, AllocError>
     requires few { described_in (all_worded worded.now) ≤ 1000 }
-    requires few_rules { length rules.now ≤ 2000 }
-    requires few_scenes { length declared.now.scenes ≤ 50 }
-    requires few_books { declared.now.rulebooks ≤ 100 }
-    ensures { IfOk result (λ tables. tables ≡ tables_but_codes declared.now (all_worded worded.now) (map rule_meant rules.now) strings.now) }
+    requires few_rules { length rules.now ≤ 1939 }
+    ensures { IfOk result (λ tables. tables ≡ tables_but_codes declared.now books (all_worded worded.now) (map rule_meant rules.now) strings.now) }
 {
     Ok(Tables {
         strings: table_of(alloc, strings)?,
         world: world_of(alloc, declared)?,
         objects: entries_of(alloc, strings, worded)?,
         ways: ways_of(alloc, declared.kinds.as_slice(), worded)?,
-        rules: rules_of(alloc, declared, described_in(worded), rules)?,
+        rules: rules_of(alloc, declared, books, described_in(worded), rules)?,
         codes: empty(alloc),
     })
 }
@@ -291,15 +293,18 @@ pub fn uncoded(
     rules: &[MeantRule],
 ) -> Result<(Strings, Tables), AllocError>
     requires few { described_in (worded tale.now.objects) ≤ 1000 }
-    requires few_rules { length rules.now ≤ 2000 }
+    requires few_kinds { length tale.now.declared.kinds ≤ 255 }
+    requires few_rules { length rules.now ≤ 1939 }
     requires few_scenes { length tale.now.declared.scenes ≤ 50 }
     requires few_books { tale.now.declared.rulebooks ≤ 100 }
+    requires apart { AreListedApart (story_rules (map rule_meant rules.now)) }
     ensures strings { IfOk result (λ made. made.0 ≡ strings_of (worded tale.now.objects) (origins_meant texts.now rules.now)) }
-    ensures tables { IfOk result (λ made. made.1 ≡ tables_but_codes tale.now.declared (worded tale.now.objects) (map rule_meant rules.now) (strings_of (worded tale.now.objects) (origins_meant texts.now rules.now))) }
+    ensures tables { IfOk result (λ made. made.1 ≡ tables_but_codes tale.now.declared (books_of tale.now (map rule_meant rules.now)) (worded tale.now.objects) (map rule_meant rules.now) (strings_of (worded tale.now.objects) (origins_meant texts.now rules.now))) }
 {
     let worded = with_words(alloc, tale.objects.as_slice())?;
     let worded = worded.as_slice();
     let strings = strings_of(alloc, worded, texts, rules)?;
-    let tables = tables_but_codes(alloc, &tale.declared, worded, rules, &strings)?;
+    let books = books_of(alloc, tale, rules)?;
+    let tables = tables_but_codes(alloc, &tale.declared, books, worded, rules, &strings)?;
     Ok((strings, tables))
 }

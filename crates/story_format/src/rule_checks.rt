@@ -1,7 +1,7 @@
 //! What tables 8 to 12 of a story say, where there are so many of what they name.
-ghost use Rattle.std.specs.Prelude.{◌≡◌, IfOk, nat_le, true};
+ghost use Rattle.std.specs.Prelude.{◌≡◌, IfOk, nat_le, nat_lt, true};
 ghost use Rattle.std.specs.List.{list_all};
-ghost use Rattle.story_format.specs.RuleChecks.{are_right_books, are_right_rules, are_right_scenes, are_same_actions, is_number_or_none, is_right_aspect, is_right_body, is_right_rule, is_right_scene, is_right_side, is_same_action, lists_none};
+ghost use Rattle.story_format.specs.RuleChecks.{are_right_books, are_right_rules, are_right_scenes, are_same_actions, is_number_or_none, is_right_aspect, is_right_body, is_right_rule, is_right_scene, is_right_side, is_same_action, lists_what_is_there};
 ghost use Rattle.story_format.specs.RuleMaking.{action_entries};
 
 use crate::actions::action_entries;
@@ -16,6 +16,9 @@ const NO_BYTE: u8 = 255;
 
 /// The most rules of a story.
 const MOST_RULES: usize = 2000;
+
+/// The most properties that a rule asks of one noun, or of the place.
+const MOST_PROPERTIES: usize = 9;
 
 /// How many standard rules there are.
 const STANDARD_RULES: u8 = 61;
@@ -85,6 +88,7 @@ fn is_right_aspect(counts: &Counts, aspect: &Aspect) -> bool
         Aspect::Object(object) => *object < counts.objects,
         Aspect::Kind(kind) => {
             u16::from(kind.kind) < counts.kinds
+                && kind.properties.as_slice().len() <= MOST_PROPERTIES
                 && are_right_sides(counts.flags, kind.properties.as_slice())
         }
         Aspect::Unknown(_) => false,
@@ -122,26 +126,30 @@ fn each_is_right(counts: &Counts, rules: &[RuleEntry]) -> bool
     rules.iter().all(|rule| is_right_rule(counts, rule))
 }
 
-fn lists_none(book: &Book) -> bool
-    ensures { result ≡ lists_none book.now }
+fn are_below(count: usize, numbers: &[u16]) -> bool
+    ensures { result ≡ list_all (λ n. nat_lt n count) numbers.now }
 {
-    book.rules.as_slice().is_empty()
+    numbers.iter().all(|number| usize::from(*number) < count)
 }
 
-fn each_lists_none(books: &[Book]) -> bool
-    ensures { result ≡ list_all lists_none books.now }
+fn list_what_is_there(rules: usize, books: &[Book]) -> bool
+    ensures { result ≡ list_all (lists_what_is_there rules) books.now }
 {
-    books.iter().all(lists_none)
+    books
+        .iter()
+        .all(|book| are_below(rules, book.rules.as_slice()))
 }
 
-/// Whether there are the books of so many scenes, and the author's own, and none lists a rule.
+/// Whether there are the books of so many scenes, and the author's own, and each lists rules that are there.
 #[tactic(auto, unfolding(crate::specs::RuleChecks::are_right_books))]
-fn are_right_books(scenes: usize, books: &[Book]) -> bool
+fn are_right_books(scenes: usize, rules: usize, books: &[Book]) -> bool
     requires { nat_le scenes 50 ≡ true }
-    ensures { result ≡ are_right_books scenes books.now }
+    ensures { result ≡ are_right_books scenes rules books.now }
 {
     let first = 8 + 2 * scenes;
-    first <= books.len() && books.len() <= first + MOST_OWN_BOOKS && each_lists_none(books)
+    first <= books.len()
+        && books.len() <= first + MOST_OWN_BOOKS
+        && list_what_is_there(rules, books)
 }
 
 #[tactic(auto, unfolding(crate::specs::RuleChecks::is_right_scene))]
@@ -165,7 +173,7 @@ fn are_right_scenes(scenes: &[SceneEntry]) -> bool
 }
 
 /// Whether tables 8 to 12 are those of a story: the sixteen actions, no grammar so far, rules that name what is there, books
-/// that list none, and scenes that nothing begins or ends.
+/// that list such, and scenes that nothing begins or ends. Whether a book's rules are its own is asked apart.
 #[tactic(auto, unfolding(crate::specs::RuleChecks::are_right_rules))]
 pub fn are_right_rules(
     alloc: Global,
@@ -178,7 +186,11 @@ pub fn are_right_rules(
     let scenes = rules.scenes.as_slice();
     Ok(
         are_right_scenes(scenes)
-            && are_right_books(scenes.len(), rules.books.as_slice())
+            && are_right_books(
+                scenes.len(),
+                rules.rules.as_slice().len(),
+                rules.books.as_slice(),
+            )
             && are_same_actions(rules.actions.as_slice(), actions.as_slice())
             && rules.grammar.as_slice().is_empty()
             && rules.rules.as_slice().len() <= MOST_RULES

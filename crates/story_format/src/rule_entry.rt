@@ -1,4 +1,4 @@
-//! Table 10: rules. Those of a source are about nothing but their conditions so far; a loader takes others too.
+//! Table 10: rules.
 ghost use Rattle.std.specs.Prelude.{◌≡◌};
 
 use crate::field::{Field, read_fields, skip_fields, write_fields};

@@ -1,6 +1,7 @@
-//! What a story that was loaded says of its rules, by number: their rulebooks and their codes, and not what they are about.
+//! What a story that was loaded says of its rules, by number: their rulebooks and their codes, and not what they are about; and
+//! of its rulebooks, in which order they list them.
 ghost use Rattle.std.specs.Prelude.{◌≡◌, Some, length};
-ghost use Rattle.story_format.specs.Facts.{body_of_rule, book_of_rule, code_in_body, condition_in, condition_of_rule};
+ghost use Rattle.story_format.specs.Facts.{body_of_rule, book_of_rule, code_in_body, condition_in, condition_of_rule, rules_listed};
 
 use crate::place::NONE;
 use crate::rule_entry::{RuleBody, RuleEntry};
@@ -31,6 +32,16 @@ impl Story {
         ensures { result ≡ length self.now.rules.rules }
     {
         self.tables().rules.rules.as_slice().len()
+    }
+
+    /// The rules that a book lists, by their numbers, in order; none of a book that isn't there.
+    pub fn rules_listed(&self, book: u16) -> &[u16]
+        ensures { result.now ≡ rules_listed self.now book }
+    {
+        match self.tables().rules.books.as_slice().get(usize::from(book)) {
+            None => &[],
+            Some(book) => book.rules.as_slice(),
+        }
     }
 
     /// The rulebook that a rule is of, by its number.

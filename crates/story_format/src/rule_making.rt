@@ -1,13 +1,14 @@
 //! The rule tables of a tale.
-ghost use Rattle.std.specs.Prelude.{◌≡◌, ◌≤◌, [], IfOk, length, map, min, replicate};
+ghost use Rattle.std.specs.Prelude.{◌≡◌, ◌≤◌, ◌++◌, IfOk, OnOk, length, map, min};
 ghost use Rattle.play_meaning.specs.Meant.{adjective_meant};
 ghost use Rattle.play_meaning.specs.Patterns.{aspect_meant, rule_meant};
-ghost use Rattle.story_format.specs.RuleMaking.{aspect_entry, book_count, condition_number, number_or_none, rule_count, rule_entries, rule_entry, rules_of, scene_entry, side_of};
+ghost use Rattle.story_format.specs.RuleMaking.{all_entries, aspect_entry, book_count, condition_number, number_or_none, rule_count, rule_entries, rule_entry, rules_of, scene_entry, side_of};
 
 use crate::actions::{action_entries, mark_if};
 use crate::place::NONE;
 use crate::rule_entry::{Aspect, KindAspect, PropertySide, RuleBody, RuleEntry};
 use crate::rule_tables::{Book, RuleTables, SceneEntry};
+use crate::standard_rules::standard_entries;
 use crate::table::Table;
 use play_meaning::ActNo;
 use play_meaning::tree::{self, Adjective, MeantRule, Quality, Side};
@@ -111,18 +112,18 @@ fn rule_entry(alloc: Global, next: usize, rule: &MeantRule) -> Result<RuleEntry,
     })
 }
 
-/// The entries of rules, the first code having this number.
+/// Adds the entries of rules, the first code having this number.
 #[tactic(auto, unfolding(crate::specs::RuleMaking::rule_entries))]
-fn rule_entries(
+fn add_entries(
     alloc: Global,
+    entries: &mut Vec<RuleEntry>,
     first: usize,
     rules: &[MeantRule],
-) -> Result<Table<RuleEntry>, AllocError>
+) -> Result<(), AllocError>
     requires few { first ≤ 1000 }
-    requires few_rules { length rules.now ≤ 2000 }
-    ensures { IfOk result (λ entries. entries ≡ rule_entries first (map rule_meant rules.now)) }
+    requires few_rules { length rules.now ≤ 1939 }
+    ensures { OnOk result (entries.new.items ≡ entries.old.items ++ rule_entries first (map rule_meant rules.now)) }
 {
-    let mut entries = Vec::new(alloc);
     let mut next = first;
     let mut rest = rules;
     while let [rule, after @ ..] = rest {
@@ -130,22 +131,23 @@ fn rule_entries(
         next += rule_count(rule);
         rest = after;
     }
-    Ok(Table::new(entries))
+    Ok(())
 }
 
-/// So many books without rules.
-fn empty_books(alloc: Global, count: usize) -> Result<Table<Book>, AllocError>
-    ensures { IfOk result (λ books. books ≡ replicate count (record { rules = [] })) }
+/// The entries of the rules that every story has, and behind them those of the author's, the first code of which has this
+/// number.
+fn all_entries(
+    alloc: Global,
+    first: usize,
+    rules: &[MeantRule],
+) -> Result<Table<RuleEntry>, AllocError>
+    requires few { first ≤ 1000 }
+    requires few_rules { length rules.now ≤ 1939 }
+    ensures { IfOk result (λ entries. entries ≡ all_entries first (map rule_meant rules.now)) }
 {
-    let mut books = Vec::new(alloc);
-    let mut left = count;
-    while left > 0 {
-        books.push(Book {
-            rules: Table::new(Vec::new(alloc)),
-        })?;
-        left -= 1;
-    }
-    Ok(Table::new(books))
+    let mut entries = standard_entries(alloc)?;
+    add_entries(alloc, &mut entries, first, rules)?;
+    Ok(Table::new(entries))
 }
 
 fn scene_entry(recurs: bool) -> SceneEntry
@@ -168,33 +170,32 @@ fn scene_entries(alloc: Global, scenes: &[bool]) -> Result<Vec<SceneEntry>, Allo
 }
 
 /// How many books there are: eight, two for each scene, and the author's own.
-fn book_count(declared: &Declared) -> usize
+pub fn book_count(declared: &Declared) -> u16
     requires few { length declared.now.scenes ≤ 50 }
     requires few_books { declared.now.rulebooks ≤ 100 }
     ensures { result ≡ book_count declared.now }
 {
-    8 + 2 * declared.scenes.as_slice().len() + declared.rulebooks
+    (8 + 2 * declared.scenes.as_slice().len() + declared.rulebooks) as u16
 }
 
-/// Tables 8 to 12 of what a source declares and of its rules, the first code of these having this number.
+/// Tables 8 to 12 of what a source declares, of its books and of its rules, the first code of these having this number.
 #[tactic(auto, unfolding(crate::specs::RuleMaking::rules_of))]
 pub fn rules_of(
     alloc: Global,
     declared: &Declared,
+    books: Table<Book>,
     first: usize,
     rules: &[MeantRule],
 ) -> Result<RuleTables, AllocError>
     requires few { first ≤ 1000 }
-    requires few_rules { length rules.now ≤ 2000 }
-    requires few_scenes { length declared.now.scenes ≤ 50 }
-    requires few_books { declared.now.rulebooks ≤ 100 }
-    ensures { IfOk result (λ made. made ≡ rules_of declared.now first (map rule_meant rules.now)) }
+    requires few_rules { length rules.now ≤ 1939 }
+    ensures { IfOk result (λ made. made ≡ rules_of declared.now books first (map rule_meant rules.now)) }
 {
     Ok(RuleTables {
         actions: action_entries(alloc)?,
         grammar: Table::new(Vec::new(alloc)),
-        rules: rule_entries(alloc, first, rules)?,
-        books: empty_books(alloc, book_count(declared))?,
+        rules: all_entries(alloc, first, rules)?,
+        books,
         scenes: Table::new(scene_entries(alloc, declared.scenes.as_slice())?),
     })
 }

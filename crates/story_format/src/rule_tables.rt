@@ -1,4 +1,4 @@
-//! Tables 8 to 12: actions, grammar, rules, books and scenes. No book lists a rule yet, and nothing begins or ends a scene.
+//! Tables 8 to 12: actions, grammar, rules, books and scenes. Nothing begins or ends a scene yet.
 ghost use Rattle.std.specs.Prelude.{◌≡◌};
 
 use crate::field::{Field, read_fields, skip_fields, write_fields};

@@ -4,7 +4,7 @@ use Rattle.std.proofs.lemmas.Result.{IfErr-weaker, IfOk-weaker}
 use Rattle.play_meaning.specs.Meant.{text_meant}
 use Rattle.play_meaning.specs.Patterns.{rule_meant}
 use Rattle.story_format.specs.Making.{worded}
-use Rattle.story_format.proofs.DeclaredLemmas.{declared_parts}
+use Rattle.story_format.proofs.DeclaredLemmas.{declared_parts, few_kinds}
 use Rattle.story_format.proofs.OrderLemmas.{codes_few}
 use Rattle.story_format.proofs.Stories.{few_objects}
 use Rattle.story_format.proofs.CodedTables.{are_held, coded_is, none_so, on_both, too_many}
@@ -33,6 +33,11 @@ returns-clause-none c =
 
 pub uncoded-requires-clause-few : goal.uncoded-requires-clause-few
 uncoded-requires-clause-few c = omega (arith, codes_few (worded c.args.tale.now.objects), few_objects c.args.tale.now c.requires.held)
+
+pub uncoded-requires-clause-few_kinds : goal.uncoded-requires-clause-few_kinds
+uncoded-requires-clause-few_kinds c =
+    let d = c.args.tale.now.declared in
+    omega (arith, few_kinds d.kinds (declared_parts d c.requires.held.made.declared).kinds)
 
 pub uncoded-requires-clause-few_scenes : goal.uncoded-requires-clause-few_scenes
 uncoded-requires-clause-few_scenes c = (declared_parts c.args.tale.now.declared c.requires.held.made.declared).scenes
