@@ -12,6 +12,7 @@ use Rattle.i7_sentences.specs.declared.form.Form.TheVariants as form
 use Rattle.i7_sentences.specs.declared.keyword.Keyword.TheVariants as keyword
 use Rattle.i7_sentences.specs.declared.rule.RuleBook.{RuleBook}
 use Rattle.i7_sentences.specs.declared.rule.RuleBook.TheVariants as book
+use Rattle.i7_sentences.specs.declared.rule.RuleSubject.TheVariants as subject
 use Rattle.i7_sentences.specs.declared.rule_head.Head.{Head}
 use Rattle.i7_sentences.specs.declared.rule_head.HeadBook.{HeadBook}
 use Rattle.i7_sentences.specs.declared.rule_head.HeadBook.TheVariants as named
@@ -91,6 +92,8 @@ is_one_phrase (Some (mark ∷ body)) = is_sign keyword.Comma mark
 abbrev pub head_with : HeadForm → List (List Token) → List (List Token) → List (List Token) → List (List Token) → Head
 head_with head letters behind_book behind_condition behind_name = record {
   book = book_of head.book (letter_if (is_own head.book) letters);
+  subject = subject.Anything;
+  scene = None;
   condition = words_if (letter_if (is_conditional head.parts) behind_book);
   name = words_if (letter_if (is_named head.parts) behind_condition);
   takes_one = is_one_phrase (letter_if true behind_name);

@@ -25,7 +25,7 @@ abbrev pub body_heard : ℕ → Head → List Phrase → Heard
 body_heard line head phrases =
     unless_unread (unread_line line head.takes_one phrases)
     (unless_reserved (reserved_line phrases)
-    (Says (Rule (record { book = head.book; condition = head.condition; name = head.name; body = body_phrases line phrases }))))
+    (Says (Rule (record { book = head.book; subject = head.subject; scene = head.scene; condition = head.condition; name = head.name; body = body_phrases line phrases }))))
 
 -- a head that isn't understood is told at the rule's own line
 abbrev pub head_heard : List Token → Option Head → Heard

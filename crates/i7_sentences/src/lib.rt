@@ -69,7 +69,7 @@ pub use part::{Part, PartKind};
 pub use phrase_form::{NowVerb, PHRASE_FORMS, PhraseForm, PhraseShape, shape_in};
 pub use phrase_mark::PhraseMark;
 pub use reader::read;
-pub use rule::{Rule, RuleBody, RuleBook, RulePhrase};
+pub use rule::{Rule, RuleBody, RuleBook, RulePhrase, RuleSubject};
 pub use sentence::{Assertion, Being, Holder, Sentence, Side, Way};
 pub use spoken::Spoken;
 pub use text_piece::{TextPiece, TextPieces};

@@ -14,7 +14,7 @@ use crate::signs::signs_of;
 use crate::spoken_reader::named_in;
 use crate::tagged::Tagged;
 use crate::word_list::words_in;
-use crate::{Class, Form, Keyword, Piece, RuleBook, WordList};
+use crate::{Class, Form, Keyword, Piece, RuleBook, RuleSubject, WordList};
 use i7_lexer::PackedToken;
 use std::alloc::{AllocError, Global};
 
@@ -51,6 +51,9 @@ pub struct HeadForm {
 #[derive(Drop)]
 pub struct Head {
     pub book: RuleBook,
+    pub subject: RuleSubject,
+    /// The words of the scene.
+    pub scene: Option<WordList>,
     pub condition: Option<WordList>,
     pub name: Option<WordList>,
     /// Whether its mark is a comma, behind which one phrase stands with what belongs to it.
@@ -288,6 +291,8 @@ fn head_of(alloc: Global, head: HeadForm, letters: &[&[Tagged<'_>]]) -> Result<H
     let behind_name = behind_if(named, behind_condition);
     Ok(Head {
         book: book_of(alloc, head.book, letter_if(own, letters))?,
+        subject: RuleSubject::Anything,
+        scene: None,
         condition: words_if(alloc, letter_if(conditional, behind_book))?,
         name: words_if(alloc, letter_if(named, behind_condition))?,
         takes_one: is_one_phrase(letter_if(true, behind_name)),

@@ -49,6 +49,8 @@ fn body_heard(
     let found = read_body(alloc, line, head.takes_one, phrases)?;
     let rule = Heard::Says(Assertion::Rule(Rule {
         book: head.book,
+        subject: head.subject,
+        scene: head.scene,
         condition: head.condition,
         name: head.name,
         body: found.body,
