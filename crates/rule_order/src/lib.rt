@@ -16,3 +16,4 @@ pub use heading::Heading;
 pub use laws::{one_order, order_of_handing_is_nothing};
 pub use listing::{Front, ListingSentence, listings};
 pub use listing_laws::{headings_are_of_rules, rules_are_listed_apart};
+pub use specificity::{aspects_of, grade_of};

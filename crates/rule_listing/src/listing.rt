@@ -1,0 +1,88 @@
+//! The rulebooks of a source, rule by rule.
+use crate::book_names::name_of;
+use crate::outline::Outline;
+use i7_rules::{STANDARD_NAMES, SourceRule};
+use play_meaning::tree::{Listing, RuleHead};
+use rule_order::{Heading, aspects_of, grade_of};
+use std::alloc::{AllocError, Global};
+use world_meaning::KindNo;
+
+/// The most rulebooks that there may be: eight, two for each of fifty scenes, and a hundred of the author's.
+const MOST_BOOKS: u16 = 8 + 2 * 50 + 100;
+
+/// How specific a rule is: how many things it asks, and how closely it tells its nouns and its place; or where a sentence lists it.
+fn key_told(alloc: Global, kinds: &[Option<KindNo>], head: &RuleHead) -> Result<String, AllocError> {
+    let pattern = &head.pattern;
+    let heading = Heading {
+        book: head.book,
+        pattern,
+        is_conditional: head.condition.is_some(),
+        listing: head.listing,
+    };
+    let asks = aspects_of(&heading);
+    let noun = grade_of(kinds, &pattern.noun);
+    let second = grade_of(kinds, &pattern.second);
+    let place = grade_of(kinds, &pattern.place);
+    match head.listing {
+        Listing::First(_) => format!(in alloc; "listed first"),
+        Listing::Last(_) => format!(in alloc; "listed last"),
+        _ => format!(in alloc; "asks {asks}, noun {noun}, second noun {second}, place {place}"),
+    }
+}
+
+/// The name of an author's rule, if it has one.
+fn rule_name(rule: &SourceRule) -> &str {
+    match &rule.name {
+        None => "(without a name)",
+        Some(name) => str::from_utf8(name.as_slice()).unwrap_or("?"),
+    }
+}
+
+/// A rule of the author's.
+fn own_told(alloc: Global, kinds: &[Option<KindNo>], rule: &SourceRule) -> Result<String, AllocError> {
+    let name = rule_name(rule);
+    let line = rule.line;
+    let key = key_told(alloc, kinds, &rule.rule.head)?;
+    format!(in alloc; "{name}, line {line}: {key}")
+}
+
+/// A standard rule: each asks its action alone.
+fn standard_told(alloc: Global, name: &[u8]) -> Result<String, AllocError> {
+    let name = str::from_utf8(name).unwrap_or("?");
+    format!(in alloc; "{name}, standard: asks 1, noun 0, second noun 0, place 0")
+}
+
+/// The rule of this number: the standard rules come first.
+fn rule_told(alloc: Global, outline: &Outline, number: usize) -> Result<String, AllocError> {
+    if let Some(name) = STANDARD_NAMES.get(number) {
+        return standard_told(alloc, name);
+    }
+    let own = number.saturating_sub(STANDARD_NAMES.len());
+    match outline.rules.as_slice().get(own) {
+        None => format!(in alloc; "?"),
+        Some(rule) => own_told(alloc, outline.tale.declared.kinds.as_slice(), rule),
+    }
+}
+
+/// Adds the lines of a rulebook, if it lists a rule.
+fn add_book(alloc: Global, told: &mut String, outline: &Outline, book: u16) -> Result<(), AllocError> {
+    let listed = outline.story.rules_listed(book);
+    if listed.is_empty() {
+        return Ok(());
+    }
+    told.push_str(name_of(alloc, outline, usize::from(book))?.as_str())?;
+    for number in listed {
+        told.push_str("\n    ")?;
+        told.push_str(rule_told(alloc, outline, usize::from(*number))?.as_str())?;
+    }
+    told.push_str("\n")
+}
+
+/// The rulebooks that list rules, each with its rules in the order in which they are asked, a line each.
+pub fn books_told(alloc: Global, outline: &Outline) -> Result<String, AllocError> {
+    let mut told = String::new(alloc);
+    for book in 0..MOST_BOOKS {
+        add_book(alloc, &mut told, outline, book)?;
+    }
+    Ok(told)
+}
