@@ -3,8 +3,11 @@ use Rattle.i7_rules.specs.Knowns.{known_of}
 use Rattle.i7_rules.specs.RuleList.{rule_lent, rules_lent}
 use Rattle.i7_rules.specs.RuleScans.{IsSoFar, state_of}
 use Rattle.i7_rules.proofs.Looked.{goes_on}
-use Rattle.i7_rules.proofs.ReadRules.{rule_further}
+use Rattle.i7_rules.proofs.ReadRules.{rule_further, starts_reading}
 use Rattle.i7_rules.proofs.source_rules.read_rules.Goals as goal
+
+pub loop-rest-init : goal.loop-rest-init
+loop-rest-init c = starts_reading (known_of c.args.known.now) (rules_lent c.args.rules.now) c.new.result.items c.new.ensures.items
 
 pub loop-rest-preserved : goal.loop-rest-preserved
 loop-rest-preserved c =
