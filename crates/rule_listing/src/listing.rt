@@ -2,7 +2,7 @@
 use crate::book_names::name_of;
 use crate::outline::Outline;
 use i7_rules::{STANDARD_NAMES, SourceRule};
-use play_meaning::tree::{Listing, RuleHead};
+use play_meaning::tree::{Aspect, Listing, RuleHead};
 use rule_order::{Heading, aspects_of, grade_of};
 use std::alloc::{AllocError, Global};
 use world_meaning::KindNo;
@@ -10,23 +10,52 @@ use world_meaning::KindNo;
 /// The most rulebooks that there may be: eight, two for each of fifty scenes, and a hundred of the author's.
 const MOST_BOOKS: u16 = 8 + 2 * 50 + 100;
 
-/// How specific a rule is: how many things it asks, and how closely it tells its nouns and its place; or where a sentence lists it.
-fn key_told(alloc: Global, kinds: &[Option<KindNo>], head: &RuleHead) -> Result<String, AllocError> {
+/// Adds how closely a rule tells a noun or its place, if it asks anything of it.
+fn add_grade(
+    alloc: Global,
+    told: &mut String,
+    kinds: &[Option<KindNo>],
+    name: &str,
+    aspect: &Aspect,
+) -> Result<(), AllocError> {
+    let grade = grade_of(kinds, aspect);
+    if grade == 0 {
+        return Ok(());
+    }
+    let said = format!(in alloc; ", {name} {grade}")?;
+    told.push_str(said.as_str())
+}
+
+/// How specific a rule is: how many things it asks, and how closely it tells its nouns and its place.
+fn specificity_told(
+    alloc: Global,
+    kinds: &[Option<KindNo>],
+    head: &RuleHead,
+) -> Result<String, AllocError> {
     let pattern = &head.pattern;
-    let heading = Heading {
+    let asks = aspects_of(&Heading {
         book: head.book,
         pattern,
         is_conditional: head.condition.is_some(),
         listing: head.listing,
-    };
-    let asks = aspects_of(&heading);
-    let noun = grade_of(kinds, &pattern.noun);
-    let second = grade_of(kinds, &pattern.second);
-    let place = grade_of(kinds, &pattern.place);
+    });
+    let mut told = format!(in alloc; "asks {asks}")?;
+    add_grade(alloc, &mut told, kinds, "noun", &pattern.noun)?;
+    add_grade(alloc, &mut told, kinds, "second noun", &pattern.second)?;
+    add_grade(alloc, &mut told, kinds, "place", &pattern.place)?;
+    Ok(told)
+}
+
+/// What puts a rule at its place: how specific it is, or a sentence that lists it.
+fn key_told(
+    alloc: Global,
+    kinds: &[Option<KindNo>],
+    head: &RuleHead,
+) -> Result<String, AllocError> {
     match head.listing {
         Listing::First(_) => format!(in alloc; "listed first"),
         Listing::Last(_) => format!(in alloc; "listed last"),
-        _ => format!(in alloc; "asks {asks}, noun {noun}, second noun {second}, place {place}"),
+        Listing::InOrder | Listing::Unlisted => specificity_told(alloc, kinds, head),
     }
 }
 
@@ -39,7 +68,11 @@ fn rule_name(rule: &SourceRule) -> &str {
 }
 
 /// A rule of the author's.
-fn own_told(alloc: Global, kinds: &[Option<KindNo>], rule: &SourceRule) -> Result<String, AllocError> {
+fn own_told(
+    alloc: Global,
+    kinds: &[Option<KindNo>],
+    rule: &SourceRule,
+) -> Result<String, AllocError> {
     let name = rule_name(rule);
     let line = rule.line;
     let key = key_told(alloc, kinds, &rule.rule.head)?;
@@ -49,7 +82,7 @@ fn own_told(alloc: Global, kinds: &[Option<KindNo>], rule: &SourceRule) -> Resul
 /// A standard rule: each asks its action alone.
 fn standard_told(alloc: Global, name: &[u8]) -> Result<String, AllocError> {
     let name = str::from_utf8(name).unwrap_or("?");
-    format!(in alloc; "{name}, standard: asks 1, noun 0, second noun 0, place 0")
+    format!(in alloc; "{name}, standard: asks 1")
 }
 
 /// The rule of this number: the standard rules come first.
@@ -65,7 +98,12 @@ fn rule_told(alloc: Global, outline: &Outline, number: usize) -> Result<String, 
 }
 
 /// Adds the lines of a rulebook, if it lists a rule.
-fn add_book(alloc: Global, told: &mut String, outline: &Outline, book: u16) -> Result<(), AllocError> {
+fn add_book(
+    alloc: Global,
+    told: &mut String,
+    outline: &Outline,
+    book: u16,
+) -> Result<(), AllocError> {
     let listed = outline.story.rules_listed(book);
     if listed.is_empty() {
         return Ok(());
