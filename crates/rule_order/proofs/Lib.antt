@@ -1,5 +1,5 @@
 mod AnyRules
-mod BookLemmas
+pub mod BookLemmas
 mod EntryLemmas
 mod HeadingLemmas
 mod KeyLemmas

@@ -274,11 +274,6 @@ below_if_own rules book (n ∷ ns) h =
 
 -- ---- as they are made
 
-pub one_more : {A : Type 0} (f : ℕ → A) (done : List A) (k n : ℕ) → k < n → (done ++ f k ∷ []) ++ map f (range_with_len (k + 1) (n - (k + 1))) ≡ done ++ map f (range_with_len k (n - k))
-one_more f done k n more =
-    let left : n - k ≡ suc (n - (k + 1)) = omega (arith, more) in
-    append_assoc done (f k ∷ []) (map f (range_with_len (k + 1) (n - (k + 1)))) ∙ ap (λ m. done ++ map f (range_with_len k m)) (sym left)
-
 same_heading : (headings : List Heading) (rules : List Rule) → map heading_meant headings ≡ map heading_of rules → AllZip IsRuleOf headings rules
 same_heading [] [] same = tt
 same_heading [] (rule ∷ rules) same = absurd cc

@@ -2,7 +2,7 @@ use Rattle.std.proofs.Common.{◌≡◌, ◌∙◌, ap, arith, ℕ, List, ◌+�
 use Rattle.std.specs.List.{range_with_len}
 use Rattle.rule_order.specs.Books.{book_in}
 use Rattle.story_format.specs.declared.rule_tables.Book.{Book}
-use Rattle.story_format.proofs.OwnBooks.{one_more}
+use Rattle.rule_order.proofs.BookLemmas.{one_more}
 use Rattle.story_format.proofs.ordering.table_of.Goals as goal
 
 pub loop-number-preserved : goal.loop-number-preserved
