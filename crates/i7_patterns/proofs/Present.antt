@@ -215,7 +215,6 @@ module _ (z : Counts) (s : Scope) (there : AreThere z s.meanings s.plurals) wher
       of_if IsWay (is_spelled word (codes "room")) (Some mark.Room) (if is_spelled word (codes "door") then Some mark.Door else None) (of_some IsWay mark.Room tt)
       (of_if IsWay (is_spelled word (codes "door")) (Some mark.Door) None (of_some IsWay mark.Door tt) (of_none IsWay))
 
-
   never_the : (m : Mark) (ms : List Mark) (o : ℕ) → IsWay m → m ∷ ms ≡ mark.The o ∷ [] → ⊥
   never_the m ms o way e = let same : m ≡ mark.The o = cc in subst IsWay same way
 

@@ -152,11 +152,7 @@ fn happening(found: Asked<Pattern>, scene: Option<Option<u8>>) -> Asked<Pattern>
 }
 
 /// What a rule is about by its head, its condition aside.
-pub fn about_of(
-    alloc: Global,
-    known: &Known<'_>,
-    rule: &Rule,
-) -> Result<Asked<Pattern>, AllocError>
+pub fn about_of(alloc: Global, known: &Known<'_>, rule: &Rule) -> Result<Asked<Pattern>, AllocError>
     ensures { IfOk result (λ found. IsFound (known_of known.now) (IsAbout (known_of known.now) rule.now) (asked_pattern found)) }
 {
     let found = subject_of(alloc, known, &rule.subject)?;

@@ -134,11 +134,7 @@ fn asked(
 }
 
 /// A head of this rulebook, by what is found of what it is about and of its condition.
-fn headed(
-    book: u16,
-    about: Asked<Pattern>,
-    condition: Found<Option<Condition>>,
-) -> Asked<RuleHead>
+fn headed(book: u16, about: Asked<Pattern>, condition: Found<Option<Condition>>) -> Asked<RuleHead>
     ensures { asked_head result ≡ headed book (asked_pattern about) (found_asked condition) }
 {
     match condition {
@@ -177,11 +173,7 @@ fn headed_by(
 }
 
 /// What the head of a rule says.
-pub fn head_of(
-    alloc: Global,
-    known: &Known<'_>,
-    rule: &Rule,
-) -> Result<Asked<RuleHead>, AllocError>
+pub fn head_of(alloc: Global, known: &Known<'_>, rule: &Rule) -> Result<Asked<RuleHead>, AllocError>
     ensures { IfOk result (λ found. IsHeadFound (known_of known.now) rule.now (asked_head found)) }
 {
     match book_of_head(alloc, known, &rule.book)? {
