@@ -22,7 +22,7 @@ use Rattle.code_table.proofs.Said.{body_done, condition_answered}
 use Rattle.story_format.specs.Carrying.{CarriesRule, IsAnsweredBy, IsDoneBy, code_if_some, standard_body}
 use Rattle.story_format.specs.Facts.{text_at}
 use Rattle.story_format.specs.Holding.{Named, is_of}
-use Rattle.story_format.specs.RuleMaking.{condition_count, condition_number, rule_count, rule_entries, rule_entry, standard_entries, standard_entry, standard_from}
+use Rattle.story_format.specs.RuleMaking.{condition_count, condition_number, rule_count, rule_entries, rule_entry, standard_entries, standard_from}
 use Rattle.story_format.specs.declared.rule_entry.RuleBody.TheVariants.{Code, Standard}
 use Rattle.world_meaning.proofs.Bools.{both_are}
 use Rattle.story_format.proofs.AboutRules.{IsSmall, entry_about}

@@ -32,7 +32,7 @@ use Rattle.story_format.specs.Holding.{is_short}
 use Rattle.story_format.specs.Making.{Worded, code_bytes, described_in, entries_of, entry_strings, strings_of, strings_said, tables_with}
 use Rattle.story_format.specs.Soundness.{AreSound, are_in_turn, strings_read}
 use Rattle.story_format.specs.RuleChecks.{uses_in_rules}
-use Rattle.story_format.specs.RuleMaking.{all_entries, rule_entries, rules_of}
+use Rattle.story_format.specs.RuleMaking.{all_entries, rules_of}
 use Rattle.story_format.specs.declared.rule_tables.Book.{Book}
 use Rattle.story_format.proofs.OrderLemmas.{codes_counted, numbers_named, strings_all_named}
 use Rattle.story_format.proofs.RuleLemmas.{codes_in_all, heads_in_turn, origins_in, rules_used, uses_in_all}

@@ -1,4 +1,4 @@
-use Rattle.std.proofs.Common.{◌≡◌, ◌∙◌, ap, subst, arith, ℕ, List, length, map}
+use Rattle.std.proofs.Common.{◌∙◌, ap, subst, arith, ℕ, List, length, map}
 use Rattle.std.specs.List.{range_with_len}
 use Rattle.std.proofs.lemmas.List.{length-map}
 use Rattle.play_meaning.specs.Patterns.{rule_meant}
