@@ -3,7 +3,7 @@ use Rattle.std.specs.Prelude.{◌≡◌, ℕ, true, false, List, [], ◌∷◌, 
 use Rattle.std.specs.List.{before_first, list_any, position_or_len}
 use Rattle.i7_lexer.specs.declared.token.Token.{Token}
 use Rattle.i7_sentences.specs.Keywords.{is_sign}
-use Rattle.i7_sentences.specs.SpokenPhrases.{named_in, words_in}
+use Rattle.i7_sentences.specs.SpokenPhrases.{words_in}
 use Rattle.i7_sentences.specs.declared.keyword.Keyword.{Keyword}
 use Rattle.i7_sentences.specs.declared.keyword.Keyword.TheVariants as keyword
 use Rattle.i7_sentences.specs.declared.rule.RuleSubject.{RuleSubject}
@@ -55,14 +55,10 @@ scene_in parts.Place letter = behind_first keyword.During (in_front_of keyword.W
 abbrev pub subject_in : List Token → List Token
 subject_in letter = in_front_of keyword.During (in_front_of keyword.When letter)
 
-abbrev pub condition_of : Option (List Token) → Option (List (List ℕ))
-condition_of None = None
-condition_of (Some words) = Some (words_in words)
-
--- a scene's free article isn't part of its words
-abbrev pub scene_of : Option (List Token) → Option (List (List ℕ))
-scene_of None = None
-scene_of (Some words) = Some (named_in words)
+-- as they are written, a scene's free article among them
+abbrev pub words_if : Option (List Token) → Option (List (List ℕ))
+words_if None = None
+words_if (Some words) = Some (words_in words)
 
 abbrev pub subject_of : HeadParts → List Token → RuleSubject
 subject_of parts.Nothing letter = subject.Anything

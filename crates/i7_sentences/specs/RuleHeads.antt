@@ -3,7 +3,7 @@ use Rattle.std.specs.Prelude.{ℕ, ◌-◌, Bool, true, false, ◌&&◌, List, [
 use Rattle.i7_lexer.specs.declared.token.Token.{Token}
 use Rattle.i7_sentences.specs.Conditions.{is_condition}
 use Rattle.i7_sentences.specs.Forms.{Variant}
-use Rattle.i7_sentences.specs.HeadWords.{condition_in, condition_of, scene_in, scene_of, subject_of}
+use Rattle.i7_sentences.specs.HeadWords.{condition_in, scene_in, subject_of, words_if}
 use Rattle.i7_sentences.specs.Keywords.{is_sign}
 use Rattle.i7_sentences.specs.Matching.{Found, lowest_fit}
 use Rattle.i7_sentences.specs.Names.{rest_of}
@@ -71,7 +71,7 @@ behind_if false letters = letters
 behind_if true [] = []
 behind_if true (letter ∷ letters) = letters
 
--- the book, by the letter that names it: the free article isn't part of the name
+-- the book, by the letter that names it: the free article isn't part of a rulebook's name, and is of what is said of a scene
 abbrev pub book_of : HeadBook → List Token → RuleBook
 book_of named.Before letter = book.Before
 book_of named.Instead letter = book.Instead
@@ -81,8 +81,8 @@ book_of named.After letter = book.After
 book_of named.Report letter = book.Report
 book_of named.EveryTurn letter = book.EveryTurn
 book_of named.PlayBegins letter = book.PlayBegins
-book_of named.SceneBegins letter = book.SceneBegins (named_in letter)
-book_of named.SceneEnds letter = book.SceneEnds (named_in letter)
+book_of named.SceneBegins letter = book.SceneBegins (words_in letter)
+book_of named.SceneEnds letter = book.SceneEnds (words_in letter)
 book_of named.Own letter = book.Own (named_in letter)
 
 abbrev pub name_if : Bool → List Token → Option (List (List ℕ))
@@ -102,8 +102,8 @@ abbrev pub head_with : HeadForm → Bool → List Token → List Token → List 
 head_with head is_reserved own told name body = record {
   book = book_of head.book own;
   subject = subject_of head.parts told;
-  scene = scene_of (scene_in head.parts told);
-  condition = condition_of (condition_in head.parts told);
+  scene = words_if (scene_in head.parts told);
+  condition = words_if (condition_in head.parts told);
   name = name_if head.is_named name;
   has_reserved_name = is_reserved;
   takes_one = is_one_phrase body;

@@ -2,10 +2,9 @@
 ghost use Rattle.std.specs.Prelude.{◌≡◌, ◌≤◌, length, option_map, IfOk};
 ghost use Rattle.std.specs.List.{position_or_len};
 ghost use Rattle.i7_sentences.specs.Keywords.{is_sign};
-ghost use Rattle.i7_sentences.specs.HeadWords.{behind_first, behind_one, condition_in, condition_of, in_front_of, scene_in, scene_of, subject_in, subject_of};
+ghost use Rattle.i7_sentences.specs.HeadWords.{behind_first, behind_one, condition_in, in_front_of, scene_in, subject_in, subject_of, words_if};
 
 use crate::rule_form::HeadParts;
-use crate::spoken_reader::named_in;
 use crate::tagged::Tagged;
 use crate::word_list::words_in;
 use crate::{Keyword, RuleSubject, WordList};
@@ -87,7 +86,7 @@ pub fn condition_of(
     parts: HeadParts,
     letter: &[Tagged<'_>],
 ) -> Result<Option<WordList>, AllocError>
-    ensures { IfOk result (λ condition. condition ≡ condition_of (condition_in parts letter.now)) }
+    ensures { IfOk result (λ condition. condition ≡ words_if (condition_in parts letter.now)) }
 {
     match condition_in(parts, letter) {
         None => Ok(None),
@@ -95,17 +94,17 @@ pub fn condition_of(
     }
 }
 
-/// The scene, the free article left out.
+/// The scene, as it is written.
 pub fn scene_of(
     alloc: Global,
     parts: HeadParts,
     letter: &[Tagged<'_>],
 ) -> Result<Option<WordList>, AllocError>
-    ensures { IfOk result (λ scene. scene ≡ scene_of (scene_in parts letter.now)) }
+    ensures { IfOk result (λ scene. scene ≡ words_if (scene_in parts letter.now)) }
 {
     match scene_in(parts, letter) {
         None => Ok(None),
-        Some(words) => Ok(Some(named_in(alloc, words)?)),
+        Some(words) => Ok(Some(words_in(alloc, words)?)),
     }
 }
 

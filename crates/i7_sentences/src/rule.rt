@@ -23,7 +23,7 @@ pub enum RuleBook {
     EveryTurn,
     /// `when play begins`
     PlayBegins,
-    /// `when the storm begins`: the scene's words, the free article left out
+    /// `when the storm begins`: the scene's words, a free article among them
     SceneBegins(WordList),
     /// `when the storm ends`: the same
     SceneEnds(WordList),

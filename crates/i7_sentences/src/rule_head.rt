@@ -94,8 +94,8 @@ fn book_of(alloc: Global, book: HeadBook, letter: &[Tagged<'_>]) -> Result<RuleB
         HeadBook::Report => Ok(RuleBook::Report),
         HeadBook::EveryTurn => Ok(RuleBook::EveryTurn),
         HeadBook::PlayBegins => Ok(RuleBook::PlayBegins),
-        HeadBook::SceneBegins => Ok(RuleBook::SceneBegins(named_in(alloc, letter)?)),
-        HeadBook::SceneEnds => Ok(RuleBook::SceneEnds(named_in(alloc, letter)?)),
+        HeadBook::SceneBegins => Ok(RuleBook::SceneBegins(words_in(alloc, letter)?)),
+        HeadBook::SceneEnds => Ok(RuleBook::SceneEnds(words_in(alloc, letter)?)),
         HeadBook::Own => Ok(RuleBook::Own(named_in(alloc, letter)?)),
     }
 }
