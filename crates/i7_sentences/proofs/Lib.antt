@@ -13,6 +13,7 @@ pub mod Lowest
 pub mod Marking
 pub mod Missing
 pub mod Naming
+pub mod Parting
 pub mod Sameness
 pub mod Seams
 pub mod Speaking

@@ -267,8 +267,16 @@ speaks tokens variant letters reading asserts plain =
 
 -- a form that asserts is no rule's
 no_rule : (form : Form) → is_asserting form ≡ true → is_rule_form form ≡ false
+no_rule form.BeforeRule asserts = absurd (false-true asserts)
+no_rule form.InsteadRule asserts = absurd (false-true asserts)
+no_rule form.CheckRule asserts = absurd (false-true asserts)
+no_rule form.CarryOutRule asserts = absurd (false-true asserts)
+no_rule form.AfterRule asserts = absurd (false-true asserts)
+no_rule form.ReportRule asserts = absurd (false-true asserts)
 no_rule form.EveryTurnRule asserts = absurd (false-true asserts)
 no_rule form.PlayBeginsRule asserts = absurd (false-true asserts)
+no_rule form.SceneBeginsRule asserts = absurd (false-true asserts)
+no_rule form.SceneEndsRule asserts = absurd (false-true asserts)
 no_rule form.OwnRule asserts = absurd (false-true asserts)
 no_rule _ asserts = refl
 

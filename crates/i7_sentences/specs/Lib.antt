@@ -9,6 +9,7 @@ pub mod Cuts
 pub mod Dues
 pub mod Forms
 pub mod Found
+pub mod HeadWords
 pub mod Keywords
 pub mod Literals
 pub mod Lowest

@@ -1,24 +1,28 @@
--- The heads of rules: the book, perhaps a condition, perhaps the rule's name, and behind them the body.
-use Rattle.std.specs.Prelude.{ℕ, ◌-◌, Bool, true, false, List, [], ◌∷◌, drop, length, map, Option, Some, None, if◌then◌else◌}
+-- The heads of rules: the book, what is told behind its words, perhaps the rule's name, and behind them the body.
+use Rattle.std.specs.Prelude.{ℕ, ◌-◌, Bool, true, false, ◌&&◌, List, [], ◌∷◌, drop, length, map, Option, Some, None, if◌then◌else◌}
 use Rattle.i7_lexer.specs.declared.token.Token.{Token}
 use Rattle.i7_sentences.specs.Conditions.{is_condition}
 use Rattle.i7_sentences.specs.Forms.{Variant}
+use Rattle.i7_sentences.specs.HeadWords.{condition_in, condition_of, scene_in, scene_of, subject_of}
 use Rattle.i7_sentences.specs.Keywords.{is_sign}
 use Rattle.i7_sentences.specs.Matching.{Found, lowest_fit}
 use Rattle.i7_sentences.specs.Names.{rest_of}
+use Rattle.i7_sentences.specs.Reserved.{has_reserved_among}
 use Rattle.i7_sentences.specs.SpokenPhrases.{named_in, words_in}
 use Rattle.i7_sentences.specs.declared.form.Form.{Form}
 use Rattle.i7_sentences.specs.declared.form.Form.TheVariants as form
 use Rattle.i7_sentences.specs.declared.keyword.Keyword.TheVariants as keyword
 use Rattle.i7_sentences.specs.declared.rule.RuleBook.{RuleBook}
 use Rattle.i7_sentences.specs.declared.rule.RuleBook.TheVariants as book
+use Rattle.i7_sentences.specs.declared.rule.RuleSubject.{RuleSubject}
+use Rattle.i7_sentences.specs.declared.rule.RuleSubject.TheVariants as subject
+use Rattle.i7_sentences.specs.declared.rule_form.HeadBook.{HeadBook}
+use Rattle.i7_sentences.specs.declared.rule_form.HeadBook.TheVariants as named
+use Rattle.i7_sentences.specs.declared.rule_form.HeadForm.{HeadForm}
+use Rattle.i7_sentences.specs.declared.rule_form.HeadParts.{HeadParts}
+use Rattle.i7_sentences.specs.declared.rule_form.HeadParts.TheVariants as parts
+use Rattle.i7_sentences.specs.declared.rule_form.TheConstants.{RULE_FORMS}
 use Rattle.i7_sentences.specs.declared.rule_head.Head.{Head}
-use Rattle.i7_sentences.specs.declared.rule_head.HeadBook.{HeadBook}
-use Rattle.i7_sentences.specs.declared.rule_head.HeadBook.TheVariants as named
-use Rattle.i7_sentences.specs.declared.rule_head.HeadForm.{HeadForm}
-use Rattle.i7_sentences.specs.declared.rule_head.HeadParts.{HeadParts}
-use Rattle.i7_sentences.specs.declared.rule_head.HeadParts.TheVariants as parts
-use Rattle.i7_sentences.specs.declared.rule_head.TheConstants.{RULE_FORMS}
 
 -- the forms of rules, with what may stand in their heads
 unfoldable pub rule_forms : List (List Variant)
@@ -26,99 +30,130 @@ rule_forms = map (λ form. map (λ variant. record { form = variant.0; pieces = 
 
 -- the forms of sentences that are rules, whatever stands behind the words with which their heads begin
 abbrev pub is_rule_form : Form → Bool
+is_rule_form form.BeforeRule = true
+is_rule_form form.InsteadRule = true
+is_rule_form form.CheckRule = true
+is_rule_form form.CarryOutRule = true
+is_rule_form form.AfterRule = true
+is_rule_form form.ReportRule = true
 is_rule_form form.EveryTurnRule = true
 is_rule_form form.PlayBeginsRule = true
+is_rule_form form.SceneBeginsRule = true
+is_rule_form form.SceneEndsRule = true
 is_rule_form form.OwnRule = true
 is_rule_form _ = false
 
 abbrev pub is_head_form : Form → Option HeadForm
-is_head_form (form.Head book parts) = Some (record { book = book; parts = parts })
+is_head_form (form.Head book parts) = Some (record { book = book; parts = parts; is_named = false })
+is_head_form (form.NamedHead book parts) = Some (record { book = book; parts = parts; is_named = true })
 is_head_form _ = None
 
-abbrev pub is_conditional : HeadParts → Bool
-is_conditional parts.Nothing = false
-is_conditional parts.Condition = true
-is_conditional parts.Name = false
-is_conditional parts.Both = true
+-- a letter names the scene or the author's book
+abbrev pub has_own_name : HeadBook → Bool
+has_own_name named.SceneBegins = true
+has_own_name named.SceneEnds = true
+has_own_name named.Own = true
+has_own_name _ = false
 
-abbrev pub is_named : HeadParts → Bool
-is_named parts.Nothing = false
-is_named parts.Condition = false
-is_named parts.Name = true
-is_named parts.Both = true
+-- a letter tells what stands behind the words of the book
+abbrev pub has_parts : HeadParts → Bool
+has_parts parts.Nothing = false
+has_parts _ = true
 
 -- the first letter, if the form has it, and the letters behind it
-abbrev pub letter_if : Bool → List (List Token) → Option (List Token)
-letter_if false letters = None
-letter_if true [] = None
-letter_if true (letter ∷ letters) = Some letter
+abbrev pub letter_if : Bool → List (List Token) → List Token
+letter_if false letters = []
+letter_if true [] = []
+letter_if true (letter ∷ letters) = letter
 
 abbrev pub behind_if : Bool → List (List Token) → List (List Token)
 behind_if false letters = letters
 behind_if true [] = []
 behind_if true (letter ∷ letters) = letters
 
-abbrev pub words_if : Option (List Token) → Option (List (List ℕ))
-words_if None = None
-words_if (Some letter) = Some (words_in letter)
-
-abbrev pub is_own : HeadBook → Bool
-is_own named.EveryTurn = false
-is_own named.PlayBegins = false
-is_own named.Own = true
-
-abbrev pub named_if : Option (List Token) → List (List ℕ)
-named_if None = []
-named_if (Some letter) = named_in letter
-
-abbrev pub book_of : HeadBook → Option (List Token) → RuleBook
+-- the book, by the letter that names it: the free article isn't part of the name
+abbrev pub book_of : HeadBook → List Token → RuleBook
+book_of named.Before letter = book.Before
+book_of named.Instead letter = book.Instead
+book_of named.Check letter = book.Check
+book_of named.CarryOut letter = book.CarryOut
+book_of named.After letter = book.After
+book_of named.Report letter = book.Report
 book_of named.EveryTurn letter = book.EveryTurn
 book_of named.PlayBegins letter = book.PlayBegins
-book_of named.Own letter = book.Own (named_if letter)
+book_of named.SceneBegins letter = book.SceneBegins (named_in letter)
+book_of named.SceneEnds letter = book.SceneEnds (named_in letter)
+book_of named.Own letter = book.Own (named_in letter)
+
+abbrev pub name_if : Bool → List Token → Option (List (List ℕ))
+name_if is_named letter = if is_named then Some (words_in letter) else None
 
 -- how many tokens stand behind the mark with which the last letter begins
-abbrev pub body_len : Option (List Token) → ℕ
-body_len None = 0
-body_len (Some letter) = length (rest_of letter)
+abbrev pub body_len : List Token → ℕ
+body_len letter = length (rest_of letter)
 
 -- a body behind a comma, which is one phrase
-abbrev pub is_one_phrase : Option (List Token) → Bool
-is_one_phrase None = false
-is_one_phrase (Some []) = false
-is_one_phrase (Some (mark ∷ body)) = is_sign keyword.Comma mark
+abbrev pub is_one_phrase : List Token → Bool
+is_one_phrase [] = false
+is_one_phrase (mark ∷ body) = is_sign keyword.Comma mark
 
--- the letters in order: the book's words, the condition, the name, the body
-abbrev pub head_with : HeadForm → List (List Token) → List (List Token) → List (List Token) → List (List Token) → Head
-head_with head letters behind_book behind_condition behind_name = record {
-  book = book_of head.book (letter_if (is_own head.book) letters);
-  condition = words_if (letter_if (is_conditional head.parts) behind_book);
-  name = words_if (letter_if (is_named head.parts) behind_condition);
-  takes_one = is_one_phrase (letter_if true behind_name);
-  body_len = body_len (letter_if true behind_name);
+-- the letters in order: the name of the scene or the author's book, what is told behind it, the rule's name, the body
+abbrev pub head_with : HeadForm → Bool → List Token → List Token → List Token → List Token → Head
+head_with head is_reserved own told name body = record {
+  book = book_of head.book own;
+  subject = subject_of head.parts told;
+  scene = scene_of (scene_in head.parts told);
+  condition = condition_of (condition_in head.parts told);
+  name = name_if head.is_named name;
+  has_reserved_name = is_reserved;
+  takes_one = is_one_phrase body;
+  body_len = body_len body;
 }
 
-abbrev pub head_from : HeadForm → List (List Token) → List (List Token) → Head
-head_from head letters behind_book =
-    head_with head letters behind_book (behind_if (is_conditional head.parts) behind_book) (behind_if (is_named head.parts) (behind_if (is_conditional head.parts) behind_book))
+abbrev pub head_behind : HeadForm → Bool → List Token → List Token → List (List Token) → Head
+head_behind head is_reserved own told letters =
+    head_with head is_reserved own told (letter_if head.is_named letters) (letter_if true (behind_if head.is_named letters))
 
-abbrev pub head_of : HeadForm → List (List Token) → Head
-head_of head letters = head_from head letters (behind_if (is_own head.book) letters)
+abbrev pub head_from : HeadForm → Bool → List Token → List (List Token) → Head
+head_from head is_reserved own letters =
+    head_behind head is_reserved own (letter_if (has_parts head.parts) letters) (behind_if (has_parts head.parts) letters)
+
+abbrev pub head_of : HeadForm → Bool → List (List Token) → Head
+head_of head is_reserved letters =
+    head_from head is_reserved (letter_if (has_own_name head.book) letters) (behind_if (has_own_name head.book) letters)
+
+abbrev pub is_there : List (List ℕ) → Bool
+is_there [] = false
+is_there (word ∷ words) = true
+
+abbrev pub has_subject : RuleSubject → Bool
+has_subject subject.Anything = true
+has_subject (subject.Pattern words) = is_there words
+has_subject (subject.Place words) = is_there words
+
+abbrev pub has_scene : Option (List (List ℕ)) → Bool
+has_scene None = true
+has_scene (Some words) = is_there words
 
 abbrev pub has_shape : Option (List (List ℕ)) → Bool
 has_shape None = true
 has_shape (Some condition) = is_condition condition
 
--- a head whose condition has a condition's shape
-abbrev pub if_shaped : Head → Option Head
-if_shaped head = if has_shape head.condition then Some head else None
+-- words stand wherever some are wanted, and a condition has a condition's shape
+abbrev pub is_understood : Head → Bool
+is_understood head = has_subject head.subject && has_scene head.scene && has_shape head.condition
 
-abbrev pub head_as : Option HeadForm → List (List Token) → Option Head
-head_as None letters = None
-head_as (Some head) letters = if_shaped (head_of head letters)
+abbrev pub if_understood : Head → Option Head
+if_understood head = if is_understood head then Some head else None
+
+abbrev pub head_as : Option HeadForm → Bool → List (List Token) → Option Head
+head_as None is_reserved letters = None
+head_as (Some head) is_reserved letters = if_understood (head_of head is_reserved letters)
 
 abbrev pub head_found : Option Found → Option Head
 head_found None = None
-head_found (Some found) = head_as (is_head_form found.variant.form) found.letters
+head_found (Some found) =
+    head_as (is_head_form found.variant.form) (has_reserved_among found.variant.pieces found.letters) found.letters
 
 -- the head of a rule, by the first form that fits it, with the shortest letters; none where it isn't understood
 unfoldable pub head_in : List Token → Option Head

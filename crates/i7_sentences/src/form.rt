@@ -1,6 +1,6 @@
 //! The sentence forms as data, the lowest first.
 use crate::form::Piece::{Letter, Word};
-use crate::rule_head::{HeadBook, HeadParts};
+use crate::rule_form::{HeadBook, HeadParts};
 use crate::{Class, Keyword, PhraseForm};
 use world_meaning::Rel;
 
@@ -80,6 +80,8 @@ pub enum Form {
     Phrase(PhraseForm),
     /// A rule by all that stands in its head, which is no form of its own.
     Head(HeadBook, HeadParts),
+    /// The same with a name of the rule's.
+    NamedHead(HeadBook, HeadParts),
 }
 
 const WORDS: Piece = Letter(Class::Words);

@@ -3,9 +3,11 @@ ghost use Rattle.std.specs.Prelude.{◌≡◌, ◌≢◌, ◌⊎◌, Bool, List,
 ghost use Rattle.i7_lexer.specs.declared.token.Token.{Token};
 ghost use Rattle.i7_sentences.specs.Cuts.{Piece, cut};
 ghost use Rattle.i7_sentences.specs.Forms.{IsReading, IsUnread, Variant, all_forms};
+ghost use Rattle.i7_sentences.specs.HeadWords.{IsParted, behind_first, in_front_of};
 ghost use Rattle.i7_sentences.specs.Matching.{Found, lowest_fit};
 ghost use Rattle.i7_sentences.specs.Seams.{IsCut, IsOnlyCut};
 ghost use Rattle.i7_sentences.specs.Sources.{HasSentences, IsRefused, IsSpeaking};
+ghost use Rattle.i7_sentences.specs.declared.keyword.Keyword.{Keyword};
 ghost use Rattle.i7_sentences.specs.declared.sentence.Sentence.{Sentence};
 ghost use Rattle.world_meaning.specs.declared.fault.Fault.{Fault};
 ghost use Rattle.world_meaning.specs.declared.fault.FaultCode.TheVariants.{Memory};
@@ -15,6 +17,11 @@ ghost use Rattle.world_meaning.specs.declared.fault.FaultCode.TheVariants.{Memor
 pub fn cut_is_exact()
     ensures made { (opens : Token → Bool) (same : Bool → Token → Token → Bool) (tokens : List Token) → IsCut opens same tokens (cut opens same tokens) }
     ensures alone { (opens : Token → Bool) (same : Bool → Token → Token → Bool) (tokens : List Token) → IsOnlyCut opens same tokens (cut opens same tokens) }
+{}
+
+/// The words of a head are parted at the first word, `when` or `during`, that is looked for, and left whole where none is.
+pub fn heads_are_parted_at_the_first()
+    ensures { (keyword : Keyword) (words : List Token) → IsParted keyword words (in_front_of keyword words) (behind_first keyword words) }
 {}
 
 /// No words have two readings, whatever the forms.

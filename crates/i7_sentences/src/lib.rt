@@ -19,6 +19,7 @@ mod declaration;
 mod describing;
 mod due;
 mod form;
+mod head_words;
 mod heard;
 mod keyword;
 mod laws;
@@ -37,6 +38,7 @@ mod reading;
 mod reserved;
 mod rule;
 mod rule_body;
+mod rule_form;
 mod rule_head;
 mod rule_reader;
 mod sentence;
@@ -59,8 +61,8 @@ pub use cut::HEADINGS;
 pub use form::{FORMS, Form, Piece};
 pub use keyword::{ARTICLES, KEYWORDS, Keyword, RESERVED};
 pub use laws::{
-    cut_is_exact, forms_that_fit_speak, found_is_read, one_list_of_sentences, one_reading,
-    one_refusal, read_or_unread, spelled_or_refused,
+    cut_is_exact, forms_that_fit_speak, found_is_read, heads_are_parted_at_the_first,
+    one_list_of_sentences, one_reading, one_refusal, read_or_unread, spelled_or_refused,
 };
 pub use low::lower_of;
 pub use name::{Name, NameArticle};
@@ -69,7 +71,7 @@ pub use part::{Part, PartKind};
 pub use phrase_form::{NowVerb, PHRASE_FORMS, PhraseForm, PhraseShape, shape_in};
 pub use phrase_mark::PhraseMark;
 pub use reader::read;
-pub use rule::{Rule, RuleBody, RuleBook, RulePhrase};
+pub use rule::{Rule, RuleBody, RuleBook, RulePhrase, RuleSubject};
 pub use sentence::{Assertion, Being, Holder, Sentence, Side, Way};
 pub use spoken::Spoken;
 pub use text_piece::{TextPiece, TextPieces};

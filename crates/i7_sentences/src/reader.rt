@@ -21,7 +21,7 @@ use crate::heard::{Heard, HeardPart};
 use crate::low::lower_of;
 use crate::reading::{Reading, reading_of};
 use crate::reserved::has_reserved_among;
-use crate::rule_head::is_rule_form;
+use crate::rule_form::is_rule_form;
 use crate::rule_reader::rule_part;
 use crate::stretch::bad_literal_in;
 use crate::tagged::with_tags;

@@ -7,12 +7,39 @@ use std::marker::Model;
 /// The book that a rule's head names.
 #[derive(Debug, Drop)]
 pub enum RuleBook {
+    /// `before`
+    Before,
+    /// `instead of`
+    Instead,
+    /// `check`
+    Check,
+    /// `carry out`
+    CarryOut,
+    /// `after`
+    After,
+    /// `report`
+    Report,
     /// `every turn`
     EveryTurn,
     /// `when play begins`
     PlayBegins,
+    /// `when the storm begins`: the scene's words, the free article left out
+    SceneBegins(WordList),
+    /// `when the storm ends`: the same
+    SceneEnds(WordList),
     /// `a cleanup rule`: the words between the free article and `rule`
     Own(WordList),
+}
+
+/// What a rule's head says of the action and of the place.
+#[derive(Debug, Drop)]
+pub enum RuleSubject {
+    /// Nothing.
+    Anything,
+    /// A pattern, behind a book of actions: `taking the box in the Hall`.
+    Pattern(WordList),
+    /// The words behind `in`, in a head of another book.
+    Place(WordList),
 }
 
 /// A phrase of a rule's body.
@@ -63,6 +90,9 @@ impl RuleBody {
 #[derive(Debug, Drop)]
 pub struct Rule {
     pub book: RuleBook,
+    pub subject: RuleSubject,
+    /// The words behind `during`: a scene.
+    pub scene: Option<WordList>,
     /// The words behind `when`, which have the shape of a condition.
     pub condition: Option<WordList>,
     /// The words of `(this is the tidy rule)` between `the` and `rule`.

@@ -1,207 +1,70 @@
-//! The heads of rules as data, and what a head says.
+//! What the head of a rule says.
 ghost use Rattle.std.specs.Prelude.{◌≡◌, map, option_map, IfOk};
 ghost use Rattle.i7_sentences.specs.Found.{found_in};
-ghost use Rattle.i7_sentences.specs.Matching.{lowest_fit};
 ghost use Rattle.i7_sentences.specs.Stretches.{head_tokens};
-ghost use Rattle.i7_sentences.specs.RuleHeads.{behind_if, body_len, body_tokens, book_of, has_shape, head_as, head_found, head_in, head_of, if_shaped, is_conditional, is_head_form, is_named, is_one_phrase, is_own, is_rule_form, letter_if, named_if, rule_forms, words_if};
+ghost use Rattle.i7_sentences.specs.RuleHeads.{behind_if, body_len, body_tokens, book_of, has_own_name, has_parts, has_scene, has_shape, has_subject, head_as, head_found, head_in, head_of, if_understood, is_one_phrase, is_there, is_understood, letter_if, name_if};
 
 use crate::column_stack::ColumnStack;
 use crate::condition::is_condition;
-use crate::form::Piece::{Letter, Word};
+use crate::head_words::{condition_of, scene_of, subject_of};
 use crate::name::rest_of;
-use crate::reading::{Reading, lowest_fit};
-use crate::signs::signs_of;
+use crate::reading::Reading;
+use crate::reserved::has_reserved_among;
+use crate::rule_form::{HeadBook, HeadForm, HeadParts, is_head_form, rule_reading};
 use crate::spoken_reader::named_in;
 use crate::tagged::Tagged;
 use crate::word_list::words_in;
-use crate::{Class, Form, Keyword, Piece, RuleBook, WordList};
+use crate::{Keyword, RuleBook, RuleSubject, WordList};
 use i7_lexer::PackedToken;
 use std::alloc::{AllocError, Global};
-
-/// Which book a head names.
-#[derive(Clone, Copy, Debug, PartialEq, Eq)]
-pub enum HeadBook {
-    EveryTurn,
-    PlayBegins,
-    /// A book of the author's: the head's first letter.
-    Own,
-}
-
-/// What stands in a head behind the words of its book.
-#[derive(Clone, Copy, Debug, PartialEq, Eq)]
-pub enum HeadParts {
-    Nothing,
-    /// `when C`
-    Condition,
-    /// `(this is the W rule)`
-    Name,
-    /// A condition, and behind it a name.
-    Both,
-}
-
-/// What stands in a head: its letters are the words of a book of the author's, the condition and the name, as
-/// far as they are there, and at last the body.
-#[derive(Clone, Copy, Debug, PartialEq, Eq)]
-pub struct HeadForm {
-    pub book: HeadBook,
-    pub parts: HeadParts,
-}
 
 /// What a head says.
 #[derive(Drop)]
 pub struct Head {
     pub book: RuleBook,
+    pub subject: RuleSubject,
+    /// The words of the scene.
+    pub scene: Option<WordList>,
     pub condition: Option<WordList>,
     pub name: Option<WordList>,
+    /// Whether the name of a scene that begins or ends holds a reserved word.
+    pub has_reserved_name: bool,
     /// Whether its mark is a comma, behind which one phrase stands with what belongs to it.
     pub takes_one: bool,
     /// How many tokens stand behind it and its mark.
     pub body_len: usize,
 }
 
-const WORDS: Piece = Letter(Class::Words);
-
-const BODY: Piece = Letter(Class::Body);
-
-const EVERY: Piece = Word(Keyword::Every);
-
-const TURN: Piece = Word(Keyword::Turn);
-
-const WHEN: Piece = Word(Keyword::When);
-
-const PLAY: Piece = Word(Keyword::Play);
-
-const BEGINS: Piece = Word(Keyword::Begins);
-
-const RULE: Piece = Word(Keyword::Rule);
-
-const OPEN: Piece = Word(Keyword::Open);
-
-const THIS: Piece = Word(Keyword::This);
-
-const IS: Piece = Word(Keyword::Is);
-
-const THE: Piece = Word(Keyword::The);
-
-const CLOSE: Piece = Word(Keyword::Close);
-
-/// The forms of rules whose heads are read, of which the first that fits is meant: a condition stands before a
-/// name, and nothing behind the two.
-pub const RULE_FORMS: [&[(Form, &[Piece])]; 3] = [
-    &[
-        (
-            Form::Head(HeadBook::EveryTurn, HeadParts::Nothing),
-            &[EVERY, TURN, BODY],
-        ),
-        (
-            Form::Head(HeadBook::EveryTurn, HeadParts::Condition),
-            &[EVERY, TURN, WHEN, WORDS, BODY],
-        ),
-        (
-            Form::Head(HeadBook::EveryTurn, HeadParts::Name),
-            &[EVERY, TURN, OPEN, THIS, IS, THE, WORDS, RULE, CLOSE, BODY],
-        ),
-        (
-            Form::Head(HeadBook::EveryTurn, HeadParts::Both),
-            &[
-                EVERY, TURN, WHEN, WORDS, OPEN, THIS, IS, THE, WORDS, RULE, CLOSE, BODY,
-            ],
-        ),
-    ],
-    &[
-        (
-            Form::Head(HeadBook::PlayBegins, HeadParts::Nothing),
-            &[WHEN, PLAY, BEGINS, BODY],
-        ),
-        (
-            Form::Head(HeadBook::PlayBegins, HeadParts::Name),
-            &[
-                WHEN, PLAY, BEGINS, OPEN, THIS, IS, THE, WORDS, RULE, CLOSE, BODY,
-            ],
-        ),
-    ],
-    &[
-        (
-            Form::Head(HeadBook::Own, HeadParts::Nothing),
-            &[WORDS, RULE, BODY],
-        ),
-        (
-            Form::Head(HeadBook::Own, HeadParts::Condition),
-            &[WORDS, RULE, WHEN, WORDS, BODY],
-        ),
-        (
-            Form::Head(HeadBook::Own, HeadParts::Name),
-            &[WORDS, RULE, OPEN, THIS, IS, THE, WORDS, RULE, CLOSE, BODY],
-        ),
-        (
-            Form::Head(HeadBook::Own, HeadParts::Both),
-            &[
-                WORDS, RULE, WHEN, WORDS, OPEN, THIS, IS, THE, WORDS, RULE, CLOSE, BODY,
-            ],
-        ),
-    ],
-];
-
-/// Whether a form is one of the rules whose heads are read.
-pub fn is_rule_form(form: Form) -> bool
-    ensures { result ≡ is_rule_form form }
+/// Whether a letter names the scene or the author's book.
+fn has_own_name(book: HeadBook) -> bool
+    ensures { result ≡ has_own_name book }
 {
-    match form {
-        Form::EveryTurnRule | Form::PlayBeginsRule | Form::OwnRule => true,
+    match book {
+        HeadBook::SceneBegins | HeadBook::SceneEnds | HeadBook::Own => true,
         _ => false,
     }
 }
 
-/// What stands in a head, if the form is one of a head.
-fn is_head_form(form: Form) -> Option<HeadForm>
-    ensures { result ≡ is_head_form form }
-{
-    match form {
-        Form::Head(book, parts) => Some(HeadForm { book, parts }),
-        _ => None,
-    }
-}
-
-/// Whether a condition stands in the head.
-fn is_conditional(parts: HeadParts) -> bool
-    ensures { result ≡ is_conditional parts }
+/// Whether a letter tells what stands behind the words of the book.
+fn has_parts(parts: HeadParts) -> bool
+    ensures { result ≡ has_parts parts }
 {
     match parts {
-        HeadParts::Nothing | HeadParts::Name => false,
-        HeadParts::Condition | HeadParts::Both => true,
-    }
-}
-
-/// Whether a name stands in the head.
-fn is_named(parts: HeadParts) -> bool
-    ensures { result ≡ is_named parts }
-{
-    match parts {
-        HeadParts::Nothing | HeadParts::Condition => false,
-        HeadParts::Name | HeadParts::Both => true,
-    }
-}
-
-/// Whether a letter is the words of a book.
-fn is_own(book: HeadBook) -> bool
-    ensures { result ≡ is_own book }
-{
-    match book {
-        HeadBook::EveryTurn | HeadBook::PlayBegins => false,
-        HeadBook::Own => true,
+        HeadParts::Nothing => false,
+        _ => true,
     }
 }
 
 /// The first letter, if it is there.
-fn letter_if<'a, 'b>(has: bool, letters: &[&'a [Tagged<'b>]]) -> Option<&'a [Tagged<'b>]>
-    ensures { option_map (λ letter. letter.now) result ≡ letter_if has (map (λ letter. letter.now) letters.now) }
+fn letter_if<'a, 'b>(has: bool, letters: &[&'a [Tagged<'b>]]) -> &'a [Tagged<'b>]
+    ensures { result.now ≡ letter_if has (map (λ letter. letter.now) letters.now) }
 {
     if !has {
-        return None;
+        return &[];
     }
     match letters {
-        [] => None,
-        [letter, ..] => Some(letter),
+        [] => &[],
+        [letter, ..] => letter,
     }
 }
 
@@ -218,81 +81,113 @@ fn behind_if<'c, 'a, 'b>(has: bool, letters: &'c [&'a [Tagged<'b>]]) -> &'c [&'a
     }
 }
 
-/// The words of a letter, if it is there.
-fn words_if(alloc: Global, letter: Option<&[Tagged<'_>]>) -> Result<Option<WordList>, AllocError>
-    ensures { IfOk result (λ words. words ≡ words_if (option_map (λ letter. letter.now) letter.entry)) }
-{
-    match letter {
-        None => Ok(None),
-        Some(letter) => Ok(Some(words_in(alloc, letter)?)),
-    }
-}
-
-/// The words of the book's name.
-fn named_if(alloc: Global, letter: Option<&[Tagged<'_>]>) -> Result<WordList, AllocError>
-    ensures { IfOk result (λ words. words ≡ named_if (option_map (λ letter. letter.now) letter.entry)) }
-{
-    match letter {
-        None => Ok(named_in(alloc, &[])?),
-        Some(letter) => Ok(named_in(alloc, letter)?),
-    }
-}
-
 /// The book that a head names.
-fn book_of(
-    alloc: Global,
-    book: HeadBook,
-    letter: Option<&[Tagged<'_>]>,
-) -> Result<RuleBook, AllocError>
-    ensures { IfOk result (λ named. named ≡ book_of book (option_map (λ letter. letter.now) letter.entry)) }
+fn book_of(alloc: Global, book: HeadBook, letter: &[Tagged<'_>]) -> Result<RuleBook, AllocError>
+    ensures { IfOk result (λ named. named ≡ book_of book letter.now) }
 {
     match book {
+        HeadBook::Before => Ok(RuleBook::Before),
+        HeadBook::Instead => Ok(RuleBook::Instead),
+        HeadBook::Check => Ok(RuleBook::Check),
+        HeadBook::CarryOut => Ok(RuleBook::CarryOut),
+        HeadBook::After => Ok(RuleBook::After),
+        HeadBook::Report => Ok(RuleBook::Report),
         HeadBook::EveryTurn => Ok(RuleBook::EveryTurn),
         HeadBook::PlayBegins => Ok(RuleBook::PlayBegins),
-        HeadBook::Own => Ok(RuleBook::Own(named_if(alloc, letter)?)),
+        HeadBook::SceneBegins => Ok(RuleBook::SceneBegins(named_in(alloc, letter)?)),
+        HeadBook::SceneEnds => Ok(RuleBook::SceneEnds(named_in(alloc, letter)?)),
+        HeadBook::Own => Ok(RuleBook::Own(named_in(alloc, letter)?)),
+    }
+}
+
+/// The rule's name, if it has one.
+fn name_if(
+    alloc: Global,
+    is_named: bool,
+    letter: &[Tagged<'_>],
+) -> Result<Option<WordList>, AllocError>
+    ensures { IfOk result (λ name. name ≡ name_if is_named letter.now) }
+{
+    if is_named {
+        Ok(Some(words_in(alloc, letter)?))
+    } else {
+        Ok(None)
     }
 }
 
 /// How many tokens stand behind the mark with which the last letter begins.
-fn body_len(letter: Option<&[Tagged<'_>]>) -> usize
-    ensures { result ≡ body_len (option_map (λ letter. letter.now) letter.entry) }
+fn body_len(letter: &[Tagged<'_>]) -> usize
+    ensures { result ≡ body_len letter.now }
 {
-    match letter {
-        None => 0,
-        Some(letter) => rest_of(letter).len(),
-    }
+    rest_of(letter).len()
 }
 
 /// Whether the last letter begins with a comma.
-fn is_one_phrase(letter: Option<&[Tagged<'_>]>) -> bool
-    ensures { result ≡ is_one_phrase (option_map (λ letter. letter.now) letter.entry) }
+fn is_one_phrase(letter: &[Tagged<'_>]) -> bool
+    ensures { result ≡ is_one_phrase letter.now }
 {
     match letter {
-        None => false,
-        Some(letter) => match letter {
-            [] => false,
-            [mark, ..] => mark.is_sign(Keyword::Comma),
-        },
+        [] => false,
+        [mark, ..] => mark.is_sign(Keyword::Comma),
     }
 }
 
 /// What a head of this form says with these letters.
-fn head_of(alloc: Global, head: HeadForm, letters: &[&[Tagged<'_>]]) -> Result<Head, AllocError>
-    ensures { IfOk result (λ said. said ≡ head_of head (map (λ letter. letter.now) letters.now)) }
+fn head_of(
+    alloc: Global,
+    head: HeadForm,
+    is_reserved: bool,
+    letters: &[&[Tagged<'_>]],
+) -> Result<Head, AllocError>
+    ensures { IfOk result (λ said. said ≡ head_of head is_reserved (map (λ letter. letter.now) letters.now)) }
 {
-    let own = is_own(head.book);
-    let behind_book = behind_if(own, letters);
-    let conditional = is_conditional(head.parts);
-    let behind_condition = behind_if(conditional, behind_book);
-    let named = is_named(head.parts);
-    let behind_name = behind_if(named, behind_condition);
+    let has_own = has_own_name(head.book);
+    let behind_own = behind_if(has_own, letters);
+    let has_told = has_parts(head.parts);
+    let behind_told = behind_if(has_told, behind_own);
+    let told = letter_if(has_told, behind_own);
+    let body = letter_if(true, behind_if(head.is_named, behind_told));
     Ok(Head {
-        book: book_of(alloc, head.book, letter_if(own, letters))?,
-        condition: words_if(alloc, letter_if(conditional, behind_book))?,
-        name: words_if(alloc, letter_if(named, behind_condition))?,
-        takes_one: is_one_phrase(letter_if(true, behind_name)),
-        body_len: body_len(letter_if(true, behind_name)),
+        book: book_of(alloc, head.book, letter_if(has_own, letters))?,
+        subject: subject_of(alloc, head.parts, told)?,
+        scene: scene_of(alloc, head.parts, told)?,
+        condition: condition_of(alloc, head.parts, told)?,
+        name: name_if(alloc, head.is_named, letter_if(head.is_named, behind_told))?,
+        has_reserved_name: is_reserved,
+        takes_one: is_one_phrase(body),
+        body_len: body_len(body),
     })
+}
+
+/// Whether there are words.
+fn is_there(words: &WordList) -> bool
+    ensures { result ≡ is_there words.now }
+{
+    match words.as_slice() {
+        [] => false,
+        _ => true,
+    }
+}
+
+/// Whether the pattern or the place, if there is one, has words.
+fn has_subject(subject: &RuleSubject) -> bool
+    ensures { result ≡ has_subject subject.now }
+{
+    match subject {
+        RuleSubject::Anything => true,
+        RuleSubject::Pattern(words) => is_there(words),
+        RuleSubject::Place(words) => is_there(words),
+    }
+}
+
+/// Whether the scene, if there is one, has words.
+fn has_scene(scene: &Option<WordList>) -> bool
+    ensures { result ≡ has_scene scene.now }
+{
+    match scene {
+        None => true,
+        Some(words) => is_there(words),
+    }
 }
 
 /// Whether a condition, if there is one, has a condition's shape.
@@ -305,11 +200,18 @@ fn has_shape(condition: &Option<WordList>) -> bool
     }
 }
 
-/// The head, if its condition has a condition's shape.
-fn if_shaped(head: Head) -> Option<Head>
-    ensures { result ≡ if_shaped head }
+/// Whether words stand wherever some are wanted, and a condition has a condition's shape.
+fn is_understood(head: &Head) -> bool
+    ensures { result ≡ is_understood head.now }
 {
-    if has_shape(&head.condition) {
+    has_subject(&head.subject) && has_scene(&head.scene) && has_shape(&head.condition)
+}
+
+/// The head, if it is understood.
+fn if_understood(head: Head) -> Option<Head>
+    ensures { result ≡ if_understood head }
+{
+    if is_understood(&head) {
         Some(head)
     } else {
         None
@@ -320,13 +222,14 @@ fn if_shaped(head: Head) -> Option<Head>
 fn head_as(
     alloc: Global,
     head: Option<HeadForm>,
+    is_reserved: bool,
     letters: &[&[Tagged<'_>]],
 ) -> Result<Option<Head>, AllocError>
-    ensures { IfOk result (λ said. said ≡ head_as head (map (λ letter. letter.now) letters.now)) }
+    ensures { IfOk result (λ said. said ≡ head_as head is_reserved (map (λ letter. letter.now) letters.now)) }
 {
     match head {
         None => Ok(None),
-        Some(head) => Ok(if_shaped(head_of(alloc, head, letters)?)),
+        Some(head) => Ok(if_understood(head_of(alloc, head, is_reserved, letters)?)),
     }
 }
 
@@ -336,21 +239,12 @@ fn head_found(alloc: Global, reading: Option<Reading<'_, '_>>) -> Result<Option<
 {
     match reading {
         None => Ok(None),
-        Some(found) => Ok(head_as(alloc, is_head_form(found.form), found.letters.as_slice())?),
+        Some(found) => {
+            let letters = found.letters.as_slice();
+            let is_reserved = has_reserved_among(found.pieces, letters);
+            Ok(head_as(alloc, is_head_form(found.form), is_reserved, letters)?)
+        }
     }
-}
-
-/// The first of the forms of rules that fits the words.
-#[tactic(auto, unfolding(crate::specs::RuleHeads::rule_forms))]
-fn rule_reading<'a, 'b>(
-    alloc: Global,
-    tokens: &'a [Tagged<'b>],
-) -> Result<Option<Reading<'a, 'b>>, AllocError>
-    ensures { IfOk result (λ found. option_map found_in found ≡ lowest_fit rule_forms tokens.now) }
-{
-    let signs = signs_of(tokens);
-    let mut columns = ColumnStack::new(alloc);
-    Ok(lowest_fit(alloc, &RULE_FORMS, &signs, tokens, &mut columns)?)
 }
 
 /// What the head of a rule says; none where it isn't understood.
@@ -358,7 +252,9 @@ fn rule_reading<'a, 'b>(
 pub fn head_in(alloc: Global, tokens: &[Tagged<'_>]) -> Result<Option<Head>, AllocError>
     ensures { IfOk result (λ head. head ≡ head_in tokens.now) }
 {
-    Ok(head_found(alloc, rule_reading(alloc, tokens)?)?)
+    let mut columns = ColumnStack::new(alloc);
+    let reading = rule_reading(alloc, tokens, &mut columns)?;
+    Ok(head_found(alloc, reading)?)
 }
 
 /// The tokens of a rule with this head: those in front of its body, and those of the body.

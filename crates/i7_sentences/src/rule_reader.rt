@@ -3,7 +3,7 @@ ghost use Rattle.std.specs.Prelude.{◌≡◌, IfOk};
 ghost use Rattle.i7_sentences.specs.Bodies.{phrases_of};
 ghost use Rattle.i7_sentences.specs.Lowest.{lowest};
 ghost use Rattle.i7_sentences.specs.RuleHeads.{head_in};
-ghost use Rattle.i7_sentences.specs.Rules.{body_heard, head_heard, rule_heard, unless_reserved, unless_unread};
+ghost use Rattle.i7_sentences.specs.Rules.{body_heard, head_heard, head_reserved, rule_heard, unless_reserved, unless_unread};
 ghost use Rattle.i7_sentences.specs.Stretches.{bad_literal_in, rule_stretches};
 
 use crate::body::{PhraseLine, line_in, phrases_of};
@@ -37,6 +37,17 @@ fn unless_reserved(line: Option<u32>, next: Heard) -> Heard
     }
 }
 
+/// The rule's line, if the name of a scene in its head holds a reserved word.
+fn head_reserved(line: u32, head: &Head) -> Option<u32>
+    ensures { result ≡ head_reserved line head.now }
+{
+    if head.has_reserved_name {
+        Some(line)
+    } else {
+        None
+    }
+}
+
 /// The rule with this head and a body of these phrases, or the line at which the body is refused.
 fn body_heard(
     alloc: Global,
@@ -47,13 +58,16 @@ fn body_heard(
     ensures { IfOk result (λ heard. heard ≡ body_heard line head (phrases_of phrases.now)) }
 {
     let found = read_body(alloc, line, head.takes_one, phrases)?;
+    let reserved = lower_of(head_reserved(line, &head), found.reserved);
     let rule = Heard::Says(Assertion::Rule(Rule {
         book: head.book,
+        subject: head.subject,
+        scene: head.scene,
         condition: head.condition,
         name: head.name,
         body: found.body,
     }));
-    Ok(unless_unread(found.unread, unless_reserved(found.reserved, rule)))
+    Ok(unless_unread(found.unread, unless_reserved(reserved, rule)))
 }
 
 /// What a rule with this head says.
@@ -71,9 +85,9 @@ fn headed_part(alloc: Global, tokens: &[PackedToken], head: Head) -> Result<Hear
     })
 }
 
-/// What a sentence says that is a rule of the heads `every turn`, `when play begins` or `a W rule`: C5 is told at the
-/// rule's line of its head and at a phrase's of a phrase, then C6 at the line of the phrase, each at the lowest.
-/// (*Writing with Inform*, chapters 9, 11 and 19, as far as this profile goes.)
+/// What a sentence says that is a rule: C5 is told at the rule's line of its head and at a phrase's of a phrase, then
+/// C6 alike, each at the lowest.
+/// (*Writing with Inform*, chapters 7, 9 to 12 and 19, as far as this profile goes.)
 #[tactic(auto, using(crate::proofs::Lowest::lower_steps))]
 pub fn rule_part(
     alloc: Global,

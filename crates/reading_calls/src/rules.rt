@@ -1,24 +1,55 @@
-//! A rule: its rulebook, `{condition:` and `(name)`, and of each phrase its line and depth, what it says, and `!` for an `instead`:
-//! `every{in,darkness: 1/0 |x|`.
+//! A rule: its rulebook, `[pattern]` or `@[place]`, `~[scene]`, `{condition:` and `(name)`, and of each phrase its line and depth, what
+//! it says, and `!` for an `instead`: `every{in,darkness: 1/0 |x|`.
 use crate::spoken::add_spoken;
 use crate::texts::add_words;
 use crate::tokens::fault_told;
 use i7_lexer::{Lexed, lex};
-use i7_sentences::{Assertion, Rule, RuleBook, RulePhrase, Sentence, read};
+use i7_sentences::{Assertion, Rule, RuleBook, RulePhrase, RuleSubject, Sentence, WordList, read};
 use std::alloc::{AllocError, Global};
+
+/// Adds the book of a scene's beginning or end.
+fn add_scene(out: &mut Vec<u8>, prefix: &[u8], scene: &WordList) -> Result<(), AllocError> {
+    out.extend_from_slice(prefix)?;
+    add_words(out, b'<', scene, b'>')
+}
 
 /// Adds a rulebook.
 fn add_book(out: &mut Vec<u8>, book: &RuleBook) -> Result<(), AllocError> {
     match book {
+        RuleBook::Before => out.extend_from_slice(b"before"),
+        RuleBook::Instead => out.extend_from_slice(b"instead"),
+        RuleBook::Check => out.extend_from_slice(b"check"),
+        RuleBook::CarryOut => out.extend_from_slice(b"carry"),
+        RuleBook::After => out.extend_from_slice(b"after"),
+        RuleBook::Report => out.extend_from_slice(b"report"),
         RuleBook::EveryTurn => out.extend_from_slice(b"every"),
         RuleBook::PlayBegins => out.extend_from_slice(b"begins"),
+        RuleBook::SceneBegins(scene) => add_scene(out, b"begins", scene),
+        RuleBook::SceneEnds(scene) => add_scene(out, b"ends", scene),
         RuleBook::Own(words) => add_words(out, b'<', words, b'>'),
+    }
+}
+
+/// Adds what a rule is about.
+fn add_subject(out: &mut Vec<u8>, subject: &RuleSubject) -> Result<(), AllocError> {
+    match subject {
+        RuleSubject::Anything => Ok(()),
+        RuleSubject::Pattern(words) => add_words(out, b'[', words, b']'),
+        RuleSubject::Place(words) => {
+            out.push(b'@')?;
+            add_words(out, b'[', words, b']')
+        }
     }
 }
 
 /// Adds the head of a rule.
 fn add_head(out: &mut Vec<u8>, rule: &Rule) -> Result<(), AllocError> {
     add_book(out, &rule.book)?;
+    add_subject(out, &rule.subject)?;
+    if let Some(scene) = &rule.scene {
+        out.push(b'~')?;
+        add_words(out, b'[', scene, b']')?;
+    }
     if let Some(condition) = &rule.condition {
         add_words(out, b'{', condition, b':')?;
     }
