@@ -27,5 +27,6 @@ pub mod Relations
 pub mod Scopes
 pub mod TermForms
 pub mod Terms
+pub mod There
 pub mod Verbs
 pub mod Words

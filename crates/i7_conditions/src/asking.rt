@@ -3,7 +3,7 @@ ghost use Rattle.std.specs.Prelude.{◌≡◌, ◌≤◌, length, Some, option_m
 ghost use Rattle.play_meaning.specs.Meant.{not_if};
 ghost use Rattle.play_meaning.specs.Trees as tree;
 ghost use Rattle.i7_conditions.specs.Asking.{asked_by, compared_by, denied_by, found_basic, found_clause, from_denied, from_numbers, of_numbers, of_object, of_scene, plain_said};
-ghost use Rattle.i7_conditions.specs.Clauses.{behind_not, compared, comparison_at, is_happening, scene_in};
+ghost use Rattle.i7_conditions.specs.Clauses.{behind_not, compared, comparison_at, is_happening, scene_in, scene_named};
 ghost use Rattle.i7_conditions.specs.Joining.{found_number};
 ghost use Rattle.i7_conditions.specs.Objects.{found_meant};
 ghost use Rattle.i7_conditions.specs.Predicates.{found_predicate, said_of};
@@ -87,6 +87,18 @@ fn scene_in(meaning: Option<Meaning>) -> Option<u8>
     }
 }
 
+/// The scene that words name.
+pub fn scene_named(
+    alloc: Global,
+    scope: &Scope<'_>,
+    words: &[TextBytes],
+) -> Result<Option<u8>, AllocError>
+    ensures { IfOk result (λ scene. scene ≡ scene_named (scope_of scope.now) words.now) }
+{
+    let meaning = known(alloc, scope, words)?;
+    Ok(scene_in(meaning))
+}
+
 /// Whether words are `happening` alone.
 fn is_happening(words: &[TextBytes]) -> bool
     ensures { result ≡ is_happening words.now }
@@ -106,8 +118,7 @@ fn of_scene(
 ) -> Result<Found<Basic>, AllocError>
     ensures { IfOk result (λ found. found_basic found ≡ of_scene (scope_of scope.now) subject.now predicate.now) }
 {
-    let meaning = known(alloc, scope, subject)?;
-    match scene_in(meaning) {
+    match scene_named(alloc, scope, subject)? {
         None => Ok(Found::Unread),
         Some(scene) => {
             if is_happening(predicate) {

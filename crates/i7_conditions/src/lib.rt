@@ -34,6 +34,7 @@ mod verb;
 mod word;
 
 pub use adjective::adjective_named;
+pub use asking::scene_named;
 pub use clause::clause_of;
 pub use condition::{condition_of, condition_said, one_condition_is_meant};
 pub use description::{description_of, description_said, one_description_is_meant};

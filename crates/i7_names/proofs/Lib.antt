@@ -1,3 +1,4 @@
 pub mod Claimed
+pub mod Present
 pub mod SmallNames
 pub mod Standings

@@ -5,3 +5,4 @@ pub mod Numbering
 pub mod Numbers
 pub mod PluralNames
 pub mod SourceNames
+pub mod There

@@ -9,5 +9,5 @@ mod numbering;
 mod plural_names;
 mod source_names;
 
-pub use laws::names_stand_for_what_is_claimed;
+pub use laws::{names_stand_for_what_is, names_stand_for_what_is_claimed};
 pub use source_names::{SourceNames, names_in};

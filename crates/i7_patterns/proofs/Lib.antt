@@ -4,3 +4,4 @@ mod Given
 mod Nouned
 mod Once
 mod Placed
+pub mod Present

@@ -7,3 +7,4 @@ pub mod Lowest
 pub mod Patterns
 pub mod PatternForms
 pub mod Places
+pub mod There

@@ -7,9 +7,11 @@ mod asked;
 mod aspect;
 mod aspects;
 mod choice;
+mod laws;
 mod nouns;
 mod pattern;
 mod place;
 
 pub use asked::Asked;
-pub use pattern::{one_pattern_is_meant, one_place_is_meant, pattern_of, place_of};
+pub use laws::{one_pattern_is_meant, one_place_is_meant, patterns_ask_what_is, places_are_there};
+pub use pattern::{pattern_of, place_of};

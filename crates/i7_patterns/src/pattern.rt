@@ -128,13 +128,3 @@ pub fn place_of(
     let place = one_asked(alloc, scope, words)?;
     Ok(place_judged(parents, objects, place))
 }
-
-/// Words are one pattern at most.
-pub fn one_pattern_is_meant()
-    ensures { (actions : List Row) (s : Names) (words : List Word) (p q : Meant) → IsPattern actions s words p → IsPattern actions s words q → p ≡ q }
-{}
-
-/// Words are one place at most.
-pub fn one_place_is_meant()
-    ensures { (s : Names) (words : List Word) (x y : Meaning) → AsksOne s words x → AsksOne s words y → x ≡ y }
-{}

@@ -1,10 +1,14 @@
 -- What is resolved of a source: its rules and the texts that describe, or the first refusal for either.
-use Rattle.std.specs.Prelude.{◌≡◌, ℕ, ◌==◌, Bool, ◌&&◌, ◌||◌, nat_lt, List, if◌then◌else◌}
+use Rattle.std.specs.Prelude.{◌≡◌, ℕ, ◌==◌, Bool, ◌&&◌, ◌||◌, nat_lt, List, [], if◌then◌else◌}
+use Rattle.std.specs.List.{list_any}
 use Rattle.world_meaning.specs.declared.fault.Fault.{Fault}
 use Rattle.world_meaning.specs.declared.fault.FaultCode.{FaultCode}
-use Rattle.world_meaning.specs.declared.fault.FaultCode.TheVariants.{TooMany, Twice, UnknownName}
+use Rattle.world_meaning.specs.declared.fault.FaultCode.TheVariants.{TooMany, Twice, UnknownName, WrongKind}
+use Rattle.world_meaning.specs.declared.tale.Tale.{Tale}
 use Rattle.i7_actions.specs.Actions.{standard_actions}
 use Rattle.i7_conditions.specs.NamesOf.{has_operators, meanings_of, plurals_of}
+use Rattle.i7_conditions.specs.Operators.{holds_operator}
+use Rattle.i7_conditions.specs.Scopes.{Scope}
 use Rattle.i7_names.specs.declared.source_names.SourceNames.{SourceNames}
 use Rattle.i7_rules.specs.Knowns.{Known}
 use Rattle.i7_rules.specs.SourceRules.{IsRulesFound}
@@ -17,15 +21,27 @@ use Rattle.i7_resolution.specs.declared.resolution.Resolution.TheVariants.{Refus
 use Rattle.i7_resolution.specs.declared.source_texts.TextsFound.{TextsFound}
 use Rattle.i7_resolution.specs.declared.source_texts.TextsFound.TheVariants as texted
 
--- what phrases and texts may name: what the names of a source stand for, its rulebooks and scenes, and the standard actions
-abbrev pub known_in : SourceNames → Known
-known_in source = record {
+-- what rules and texts may name: what the names of a source stand for, its rulebooks and scenes, the standard actions, and
+-- the kinds and objects of its tale
+abbrev pub known_in : SourceNames → Tale → Known
+known_in source tale = record {
   meanings = meanings_of source.names;
   plurals = plurals_of source.names;
   has_operators = has_operators source.names;
   actions = standard_actions;
   rulebooks = source.rulebooks;
   scenes = source.scenes;
+  parents = tale.declared.kinds;
+  objects = tale.objects;
+}
+
+-- what a text may name that describes: no repeat stands around it
+abbrev pub scope_in : SourceNames → Scope
+scope_in source = record {
+  meanings = meanings_of source.names;
+  plurals = plurals_of source.names;
+  repeats = [];
+  has_operators = has_operators source.names || list_any holds_operator [];
 }
 
 -- ---- of two refusals the first
@@ -34,8 +50,9 @@ known_in source = record {
 abbrev pub turn_of : FaultCode → ℕ
 turn_of Twice = 0
 turn_of UnknownName = 1
-turn_of TooMany = 2
-turn_of _ = 3
+turn_of WrongKind = 2
+turn_of TooMany = 3
+turn_of _ = 4
 
 abbrev pub goes_before : Fault → Fault → Bool
 goes_before one other = nat_lt (turn_of one.code) (turn_of other.code) || (turn_of one.code == turn_of other.code && nat_lt one.line other.line)

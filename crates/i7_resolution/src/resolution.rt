@@ -3,8 +3,8 @@ ghost use Rattle.std.specs.Prelude.{◌≡◌, ◌+◌, ◌*◌, ◌≤◌, leng
 ghost use Rattle.i7_conditions.specs.Readings.{IsFoundAs};
 ghost use Rattle.i7_phrases.specs.Texts.{found_text, text_is_over};
 ghost use Rattle.i7_rules.specs.Knowns.{known_of};
-ghost use Rattle.i7_resolution.specs.SourceTexts.{Says};
-ghost use Rattle.i7_resolution.specs.Resolutions.{IsResolution, first_of, goes_before, joined, known_in, refused_with, turn_of};
+ghost use Rattle.i7_resolution.specs.SourceTexts.{SaysIn};
+ghost use Rattle.i7_resolution.specs.Resolutions.{IsResolution, first_of, goes_before, joined, known_in, refused_with, scope_in, turn_of};
 
 use crate::source_texts::{SourceText, TextsFound, found_in, texts_of};
 use i7_actions::standard_actions;
@@ -14,7 +14,7 @@ use i7_rules::{Known, RulesFound, SourceRule, rules_of};
 use i7_sentences::Sentence;
 use play_meaning::tree::Text;
 use std::alloc::{AllocError, Global};
-use world_meaning::{Fault, FaultCode, TextBytes};
+use world_meaning::{Fault, FaultCode, Tale, TextBytes};
 
 /// The rules of a source, and the texts that describe, both in the order of their sentences.
 #[derive(Debug, Drop)]
@@ -37,8 +37,9 @@ fn turn_of(code: FaultCode) -> u8
     match code {
         FaultCode::Twice => 0,
         FaultCode::UnknownName => 1,
-        FaultCode::TooMany => 2,
-        _ => 3,
+        FaultCode::WrongKind => 2,
+        FaultCode::TooMany => 3,
+        _ => 4,
     }
 }
 
@@ -112,7 +113,7 @@ fn rulebooks_of(alloc: Global, names: &[Vec<u8>]) -> Result<Vec<TextBytes>, Allo
 
 /// What a text says that describes, where the names of a source stand for this.
 pub fn text_said(alloc: Global, names: &SourceNames, text: &[u8]) -> Result<Found<Text>, AllocError>
-    ensures { IfOk result (λ found. IsFoundAs (Says (known_in names.now) text.now) text_is_over (found_text found)) }
+    ensures { IfOk result (λ found. IsFoundAs (SaysIn (scope_in names.now) text.now) text_is_over (found_text found)) }
 {
     let scope = Scope {
         names: &names.names,
@@ -122,17 +123,18 @@ pub fn text_said(alloc: Global, names: &SourceNames, text: &[u8]) -> Result<Foun
     Ok(found)
 }
 
-/// The rules of a source and the texts that describe, where its names stand for this, or the refusal that stands: each code is looked for in
-/// all rules and texts before the next, and told at its lowest line. These are C9, C7, C12 and C5, as `rules_of` and
-/// `texts_of` have them.
+/// The rules of a source and the texts that describe, where its names stand for this and its sentences mean this tale, or the
+/// refusal that stands: each code is looked for in all rules and texts before the next, and told at its lowest line. These
+/// are C9, C7, C8, C12 and C5, as `rules_of` and `texts_of` have them.
 #[tactic(auto, unfolding(i7_actions::specs::Actions::standard_actions))]
 pub fn resolution_of(
     alloc: Global,
     names: &SourceNames,
+    tale: &Tale,
     sentences: &[Sentence],
 ) -> Result<Resolution, AllocError>
     requires countable { 8 + 2 * names.now.scenes + length names.now.rulebooks ≤ 65535 }
-    ensures { IfOk result (λ told. IsResolution (known_in names.now) sentences.now told) }
+    ensures { IfOk result (λ told. IsResolution (known_in names.now tale.now) sentences.now told) }
 {
     let actions = standard_actions(alloc)?;
     let rulebooks = rulebooks_of(alloc, names.rulebooks.as_slice())?;
@@ -141,6 +143,8 @@ pub fn resolution_of(
         actions: actions.as_slice(),
         rulebooks: rulebooks.as_slice(),
         scenes: names.scenes as u16,
+        parents: tale.declared.kinds.as_slice(),
+        objects: tale.objects.as_slice(),
     };
     let told = resolved_of(alloc, &known, sentences)?;
     Ok(told)

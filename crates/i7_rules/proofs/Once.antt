@@ -13,6 +13,8 @@ use Rattle.i7_actions.specs.declared.action.Action.{Action}
 use Rattle.i7_conditions.specs.Scopes.{Scope}
 use Rattle.i7_conditions.specs.Words.{Word}
 use Rattle.i7_conditions.proofs.Listing.{IsOnce, made_once}
+use Rattle.i7_patterns.specs.Aspects.{AsksOne}
+use Rattle.i7_patterns.specs.Patterns.{IsPattern}
 use Rattle.i7_phrases.specs.Blocks.{Block, Opens}
 use Rattle.i7_phrases.specs.Phrases.{Changes, ending_of, is_change}
 use Rattle.i7_phrases.specs.Texts.{IsText}
@@ -22,13 +24,15 @@ use Rattle.i7_rules.specs.Lines.{Begun, Done, States}
 use Rattle.i7_rules.specs.Saying.{ends_sentence, saying}
 use Rattle.i7_rules.proofs.Told.{changes_end_nothing, no_other_changes}
 
--- what laws of texts, changes, blocks, actions and rulebooks say
+-- what laws of texts, changes, blocks, actions, rulebooks, patterns and places say
 pub record AreOnce : Type 0 where
   pub text : (s : Scope) (pieces : List TextPiece) → IsOnce (IsText s pieces)
   pub change : (s : Scope) (said : Spoken) → IsOnce (Changes s said)
   pub block : (s : Scope) (said : Spoken) → IsOnce (Opens s said)
   pub action : (actions : List Action) (s : Scope) (words : List Word) → IsOnce (Tries actions s words)
   pub book : (actions : List Action) (rulebooks : List (List ℕ)) (scenes : ℕ) (words : List Word) → IsOnce (IsFollowed actions rulebooks scenes words)
+  pub pattern : (actions : List Action) (s : Scope) (words : List Word) → IsOnce (IsPattern actions s words)
+  pub place : (s : Scope) (words : List Word) → IsOnce (AsksOne s words)
 
 -- ---- phrases that others don't belong to
 

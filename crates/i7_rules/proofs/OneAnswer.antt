@@ -2,35 +2,30 @@
 use Rattle.std.proofs.Common.{◌≡◌, ℕ, ◌+◌, ◌<◌, ◌≤◌, List, [], ◌∷◌, ◌++◌, refl, sym, ap, ◌∙◌, subst, arith, inl, inr}
 use Rattle.std.specs.Prelude.{map, reverse}
 use Rattle.std.specs.List.{AllZip, All as AllOf}
-use Rattle.std.proofs.lemmas.Bool.{cases_lt}
 use Rattle.std.proofs.lemmas.Grind.{reverse_onto}
 use Rattle.std.proofs.lemmas.List.{map-append, reverse-reverse}
 use Rattle.world_meaning.specs.declared.fault.FaultCode.{FaultCode}
-use Rattle.world_meaning.specs.declared.fault.FaultCode.TheVariants.{NotUnderstood, TooMany, Twice, UnknownName}
+use Rattle.world_meaning.specs.declared.fault.FaultCode.TheVariants.{NotUnderstood, TooMany, Twice, UnknownName, WrongKind}
 use Rattle.i7_sentences.specs.Lowest.{IsLowest, IsNowhere}
-use Rattle.i7_sentences.specs.declared.rule.RuleBook.{RuleBook}
-use Rattle.i7_sentences.specs.declared.rule.RuleBook.TheVariants as book
-use Rattle.i7_sentences.specs.declared.rule.Rule.{Rule}
 use Rattle.i7_sentences.specs.declared.rule.RulePhrase.{RulePhrase}
 use Rattle.i7_sentences.specs.declared.sentence.Sentence.{Sentence}
 use Rattle.play_meaning.specs.Meant.{body_meant}
 use Rattle.play_meaning.specs.Trees.{Body}
-use Rattle.i7_actions.specs.Books.{IsOwn, first_own}
 use Rattle.i7_conditions.specs.Nesting.{IsBody}
-use Rattle.i7_conditions.specs.Words.{Word}
 use Rattle.i7_conditions.specs.declared.line.Line.{Line}
 use Rattle.i7_rules.specs.Bodies.{IsBodyOf}
 use Rattle.i7_rules.specs.Knowns.{Known}
 use Rattle.i7_rules.specs.RuleList.{Placed, RuleAt, placed, rules_in}
-use Rattle.i7_rules.specs.Rules.{Head, IsBook, IsHead, IsWithin, heading}
+use Rattle.i7_rules.specs.Heads.{Head, IsWithin, heading}
 use Rattle.i7_rules.specs.RulesMeant.{All, Refused, RuleMeant, RulesMeant, rule_meant, rules_meant}
-use Rattle.i7_rules.specs.SourceRules.{AreFound, AreTold, IsNamedTwice, IsOver, IsRulesFound, IsTold, IsUnknown, IsUnnested, Stands}
+use Rattle.i7_rules.specs.SourceRules.{AreFound, AreTold, IsMisplaced, IsNamedTwice, IsOver, IsRulesFound, IsTold, IsUnknown, IsUnnested, Stands}
 use Rattle.i7_rules.specs.declared.source_rules.RulesFound.{RulesFound}
 use Rattle.i7_rules.specs.declared.source_rules.RulesFound.TheVariants as whole
 use Rattle.i7_rules.specs.declared.source_rules.SourceRule.{SourceRule}
-use Rattle.i7_rules.proofs.Lows.{both_ways, lowest_once, nowhere_there}
+use Rattle.i7_rules.proofs.Lows.{lowest_once, nowhere_there}
 use Rattle.i7_rules.proofs.Once.{AreOnce}
-use Rattle.i7_rules.proofs.OneRule.{asked_once, forth, same_lines}
+use Rattle.i7_rules.proofs.OneHead.{head_once}
+use Rattle.i7_rules.proofs.OneRule.{forth, same_lines}
 use Rattle.i7_rules.proofs.Rebuilt.{IsSame, body_again}
 
 -- ---- refusals
@@ -42,6 +37,7 @@ module _ (k : Known) (ps : List Placed) where
   twice_once : (c : FaultCode) (a b : ℕ) → IsLowest IsNamedTwice ps a → Stands k c b ps → refusal Twice a ≡ refusal c b
   twice_once Twice a b one other = ap (refusal Twice) (lowest_once IsNamedTwice ps a b one other)
   twice_once UnknownName a b one other = absurd (nowhere_there IsNamedTwice ps a other.0 one)
+  twice_once WrongKind a b one other = absurd (nowhere_there IsNamedTwice ps a other.0 one)
   twice_once TooMany a b one other = absurd (nowhere_there IsNamedTwice ps a other.0 one)
   twice_once NotUnderstood a b one other = absurd (nowhere_there IsNamedTwice ps a other.0 one)
   twice_once _ a b one other = absurd other
@@ -49,59 +45,53 @@ module _ (k : Known) (ps : List Placed) where
   unknown_once : (c : FaultCode) (a b : ℕ) → IsNowhere IsNamedTwice ps → IsLowest (IsUnknown k) ps a → Stands k c b ps → refusal UnknownName a ≡ refusal c b
   unknown_once Twice a b apart one other = absurd (nowhere_there IsNamedTwice ps b apart other)
   unknown_once UnknownName a b apart one other = ap (refusal UnknownName) (lowest_once (IsUnknown k) ps a b one other.1)
+  unknown_once WrongKind a b apart one other = absurd (nowhere_there (IsUnknown k) ps a other.1 one)
   unknown_once TooMany a b apart one other = absurd (nowhere_there (IsUnknown k) ps a other.1 one)
   unknown_once NotUnderstood a b apart one other = absurd (nowhere_there (IsUnknown k) ps a other.1 one)
   unknown_once _ a b apart one other = absurd other
 
-  over_once : (c : FaultCode) (a b : ℕ) → IsNowhere IsNamedTwice ps → IsNowhere (IsUnknown k) ps → IsLowest (IsOver k) ps a → Stands k c b ps → refusal TooMany a ≡ refusal c b
-  over_once Twice a b apart known one other = absurd (nowhere_there IsNamedTwice ps b apart other)
-  over_once UnknownName a b apart known one other = absurd (nowhere_there (IsUnknown k) ps b known other.1)
-  over_once TooMany a b apart known one other = ap (refusal TooMany) (lowest_once (IsOver k) ps a b one other.2)
-  over_once NotUnderstood a b apart known one other = absurd (nowhere_there (IsOver k) ps a other.2 one)
-  over_once _ a b apart known one other = absurd other
+  misplaced_once : (c : FaultCode) (a b : ℕ) → IsNowhere IsNamedTwice ps → IsNowhere (IsUnknown k) ps → IsLowest (IsMisplaced k) ps a → Stands k c b ps → refusal WrongKind a ≡ refusal c b
+  misplaced_once Twice a b apart known one other = absurd (nowhere_there IsNamedTwice ps b apart other)
+  misplaced_once UnknownName a b apart known one other = absurd (nowhere_there (IsUnknown k) ps b known other.1)
+  misplaced_once WrongKind a b apart known one other = ap (refusal WrongKind) (lowest_once (IsMisplaced k) ps a b one other.2)
+  misplaced_once TooMany a b apart known one other = absurd (nowhere_there (IsMisplaced k) ps a other.2 one)
+  misplaced_once NotUnderstood a b apart known one other = absurd (nowhere_there (IsMisplaced k) ps a other.2 one)
+  misplaced_once _ a b apart known one other = absurd other
 
-  unnested_once : (c : FaultCode) (a b : ℕ) → IsNowhere IsNamedTwice ps → IsNowhere (IsUnknown k) ps → IsNowhere (IsOver k) ps → IsLowest (IsUnnested k) ps a → Stands k c b ps → refusal NotUnderstood a ≡ refusal c b
-  unnested_once Twice a b apart known within one other = absurd (nowhere_there IsNamedTwice ps b apart other)
-  unnested_once UnknownName a b apart known within one other = absurd (nowhere_there (IsUnknown k) ps b known other.1)
-  unnested_once TooMany a b apart known within one other = absurd (nowhere_there (IsOver k) ps b within other.2)
-  unnested_once NotUnderstood a b apart known within one other = ap (refusal NotUnderstood) (lowest_once (IsUnnested k) ps a b one other.3)
-  unnested_once _ a b apart known within one other = absurd other
+  over_once : (c : FaultCode) (a b : ℕ) → IsNowhere IsNamedTwice ps → IsNowhere (IsUnknown k) ps → IsNowhere (IsMisplaced k) ps → IsLowest (IsOver k) ps a → Stands k c b ps → refusal TooMany a ≡ refusal c b
+  over_once Twice a b apart known rooms one other = absurd (nowhere_there IsNamedTwice ps b apart other)
+  over_once UnknownName a b apart known rooms one other = absurd (nowhere_there (IsUnknown k) ps b known other.1)
+  over_once WrongKind a b apart known rooms one other = absurd (nowhere_there (IsMisplaced k) ps b rooms other.2)
+  over_once TooMany a b apart known rooms one other = ap (refusal TooMany) (lowest_once (IsOver k) ps a b one other.3)
+  over_once NotUnderstood a b apart known rooms one other = absurd (nowhere_there (IsOver k) ps a other.3 one)
+  over_once _ a b apart known rooms one other = absurd other
+
+  unnested_once : (c : FaultCode) (a b : ℕ) → IsNowhere IsNamedTwice ps → IsNowhere (IsUnknown k) ps → IsNowhere (IsMisplaced k) ps → IsNowhere (IsOver k) ps → IsLowest (IsUnnested k) ps a → Stands k c b ps
+      → refusal NotUnderstood a ≡ refusal c b
+  unnested_once Twice a b apart known rooms within one other = absurd (nowhere_there IsNamedTwice ps b apart other)
+  unnested_once UnknownName a b apart known rooms within one other = absurd (nowhere_there (IsUnknown k) ps b known other.1)
+  unnested_once WrongKind a b apart known rooms within one other = absurd (nowhere_there (IsMisplaced k) ps b rooms other.2)
+  unnested_once TooMany a b apart known rooms within one other = absurd (nowhere_there (IsOver k) ps b within other.3)
+  unnested_once NotUnderstood a b apart known rooms within one other = ap (refusal NotUnderstood) (lowest_once (IsUnnested k) ps a b one other.4)
+  unnested_once _ a b apart known rooms within one other = absurd other
 
   refused_once : (c d : FaultCode) (a b : ℕ) → Stands k c a ps → Stands k d b ps → refusal c a ≡ refusal d b
   refused_once Twice d a b one other = twice_once d a b one other
   refused_once UnknownName d a b one other = unknown_once d a b one.0 one.1 other
-  refused_once TooMany d a b one other = over_once d a b one.0 one.1 one.2 other
-  refused_once NotUnderstood d a b one other = unnested_once d a b one.0 one.1 one.2 one.3 other
+  refused_once WrongKind d a b one other = misplaced_once d a b one.0 one.1 one.2 other
+  refused_once TooMany d a b one other = over_once d a b one.0 one.1 one.2 one.3 other
+  refused_once NotUnderstood d a b one other = unnested_once d a b one.0 one.1 one.2 one.3 one.4 other
   refused_once _ d a b one other = absurd one
 
 told_or_refused : (k : Known) (rules : List RuleAt) (told : List SourceRule) (c : FaultCode) (line : ℕ) → AreTold k rules told → Stands k c line (placed rules) → ⊥
 told_or_refused k rules told Twice line is stands = nowhere_there IsNamedTwice (placed rules) line is.apart stands
 told_or_refused k rules told UnknownName line is stands = nowhere_there (IsUnknown k) (placed rules) line is.known stands.1
-told_or_refused k rules told TooMany line is stands = nowhere_there (IsOver k) (placed rules) line is.within stands.2
-told_or_refused k rules told NotUnderstood line is stands = nowhere_there (IsUnnested k) (placed rules) line is.nested stands.3
+told_or_refused k rules told WrongKind line is stands = nowhere_there (IsMisplaced k) (placed rules) line is.in_rooms stands.2
+told_or_refused k rules told TooMany line is stands = nowhere_there (IsOver k) (placed rules) line is.within stands.3
+told_or_refused k rules told NotUnderstood line is stands = nowhere_there (IsUnnested k) (placed rules) line is.nested stands.4
 told_or_refused k rules told _ line is stands = stands
 
 -- ---- rules
-
-no_lower : (rulebooks : List (List ℕ)) (scenes : ℕ) (words : List Word) (a b : ℕ) (one : IsOwn rulebooks scenes words a) (other : IsOwn rulebooks scenes words b) → one.k < other.k → ⊥
-no_lower rulebooks scenes words a b one other lower = other.first one.k one.name lower one.at one.named
-
-own_once : (rulebooks : List (List ℕ)) (scenes : ℕ) (words : List Word) (a b : ℕ) → IsOwn rulebooks scenes words a → IsOwn rulebooks scenes words b → a ≡ b
-own_once rulebooks scenes words a b one other = elim (cases_lt one.k other.k) [
-  | inl lower ↦ absurd (no_lower rulebooks scenes words a b one other lower)
-  | inr le ↦ elim (cases_lt other.k one.k) [
-    | inl higher ↦ absurd (no_lower rulebooks scenes words b a other one higher)
-    | inr ge ↦ one.numbered ∙ ap (λ n. first_own scenes + n) (both_ways one.k other.k ge le) ∙ sym other.numbered
-  ]
-]
-
-book_once : (k : Known) (said : RuleBook) (a b : ℕ) → IsBook k said a → IsBook k said b → a ≡ b
-book_once k book.EveryTurn a b one other = one ∙ sym other
-book_once k book.PlayBegins a b one other = one ∙ sym other
-book_once k (book.Own words) a b one other = own_once k.rulebooks k.scenes words a b one other
-
-head_same : (a b : Head) → a.book ≡ b.book → a.about ≡ b.about → a.condition ≡ b.condition → a.listed ≡ b.listed → a ≡ b
-head_same a b books patterns conditions places = λ i. record { book = books i; about = patterns i; condition = conditions i; listed = places i }
 
 -- lines are one body at most
 abbrev pub IsOneBody : Type 0
@@ -122,16 +112,11 @@ module _ (laws : AreOnce) (law : IsOneBody) (k : Known) where
       let same : AllZip IsSame (reverse one.0) (reverse other.0) = same_lines laws k (reverse phrases) (reverse one.0) (reverse other.0) one.1 other.1 in
       law other.0 a b (body_again one.2 other.0 (forth one.0 other.0 same)) other.2
 
-  head_once : (rule : Rule) (a b : Head) → IsHead k rule a → IsHead k rule b → a ≡ b
-  head_once rule a b one other =
-      head_same a b (book_once k rule.book a.book b.book one.book other.book) (one.about ∙ sym other.about)
-      (asked_once laws k rule.condition a.condition b.condition one.condition other.condition) (one.listed ∙ sym other.listed)
-
   told_once : (r : RuleAt) (a b : SourceRule) → IsTold k r a → IsTold k r b → rule_meant a ≡ rule_meant b
   told_once r a b one other =
       let fine : IsWithin k r.rule (heading a.rule.head) = one.rule.0 in
       let again : IsWithin k r.rule (heading b.rule.head) = other.rule.0 in
-      rule_same (rule_meant a) (rule_meant b) (one.line ∙ sym other.line) (one.name ∙ sym other.name) (head_once r.rule (heading a.rule.head) (heading b.rule.head) fine.0 again.0)
+      rule_same (rule_meant a) (rule_meant b) (one.line ∙ sym other.line) (one.name ∙ sym other.name) (head_once laws k r.rule (heading a.rule.head) (heading b.rule.head) fine.0 again.0)
       (body_once r.rule.body (body_meant a.rule.body.items) (body_meant b.rule.body.items) one.rule.1 other.rule.1)
 
   all_once : (rules : List RuleAt) (a b : List SourceRule) → AllZip (IsTold k) rules a → AllZip (IsTold k) rules b → map rule_meant a ≡ map rule_meant b

@@ -10,19 +10,17 @@ use Rattle.i7_sentences.specs.declared.rule.Rule.{Rule}
 use Rattle.i7_sentences.specs.declared.rule.RulePhrase.{RulePhrase}
 use Rattle.play_meaning.specs.Meant.{body_meant}
 use Rattle.play_meaning.specs.Trees.{Body}
-use Rattle.i7_conditions.specs.Conditions.{IsCondition}
-use Rattle.i7_conditions.specs.Words.{Word}
 use Rattle.i7_conditions.specs.declared.line.Line.{Line}
-use Rattle.i7_conditions.proofs.Listing.{IsOnce, made_once}
-use Rattle.i7_conditions.proofs.Once.{condition_once}
 use Rattle.i7_rules.specs.Bodies.{AreLines, AreUnderstood, IsBodyOf, IsLine, IsNoBody, IsOver as IsPhraseOver, IsOverAt, IsUnknownAt}
 use Rattle.i7_rules.specs.Knowns.{Known, repeats_around, scope_among}
 use Rattle.i7_rules.specs.Lines.{is_over_behind, stated_in}
-use Rattle.i7_rules.specs.Rules.{HasHead, Head, IsAsked, IsHead, IsOver, IsRuleFound, IsWithin, fault_at, fault_in, head_is_over, heading, is_asked_over}
+use Rattle.i7_rules.specs.Heads.{HasHead, HasHeadWithin, Head, IsHead, IsMisplaced, IsOver, IsWithin, head_is_over, head_is_right, heading}
+use Rattle.i7_rules.specs.Rules.{IsRuleFound, fault_at, fault_in}
 use Rattle.play_meaning.specs.declared.tree.rule.MeantRule.{MeantRule}
 use Rattle.i7_rules.specs.declared.rule.RuleFound.{RuleFound}
 use Rattle.i7_rules.specs.declared.rule.RuleFound.TheVariants as found
 use Rattle.i7_rules.proofs.Once.{AreOnce, states_once}
+use Rattle.i7_rules.proofs.OneHead.{not_misplaced, not_over_within}
 use Rattle.i7_rules.proofs.ReadOn.{all_understood}
 use Rattle.i7_rules.proofs.Rebuilt.{IsSame, body_again}
 
@@ -92,6 +90,9 @@ unnested_known k line rule is =
     let none : IsNoBody k rule.body = is.1 in
     ((is.0.0, fine.0), all_understood k (reverse rule.body) (reverse none.0) none.1)
 
+misplaced_known : (k : Known) (line : ℕ) (rule : Rule) → IsRuleFound k line rule found.WrongPlace → IsKnown k rule
+misplaced_known k line rule is = let wrong : IsMisplaced k rule = is.1 in ((wrong.0, wrong.1), is.0)
+
 over_known : (k : Known) (line at : ℕ) (rule : Rule) → IsRuleFound k line rule (found.TooMany at) → IsKnown k rule
 over_known k line at rule over = (
   elim over.1 as (λ how. HasHead k rule) [
@@ -138,17 +139,6 @@ module _ (laws : AreOnce) where
   same_lines k (p ∷ before) (l ∷ ls) [] one other = elim other [ ]
   same_lines k (p ∷ before) (l ∷ ls) (m ∷ ms) (AreLines.and_one all one) (AreLines.and_one again other) = (same_line k before p l m one other, same_lines k before ls ms all again)
 
-  -- ---- heads
-
-  pub asked_once : (k : Known) (words : Option (List Word)) → IsOnce (IsAsked k words)
-  asked_once k None a b one other = one ∙ sym other
-  asked_once k (Some words) a b one other = made_once Some (IsCondition (scope_among k []) words) (condition_once (scope_among k []) words) a b one other
-
-  not_over_within : (k : Known) (rule : Rule) (a b : Head) → IsHead k rule a → head_is_over a ≡ true → IsHead k rule b → head_is_over b ≡ false → ⊥
-  not_over_within k rule a b one over other within =
-      let same : a.condition ≡ b.condition = asked_once k rule.condition a.condition b.condition one.condition other.condition in
-      true≢false (sym over ∙ ap is_asked_over same ∙ within)
-
   -- ---- bodies
 
   nested_or_not : (k : Known) (phrases : List RulePhrase) (body : Body) → IsBodyOf k phrases body → IsNoBody k phrases → ⊥
@@ -161,7 +151,7 @@ module _ (laws : AreOnce) where
   not_fine_and_over : (k : Known) (line at : ℕ) (rule : Rule) (head : Head) (lines : List Line) → IsHead k rule head → head_is_over head ≡ false → AreLines k (reverse rule.body) lines
       → IsRuleFound k line rule (found.TooMany at) → ⊥
   not_fine_and_over k line at rule head lines is within all over = elim over.1 [
-    | inl here ↦ let its : IsOver k rule = here.0 in not_over_within k rule its.0 head its.1 its.2 is within
+    | inl here ↦ let its : IsOver k rule = here.0 in not_over_within laws k rule its.0 head its.1 its.3 is within
     | inr later ↦ not_over k (reverse rule.body) lines at all later.1
   ]
 
@@ -169,10 +159,10 @@ module _ (laws : AreOnce) where
   over_at_once k line a b rule one other = elim one.1 [
     | inl here ↦ elim other.1 [
       | inl again ↦ here.1 ∙ sym again.1
-      | inr later ↦ let its : IsOver k rule = here.0 in let fine : IsWithin k rule later.0.0 = later.0.1 in absurd (not_over_within k rule its.0 later.0.0 its.1 its.2 fine.0 fine.1)
+      | inr later ↦ let its : IsOver k rule = here.0 in let fine : IsWithin k rule later.0.0 = later.0.1 in absurd (not_over_within laws k rule its.0 later.0.0 its.1 its.3 fine.0 fine.2)
     ]
     | inr later ↦ elim other.1 [
-      | inl again ↦ let its : IsOver k rule = again.0 in let fine : IsWithin k rule later.0.0 = later.0.1 in absurd (not_over_within k rule its.0 later.0.0 its.1 its.2 fine.0 fine.1)
+      | inl again ↦ let its : IsOver k rule = again.0 in let fine : IsWithin k rule later.0.0 = later.0.1 in absurd (not_over_within laws k rule its.0 later.0.0 its.1 its.3 fine.0 fine.2)
       | inr again ↦ over_once k (reverse rule.body) a b later.1 again.1
     ]
   ]
@@ -181,28 +171,51 @@ module _ (laws : AreOnce) where
   says_or_over k line at rule meant says over =
       let fine : IsWithin k rule (heading meant.head) = says.0 in
       let body : IsBodyOf k rule.body (body_meant meant.body.items) = says.1 in
-      not_fine_and_over k line at rule (heading meant.head) (reverse body.0) fine.0 fine.1 body.1 over
+      not_fine_and_over k line at rule (heading meant.head) (reverse body.0) fine.0 fine.2 body.1 over
 
   unnested_or_over : (k : Known) (line at : ℕ) (rule : Rule) → IsRuleFound k line rule found.Unnested → IsRuleFound k line rule (found.TooMany at) → ⊥
   unnested_or_over k line at rule is over =
       let fine : IsWithin k rule is.0.0 = is.0.1 in
       let none : IsNoBody k rule.body = is.1 in
-      not_fine_and_over k line at rule is.0.0 (reverse none.0) fine.0 fine.1 none.1 over
+      not_fine_and_over k line at rule is.0.0 (reverse none.0) fine.0 fine.2 none.1 over
+
+  -- ---- a place that is no room
+
+  within_or_misplaced : (k : Known) (line : ℕ) (rule : Rule) (head : Head) → IsWithin k rule head → IsRuleFound k line rule found.WrongPlace → ⊥
+  within_or_misplaced k line rule head fine wrong = not_misplaced laws k rule head fine.0 fine.1 wrong.1
+
+  unnested_or_misplaced : (k : Known) (line : ℕ) (rule : Rule) → IsRuleFound k line rule found.Unnested → IsRuleFound k line rule found.WrongPlace → ⊥
+  unnested_or_misplaced k line rule is wrong = let has : HasHeadWithin k rule = is.0 in within_or_misplaced k line rule has.0 has.1 wrong
+
+  over_or_misplaced : (k : Known) (line at : ℕ) (rule : Rule) → IsRuleFound k line rule (found.TooMany at) → IsRuleFound k line rule found.WrongPlace → ⊥
+  over_or_misplaced k line at rule over wrong = elim over.1 [
+    | inl here ↦ let its : IsOver k rule = here.0 in not_misplaced laws k rule its.0 its.1 its.2 wrong.1
+    | inr later ↦ let has : HasHeadWithin k rule = later.0 in within_or_misplaced k line rule has.0 has.1 wrong
+  ]
 
   pub one_told : (k : Known) (line : ℕ) (rule : Rule) (a b : RuleFound) → IsRuleFound k line rule a → IsRuleFound k line rule b → fault_in line a ≡ fault_in line b
   one_told k line rule (found.Says m) (found.Says n) one other = refl
   one_told k line rule (found.Says m) (found.Unknown b) one other = absurd (known_or_not k line b rule (says_known k line rule m one) other)
+  one_told k line rule (found.Says m) found.WrongPlace one other = absurd (within_or_misplaced k line rule (heading m.head) one.0 other)
   one_told k line rule (found.Says m) (found.TooMany b) one other = absurd (says_or_over k line b rule m one other)
   one_told k line rule (found.Says m) found.Unnested one other = absurd (nested_or_not k rule.body (body_meant m.body.items) one.1 other.1)
   one_told k line rule (found.Unknown a) (found.Says n) one other = absurd (known_or_not k line a rule (says_known k line rule n other) one)
   one_told k line rule (found.Unknown a) (found.Unknown b) one other = ap (fault_at code.UnknownName) (unknown_at_once k line a b rule one other)
+  one_told k line rule (found.Unknown a) found.WrongPlace one other = absurd (known_or_not k line a rule (misplaced_known k line rule other) one)
   one_told k line rule (found.Unknown a) (found.TooMany b) one other = absurd (known_or_not k line a rule (over_known k line b rule other) one)
   one_told k line rule (found.Unknown a) found.Unnested one other = absurd (known_or_not k line a rule (unnested_known k line rule other) one)
+  one_told k line rule found.WrongPlace (found.Says n) one other = absurd (within_or_misplaced k line rule (heading n.head) other.0 one)
+  one_told k line rule found.WrongPlace (found.Unknown b) one other = absurd (known_or_not k line b rule (misplaced_known k line rule one) other)
+  one_told k line rule found.WrongPlace found.WrongPlace one other = refl
+  one_told k line rule found.WrongPlace (found.TooMany b) one other = absurd (over_or_misplaced k line b rule other one)
+  one_told k line rule found.WrongPlace found.Unnested one other = absurd (unnested_or_misplaced k line rule other one)
   one_told k line rule (found.TooMany a) (found.Says n) one other = absurd (says_or_over k line a rule n other one)
   one_told k line rule (found.TooMany a) (found.Unknown b) one other = absurd (known_or_not k line b rule (over_known k line a rule one) other)
+  one_told k line rule (found.TooMany a) found.WrongPlace one other = absurd (over_or_misplaced k line a rule one other)
   one_told k line rule (found.TooMany a) (found.TooMany b) one other = ap (fault_at code.TooMany) (over_at_once k line a b rule one other)
   one_told k line rule (found.TooMany a) found.Unnested one other = absurd (unnested_or_over k line a rule other one)
   one_told k line rule found.Unnested (found.Says n) one other = absurd (nested_or_not k rule.body (body_meant n.body.items) other.1 one.1)
   one_told k line rule found.Unnested (found.Unknown b) one other = absurd (known_or_not k line b rule (unnested_known k line rule one) other)
+  one_told k line rule found.Unnested found.WrongPlace one other = absurd (unnested_or_misplaced k line rule one other)
   one_told k line rule found.Unnested (found.TooMany b) one other = absurd (unnested_or_over k line b rule one other)
   one_told k line rule found.Unnested found.Unnested one other = refl

@@ -9,17 +9,18 @@ use Rattle.i7_rules.specs.Knowns.{Known}
 use Rattle.i7_rules.specs.RuleList.{Placed, RuleAt, placed}
 use Rattle.i7_rules.specs.RuleScans.{IsSoFar, State, with_found}
 use Rattle.i7_rules.specs.Rules.{IsRuleFound, fault_at, fault_in}
-use Rattle.i7_rules.specs.SourceRules.{HoldsTooMuch, IsFound, IsUnknown, IsUnnested}
+use Rattle.i7_rules.specs.SourceRules.{HoldsTooMuch, IsFound, IsMisplaced, IsUnknown, IsUnnested}
 use Rattle.i7_rules.specs.declared.rule.RuleFound.{RuleFound}
 use Rattle.i7_rules.specs.declared.rule.RuleFound.TheVariants as found
 use Rattle.i7_rules.proofs.Lows.{low_nothing, low_past, low_with, not_none}
 
-pub none_read : (k : Known) (state : State) → state ≡ record { rules = []; unknown = None; too_many = None; unnested = None } → IsSoFar k [] state
+pub none_read : (k : Known) (state : State) → state ≡ record { rules = []; unknown = None; misplaced = None; too_many = None; unnested = None } → IsSoFar k [] state
 none_read k state is = subst (IsSoFar k []) (sym is) (record {
   unknown = low_nothing (IsUnknown k);
+  misplaced = low_nothing (IsMisplaced k);
   too_many = low_nothing (HoldsTooMuch k);
   unnested = low_nothing (IsUnnested k);
-  told = λ known within nested. tt;
+  told = λ known in_rooms within nested. tt;
 })
 
 -- of a rule one thing is told
@@ -47,6 +48,9 @@ module _ (law : IsOneTold) (k : Known) (r : RuleAt) (before : List RuleAt) where
   not_unknown : (f : RuleFound) → IsFound k r f → ((line : ℕ) → fault_in r.line f ≡ fault_at code.UnknownName line → ⊥) → (line : ℕ) → IsUnknown k here line → ⊥
   not_unknown f is never line bad = never line (same_fault f (found.Unknown line) is bad)
 
+  not_misplaced : (f : RuleFound) → IsFound k r f → (fault_in r.line f ≡ fault_at code.WrongKind r.line → ⊥) → (line : ℕ) → IsMisplaced k here line → ⊥
+  not_misplaced f is never line bad = never (same_fault f found.WrongPlace is bad.0)
+
   not_over : (f : RuleFound) → IsFound k r f → ((line : ℕ) → fault_in r.line f ≡ fault_at code.TooMany line → ⊥) → (line : ℕ) → HoldsTooMuch k here line → ⊥
   not_over f is never line bad = never line (same_fault f (found.TooMany line) is bad)
 
@@ -56,25 +60,36 @@ module _ (law : IsOneTold) (k : Known) (r : RuleAt) (before : List RuleAt) where
   pub rule_further : (f : RuleFound) (state : State) → IsFound k r f → IsSoFar k before state → IsSoFar k (r ∷ before) (with_found state r f)
   rule_further (found.Says meant) state is so = record {
     unknown = low_past (IsUnknown k) here (placed before) state.unknown (not_unknown (found.Says meant) is (λ line e. let no : ⊥ = cc in no)) so.unknown;
+    misplaced = low_past (IsMisplaced k) here (placed before) state.misplaced (not_misplaced (found.Says meant) is (λ e. let no : ⊥ = cc in no)) so.misplaced;
     too_many = low_past (HoldsTooMuch k) here (placed before) state.too_many (not_over (found.Says meant) is (λ line e. let no : ⊥ = cc in no)) so.too_many;
     unnested = low_past (IsUnnested k) here (placed before) state.unnested (not_unnested (found.Says meant) is (λ e. let no : ⊥ = cc in no)) so.unnested;
-    told = λ known within nested. (record { line = refl; name = refl; rule = is }, so.told known within nested);
+    told = λ known in_rooms within nested. (record { line = refl; name = refl; rule = is }, so.told known in_rooms within nested);
   }
   rule_further (found.Unknown at) state is so = record {
     unknown = low_with (IsUnknown k) here (placed before) state.unknown at (record { is = is; alone = λ line bad. same_line code.UnknownName at line (same_fault (found.Unknown at) (found.Unknown line) is bad) }) so.unknown;
+    misplaced = low_past (IsMisplaced k) here (placed before) state.misplaced (not_misplaced (found.Unknown at) is (λ e. let same = same_code code.UnknownName code.WrongKind at r.line e in let no : ⊥ = cc in no)) so.misplaced;
     too_many = low_past (HoldsTooMuch k) here (placed before) state.too_many (not_over (found.Unknown at) is (λ line e. let same = same_code code.UnknownName code.TooMany at line e in let no : ⊥ = cc in no)) so.too_many;
     unnested = low_past (IsUnnested k) here (placed before) state.unnested (not_unnested (found.Unknown at) is (λ e. let same = same_code code.UnknownName code.NotUnderstood at r.line e in let no : ⊥ = cc in no)) so.unnested;
-    told = λ known within nested. absurd (not_none state.unknown at known);
+    told = λ known in_rooms within nested. absurd (not_none state.unknown at known);
+  }
+  rule_further found.WrongPlace state is so = record {
+    unknown = low_past (IsUnknown k) here (placed before) state.unknown (not_unknown found.WrongPlace is (λ line e. let same = same_code code.WrongKind code.UnknownName r.line line e in let no : ⊥ = cc in no)) so.unknown;
+    misplaced = low_with (IsMisplaced k) here (placed before) state.misplaced r.line (record { is = (is, refl); alone = λ line bad. sym bad.1 }) so.misplaced;
+    too_many = low_past (HoldsTooMuch k) here (placed before) state.too_many (not_over found.WrongPlace is (λ line e. let same = same_code code.WrongKind code.TooMany r.line line e in let no : ⊥ = cc in no)) so.too_many;
+    unnested = low_past (IsUnnested k) here (placed before) state.unnested (not_unnested found.WrongPlace is (λ e. let same = same_code code.WrongKind code.NotUnderstood r.line r.line e in let no : ⊥ = cc in no)) so.unnested;
+    told = λ known in_rooms within nested. absurd (not_none state.misplaced r.line in_rooms);
   }
   rule_further (found.TooMany at) state is so = record {
     unknown = low_past (IsUnknown k) here (placed before) state.unknown (not_unknown (found.TooMany at) is (λ line e. let same = same_code code.TooMany code.UnknownName at line e in let no : ⊥ = cc in no)) so.unknown;
+    misplaced = low_past (IsMisplaced k) here (placed before) state.misplaced (not_misplaced (found.TooMany at) is (λ e. let same = same_code code.TooMany code.WrongKind at r.line e in let no : ⊥ = cc in no)) so.misplaced;
     too_many = low_with (HoldsTooMuch k) here (placed before) state.too_many at (record { is = is; alone = λ line bad. same_line code.TooMany at line (same_fault (found.TooMany at) (found.TooMany line) is bad) }) so.too_many;
     unnested = low_past (IsUnnested k) here (placed before) state.unnested (not_unnested (found.TooMany at) is (λ e. let same = same_code code.TooMany code.NotUnderstood at r.line e in let no : ⊥ = cc in no)) so.unnested;
-    told = λ known within nested. absurd (not_none state.too_many at within);
+    told = λ known in_rooms within nested. absurd (not_none state.too_many at within);
   }
   rule_further found.Unnested state is so = record {
     unknown = low_past (IsUnknown k) here (placed before) state.unknown (not_unknown found.Unnested is (λ line e. let same = same_code code.NotUnderstood code.UnknownName r.line line e in let no : ⊥ = cc in no)) so.unknown;
+    misplaced = low_past (IsMisplaced k) here (placed before) state.misplaced (not_misplaced found.Unnested is (λ e. let same = same_code code.NotUnderstood code.WrongKind r.line r.line e in let no : ⊥ = cc in no)) so.misplaced;
     too_many = low_past (HoldsTooMuch k) here (placed before) state.too_many (not_over found.Unnested is (λ line e. let same = same_code code.NotUnderstood code.TooMany r.line line e in let no : ⊥ = cc in no)) so.too_many;
     unnested = low_with (IsUnnested k) here (placed before) state.unnested r.line (record { is = (is, refl); alone = λ line bad. sym bad.1 }) so.unnested;
-    told = λ known within nested. absurd (not_none state.unnested r.line nested);
+    told = λ known in_rooms within nested. absurd (not_none state.unnested r.line nested);
   }

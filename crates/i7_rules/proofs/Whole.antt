@@ -1,13 +1,13 @@
 -- What is told of all rules is what they are, by what was found of them.
 use Rattle.std.proofs.Common.{◌≡◌, ℕ, Bool, true, false, List, refl, sym, subst}
 use Rattle.std.specs.Prelude.{Option, None, Some, if◌then◌else◌, nat_lt, reverse}
-use Rattle.world_meaning.specs.declared.fault.FaultCode.TheVariants.{NotUnderstood, TooMany, Twice, UnknownName}
+use Rattle.world_meaning.specs.declared.fault.FaultCode.TheVariants.{NotUnderstood, TooMany, Twice, UnknownName, WrongKind}
 use Rattle.i7_sentences.specs.Lowest.{IsNowhere, lower_of}
 use Rattle.i7_sentences.specs.declared.sentence.Sentence.{Sentence}
 use Rattle.i7_rules.specs.Knowns.{Known}
 use Rattle.i7_rules.specs.RuleList.{RuleAt, placed, rules_in}
 use Rattle.i7_rules.specs.RuleScans.{IsLow, IsSoFar, line_behind, refused_or, so_far_told, state_of}
-use Rattle.i7_rules.specs.SourceRules.{AreFound, HoldsTooMuch, IsNamedTwice, IsOneTooMany, IsOver, IsRulesFound, IsUnknown, IsUnnested, most_rules}
+use Rattle.i7_rules.specs.SourceRules.{AreFound, HoldsTooMuch, IsMisplaced, IsNamedTwice, IsOneTooMany, IsOver, IsRulesFound, IsUnknown, IsUnnested, most_rules}
 use Rattle.i7_rules.specs.declared.source_rules.RulesFound.{RulesFound}
 use Rattle.i7_rules.specs.declared.source_rules.SoFar.{SoFar}
 use Rattle.i7_rules.proofs.Counted.{one_too_many}
@@ -24,15 +24,20 @@ no_first (Some a) (Some b) none = by_less (nat_lt b a) none
     by_less false e = e
 
 module _ (k : Known) (rules : List RuleAt) where
-  by_unnested : (line : Option ℕ) (next : RulesFound) → IsNowhere IsNamedTwice (placed rules) → IsNowhere (IsUnknown k) (placed rules) → IsNowhere (IsOver k) (placed rules) → IsLow (IsUnnested k) (placed rules) line
-      → (IsNowhere (IsUnnested k) (placed rules) → line ≡ None → AreFound k rules next) → AreFound k rules (refused_or NotUnderstood line next)
-  by_unnested None next apart known within low all = all low refl
-  by_unnested (Some line) next apart known within low all = (apart, known, within, low)
+  by_unnested : (line : Option ℕ) (next : RulesFound) → IsNowhere IsNamedTwice (placed rules) → IsNowhere (IsUnknown k) (placed rules) → IsNowhere (IsMisplaced k) (placed rules) → IsNowhere (IsOver k) (placed rules)
+      → IsLow (IsUnnested k) (placed rules) line → (IsNowhere (IsUnnested k) (placed rules) → line ≡ None → AreFound k rules next) → AreFound k rules (refused_or NotUnderstood line next)
+  by_unnested None next apart known in_rooms within low all = all low refl
+  by_unnested (Some line) next apart known in_rooms within low all = (apart, known, in_rooms, within, low)
 
-  by_over : (line : Option ℕ) (next : RulesFound) → IsNowhere IsNamedTwice (placed rules) → IsNowhere (IsUnknown k) (placed rules) → IsLow (IsOver k) (placed rules) line
+  by_over : (line : Option ℕ) (next : RulesFound) → IsNowhere IsNamedTwice (placed rules) → IsNowhere (IsUnknown k) (placed rules) → IsNowhere (IsMisplaced k) (placed rules) → IsLow (IsOver k) (placed rules) line
       → (IsNowhere (IsOver k) (placed rules) → line ≡ None → AreFound k rules next) → AreFound k rules (refused_or TooMany line next)
-  by_over None next apart known low all = all low refl
-  by_over (Some line) next apart known low all = (apart, known, low)
+  by_over None next apart known in_rooms low all = all low refl
+  by_over (Some line) next apart known in_rooms low all = (apart, known, in_rooms, low)
+
+  by_misplaced : (line : Option ℕ) (next : RulesFound) → IsNowhere IsNamedTwice (placed rules) → IsNowhere (IsUnknown k) (placed rules) → IsLow (IsMisplaced k) (placed rules) line
+      → (IsNowhere (IsMisplaced k) (placed rules) → line ≡ None → AreFound k rules next) → AreFound k rules (refused_or WrongKind line next)
+  by_misplaced None next apart known low all = all low refl
+  by_misplaced (Some line) next apart known low all = (apart, known, low)
 
   by_unknown : (line : Option ℕ) (next : RulesFound) → IsNowhere IsNamedTwice (placed rules) → IsLow (IsUnknown k) (placed rules) line
       → (IsNowhere (IsUnknown k) (placed rules) → line ≡ None → AreFound k rules next) → AreFound k rules (refused_or UnknownName line next)
@@ -48,14 +53,16 @@ module _ (k : Known) (rules : List RuleAt) where
   all_told twice too_many so_far named counted so =
       by_twice twice _ named (λ apart.
       by_unknown so_far.unknown _ apart so.unknown (λ known no_unknown.
-      by_over (lower_of so_far.too_many too_many) _ apart known (low_either (HoldsTooMuch k) IsOneTooMany (placed rules) so_far.too_many too_many so.too_many counted) (λ within no_over.
-      by_unnested so_far.unnested _ apart known within so.unnested (λ nested no_unnested. record {
+      by_misplaced so_far.misplaced _ apart known so.misplaced (λ in_rooms no_misplaced.
+      by_over (lower_of so_far.too_many too_many) _ apart known in_rooms (low_either (HoldsTooMuch k) IsOneTooMany (placed rules) so_far.too_many too_many so.too_many counted) (λ within no_over.
+      by_unnested so_far.unnested _ apart known in_rooms within so.unnested (λ nested no_unnested. record {
         apart = apart;
         known = known;
+        in_rooms = in_rooms;
         within = within;
         nested = nested;
-        each = so.told no_unknown (no_first so_far.too_many too_many no_over) no_unnested;
-      }))))
+        each = so.told no_unknown no_misplaced (no_first so_far.too_many too_many no_over) no_unnested;
+      })))))
 
 -- as sentences say them
 pub sentences_told : (k : Known) (sentences : List Sentence) (rules : List RuleAt) (twice too_many : Option ℕ) (so_far : SoFar) (found : RulesFound) → rules ≡ rules_in sentences

@@ -1,6 +1,7 @@
 -- What phrases may name, and where.
-use Rattle.std.specs.Prelude.{ℕ, ◌-◌, Bool, ◌||◌, List, drop, length, reverse}
+use Rattle.std.specs.Prelude.{ℕ, ◌-◌, Bool, ◌||◌, List, drop, length, Option, reverse}
 use Rattle.std.specs.List.{list_any}
+use Rattle.world_meaning.specs.declared.tale.Object.{Object}
 use Rattle.i7_sentences.specs.declared.rule.RulePhrase.{RulePhrase}
 use Rattle.i7_actions.specs.declared.action.Action.{Action}
 use Rattle.i7_conditions.specs.Meanings.{Meanings, Plurals}
@@ -21,6 +22,9 @@ pub record Known : Type 0 where
   pub actions : List Action
   pub rulebooks : List (List ℕ)
   pub scenes : ℕ
+  -- the kind above each kind, and the objects
+  pub parents : List (Option ℕ)
+  pub objects : List Object
 
 abbrev pub known_of : Lent → Known
 known_of k = record {
@@ -30,6 +34,8 @@ known_of k = record {
   actions = k.actions.now;
   rulebooks = k.rulebooks.now;
   scenes = k.scenes;
+  parents = k.parents.now;
+  objects = k.objects.now;
 }
 
 -- of names of repeats, the outermost first, the innermost 255 are known

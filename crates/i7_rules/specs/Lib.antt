@@ -1,5 +1,7 @@
+pub mod Abouts
 pub mod Bodies
 pub mod Doings
+pub mod Heads
 pub mod Knowns
 pub mod Lines
 pub mod ReadSoFar

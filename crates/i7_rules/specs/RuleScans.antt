@@ -2,12 +2,12 @@
 use Rattle.std.specs.Prelude.{◌≡◌, ℕ, List, [], ◌∷◌, Option, Some, None, bytes_eq, fold, if◌then◌else◌, option_map, reverse, slice_get}
 use Rattle.std.specs.List.{AllZip, list_any}
 use Rattle.world_meaning.specs.declared.fault.FaultCode.{FaultCode}
-use Rattle.world_meaning.specs.declared.fault.FaultCode.TheVariants.{NotUnderstood, TooMany, Twice, UnknownName}
+use Rattle.world_meaning.specs.declared.fault.FaultCode.TheVariants.{NotUnderstood, TooMany, Twice, UnknownName, WrongKind}
 use Rattle.object_words.specs.Mentions.{mention}
 use Rattle.i7_sentences.specs.Lowest.{IsLowest, IsNowhere, lower_of}
 use Rattle.i7_rules.specs.Knowns.{Known}
 use Rattle.i7_rules.specs.RuleList.{Placed, RuleAt, name_of, placed, standard_names}
-use Rattle.i7_rules.specs.SourceRules.{HoldsTooMuch, IsTold, IsUnknown, IsUnnested}
+use Rattle.i7_rules.specs.SourceRules.{HoldsTooMuch, IsMisplaced, IsTold, IsUnknown, IsUnnested}
 use Rattle.play_meaning.specs.declared.tree.rule.MeantRule.{MeantRule}
 use Rattle.i7_rules.specs.declared.rule.RuleFound.{RuleFound}
 use Rattle.i7_rules.specs.declared.rule.RuleFound.TheVariants as found
@@ -49,11 +49,12 @@ twice_at names r = named_twice names r.line (name_of r)
 pub record State : Type 0 where
   pub rules : List SourceRule
   pub unknown : Option ℕ
+  pub misplaced : Option ℕ
   pub too_many : Option ℕ
   pub unnested : Option ℕ
 
 abbrev pub state_of : SoFar → State
-state_of so_far = record { rules = reverse so_far.rules.items; unknown = so_far.unknown; too_many = so_far.too_many; unnested = so_far.unnested }
+state_of so_far = record { rules = reverse so_far.rules.items; unknown = so_far.unknown; misplaced = so_far.misplaced; too_many = so_far.too_many; unnested = so_far.unnested }
 
 abbrev pub kept_of : RuleAt → MeantRule → SourceRule
 kept_of r meant = record { line = r.line; name = name_of r; rule = meant }
@@ -62,15 +63,17 @@ kept_of r meant = record { line = r.line; name = name_of r; rule = meant }
 abbrev pub with_found : State → RuleAt → RuleFound → State
 with_found state r (found.Says meant) = record state { rules = kept_of r meant ∷ state.rules }
 with_found state r (found.Unknown at) = record state { unknown = lower_of state.unknown (Some at) }
+with_found state r found.WrongPlace = record state { misplaced = lower_of state.misplaced (Some r.line) }
 with_found state r (found.TooMany at) = record state { too_many = lower_of state.too_many (Some at) }
 with_found state r found.Unnested = record state { unnested = lower_of state.unnested (Some r.line) }
 
 -- what is found of these rules, the last first
 pub record IsSoFar (k : Known) (rules : List RuleAt) (state : State) : Type 0 where
   pub unknown : IsLow (IsUnknown k) (placed rules) state.unknown
+  pub misplaced : IsLow (IsMisplaced k) (placed rules) state.misplaced
   pub too_many : IsLow (HoldsTooMuch k) (placed rules) state.too_many
   pub unnested : IsLow (IsUnnested k) (placed rules) state.unnested
-  pub told : state.unknown ≡ None → state.too_many ≡ None → state.unnested ≡ None → AllZip (IsTold k) rules state.rules
+  pub told : state.unknown ≡ None → state.misplaced ≡ None → state.too_many ≡ None → state.unnested ≡ None → AllZip (IsTold k) rules state.rules
 
 -- ---- what is told of all
 
@@ -83,5 +86,6 @@ abbrev pub so_far_told : Option ℕ → Option ℕ → SoFar → RulesFound
 so_far_told twice too_many so_far =
     refused_or Twice twice
     (refused_or UnknownName so_far.unknown
+    (refused_or WrongKind so_far.misplaced
     (refused_or TooMany (lower_of so_far.too_many too_many)
-    (refused_or NotUnderstood so_far.unnested (whole.Says so_far.rules))))
+    (refused_or NotUnderstood so_far.unnested (whole.Says so_far.rules)))))

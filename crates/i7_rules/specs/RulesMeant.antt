@@ -3,7 +3,7 @@ use Rattle.std.specs.Prelude.{ℕ, List, Option, map}
 use Rattle.world_meaning.specs.declared.fault.Fault.{Fault}
 use Rattle.play_meaning.specs.Meant.{body_meant}
 use Rattle.play_meaning.specs.Trees.{Body}
-use Rattle.i7_rules.specs.Rules.{Head, heading}
+use Rattle.i7_rules.specs.Heads.{Head, heading}
 use Rattle.i7_rules.specs.declared.source_rules.RulesFound.{RulesFound}
 use Rattle.i7_rules.specs.declared.source_rules.RulesFound.TheVariants as whole
 use Rattle.i7_rules.specs.declared.source_rules.SourceRule.{SourceRule}

@@ -2,7 +2,7 @@
 use Rattle.std.specs.Prelude.{◌≡◌, ◌⊎◌, ℕ, true, List, Some, bytes_eq, length, reverse}
 use Rattle.std.specs.List.{AllZip, list_any}
 use Rattle.world_meaning.specs.declared.fault.FaultCode.{FaultCode}
-use Rattle.world_meaning.specs.declared.fault.FaultCode.TheVariants.{NotUnderstood, TooMany, Twice, UnknownName}
+use Rattle.world_meaning.specs.declared.fault.FaultCode.TheVariants.{NotUnderstood, TooMany, Twice, UnknownName, WrongKind}
 use Rattle.i7_sentences.specs.Lowest.{IsLowest, IsNowhere}
 use Rattle.i7_sentences.specs.declared.sentence.Sentence.{Sentence}
 use Rattle.i7_rules.specs.Knowns.{Known}
@@ -30,6 +30,10 @@ IsFound k r = IsRuleFound k r.line r.rule
 abbrev pub IsUnknown : Known → Placed → ℕ → Type 0
 IsUnknown k p line = IsFound k p.rule (found.Unknown line)
 
+-- the rule's place is no room
+abbrev pub IsMisplaced : Known → Placed → ℕ → Type 0
+IsMisplaced k p line = IsFound k p.rule found.WrongPlace × (line ≡ p.rule.line)
+
 -- so many rules may be an author's: with the sixty-one standard ones they are 2,000
 unfoldable pub most_rules : ℕ
 most_rules = 1939
@@ -55,8 +59,10 @@ IsUnnested k p line = IsFound k p.rule found.Unnested × (line ≡ p.rule.line)
 abbrev pub Stands : Known → FaultCode → ℕ → List Placed → Type 0
 Stands k Twice line rules = IsLowest IsNamedTwice rules line
 Stands k UnknownName line rules = IsNowhere IsNamedTwice rules × IsLowest (IsUnknown k) rules line
-Stands k TooMany line rules = IsNowhere IsNamedTwice rules × IsNowhere (IsUnknown k) rules × IsLowest (IsOver k) rules line
-Stands k NotUnderstood line rules = IsNowhere IsNamedTwice rules × IsNowhere (IsUnknown k) rules × IsNowhere (IsOver k) rules × IsLowest (IsUnnested k) rules line
+Stands k WrongKind line rules = IsNowhere IsNamedTwice rules × IsNowhere (IsUnknown k) rules × IsLowest (IsMisplaced k) rules line
+Stands k TooMany line rules = IsNowhere IsNamedTwice rules × IsNowhere (IsUnknown k) rules × IsNowhere (IsMisplaced k) rules × IsLowest (IsOver k) rules line
+Stands k NotUnderstood line rules =
+    IsNowhere IsNamedTwice rules × IsNowhere (IsUnknown k) rules × IsNowhere (IsMisplaced k) rules × IsNowhere (IsOver k) rules × IsLowest (IsUnnested k) rules line
 Stands k _ line rules = ⊥
 
 -- what is told of a rule
@@ -69,6 +75,7 @@ pub record IsTold (k : Known) (r : RuleAt) (told : SourceRule) : Type 0 where
 pub record AreTold (k : Known) (rules : List RuleAt) (told : List SourceRule) : Type 0 where
   pub apart : IsNowhere IsNamedTwice (placed rules)
   pub known : IsNowhere (IsUnknown k) (placed rules)
+  pub in_rooms : IsNowhere (IsMisplaced k) (placed rules)
   pub within : IsNowhere (IsOver k) (placed rules)
   pub nested : IsNowhere (IsUnnested k) (placed rules)
   pub each : AllZip (IsTold k) rules told

@@ -3,7 +3,7 @@ ghost use Rattle.std.specs.Prelude.{◌+◌, ◌*◌, ◌≤◌, length};
 
 use i7_actions::Action;
 use i7_conditions::Names;
-use world_meaning::TextBytes;
+use world_meaning::{KindNo, Object, TextBytes};
 
 /// What phrases may name, whatever repeats stand around them.
 #[derive(Clone, Copy)]
@@ -15,6 +15,10 @@ pub struct Known<'a> {
     pub rulebooks: &'a [TextBytes],
     /// How many scenes there are.
     pub scenes: u16,
+    /// The kind above each kind, by number.
+    pub parents: &'a [Option<KindNo>],
+    /// The objects of the tale, by number.
+    pub objects: &'a [Object],
     ghost few: { length actions.now ≤ 255 },
     ghost countable: { 8 + 2 * scenes + length rulebooks.now ≤ 65535 },
 }

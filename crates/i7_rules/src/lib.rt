@@ -2,8 +2,10 @@
 //! are, the rule with its head, and all rules of a source.
 #![tactic(auto)]
 
+mod about;
 mod body;
 mod doing;
+mod head;
 mod known;
 mod laws;
 mod rule;
@@ -16,6 +18,6 @@ mod step;
 
 pub use body::{BodyRead, body_of};
 pub use known::Known;
-pub use laws::{one_list_of_rules, one_rule_is_told};
+pub use laws::{heads_ask_what_is, one_list_of_rules, one_rule_is_told};
 pub use rule::{RuleFound, rule_of};
 pub use source_rules::{RulesFound, SourceRule, rules_of};

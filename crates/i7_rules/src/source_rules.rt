@@ -41,6 +41,8 @@ struct SoFar {
     rules: Vec<SourceRule>,
     /// The lowest line at which something isn't understood.
     unknown: Option<u32>,
+    /// The lowest line of a rule whose place is no room.
+    misplaced: Option<u32>,
     /// The lowest line at which something holds more than the language allows.
     too_many: Option<u32>,
     /// The lowest line of a rule whose lines can't be put together.
@@ -82,6 +84,7 @@ fn with_found(
     match found {
         RuleFound::Says(meant) => next.rules.push(kept_of(alloc, rule, meant)?)?,
         RuleFound::Unknown(at) => next.unknown = lower_of(next.unknown, Some(at)),
+        RuleFound::WrongPlace => next.misplaced = lower_of(next.misplaced, Some(rule.line)),
         RuleFound::TooMany(at) => next.too_many = lower_of(next.too_many, Some(at)),
         RuleFound::Unnested => next.unnested = lower_of(next.unnested, Some(rule.line)),
     }
@@ -96,6 +99,7 @@ fn read_rules(alloc: Global, known: &Known<'_>, rules: &[RuleAt<'_>]) -> Result<
     let mut so_far = SoFar {
         rules: Vec::new(alloc),
         unknown: None,
+        misplaced: None,
         too_many: None,
         unnested: None,
     };
@@ -130,14 +134,15 @@ fn told(twice: Option<u32>, too_many: Option<u32>, so_far: SoFar) -> RulesFound
         RulesFound::Says(so_far.rules),
     );
     let limited = refused_or(FaultCode::TooMany, over, unnested);
-    let known = refused_or(FaultCode::UnknownName, so_far.unknown, limited);
+    let in_rooms = refused_or(FaultCode::WrongKind, so_far.misplaced, limited);
+    let known = refused_or(FaultCode::UnknownName, so_far.unknown, in_rooms);
     refused_or(FaultCode::Twice, twice, known)
 }
 
 /// The rules of a source, or what refuses it for them, each refusal being looked for in all rules before the next and told at its
-/// lowest line: a name that an earlier rule or a standard rule has (C9), what the names allow no reading of (C7), what holds
-/// more than the language allows, and a rule that is one too many (C12). Last comes a rule whose lines can't be put together
-/// (C5).
+/// lowest line: a name that an earlier rule or a standard rule has (C9), what the names allow no reading of (C7), a place that
+/// is no room (C8), what holds more than the language allows, and a rule that is one too many (C12). Last comes a rule whose
+/// lines can't be put together (C5).
 pub fn rules_of(
     alloc: Global,
     known: &Known<'_>,

@@ -10,7 +10,7 @@ use Rattle.play_meaning.specs.TranslatedScripts.{in_list}
 use Rattle.play_meaning.specs.Trees.{Text}
 use Rattle.play_meaning.specs.declared.tree.rule.MeantRule.{MeantRule as KeptRule}
 use Rattle.play_meaning.specs.declared.tree.said.Text.{Text as KeptText}
-use Rattle.i7_rules.specs.Knowns.{Known}
+use Rattle.i7_conditions.specs.Scopes.{Scope}
 use Rattle.i7_sentences.specs.declared.sentence.Sentence.{Sentence}
 use Rattle.code_table.specs.declared.fault.TableFault.{TableFault}
 use Rattle.code_table.specs.declared.fault.TableFault.TheVariants.{Memory}
@@ -19,7 +19,7 @@ use Rattle.story_format.specs.Making.{code_count, codes_in, tables_of}
 use Rattle.story_format.specs.Spells.{Spells}
 use Rattle.story_format.proofs.Carried.{tale_carried}
 use Rattle.story_file.specs.Compilations.{IsCompiled, IsRefused, IsToldAs, Means, Says, memory, unheld, unmeant}
-use Rattle.story_file.specs.Meanings.{AreMeant, AreRefused, AreTexts, descriptions_of, known_said}
+use Rattle.story_file.specs.Meanings.{AreMeant, AreRefused, AreTexts, descriptions_of, scope_said}
 use Rattle.story_file.specs.Rules.{rules_kept}
 use Rattle.story_file.specs.Texts.{texts_kept}
 use Rattle.story_file.proofs.Held.{tale_held}
@@ -38,8 +38,8 @@ described (object ∷ objects) = by object.description (described objects)
     by None rest = omega (arith, rest)
     by (Some bytes) rest = omega (arith, rest)
 
-texts_counted : (k : Known) (objects : List Object) (texts : List Text) → AreTexts k objects texts → length texts ≡ codes_in objects
-texts_counted k objects texts are = as_many _ (descriptions_of objects) texts are ∙ described objects
+texts_counted : (s : Scope) (objects : List Object) (texts : List Text) → AreTexts s objects texts → length texts ≡ codes_in objects
+texts_counted s objects texts are = as_many _ (descriptions_of objects) texts are ∙ described objects
 
 -- ---- texts and rules that are handed on
 
@@ -70,7 +70,7 @@ module _ (source : List ℕ) (sentences lent : List Sentence) (says : Says sourc
 
     pub are_of : AreOf tale texts rules
     are_of = record {
-      many = texts_counted (known_said lent) tale.objects texts meant.texts_are;
+      many = texts_counted (scope_said lent) tale.objects texts meant.texts_are;
       few = few_rules lent tale texts rules meant;
       apart = rules_apart lent tale texts rules meant;
       named = rules_named lent tale texts rules meant;

@@ -1,5 +1,5 @@
--- The rulebooks and the scenes of sentences that mean a tale are those of the tale, and few.
-use Rattle.std.proofs.Common.{◌≡◌, ◌∙◌, ap, sym, ◌+◌, ◌*◌, ◌≤◌, List, length, Ok, None, arith}
+-- What the names of sentences stand for that mean a tale is the tale's, and its rulebooks and scenes are few.
+use Rattle.std.proofs.Common.{◌≡◌, ◌∙◌, ap, sym, ◌+◌, ◌*◌, ◌≤◌, ◌<◌, subst, List, length, Ok, None, arith}
 use Rattle.std.proofs.lemmas.List.{length-map}
 use Rattle.world_meaning.specs.declared.declared.Declared.{Declared}
 use Rattle.world_meaning.specs.declared.tale.Tale.{Tale}
@@ -7,18 +7,30 @@ use Rattle.i7_claims.specs.Claims.{claims_of}
 use Rattle.i7_claims.specs.Sorts.{name_too_many, names_as}
 use Rattle.i7_claims.specs.Statements.{named_by, stated_by}
 use Rattle.i7_claims.specs.declared.sorts.Sort.TheVariants as sort
-use Rattle.i7_kinds.proofs.Bounds.{earlier_none, first_none_both, frame_parts}
+use Rattle.i7_claims.specs.declared.claim.Claim.{Claim}
+use Rattle.i7_conditions.specs.There.{AreThere, Counts, IsThere}
+use Rattle.i7_conditions.specs.declared.meaning.Meaning.{Meaning}
+use Rattle.i7_conditions.specs.declared.meaning.Meaning.TheVariants as meaning
+use Rattle.i7_kinds.proofs.Granting.{flags_counted}
+use Rattle.i7_kinds.proofs.KindScans.{kind_names_counted, parents_are_kinds}
+use Rattle.i7_kinds.proofs.Readiness.{kinds_many}
+use Rattle.i7_kinds.proofs.Bounds.{counted-source, earlier_none, first_none_both, frame_parts}
+use Rattle.i7_kinds.specs.Grants.{built_in_bases}
 use Rattle.i7_kinds.specs.Demands.{descriptions_of}
-use Rattle.i7_kinds.specs.KindClaims.{declared_by, is_recurring_by, kind_too_many}
+use Rattle.i7_kinds.specs.KindClaims.{declared_by, givens_by, is_recurring_by, kind_names, kind_too_many, parents_of}
 use Rattle.i7_kinds.specs.Knowns.{knowns_of}
 use Rattle.i7_kinds.specs.Suits.{first_room}
 use Rattle.i7_kinds.specs.Tales.{entries_of, faults_of, frame_refusal, limit_refusal, made_of, objects_of, refusal_of, scope_of, tale_said}
-use Rattle.i7_names.specs.SourceNames.{rulebooks_by, rulebooks_in, scene_count, scenes_by}
+use Rattle.i7_names.specs.SourceNames.{names_in, rulebooks_by, rulebooks_in, scene_count, scenes_by}
+use Rattle.i7_names.specs.There.{counts_in}
+use Rattle.i7_names.proofs.Present.{names_there, plurals_there}
 use Rattle.i7_sentences.specs.declared.sentence.Sentence.{Sentence}
 use Rattle.story_file.proofs.Held.{few_by, meant_none}
+use Rattle.story_file.proofs.MadeObjects.{entries_counted, objects_counted}
 
--- not too much is claimed, and it is what the tale declares
-claimed : (sentences : List Sentence) (tale : Tale) → tale_said sentences ≡ Ok tale → (name_too_many (claims_of sentences) ≡ None) × (declared_by (claims_of sentences) ≡ tale.declared)
+-- not too much is claimed, it is what the tale declares, and the objects are those that are named
+claimed : (sentences : List Sentence) (tale : Tale) → tale_said sentences ≡ Ok tale
+    → (name_too_many (claims_of sentences) ≡ None) × (declared_by (claims_of sentences) ≡ tale.declared) × (length (named_by sentences).keys ≡ length tale.objects)
 claimed sentences tale meant =
     let claims = claims_of sentences in
     let s = scope_of claims (named_by sentences).keys in
@@ -31,7 +43,12 @@ claimed sentences tale meant =
     let found = first_room s.parents knowns in
     let u = first_none_both (frame_refusal faults mentions found) (limit_refusal claims (descriptions_of s.parents knowns statements) mentions) t.0 in
     let fine = frame_parts faults mentions found u.0 in
-    ((earlier_none (kind_too_many claims) (name_too_many claims) fine.too_many).1, ap (λ (made : Tale). made.declared) t.1)
+    let made : length whole.objects ≡ 13 + length mentions = objects_counted (made_of s knowns claims statements) 0 (entries_of mentions) ∙ entries_counted mentions in
+    (
+      (earlier_none (kind_too_many claims) (name_too_many claims) fine.too_many).1,
+      ap (λ (made : Tale). made.declared) t.1,
+      counted-source sentences ∙ sym made ∙ ap (λ (made : Tale). length made.objects) t.1,
+    )
 
 pub rulebooks_counted : (sentences : List Sentence) (tale : Tale) → tale_said sentences ≡ Ok tale → length (rulebooks_in sentences) ≡ tale.declared.rulebooks
 unfolding rulebooks_by
@@ -46,3 +63,70 @@ scenes_counted sentences tale meant =
 pub countable : (sentences : List Sentence) (tale : Tale) → tale_said sentences ≡ Ok tale → 8 + 2 * scene_count sentences + length (rulebooks_in sentences) ≤ 65535
 unfolding rulebooks_by scenes_by
 countable sentences tale meant = let few = few_by (claims_of sentences) (claimed sentences tale meant).0 in omega (arith, few.0, few.1)
+
+-- ---- what names stand for
+
+-- what there is of a tale; its number properties and variables are counted by their names
+abbrev pub counts_of : List Sentence → Tale → Counts
+counts_of sentences tale = record {
+  objects = length tale.objects;
+  kinds = length tale.declared.kinds;
+  qualities = length tale.declared.flags;
+  numbers = (counts_in sentences).numbers;
+  variables = (counts_in sentences).variables;
+  scenes = length tale.declared.scenes;
+}
+
+-- so many of each sort, or more
+record IsMore (few many : Counts) : Type 0 where
+  objects : few.objects ≤ many.objects
+  kinds : few.kinds ≤ many.kinds
+  qualities : few.qualities ≤ many.qualities
+  numbers : few.numbers ≤ many.numbers
+  variables : few.variables ≤ many.variables
+  scenes : few.scenes ≤ many.scenes
+
+more_there : (few many : Counts) → IsMore few many → (m : Meaning) → IsThere few m → IsThere many m
+more_there few many more (meaning.Object o) is = omega (arith, more.objects, is)
+more_there few many more (meaning.Kind kind) is = omega (arith, more.kinds, is)
+more_there few many more (meaning.Quality p side) is = omega (arith, more.qualities, is)
+more_there few many more (meaning.Number p) is = omega (arith, more.numbers, is)
+more_there few many more (meaning.Variable v) is = omega (arith, more.variables, is)
+more_there few many more (meaning.Scene scene) is = omega (arith, more.scenes, is)
+
+many_kinds : (claims : List Claim) → length (kind_names claims) ≤ length (declared_by claims).kinds
+many_kinds claims = omega (arith, kind_names_counted claims, parents_are_kinds (kind_names claims) claims)
+
+some_kinds : (claims : List Claim) → 0 < length (declared_by claims).kinds
+some_kinds claims = omega (arith, kinds_many claims)
+
+many_flags : (claims : List Claim) → length (names_as sort.EitherOr claims) ≤ length (declared_by claims).flags
+many_flags claims =
+    omega (arith, flags_counted (parents_of (kind_names claims) claims) (kinds_many claims) (givens_by claims) 0 built_in_bases (names_as sort.EitherOr claims))
+
+-- of the tale there is as much as its sentences name
+as_much : (sentences : List Sentence) (tale : Tale) → tale_said sentences ≡ Ok tale → IsMore (counts_in sentences) (counts_of sentences tale)
+unfolding scenes_by
+as_much sentences tale meant =
+    let claims = claims_of sentences in
+    let is = claimed sentences tale meant in
+    record {
+      objects = omega (arith, is.2);
+      kinds = subst (λ (d : Declared). length (kind_names claims) ≤ length d.kinds) is.1 (many_kinds claims);
+      qualities = subst (λ (d : Declared). length (names_as sort.EitherOr claims) ≤ length d.flags) is.1 (many_flags claims);
+      numbers = omega arith;
+      variables = omega arith;
+      scenes = omega (arith, scenes_counted sentences tale meant);
+    }
+
+pub names_are_there : (sentences : List Sentence) (tale : Tale) → tale_said sentences ≡ Ok tale → AreThere (counts_of sentences tale) (names_in sentences).meanings (names_in sentences).plurals
+names_are_there sentences tale meant =
+    let more = as_much sentences tale meant in
+    let is = claimed sentences tale meant in
+    let claims = claims_of sentences in
+    record {
+      player = omega (arith, is.2, counted-source sentences);
+      things = subst (λ (d : Declared). 0 < length d.kinds) is.1 (some_kinds claims);
+      names = λ name m e. more_there (counts_in sentences) (counts_of sentences tale) more m (names_there sentences name m e);
+      plural_kinds = λ name kind e. omega (arith, more.kinds, plurals_there sentences name kind e);
+    }

@@ -135,7 +135,7 @@ directions_right m o (d ∷ ds) h =
     let rest : are_directions m.parents ds (objects_of m (o + 1) (map direction_entry ds)) ≡ true = directions_right m (o + 1) ds (λ i j q lt. h (suc i) j (omega (arith, q)) (omega (arith, lt))) in
     rw (t.0, t.1, text_is_itself (direction_entry d).name) rest
 
-objects_counted : (m : Made) (o : ℕ) (entries : List Entry) → length (objects_of m o entries) ≡ length entries
+pub objects_counted : (m : Made) (o : ℕ) (entries : List Entry) → length (objects_of m o entries) ≡ length entries
 objects_counted m o [] = refl
 objects_counted m o (entry ∷ entries) = ap suc (objects_counted m (o + 1) entries)
 

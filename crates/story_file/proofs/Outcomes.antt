@@ -21,7 +21,7 @@ use Rattle.i7_rules.specs.RulesMeant.{RuleMeant, rule_meant as source_rule_meant
 use Rattle.i7_rules.specs.declared.source_rules.SourceRule.{SourceRule}
 use Rattle.i7_resolution.specs.Resolutions.{IsResolution}
 use Rattle.i7_resolution.specs.ResolutionsMeant.{Both, Refused as NoneFor, ResolutionMeant, resolution_meant}
-use Rattle.i7_resolution.specs.SourceTexts.{Says as TextSays}
+use Rattle.i7_resolution.specs.SourceTexts.{SaysIn}
 use Rattle.i7_resolution.specs.declared.resolution.Resolution.{Resolution}
 use Rattle.i7_resolution.specs.declared.resolution.Resolution.TheVariants.{Refused, Says as Understood}
 use Rattle.i7_resolution.specs.declared.resolution.Resolved.{Resolved}
@@ -29,7 +29,7 @@ use Rattle.code_table.specs.declared.fault.TableFault.{TableFault}
 use Rattle.code_table.specs.declared.fault.TableFault.TheVariants.{LongRule, LongText, TooMany, Memory as NoMemory}
 use Rattle.story_format.specs.Holding.{AreHeld, NeverHeldAndNot}
 use Rattle.story_file.specs.Compilations.{IsCompiled, IsRefused, IsToldAs, Means, Says, memory, unheld as untold, unmeant as unsaid, unread, unspelled}
-use Rattle.story_file.specs.Meanings.{AreMeant, AreRefused, AreTexts, descriptions_of, known_said, unmeant, unresolved}
+use Rattle.story_file.specs.Meanings.{AreMeant, AreRefused, AreTexts, descriptions_of, known_said, scope_said, unmeant, unresolved}
 use Rattle.story_file.specs.Rules.{rules_told}
 
 -- what is known of texts and of what is resolved: each means one thing
@@ -52,14 +52,14 @@ same_ok tale other same = cc
 
 -- ---- what descriptions say
 
-same_texts : IsOneText → (k : Known) (descriptions : List (List ℕ)) (texts others : List Text) → AllZip (TextSays k) descriptions texts → AllZip (TextSays k) descriptions others → texts ≡ others
-same_texts law k [] [] [] one second = refl
-same_texts law k [] [] (y ∷ others) one second = absurd second
-same_texts law k [] (x ∷ texts) others one second = absurd one
-same_texts law k (bytes ∷ descriptions) [] others one second = absurd one
-same_texts law k (bytes ∷ descriptions) (x ∷ texts) [] one second = absurd second
-same_texts law k (bytes ∷ descriptions) (x ∷ texts) (y ∷ others) one second =
-    ap (λ (t : Text). t ∷ texts) (law _ _ x y one.0.means second.0.means) ∙ ap (λ (ts : List Text). y ∷ ts) (same_texts law k descriptions texts others one.1 second.1)
+same_texts : IsOneText → (s : Scope) (descriptions : List (List ℕ)) (texts others : List Text) → AllZip (SaysIn s) descriptions texts → AllZip (SaysIn s) descriptions others → texts ≡ others
+same_texts law s [] [] [] one second = refl
+same_texts law s [] [] (y ∷ others) one second = absurd second
+same_texts law s [] (x ∷ texts) others one second = absurd one
+same_texts law s (bytes ∷ descriptions) [] others one second = absurd one
+same_texts law s (bytes ∷ descriptions) (x ∷ texts) [] one second = absurd second
+same_texts law s (bytes ∷ descriptions) (x ∷ texts) (y ∷ others) one second =
+    ap (λ (t : Text). t ∷ texts) (law _ _ x y one.0.means second.0.means) ∙ ap (λ (ts : List Text). y ∷ ts) (same_texts law s descriptions texts others one.1 second.1)
 
 -- ---- rules
 
@@ -97,11 +97,12 @@ module _ (text_law : IsOneText) (law : IsOneResolution) (sentences : List Senten
 
   texts_once : texts ≡ others
   texts_once =
-      same_texts text_law (known_said sentences) (descriptions_of tale.objects) texts others one.texts_are
-      (subst (λ (t : Tale). AreTexts (known_said sentences) t.objects others) (sym tale_once) second.texts_are)
+      same_texts text_law (scope_said sentences) (descriptions_of tale.objects) texts others one.texts_are
+      (subst (λ (t : Tale). AreTexts (scope_said sentences) t.objects others) (sym tale_once) second.texts_are)
 
   meant_rules_once : rules ≡ more
-  meant_rules_once = one.rules_are ∙ rules_once law (known_said sentences) sentences one.resolved second.resolved one.resolved_is second.resolved_is ∙ sym second.rules_are
+  meant_rules_once = one.rules_are ∙ rules_once law (known_said sentences tale) sentences one.resolved second.resolved one.resolved_is
+      (subst (λ (t : Tale). IsResolution (known_said sentences t) sentences (Understood second.resolved)) (sym tale_once) second.resolved_is) ∙ sym second.rules_are
 
   meant_once : (tale ≡ other) × ((texts ≡ others) × (rules ≡ more))
   meant_once = (tale_once, (texts_once, meant_rules_once))
@@ -125,7 +126,10 @@ resolved_or_refused law k sentences resolved fault is refused =
 -- sentences that mean a tale aren't refused
 meant_or_refused : IsOneResolution → (sentences : List Sentence) (tale : Tale) (texts : List Text) (rules : List Rule) (fault : Fault) → AreMeant sentences tale texts rules → AreRefused sentences fault → ⊥
 meant_or_refused law sentences tale texts rules fault meant (unmeant refused) = ok_not_err tale fault (sym meant.tale_is ∙ refused)
-meant_or_refused law sentences tale texts rules fault meant (unresolved refused) = resolved_or_refused law (known_said sentences) sentences meant.resolved fault meant.resolved_is refused.refused
+meant_or_refused law sentences tale texts rules fault meant (unresolved refused) = 
+    let same = same_ok tale refused.tale (sym meant.tale_is ∙ refused.tale_is) in
+    resolved_or_refused law (known_said sentences tale) sentences meant.resolved fault meant.resolved_is
+    (subst (λ (t : Tale). IsResolution (known_said sentences t) sentences (Refused fault)) (sym same) refused.refused)
 
 -- where the same sentences stand they are refused so too
 pub refused_so : (sentences others : List Sentence) (fault : Fault) → sentences ≡ others → AreRefused sentences fault → AreRefused others fault

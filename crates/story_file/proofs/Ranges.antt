@@ -14,11 +14,12 @@ use Rattle.i7_sentences.specs.BodyOrder.{reserved_line}
 use Rattle.i7_sentences.specs.Cuts.{Piece, line_in, parts_of}
 use Rattle.i7_sentences.specs.Forms.{Variant}
 use Rattle.i7_sentences.specs.Literals.{digits_of, is_negative, literal_of, magnitude}
+use Rattle.i7_sentences.specs.Lowest.{lower_of}
 use Rattle.i7_sentences.specs.Read.{named_heard, plain_heard}
 use Rattle.i7_sentences.specs.Reserved.{has_reserved_among}
 use Rattle.i7_sentences.specs.RuleBodies.{body_phrases, unread_line}
 use Rattle.i7_sentences.specs.RuleHeads.{body_tokens, head_in, is_rule_form}
-use Rattle.i7_sentences.specs.Rules.{head_heard, rule_heard, unless_reserved, unless_unread}
+use Rattle.i7_sentences.specs.Rules.{head_heard, head_reserved, rule_heard, unless_reserved, unless_unread}
 use Rattle.i7_sentences.specs.Sources.{IsSentence, Says as Tells, SaysInWords}
 use Rattle.i7_sentences.specs.Words.{word_of}
 use Rattle.i7_sentences.specs.declared.form.Form.{Form}
@@ -138,7 +139,8 @@ head_ranged : (tokens : List Token) (head : Option Head) → IsRangedHeard (head
 head_ranged tokens None = tt
 head_ranged tokens (Some head) =
     let phrases = body_lines (body_tokens head tokens) in
-    read_ranged (unread_line (line_in tokens) head.takes_one phrases) (reserved_line phrases) (record { book = head.book; condition = head.condition; name = head.name; body = body_phrases (line_in tokens) phrases })
+    read_ranged (unread_line (line_in tokens) head.takes_one phrases) (lower_of (head_reserved (line_in tokens) head) (reserved_line phrases))
+    (record { book = head.book; subject = head.subject; scene = head.scene; condition = head.condition; name = head.name; body = body_phrases (line_in tokens) phrases })
 
 form_heard : (tokens : List Token) (variant : Variant) (letters : List (List Token)) (is_rule : Bool) → IsRangedHeard (if is_rule then rule_heard tokens else plain_heard (line_in tokens) (has_reserved_among variant.pieces letters) (assertion_of variant.form letters))
 form_heard tokens variant letters true = head_ranged tokens (head_in tokens)

@@ -35,8 +35,8 @@ pub rules_apart : (sentences : List Sentence) (tale : Tale) (texts : List Text) 
 rules_apart sentences tale texts rules meant =
     let is = meant.resolved_is in
     let all = meant.resolved.rules.items in
-    let told = told_by (known_said sentences) sentences is.rules is.texts meant.resolved is.told_is is.rules_are in
+    let told = told_by (known_said sentences tale) sentences is.rules is.texts meant.resolved is.told_is is.rules_are in
     let ordered : list_all is_told_so all ≡ true =
-    ap (list_all is_told_so) (sym (reverse-reverse all)) ∙ list_all_back is_told_so (reverse all) (told_in_order (known_said sentences) (reverse (rules_in sentences)) (reverse all) told.each) in
+    ap (list_all is_told_so) (sym (reverse-reverse all)) ∙ list_all_back is_told_so (reverse all) (told_in_order (known_said sentences tale) (reverse (rules_in sentences)) (reverse all) told.each) in
     subst (λ (kept : List Rule). AreListedApart (story_rules kept)) (sym meant.rules_are)
     (in_order_apart (map (λ (one : SourceRule). rule_meant one.rule) all) (list_all-map stands_in_order (λ (one : SourceRule). rule_meant one.rule) all ∙ ordered))

@@ -1,6 +1,6 @@
--- The rules of sentences that mean a tale are few, and stand in its books.
+-- The rules of sentences that mean a tale are few, stand in its books, and ask for what is there.
 use Rattle.std.proofs.Common.{◌≡◌, ◌∙◌, ap, refl, subst, sym, ℕ, zero, suc, ◌<◌, ◌≤◌, Bool, true, ◌&&◌, List, [], ◌∷◌, length, map, Some, arith, inl, inr}
-use Rattle.std.specs.Prelude.{reverse, slice_get}
+use Rattle.std.specs.Prelude.{None, Option, nat_le, nat_lt, reverse, slice_get}
 use Rattle.std.specs.List.{AllZip, list_all}
 use Rattle.std.proofs.lemmas.Bool.{cases_lt, lt-ltb}
 use Rattle.std.proofs.lemmas.Grind.{reverse_onto}
@@ -10,13 +10,18 @@ use Rattle.std.proofs.lemmas.List.Folds.{list_all-append}
 use Rattle.world_meaning.proofs.Bools.{both, both_are}
 use Rattle.world_meaning.specs.declared.declared.Declared.{Declared}
 use Rattle.world_meaning.specs.declared.tale.Tale.{Tale}
-use Rattle.play_meaning.specs.Patterns.{Pattern, anything, pattern_meant, rule_meant}
+use Rattle.play_meaning.specs.Patterns.{pattern_meant, rule_meant}
 use Rattle.play_meaning.specs.declared.tree.rule.MeantRule.{MeantRule}
-use Rattle.play_meaning.specs.Rules.{Rule}
-use Rattle.play_meaning.specs.Trees.{Text}
+use Rattle.play_meaning.specs.Rules.{Anything, Aspect, Exactly, OfKind, Rule}
+use Rattle.play_meaning.specs.Trees.{Adjective, NotSo, Quality, Text, Touchable, Visible}
+use Rattle.i7_actions.specs.Actions.{standard_actions}
+use Rattle.i7_actions.specs.declared.action.Action.{Action}
+use Rattle.i7_conditions.specs.There.{AreThere, Counts}
+use Rattle.i7_patterns.specs.There.{AsksWhatIs, is_aspect_of, is_one_of, is_quality_of}
 use Rattle.i7_rules.specs.Knowns.{Known}
 use Rattle.i7_rules.specs.RuleList.{Placed, RuleAt, placed, rules_in}
-use Rattle.i7_rules.specs.Rules.{IsBook, IsWithin, heading}
+use Rattle.i7_rules.specs.Heads.{IsBook, IsWithin, heading}
+use Rattle.i7_rules.proofs.Present.{head_there, scene_there}
 use Rattle.i7_rules.specs.SourceRules.{AreTold, IsOver, IsRulesFound, IsTold, most_rules}
 use Rattle.i7_rules.specs.declared.source_rules.RulesFound.{RulesFound}
 use Rattle.i7_rules.specs.declared.source_rules.RulesFound.TheVariants as ruled
@@ -31,10 +36,10 @@ use Rattle.i7_resolution.specs.declared.resolution.Resolution.TheVariants as res
 use Rattle.i7_resolution.specs.declared.resolution.Resolved.{Resolved}
 use Rattle.i7_resolution.specs.declared.source_texts.TextsFound.{TextsFound}
 use Rattle.i7_resolution.specs.declared.source_texts.TextsFound.TheVariants as found
-use Rattle.story_format.specs.Holding.{is_asked, is_of, is_there, named_by, named_in}
+use Rattle.story_format.specs.Holding.{Named, is_asked, is_of, is_property, is_there, named_by, named_in}
 use Rattle.story_format.specs.RuleMaking.{book_count}
 use Rattle.story_file.specs.Meanings.{AreMeant, known_said}
-use Rattle.story_file.proofs.Counted.{rulebooks_counted, scenes_counted}
+use Rattle.story_file.proofs.Counted.{counts_of, names_are_there, rulebooks_counted, scenes_counted}
 
 -- ---- what is told of the rules
 
@@ -87,62 +92,106 @@ list_all_back p (x ∷ xs) all =
     let t = both_are (p x) (list_all p xs) all in
     ap (list_all p) (reverse_onto xs x []) ∙ list_all-append p (reverse xs) (x ∷ []) ∙ both (list_all p (reverse xs)) (p x && true) (list_all_back p xs t.1) (both (p x) true t.0 refl)
 
-module _ (k : Known) (d : Declared) (books : length k.rulebooks ≡ d.rulebooks) (scenes : k.scenes ≡ length d.scenes) where
+-- ---- what is asked for is there, as a story file has it
+
+same_number : (count : ℕ) (n : Option ℕ) → is_there count n ≡ is_one_of count n
+same_number count None = refl
+same_number count (Some n) = refl
+
+module _ (z : Named) (y : Counts) (objects : z.objects ≡ y.objects) (kinds : z.kinds ≡ y.kinds) (flags : z.flags ≡ y.qualities) where
+  same_adjective : (a : Adjective) → is_property z.flags a ≡ is_quality_of y a
+  same_adjective (Quality p side) = ap (λ (n : ℕ). nat_lt p n) flags
+  same_adjective Visible = refl
+  same_adjective Touchable = refl
+  same_adjective (NotSo (Quality p side)) = ap (λ (n : ℕ). nat_lt p n) flags
+  same_adjective (NotSo _) = refl
+  same_adjective _ = refl
+
+  same_adjectives : (all : List Adjective) → list_all (is_property z.flags) all ≡ list_all (is_quality_of y) all
+  same_adjectives [] = refl
+  same_adjectives (a ∷ all) = ap (λ (b : Bool). b && list_all (is_property z.flags) all) (same_adjective a) ∙ ap (λ (b : Bool). is_quality_of y a && b) (same_adjectives all)
+
+  same_aspect : (x : Aspect) → is_asked z x ≡ is_aspect_of y x
+  same_aspect Anything = refl
+  same_aspect (Exactly o) = ap (λ (n : ℕ). nat_lt o n) objects
+  same_aspect (OfKind kind all) =
+      ap (λ (n : ℕ). nat_lt kind n && (nat_le (length all) 9 && list_all (is_property z.flags) all)) kinds
+      ∙ ap (λ (b : Bool). nat_lt kind y.kinds && (nat_le (length all) 9 && b)) (same_adjectives all)
+
+sixteen : length standard_actions ≡ 16
+unfolding standard_actions
+sixteen = refl
+
+module _ (k : Known) (d : Declared) (y : Counts) (there : AreThere y k.meanings k.plurals) (actions : k.actions ≡ standard_actions) (books : length k.rulebooks ≡ d.rulebooks) (scenes : k.scenes ≡ length d.scenes)
+    (kinds : length d.kinds ≡ y.kinds) (flags : length d.flags ≡ y.qualities) (happen : length d.scenes ≡ y.scenes) where
   book_below : (book : RuleBook) (number : ℕ) → IsBook k book number → number < book_count d
+  book_below named.Before number is = omega (arith, is)
+  book_below named.Instead number is = omega (arith, is)
+  book_below named.Check number is = omega (arith, is)
+  book_below named.CarryOut number is = omega (arith, is)
+  book_below named.After number is = omega (arith, is)
+  book_below named.Report number is = omega (arith, is)
   book_below named.EveryTurn number is = omega (arith, is)
   book_below named.PlayBegins number is = omega (arith, is)
+  book_below (named.SceneBegins words) number is = omega (arith, is.2, scene_there k y there words is.0 is.1, happen)
+  book_below (named.SceneEnds words) number is = omega (arith, is.2, scene_there k y there words is.0 is.1, happen)
   book_below (named.Own words) number is = omega (arith, is.numbered, there_below k.rulebooks is.k is.name is.at, books, scenes)
 
-  -- of a book that there is, and about nothing
+  -- of a book that there is, about what there is
   abbrev is_of_tale : ℕ → SourceRule → Bool
   is_of_tale objects told = is_of (named_by d objects) (rule_meant told.rule)
 
-  bare_of : (objects : ℕ) (rule : MeantRule) → rule.head.book < book_count d → pattern_meant rule.head.pattern ≡ anything → is_of (named_by d objects) (rule_meant rule) ≡ true
+  asking_of : (objects : ℕ) → objects ≡ y.objects → (rule : MeantRule) → rule.head.book < book_count d → AsksWhatIs y (length k.actions) (pattern_meant rule.head.pattern)
+      → is_of (named_by d objects) (rule_meant rule) ≡ true
   unfolding is_of
-  bare_of objects rule book about =
+  asking_of objects counted rule book asks =
       let z = named_by d objects in
+      let about = pattern_meant rule.head.pattern in
+      let same = same_aspect z y counted kinds flags in
       rw (
         lt-ltb rule.head.book (book_count d) book,
-        ap (λ (p : Pattern). is_there 16 p.action) about,
-        ap (λ (p : Pattern). is_asked z p.noun) about,
-        ap (λ (p : Pattern). is_asked z p.second) about,
-        ap (λ (p : Pattern). is_asked z p.place) about,
-        ap (λ (p : Pattern). is_there z.scenes p.scene) about,
+        same_number 16 about.action ∙ ap (λ (n : ℕ). is_one_of n about.action) (sym (ap (λ (all : List Action). length all) actions ∙ sixteen)) ∙ asks.action,
+        same about.noun ∙ asks.noun,
+        same about.second ∙ asks.second,
+        same about.place ∙ asks.place,
+        same_number z.scenes about.scene ∙ ap (λ (n : ℕ). is_one_of n about.scene) happen ∙ asks.scene,
       ) refl
 
-  told_of : (objects : ℕ) (r : RuleAt) (told : SourceRule) → IsTold k r told → is_of_tale objects told ≡ true
-  told_of objects r told is =
+  told_of : (objects : ℕ) → objects ≡ y.objects → (r : RuleAt) (told : SourceRule) → IsTold k r told → is_of_tale objects told ≡ true
+  told_of objects counted r told is =
       let head : IsWithin k r.rule (heading told.rule.head) = (is.rule).0 in
-      bare_of objects told.rule (book_below r.rule.book told.rule.head.book (head.0).book) (head.0).about
+      asking_of objects counted told.rule (book_below r.rule.book told.rule.head.book (head.0).book) (head_there k y there r.rule (heading told.rule.head) head)
 
-  all_of : (objects : ℕ) (rules : List RuleAt) (told : List SourceRule) → AllZip (IsTold k) rules told → list_all (is_of_tale objects) told ≡ true
-  all_of objects [] [] each = refl
-  all_of objects [] (one ∷ told) each = absurd each
-  all_of objects (rule ∷ rules) [] each = absurd each
-  all_of objects (rule ∷ rules) (one ∷ told) each = both (is_of_tale objects one) (list_all (is_of_tale objects) told) (told_of objects rule one each.0) (all_of objects rules told each.1)
+  all_of : (objects : ℕ) → objects ≡ y.objects → (rules : List RuleAt) (told : List SourceRule) → AllZip (IsTold k) rules told → list_all (is_of_tale objects) told ≡ true
+  all_of objects counted [] [] each = refl
+  all_of objects counted [] (one ∷ told) each = absurd each
+  all_of objects counted (rule ∷ rules) [] each = absurd each
+  all_of objects counted (rule ∷ rules) (one ∷ told) each =
+      both (is_of_tale objects one) (list_all (is_of_tale objects) told) (told_of objects counted rule one each.0) (all_of objects counted rules told each.1)
 
   tested : (objects : ℕ) (told : List SourceRule) → list_all (is_of (named_by d objects)) (map (λ one. rule_meant one.rule) told) ≡ list_all (is_of_tale objects) told
   tested objects [] = refl
   tested objects (one ∷ told) = ap (λ (b : Bool). is_of_tale objects one && b) (tested objects told)
 
-  told_rules_of : (objects : ℕ) (rules : List RuleAt) (told : List SourceRule) → AllZip (IsTold k) rules (reverse told)
+  told_rules_of : (objects : ℕ) → objects ≡ y.objects → (rules : List RuleAt) (told : List SourceRule) → AllZip (IsTold k) rules (reverse told)
       → list_all (is_of (named_by d objects)) (map (λ one. rule_meant one.rule) told) ≡ true
-  told_rules_of objects rules told each =
-      tested objects told ∙ ap (list_all (is_of_tale objects)) (sym (reverse-reverse told)) ∙ list_all_back (is_of_tale objects) (reverse told) (all_of objects rules (reverse told) each)
+  told_rules_of objects counted rules told each =
+      tested objects told ∙ ap (list_all (is_of_tale objects)) (sym (reverse-reverse told)) ∙ list_all_back (is_of_tale objects) (reverse told) (all_of objects counted rules (reverse told) each)
 
 -- ---- all of it
 
 pub few_rules : (sentences : List Sentence) (tale : Tale) (texts : List Text) (rules : List Rule) → AreMeant sentences tale texts rules → length rules ≤ 1939
 few_rules sentences tale texts rules meant =
     let is = meant.resolved_is in
-    let told = told_by (known_said sentences) sentences is.rules is.texts meant.resolved is.told_is is.rules_are in
-    let few = few_told (known_said sentences) (reverse (rules_in sentences)) meant.resolved.rules.items told in
+    let told = told_by (known_said sentences tale) sentences is.rules is.texts meant.resolved is.told_is is.rules_are in
+    let few = few_told (known_said sentences tale) (reverse (rules_in sentences)) meant.resolved.rules.items told in
     subst (λ (all : List Rule). length all ≤ 1939) (sym meant.rules_are) (omega (arith, few, length-map meant.resolved.rules.items (λ (one : SourceRule). rule_meant one.rule)))
 
--- of books that there are, and about nothing but their conditions
+-- of books that there are, about what there is
 pub rules_named : (sentences : List Sentence) (tale : Tale) (texts : List Text) (rules : List Rule) → AreMeant sentences tale texts rules → list_all (is_of (named_in tale)) rules ≡ true
 rules_named sentences tale texts rules meant =
     let is = meant.resolved_is in
-    let told = told_by (known_said sentences) sentences is.rules is.texts meant.resolved is.told_is is.rules_are in
+    let told = told_by (known_said sentences tale) sentences is.rules is.texts meant.resolved is.told_is is.rules_are in
     subst (λ (all : List Rule). list_all (is_of (named_in tale)) all ≡ true) (sym meant.rules_are)
-    (told_rules_of (known_said sentences) tale.declared (rulebooks_counted sentences tale meant.tale_is) (scenes_counted sentences tale meant.tale_is) (length tale.objects) (reverse (rules_in sentences)) meant.resolved.rules.items told.each)
+    (told_rules_of (known_said sentences tale) tale.declared (counts_of sentences tale) (names_are_there sentences tale meant.tale_is) refl (rulebooks_counted sentences tale meant.tale_is)
+    (scenes_counted sentences tale meant.tale_is) refl refl refl (length tale.objects) refl (reverse (rules_in sentences)) meant.resolved.rules.items told.each)

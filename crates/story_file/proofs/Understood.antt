@@ -17,7 +17,8 @@ use Rattle.i7_resolution.specs.declared.resolution.Resolved.{Resolved}
 use Rattle.i7_resolution.specs.declared.source_texts.SourceText.{SourceText}
 use Rattle.i7_resolution.specs.declared.source_texts.TextsFound.{TextsFound}
 use Rattle.i7_resolution.specs.declared.source_texts.TextsFound.TheVariants as found
-use Rattle.i7_rules.specs.Knowns.{Known}
+use Rattle.i7_conditions.specs.Scopes.{Scope}
+use Rattle.i7_rules.specs.Knowns.{Known, scope_among}
 use Rattle.i7_rules.specs.declared.source_rules.RulesFound.{RulesFound}
 use Rattle.i7_rules.specs.declared.source_rules.RulesFound.TheVariants as ruled
 use Rattle.i7_sentences.proofs.Sameness.{all_there}
@@ -92,29 +93,29 @@ told_of k sentences (ruled.Refused fault) (found.Refused other) resolved told ar
 abbrev Never : (TextAt → ℕ → Type 0) → TextAt → Type 0
 Never Bad t = (line : ℕ) → Bad t line → ⊥
 
-can_be_read : (k : Known) (texts : List TextAt) (told : List SourceText) (bytes : List ℕ) → AreTold k texts told → IsAmong texts bytes → CanBeRead k bytes
+can_be_read : (k : Known) (texts : List TextAt) (told : List SourceText) (bytes : List ℕ) → AreTold k texts told → IsAmong texts bytes → CanBeRead (scope_among k []) bytes
 can_be_read k texts told bytes are among =
     let known = all_there (Never (IsUnknown k)) among.before among.text among.behind (subst (All (Never (IsUnknown k))) among.parts are.known) in
     let within = all_there (Never (IsOver k)) among.before among.text among.behind (subst (All (Never (IsOver k))) among.parts are.within) in
-    subst (CanBeRead k) among.bytes_are (record {
+    subst (CanBeRead (scope_among k [])) among.bytes_are (record {
       known = λ unread. known among.text.line (record { unread = unread; line_is = refl });
       within = λ text says over. within among.text.line (record { text = text; says = says; over = over; line_is = refl });
     })
 
 -- ---- the objects of a tale
 
-by_number : (k : Known) (objects : List Object) → ((o : ℕ) (object : Object) → slice_get objects o ≡ Some object → IsReadable k object.description) → AreReadable k objects
-by_number k [] each = tt
-by_number k (object ∷ objects) each = (each 0 object refl, by_number k objects (λ o other at. each (suc o) other at))
+by_number : (s : Scope) (objects : List Object) → ((o : ℕ) (object : Object) → slice_get objects o ≡ Some object → IsReadable s object.description) → AreReadable s objects
+by_number s [] each = tt
+by_number s (object ∷ objects) each = (each 0 object refl, by_number s objects (λ o other at. each (suc o) other at))
 
-readable_by : (k : Known) (description : Option (List ℕ)) → ((bytes : List ℕ) → description ≡ Some bytes → CanBeRead k bytes) → IsReadable k description
-readable_by k None each = tt
-readable_by k (Some bytes) each = each bytes refl
+readable_by : (s : Scope) (description : Option (List ℕ)) → ((bytes : List ℕ) → description ≡ Some bytes → CanBeRead s bytes) → IsReadable s description
+readable_by s None each = tt
+readable_by s (Some bytes) each = each bytes refl
 
-pub readable : DescriptionsAreWritten → (k : Known) (sentences : List Sentence) (tale : Tale) (resolved : Resolved) → tale_said sentences ≡ Ok tale → IsResolution k sentences (Understood resolved) → AreReadable k tale.objects
+pub readable : DescriptionsAreWritten → (k : Known) (sentences : List Sentence) (tale : Tale) (resolved : Resolved) → tale_said sentences ≡ Ok tale → IsResolution k sentences (Understood resolved) → AreReadable (scope_among k []) tale.objects
 readable law k sentences tale resolved means is =
     let told = told_of k sentences is.rules is.texts resolved is.told_is is.texts_are in
-    by_number k tale.objects (λ o object at. readable_by k object.description (λ bytes described.
+    by_number (scope_among k []) tale.objects (λ o object at. readable_by (scope_among k []) object.description (λ bytes described.
     let here : description_of tale o ≡ Some bytes = ap description_in at ∙ described in
     let written = law sentences tale o bytes means here in
     can_be_read k (reverse (texts_in sentences)) told.0 bytes told.1

@@ -1,6 +1,6 @@
 -- The tale that sentences mean, what its descriptions say, its rules, and what refuses sentences.
-use Rattle.std.specs.Prelude.{◌≡◌, ℕ, List, Ok, Err}
-use Rattle.std.specs.List.{AllZip, flat_map}
+use Rattle.std.specs.Prelude.{◌≡◌, ◌||◌, ℕ, List, [], Ok, Err}
+use Rattle.std.specs.List.{AllZip, flat_map, list_any}
 use Rattle.world_meaning.specs.declared.fault.Fault.{Fault}
 use Rattle.world_meaning.specs.declared.tale.Object.{Object}
 use Rattle.world_meaning.specs.declared.tale.Tale.{Tale}
@@ -8,10 +8,12 @@ use Rattle.play_meaning.specs.TranslatedScripts.{in_list}
 use Rattle.play_meaning.specs.Rules.{Rule}
 use Rattle.play_meaning.specs.Trees.{Text}
 use Rattle.i7_actions.specs.Actions.{standard_actions}
+use Rattle.i7_conditions.specs.Operators.{holds_operator}
+use Rattle.i7_conditions.specs.Scopes.{Scope}
 use Rattle.i7_kinds.specs.Tales.{tale_said}
 use Rattle.i7_names.specs.SourceNames.{names_in, rulebooks_in, scene_count}
 use Rattle.i7_resolution.specs.Resolutions.{IsResolution}
-use Rattle.i7_resolution.specs.SourceTexts.{Says as TextSays}
+use Rattle.i7_resolution.specs.SourceTexts.{SaysIn}
 use Rattle.i7_resolution.specs.declared.resolution.Resolution.TheVariants.{Refused, Says}
 use Rattle.i7_resolution.specs.declared.resolution.Resolved.{Resolved}
 use Rattle.i7_rules.specs.Knowns.{Known}
@@ -20,14 +22,26 @@ use Rattle.story_file.specs.Rules.{rules_told}
 
 -- ---- what rules and texts may name
 
-abbrev pub known_said : List Sentence → Known
-known_said sentences = record {
+-- where the sentences mean this tale
+abbrev pub known_said : List Sentence → Tale → Known
+known_said sentences tale = record {
   meanings = (names_in sentences).meanings;
   plurals = (names_in sentences).plurals;
   has_operators = (names_in sentences).has_operators;
   actions = standard_actions;
   rulebooks = rulebooks_in sentences;
   scenes = scene_count sentences;
+  parents = tale.declared.kinds;
+  objects = tale.objects;
+}
+
+-- what a text may name that describes: no repeat stands around it
+abbrev pub scope_said : List Sentence → Scope
+scope_said sentences = record {
+  meanings = (names_in sentences).meanings;
+  plurals = (names_in sentences).plurals;
+  repeats = [];
+  has_operators = (names_in sentences).has_operators || list_any holds_operator [];
 }
 
 -- ---- what descriptions say
@@ -37,8 +51,8 @@ abbrev pub descriptions_of : List Object → List (List ℕ)
 descriptions_of objects = flat_map (λ object. in_list object.description) objects
 
 -- what each of them says
-abbrev pub AreTexts : Known → List Object → List Text → Type 0
-AreTexts k objects texts = AllZip (TextSays k) (descriptions_of objects) texts
+abbrev pub AreTexts : Scope → List Object → List Text → Type 0
+AreTexts s objects texts = AllZip (SaysIn s) (descriptions_of objects) texts
 
 -- ---- the tale
 
@@ -47,17 +61,15 @@ AreTexts k objects texts = AllZip (TextSays k) (descriptions_of objects) texts
 pub record AreMeant (sentences : List Sentence) (tale : Tale) (texts : List Text) (rules : List Rule) : Type 0 where
   pub tale_is : tale_said sentences ≡ Ok tale
   pub resolved : Resolved
-  pub resolved_is : IsResolution (known_said sentences) sentences (Says resolved)
-  pub texts_are : AreTexts (known_said sentences) tale.objects texts
+  pub resolved_is : IsResolution (known_said sentences tale) sentences (Says resolved)
+  pub texts_are : AreTexts (scope_said sentences) tale.objects texts
   pub rules_are : rules ≡ rules_told resolved
-
-abbrev pub MeanSomeTale : List Sentence → Type 0
-MeanSomeTale sentences = (tale : Tale) × (tale_said sentences ≡ Ok tale)
 
 -- What rules and texts name, how much they hold, or how the lines of rules stand, refuses sentences that mean a tale.
 pub record AreUnresolved (sentences : List Sentence) (fault : Fault) : Type 0 where
-  pub meant : MeanSomeTale sentences
-  pub refused : IsResolution (known_said sentences) sentences (Refused fault)
+  pub tale : Tale
+  pub tale_is : tale_said sentences ≡ Ok tale
+  pub refused : IsResolution (known_said sentences tale) sentences (Refused fault)
 
 -- Sentences are refused for what they say of the world, or for their rules and texts.
 pub data AreRefused (sentences : List Sentence) (fault : Fault) : Type 0 where

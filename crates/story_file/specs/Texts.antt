@@ -5,21 +5,21 @@ use Rattle.world_meaning.specs.declared.tale.Object.{Object}
 use Rattle.play_meaning.specs.Meant.{text_meant}
 use Rattle.play_meaning.specs.Trees.{Text}
 use Rattle.play_meaning.specs.declared.tree.said.Text.{Text as Kept}
+use Rattle.i7_conditions.specs.Scopes.{Scope}
 use Rattle.i7_phrases.specs.Texts.{text_is_over}
-use Rattle.i7_resolution.specs.SourceTexts.{Says}
-use Rattle.i7_rules.specs.Knowns.{Known}
+use Rattle.i7_resolution.specs.SourceTexts.{SaysIn}
 
 -- the bytes say something, and nothing that holds more than the language allows
-pub record CanBeRead (k : Known) (bytes : List ℕ) : Type 0 where
-  pub known : ((text : Text) → Says k bytes text → ⊥) → ⊥
-  pub within : (text : Text) → Says k bytes text → text_is_over text ≡ true → ⊥
+pub record CanBeRead (s : Scope) (bytes : List ℕ) : Type 0 where
+  pub known : ((text : Text) → SaysIn s bytes text → ⊥) → ⊥
+  pub within : (text : Text) → SaysIn s bytes text → text_is_over text ≡ true → ⊥
 
-abbrev pub IsReadable : Known → Option (List ℕ) → Type 0
-IsReadable k None = Unit {0}
-IsReadable k (Some bytes) = CanBeRead k bytes
+abbrev pub IsReadable : Scope → Option (List ℕ) → Type 0
+IsReadable s None = Unit {0}
+IsReadable s (Some bytes) = CanBeRead s bytes
 
-abbrev pub AreReadable : Known → List Object → Type 0
-AreReadable k objects = AllByRecursion (λ object. IsReadable k object.description) objects
+abbrev pub AreReadable : Scope → List Object → Type 0
+AreReadable s objects = AllByRecursion (λ object. IsReadable s object.description) objects
 
 -- ---- as they are kept
 
@@ -27,6 +27,6 @@ abbrev pub texts_kept : List Kept → List Text
 texts_kept texts = map text_meant texts
 
 -- what a description says, if there is one, stands behind the texts so far
-abbrev pub AddsText : Known → Option (List ℕ) → List Kept → List Kept → Type 0
-AddsText k None texts more = more ≡ texts
-AddsText k (Some bytes) texts more = (text : Kept) × ((more ≡ texts ++ text ∷ []) × Says k bytes (text_meant text))
+abbrev pub AddsText : Scope → Option (List ℕ) → List Kept → List Kept → Type 0
+AddsText s None texts more = more ≡ texts
+AddsText s (Some bytes) texts more = (text : Kept) × ((more ≡ texts ++ text ∷ []) × SaysIn s bytes (text_meant text))

@@ -1,9 +1,9 @@
 //! From sentences to the tale that they mean, what its descriptions say, and its rules.
 ghost use Rattle.std.specs.Prelude.{◌≡◌, ◌⊎◌, Ok as Said, IfErr, IfOk};
 ghost use Rattle.i7_kinds.specs.Tales.{tale_said};
-ghost use Rattle.i7_resolution.specs.Resolutions.{IsResolution, known_in};
+ghost use Rattle.i7_resolution.specs.Resolutions.{IsResolution, known_in, scope_in};
 ghost use Rattle.world_meaning.specs.Faults.{out_of_memory};
-ghost use Rattle.story_file.specs.Meanings.{AreMeant, AreRefused, AreTexts, MeanSomeTale, known_said};
+ghost use Rattle.story_file.specs.Meanings.{AreMeant, AreRefused, AreTexts, known_said};
 ghost use Rattle.story_file.specs.Rules.{rules_kept, rules_told};
 ghost use Rattle.story_file.specs.Texts.{AreReadable, texts_kept};
 
@@ -25,17 +25,18 @@ pub struct Meant {
     pub rules: Vec<MeantRule>,
 }
 
-/// What the names of sentences stand for that mean a tale, and what is resolved of them.
+/// What the names of sentences stand for that mean this tale, and what is resolved of them.
 fn resolution_said(
     alloc: Global,
     sentences: &[Sentence],
+    tale: &Tale,
 ) -> Result<(SourceNames, Resolution), AllocError>
-    requires meant { MeanSomeTale sentences.now }
-    ensures names { IfOk result (λ found. known_in found.0 ≡ known_said sentences.now) }
-    ensures told { IfOk result (λ found. IsResolution (known_said sentences.now) sentences.now found.1) }
+    requires meant { tale_said sentences.now ≡ Said tale.now }
+    ensures names { IfOk result (λ found. known_in found.0 tale.now ≡ known_said sentences.now tale.now) }
+    ensures told { IfOk result (λ found. IsResolution (known_said sentences.now tale.now) sentences.now found.1) }
 {
     let names = names_in(alloc, sentences)?;
-    let told = resolution_of(alloc, &names, sentences)?;
+    let told = resolution_of(alloc, &names, tale, sentences)?;
     Ok((names, told))
 }
 
@@ -46,8 +47,8 @@ fn kept_of(
     tale: &Tale,
     resolved: Resolved,
 ) -> Result<(Vec<Text>, Vec<MeantRule>), AllocError>
-    requires { AreReadable (known_in names.now) tale.now.objects }
-    ensures texts { IfOk result (λ kept. AreTexts (known_in names.now) tale.now.objects (texts_kept kept.0.items)) }
+    requires { AreReadable (scope_in names.now) tale.now.objects }
+    ensures texts { IfOk result (λ kept. AreTexts (scope_in names.now) tale.now.objects (texts_kept kept.0.items)) }
     ensures rules { IfOk result (λ kept. rules_kept kept.1.items ≡ rules_told resolved) }
 {
     let texts = texts_of(alloc, names, tale.objects.as_slice())?;
@@ -65,7 +66,7 @@ fn meant_of(
     ensures meant { IfOk result (λ kept. AreMeant sentences.now tale.now (texts_kept kept.0.items) (rules_kept kept.1.items)) }
     ensures refused { IfErr result (λ fault. AreRefused sentences.now fault ⊎ (fault ≡ out_of_memory)) }
 {
-    let Ok((names, told)) = resolution_said(alloc, sentences) else {
+    let Ok((names, told)) = resolution_said(alloc, sentences, tale) else {
         return Err(Fault::OUT_OF_MEMORY);
     };
     match told {

@@ -1,6 +1,6 @@
 //! What the descriptions of a tale's objects say.
 ghost use Rattle.std.specs.Prelude.{◌≡◌, IfOk, OnOk};
-ghost use Rattle.i7_resolution.specs.Resolutions.{known_in};
+ghost use Rattle.i7_resolution.specs.Resolutions.{scope_in};
 ghost use Rattle.story_file.specs.Meanings.{AreTexts};
 ghost use Rattle.story_file.specs.Texts.{AddsText, AreReadable, IsReadable, texts_kept};
 
@@ -18,8 +18,8 @@ fn add_text(
     description: &Option<TextBytes>,
     texts: &mut Vec<Text>,
 ) -> Result<(), AllocError>
-    requires { IsReadable (known_in names.now) description.now }
-    ensures { OnOk result (AddsText (known_in names.now) description.now texts.old.items texts.new.items) }
+    requires { IsReadable (scope_in names.now) description.now }
+    ensures { OnOk result (AddsText (scope_in names.now) description.now texts.old.items texts.new.items) }
 {
     let Some(bytes) = description else {
         return Ok(());
@@ -36,8 +36,8 @@ pub fn texts_of(
     names: &SourceNames,
     objects: &[Object],
 ) -> Result<Vec<Text>, AllocError>
-    requires { AreReadable (known_in names.now) objects.now }
-    ensures { IfOk result (λ texts. AreTexts (known_in names.now) objects.now (texts_kept texts.items)) }
+    requires { AreReadable (scope_in names.now) objects.now }
+    ensures { IfOk result (λ texts. AreTexts (scope_in names.now) objects.now (texts_kept texts.items)) }
 {
     let mut texts = Vec::new(alloc);
     let mut rest = objects;

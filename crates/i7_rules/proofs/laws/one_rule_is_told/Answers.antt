@@ -8,4 +8,6 @@ returns c = one_told (record {
   block = c.one_block_is_opened.ensures;
   action = c.one_action_is_tried.ensures;
   book = c.one_book_is_followed.ensures;
+  pattern = c.one_pattern_is_meant.ensures;
+  place = c.one_place_is_meant.ensures;
 })

@@ -1,9 +1,9 @@
 use Rattle.std.proofs.lemmas.Result.{IfOk-weaker}
 use Rattle.i7_conditions.specs.Readings.{IsFoundAs}
 use Rattle.i7_rules.specs.Knowns.{known_of}
-use Rattle.i7_rules.specs.Rules.{AsksSo, IsAsked, found_asked, is_asked_over}
+use Rattle.i7_rules.specs.Heads.{AsksSo, IsAsked, found_asked, is_asked_over}
 use Rattle.i7_rules.proofs.Headed.{asked_at, not_asked}
-use Rattle.i7_rules.proofs.rule.asked.Goals as goal
+use Rattle.i7_rules.proofs.head.asked.Goals as goal
 
 pub returns-in-None : goal.returns-in-None
 returns-in-None c = not_asked (known_of c.args.known.now) c.args.rule.now.condition c.in-None.is
