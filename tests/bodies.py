@@ -71,7 +71,8 @@ def played(scratch, source):
     subprocess.run([program, "compile", path, story], check=True, timeout=10)
     data = story.read_bytes()
     t = tables(data)
-    asked = tables_of(source, sum(o["code"] != NONE16 for o in t["objects"]))
+    objects = [t["strings"][o["name"]].decode().lower() for o in t["objects"]]
+    asked = tables_of(source, sum(o["code"] != NONE16 for o in t["objects"]), objects)
     done = subprocess.run([program, "play", story], input=b"look\n", capture_output=True, timeout=10)
     said = opening(data)
     return ({name: t[name] for name in asked}, done.returncode, done.stdout, done.stderr), (asked, 0, said + said, b"")
