@@ -2,7 +2,8 @@
 """Does the body of each case of tests/bodies/phrases.json once, in the world of its story, and compares what it says and comes to; or
 why it is refused, as of the sources of tests/bodies/rules.rows (tests/row_files.py says how rows are written). The story of each
 source that is taken says what a plain reader of stories says: its tables 8 to 12 are those of the source (tests/rule_sources.py),
-its codes are sound, and the program plays it: it begins, and answers `look`, as the reader says.
+its codes are sound, and the program plays it: it begins, and answers `look`, as the reader says. So does that of a sample with
+rules of all heads.
 
 Use: tests/bodies.py PROGRAM [NAME..]    (the program of `i7story`; that of `rule_calls` stands beside it)
 NAME: only cases whose name begins so
@@ -25,6 +26,7 @@ program = pathlib.Path(sys.argv[1]).resolve()
 calls = program.parents[2] / "rule_calls/out/rule_calls"
 wanted = tuple(sys.argv[2:]) or ("",)
 folder = pathlib.Path(__file__).resolve().parent / "bodies"
+sample = folder.parents[1] / "stories/night-watch.i7"
 
 RESULTS = {"done": "Done", "no decision": "NoDecision", "success": "Success", "failure": "Failure"}
 
@@ -71,7 +73,8 @@ def played(scratch, source):
     subprocess.run([program, "compile", path, story], check=True, timeout=10)
     data = story.read_bytes()
     t = tables(data)
-    asked = tables_of(source, sum(o["code"] != NONE16 for o in t["objects"]))
+    objects = [t["strings"][o["name"]].decode().lower() for o in t["objects"]]
+    asked = tables_of(source, sum(o["code"] != NONE16 for o in t["objects"]), objects)
     done = subprocess.run([program, "play", story], input=b"look\n", capture_output=True, timeout=10)
     said = opening(data)
     return ({name: t[name] for name in asked}, done.returncode, done.stdout, done.stderr), (asked, 0, said + said, b"")
@@ -81,11 +84,11 @@ def answers():
     cases = [case for case in wanted_cases() if case[0].startswith(wanted)]
     for line, (name, _, answer) in zip(told([source for _, source, _ in cases]), cases, strict=True):
         yield name, readable(line), readable(answer)
+    taken = [(name, source) for name, source, answer in cases if not answer.startswith("refused")]
     with tempfile.TemporaryDirectory() as scratch:
-        for name, source, answer in cases:
-            if not answer.startswith("refused"):
-                found, asked = played(pathlib.Path(scratch), source)
-                yield f"{name}, its story", str(found), str(asked)
+        for name, source in [*taken, (sample.name, sample.read_text())]:
+            found, asked = played(pathlib.Path(scratch), source)
+            yield f"{name}, its story", str(found), str(asked)
 
 
 report("bodies", answers())

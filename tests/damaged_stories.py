@@ -19,8 +19,9 @@ program = pathlib.Path(sys.argv[1]).resolve()
 calls = program.parents[2] / "story_calls/out/story_calls"
 folder = pathlib.Path(__file__).resolve().parent
 source = folder / "rows/two_rooms/source.i7"
-# Every so many of the sources of tests/bodies.
+# Every so many of the sources of tests/bodies, and one whose rule is about an object, a kind and a scene.
 STEP = 90
+ABOUT_MUCH = "head-07"
 FAULTS = ["L1 BadMagic", "L2 BadVersion", "L3 Truncated", "L4 TooLong", "L5 BadTable", "L6 BadCode", "L7 BadOrder"]
 
 
@@ -82,7 +83,7 @@ def damaged_more(story, others):
 def some_bodies(scratch):
     """The stories of some of the sources of tests/bodies that are taken, each with its name."""
     taken = [case for case in json.loads((folder / "bodies/phrases.json").read_text()) if not case.get("refusal")]
-    for case in taken[::STEP]:
+    for case in [*taken[::STEP], *(case for case in taken if case["name"] == ABOUT_MUCH)]:
         (scratch / "source").write_bytes(case["source"].encode())
         yield case["name"], compiled(scratch / "source", scratch / "story")
 

@@ -1,7 +1,7 @@
 #!/usr/bin/env bash
 # Sources of the greatest length that are hard on a reader: each is answered within a second, and those of few
-# sentences, phrases and pieces of texts with at most 40 bytes of memory for each of theirs. And stories whose rules and codes are
-# hard on a loader: each plays or is refused within a second, as the first part of its name says.
+# sentences, phrases, pieces of texts and words of rules with at most 40 bytes of memory for each of theirs. And stories whose rules
+# and codes are hard on a loader: each plays or is refused within a second, as the first part of its name says.
 # Use: tests/hostile.sh PROGRAM
 set -u
 program=$(realpath "$1")
@@ -56,9 +56,16 @@ save_rule("rule_text_ifs", "Every turn, say \"", "[if x is y]a[end if]", "\".")
 save_rule("description_substitutions", "\"", "[x]", "\"")
 save_rule("rule_colons", "Every turn", ":", "")
 save_rule("rule_heads", "Every turn", " when x is y (this is the rule", "")
+save_rule("rule_places", "A tidy rule", " in the rule", ", rule fails.")
+save_rule("rule_patterns", "Before x", " during x when x is y", ", rule fails.")
+save_rule("rule_pattern_words", "Before taking", " x", ", rule fails.")
+save_rule("rule_adjectives", "Before taking", " lit", " thing, rule fails.")
+save_rule("rule_scenes", "When x", " begins", ", rule fails.")
 blocks = "".join("\t" * n + "if x is y:\n" for n in range(1, 700))
 open("rule_blocks.i7", "w").write(hall + "Every turn:\n" + blocks)
 open("rules_many.i7", "w").write(hall + "Every turn, rule fails.\n" * ((longest - len(hall)) // 24))
+open("rules_of_patterns.i7", "w").write(hall + "Before taking a lit thing in a dark room, rule fails.\n" * 1939)
+open("rules_unknown.i7", "w").write(hall + "Before taking x, rule fails.\n" * ((longest - len(hall)) // 29))
 rooms = "".join(f"Room{n} is north of Room{n - 1}. \"The walls of room {n} are bare and cold here.\"\n\n" for n in range(1, 980))
 open("rooms.i7", "w").write("Room0 is a room.\n\n" + rooms)
 open("long_rulebook.i7", "w").write("The Hall is a room. The " + "x" * 65536 + " rules is a rulebook.")
@@ -167,8 +174,8 @@ for source in *.i7; do
   want=1
   limit=$space
   case $source in
-    rooms.i7 | one_room.i7 | rule_phrases.i7) want=0 limit=unlimited ;;
-    closed_texts.i7 | rule_colons.i7 | rule_substitutions.i7 | rules_many.i7 | long_*) limit=unlimited ;;
+    rooms.i7 | one_room.i7 | rule_phrases.i7 | rules_of_patterns.i7) want=0 limit=unlimited ;;
+    closed_texts.i7 | rule_colons.i7 | rule_pattern_words.i7 | rule_substitutions.i7 | rules_many.i7 | long_*) limit=unlimited ;;
   esac
   (ulimit -v "$limit"; exec timeout 1 "$program" compile "$source" story) 2>err </dev/null
   status=$?

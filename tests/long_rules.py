@@ -25,6 +25,8 @@ RULES = {
     "inline ifs": ("Every turn:", "\n\tif the box is open, now the box is open; otherwise rule fails;", "\n\trule fails.", TOO_MANY),
     "substitutions": ('Every turn, say "', "[the score]", '".', TOO_MANY),
     "ifs of a text": ('Every turn, say "', "[if the box is open]a[end if]", '".', TOO_MANY),
+    "adjectives of a noun": ("Instead of taking", " not open", " containers, rule fails.", TOO_MANY),
+    "adjectives of a place": ("Every turn in", " dark", " rooms, rule fails.", TOO_MANY),
     # `is not not` has no reading
     "denials": ("Every turn when the box is", " not", ' open, say "a".', "refused\t3: C7 UnknownName"),
 }

@@ -1,6 +1,7 @@
 #!/usr/bin/env python3
 """Compiles the source of each row of tests/refused_sources/*.rows (tests/row_files.py says how a row is written): it is refused as
-its second field says, a line, a code and its name, or `taken`. The sources of tests/bodies are refused as is told there, or taken.
+its second field says, a line, a code and its name, or `taken`. The sources of tests/bodies are refused as is told there, or taken,
+and those of stories/ are taken.
 
 Use: tests/refused_sources.py PROGRAM"""
 import json
@@ -47,6 +48,8 @@ def answers():
             yield place, answer(source), wanted
     for place, source, refusal in told_of_bodies():
         yield place, answer(source), refusal or b"taken"
+    for path in sorted((folder.parents[1] / "stories").glob("*.i7")):
+        yield path.name, answer(path.read_bytes()), b"taken"
 
 
 with tempfile.TemporaryDirectory() as scratch:

@@ -250,4 +250,5 @@ def main():
     report("rule trees", ((name, line, row(TREES[name])) for name, line in zip(TREES, lines, strict=True)))
 
 
-main()
+if __name__ == "__main__":
+    main()

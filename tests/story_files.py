@@ -12,13 +12,15 @@ import subprocess
 import sys
 import tempfile
 
-from plain_stories import NONE16, STANDARD_RULES, Fault, has, opening, tables
+from plain_stories import NONE8, NONE16, STANDARD_RULES, Fault, has, opening, tables
 from row_files import report, rows_of
 
 program = pathlib.Path(sys.argv[1]).resolve()
 calls = program.parents[2] / "rule_calls/out/rule_calls"
 folder = pathlib.Path(__file__).resolve().parent / "story_files"
 CHANGE = re.compile(r"(\d+|end)([=+-])([\d,]+)")
+# what a rule is about that asks for no action, noun, second noun, place or scene
+NOTHING = "- - - - -"
 TWO_ROOMS = b"""The Hall is a room. "A bare hall."\n\nThe Garden is north of the Hall.\n"""
 
 
@@ -90,13 +92,27 @@ def numbers_of(told, asked):
     return " ".join(number_of(told, thing, number) for thing in told["objects"]).encode()
 
 
+def aspect_told(said):
+    """What a rule says of a noun or of the place: `-` for anything, an object's number, or a kind and its adjectives."""
+    if said[0] == 2:
+        return f"k{said[1]}" + "".join(f"+{flag}:{side}" for flag, side in said[2])
+    return str(said[1]) if said[0] == 1 else "-"
+
+
+def about_told(rule):
+    """What a rule is about."""
+    _, action, *nouns, scene, _, _ = rule
+    return " ".join(["-" if action == NONE8 else str(action), *map(aspect_told, nouns), "-" if scene == NONE8 else str(scene)])
+
+
 def rules_of(told):
     """What a row of rules tells of a story."""
     own = list(enumerate(told["rules"]))[STANDARD_RULES:]
     rules = [(rule[0], rule[6], rule[7][1], told["books"][rule[0]].index(number)) for number, rule in own]
     said = ", ".join(f"{book} {'-' if test == NONE16 else test} {body} {place}" for book, test, body, place in rules)
     scenes = " ".join(str(scene[0]) for scene in told["scenes"])
-    return [said or "-", str(len(told["books"])), scenes or "-"]
+    about = [about_told(rule) for _, rule in own]
+    return [said or "-", str(len(told["books"])), scenes or "-", *([", ".join(about)] if set(about) - {NOTHING} else [])]
 
 
 def rules_read(scratch, sources):
