@@ -31,7 +31,9 @@ fn status(rt: &HostRuntime) -> u8 {
     let Ok(args) = env::args(rt) else { return 4 };
     let words: Result<Vec<String>, _> = args.collect(rt.alloc());
     let Ok(words) = words else { return 4 };
-    let [_, path] = words.as_slice() else { return 4 };
+    let [_, path] = words.as_slice() else {
+        return 4
+    };
     match fs::read(rt, path.as_str()) {
         Ok(source) if tell(rt, source.as_slice()) => 0,
         _ => 4,
