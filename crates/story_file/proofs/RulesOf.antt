@@ -105,7 +105,6 @@ module _ (z : Named) (y : Counts) (objects : z.objects ≡ y.objects) (kinds : z
   same_adjective Touchable = refl
   same_adjective (NotSo (Quality p side)) = ap (λ (n : ℕ). nat_lt p n) flags
   same_adjective (NotSo _) = refl
-  same_adjective _ = refl
 
   same_adjectives : (all : List Adjective) → list_all (is_property z.flags) all ≡ list_all (is_quality_of y) all
   same_adjectives [] = refl

@@ -10,5 +10,5 @@ resolution_of-requires c =
     record {
       countable =
           subst (λ (books : List (List ℕ)). 8 + 2 * c.in_ok-names.names.scenes + length books ≤ 65535) (sym source.rulebooks)
-          (subst (λ (scenes : ℕ). 8 + 2 * scenes + length (rulebooks_in sentences) ≤ 65535) (sym source.scenes) (countable sentences c.args.tale.now c.requires));
+          (subst (λ (scenes : ℕ). 8 + 2 * scenes + length (rulebooks_in sentences) ≤ 65535) (sym source.scenes) (countable sentences c.args.tale.now c.requires.meant));
     }
