@@ -13,8 +13,9 @@ import subprocess
 import sys
 import tempfile
 
-from plain_stories import rules_written, start_of_rules
+from plain_stories import start_of_rules
 from rule_sources import tables_of
+from written_stories import rules_written
 
 program = str(pathlib.Path(sys.argv[1]).resolve())
 wanted = sys.argv[2] if len(sys.argv) > 2 else ""

@@ -6,14 +6,14 @@ program of `story_calls` must say it, and tell the same to `look`.
 
 Use: tests/damaged_stories.py PROGRAM    (the program of `i7story`; that of `story_calls` stands beside it)"""
 import json
-import os
 import pathlib
 import random
 import subprocess
 import sys
 import tempfile
 
-from plain_stories import Fault, crowded, furnished, opening, ruled
+from plain_stories import Fault, opening
+from written_stories import crowded, furnished, ruled
 
 program = pathlib.Path(sys.argv[1]).resolve()
 calls = program.parents[2] / "story_calls/out/story_calls"
