@@ -1,19 +1,17 @@
 -- What the names of a source stand for is there.
-use Rattle.std.proofs.Common.{◌≡◌, ℕ, zero, ◌-◌, ◌==◌, ◌<◌, ◌≤◌, length, Bool, true, false, List, [], ◌∷◌, refl, sym, ap, subst, arith, inl, inr}
+use Rattle.std.proofs.Common.{◌≡◌, ℕ, ◌-◌, ◌==◌, ◌<◌, length, Bool, true, false, List, [], ◌∷◌, refl, subst}
 use Rattle.std.specs.Prelude.{Option, None, Some, bytes_eq, codes, fold, if◌then◌else◌, nat_le, option_map, position}
 use Rattle.std.specs.Option.{option_or}
 use Rattle.std.proofs.lemmas.List.Quantifiers.{position-Some}
 use Rattle.world_meaning.specs.Spelling.{lowered}
-use Rattle.object_words.specs.Mentions.{mention}
 use Rattle.i7_sentences.specs.declared.sentence.Sentence.{Sentence}
-use Rattle.i7_conditions.specs.Meanings.{Meanings, Plurals, given, no_kinds, no_meanings, with_kind, with_meaning}
+use Rattle.i7_conditions.specs.Meanings.{given}
 use Rattle.i7_conditions.specs.There.{AreNamesThere, ArePluralsThere, Counts, IsThere}
 use Rattle.i7_conditions.specs.declared.meaning.Meaning.{Meaning}
 use Rattle.i7_conditions.specs.declared.meaning.Meaning.TheVariants as meaning
 use Rattle.i7_claims.specs.Claims.{claims_of}
 use Rattle.i7_claims.specs.Plurals.{plural_of}
 use Rattle.i7_claims.specs.Standings.{built_in_namings}
-use Rattle.i7_claims.specs.Statements.{named_by}
 use Rattle.i7_claims.specs.declared.claim.Claim.{Claim}
 use Rattle.i7_claims.specs.declared.claim.Fact.{Fact}
 use Rattle.i7_claims.specs.declared.claim.Fact.TheVariants.{Stands}
@@ -23,7 +21,7 @@ use Rattle.i7_claims.specs.declared.claim.Standing.TheVariants as stands
 use Rattle.play_meaning.specs.declared.tree.object.Side.TheVariants.{First, Second}
 use Rattle.i7_names.specs.Known.{Known, nothing_known, with_name, with_plural}
 use Rattle.i7_names.specs.Meant.{meaning_as, named_in, quality_on, with_claim, with_fact, with_naming}
-use Rattle.i7_names.specs.Numbering.{Numbering, numbering_by, numbering_of}
+use Rattle.i7_names.specs.Numbering.{Numbering, numbering_of}
 use Rattle.i7_names.specs.Numbers.{at_most, object_number, small_number}
 use Rattle.i7_names.specs.PluralNames.{with_irregular, with_plurals, with_regular}
 use Rattle.i7_names.specs.SourceNames.{known_by, known_in, names_in}

@@ -1,7 +1,7 @@
 -- What words ask for is there where what names stand for is.
-use Rattle.std.proofs.Common.{◌≡◌, ℕ, ◌+◌, ◌<◌, ◌≤◌, Bool, true, false, List, [], ◌∷◌, length, take, drop, map, refl, sym, ap, ◌∙◌, subst, arith, inl, inr}
+use Rattle.std.proofs.Common.{◌≡◌, ℕ, ◌+◌, ◌<◌, Bool, true, false, List, [], ◌∷◌, length, take, drop, map, refl, sym, ap, ◌∙◌, subst, arith, inl, inr}
 use Rattle.std.specs.Prelude.{◌&&◌, ◌||◌, Option, Some, None, codes, if◌then◌else◌, nat_le, nat_lt}
-use Rattle.std.specs.List.{list_all, slice_get}
+use Rattle.std.specs.List.{list_all}
 use Rattle.std.specs.Option.{option_or}
 use Rattle.std.proofs.lemmas.Bool.{lt-ltb}
 use Rattle.std.proofs.lemmas.Grind.{common_steps}
@@ -10,7 +10,7 @@ use Rattle.world_meaning.proofs.Bools.{both, both_are}
 use Rattle.world_meaning.specs.Spelling.{is_spelled}
 use Rattle.play_meaning.specs.Meant.{adjective_meant, denied_if, quality_meant}
 use Rattle.play_meaning.specs.Patterns.{Pattern}
-use Rattle.play_meaning.specs.Rules.{Anything, Aspect, Exactly, OfKind}
+use Rattle.play_meaning.specs.Rules.{Anything, Aspect, OfKind}
 use Rattle.play_meaning.specs.Trees.{The}
 use Rattle.play_meaning.specs.declared.tree.object.Adjective.{Adjective}
 use Rattle.play_meaning.specs.declared.tree.object.Quality.{Quality}
@@ -20,9 +20,9 @@ use Rattle.i7_actions.specs.declared.action.NounCount.{NounCount}
 use Rattle.i7_actions.specs.declared.action.NounCount.TheVariants.{Zero, One, Two}
 use Rattle.i7_conditions.specs.Adjectives.{adjective_by, adjective_named, fixed_quality, in_kind, in_kinds, in_qualities, in_quality, kind_known, kind_named, quality_known, quality_named, something}
 use Rattle.i7_conditions.specs.Cuts.{IsMeant}
-use Rattle.i7_conditions.specs.Marks.{has_from, mark_named, marks_behind, marks_beyond, marks_of, opening_and_rest, opens_with, split_opening}
+use Rattle.i7_conditions.specs.Marks.{has_from, mark_named, marks_behind, marks_beyond, opening_and_rest, opens_with}
 use Rattle.i7_conditions.specs.Objects.{Means}
-use Rattle.i7_conditions.specs.Plain.{fixed, in_meaning, in_meanings, known_as, of_words, plainly_named, turning}
+use Rattle.i7_conditions.specs.Plain.{fixed, in_meaning, in_meanings, known_as, plainly_named, turning}
 use Rattle.i7_conditions.specs.Scopes.{Scope}
 use Rattle.i7_conditions.specs.There.{AreThere, Counts, IsThere}
 use Rattle.i7_conditions.specs.Words.{Word, beyond_of, is_not, key_of, without_article}
@@ -30,9 +30,9 @@ use Rattle.i7_conditions.specs.declared.mark.Mark.{Mark}
 use Rattle.i7_conditions.specs.declared.mark.Mark.TheVariants as mark
 use Rattle.i7_conditions.specs.declared.meaning.Meaning.{Meaning}
 use Rattle.i7_conditions.specs.declared.meaning.Meaning.TheVariants as meaning
-use Rattle.i7_patterns.specs.Actions.{Aspects, AsksAt, AsksBy, AsksFirst, AsksLast, AsksPlace, Nouns}
+use Rattle.i7_patterns.specs.Actions.{Aspects, AsksBy, AsksFirst, AsksLast, AsksPlace, Nouns}
 use Rattle.i7_patterns.specs.Aspects.{AsksKind, AsksNoun, AsksObject, AsksOne, is_either_or, is_either_or_quality}
-use Rattle.i7_patterns.specs.Patterns.{AsksAction, AsksAnything, IsPattern, pattern_is_over, pattern_of}
+use Rattle.i7_patterns.specs.Patterns.{IsPattern, pattern_is_over, pattern_of}
 use Rattle.i7_patterns.specs.Places.{is_long}
 use Rattle.i7_patterns.specs.There.{AsksWhatIs, is_aspect_of, is_one_of, is_quality_of}
 

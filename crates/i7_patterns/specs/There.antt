@@ -1,5 +1,5 @@
 -- Patterns that ask for what is there, and of which no noun has too many adjectives.
-use Rattle.std.specs.Prelude.{◌≡◌, ℕ, Bool, true, false, ◌&&◌, nat_le, nat_lt, List, length, Option, Some, None}
+use Rattle.std.specs.Prelude.{◌≡◌, ℕ, Bool, true, false, ◌&&◌, nat_le, nat_lt, length, Option, Some, None}
 use Rattle.std.specs.List.{list_all}
 use Rattle.play_meaning.specs.Patterns.{Pattern}
 use Rattle.play_meaning.specs.Rules.{Anything, Aspect, Exactly, OfKind}

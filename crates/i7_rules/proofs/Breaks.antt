@@ -1,6 +1,6 @@
 -- A text with a line break behind its parts.
 use Rattle.std.proofs.Common.{◌≡◌, List, refl, ap, sym, ◌∙◌}
-use Rattle.std.specs.Prelude.{ℕ, [], ◌∷◌, ◌++◌}
+use Rattle.std.specs.Prelude.{[], ◌∷◌, ◌++◌}
 use Rattle.play_meaning.specs.Meant.{parts_meant, piece_meant, said_meant}
 use Rattle.play_meaning.specs.Trees as tree
 use Rattle.play_meaning.specs.declared.tree.said.Piece.{Piece}

@@ -1,7 +1,6 @@
 -- What is found of rules is what they are, by what is found of their heads and of their bodies.
 use Rattle.std.proofs.Common.{◌≡◌, ◌+◌, ◌*◌, ℕ, Bool, true, false, List, [], refl, sym, subst, ◌∙◌, inl, inr}
 use Rattle.std.specs.Prelude.{◌||◌, Option, None, Some, reverse}
-use Rattle.world_meaning.specs.declared.tale.Object.{Object}
 use Rattle.i7_sentences.specs.declared.rule.Rule.{Rule}
 use Rattle.i7_sentences.specs.declared.rule.RuleBook.{RuleBook}
 use Rattle.i7_sentences.specs.declared.rule.RuleBook.TheVariants as named

@@ -1,7 +1,7 @@
 -- No sentences have two answers about their rules.
-use Rattle.std.proofs.Common.{◌≡◌, ℕ, ◌+◌, ◌<◌, ◌≤◌, List, [], ◌∷◌, ◌++◌, refl, sym, ap, ◌∙◌, subst, arith, inl, inr}
+use Rattle.std.proofs.Common.{◌≡◌, ℕ, List, [], ◌∷◌, ◌++◌, refl, sym, ap, ◌∙◌}
 use Rattle.std.specs.Prelude.{map, reverse}
-use Rattle.std.specs.List.{AllZip, All as AllOf}
+use Rattle.std.specs.List.{AllZip}
 use Rattle.std.proofs.lemmas.Grind.{reverse_onto}
 use Rattle.std.proofs.lemmas.List.{map-append, reverse-reverse}
 use Rattle.world_meaning.specs.declared.fault.FaultCode.{FaultCode}
@@ -16,7 +16,7 @@ use Rattle.i7_conditions.specs.declared.line.Line.{Line}
 use Rattle.i7_rules.specs.Bodies.{IsBodyOf}
 use Rattle.i7_rules.specs.Knowns.{Known}
 use Rattle.i7_rules.specs.RuleList.{Placed, RuleAt, placed, rules_in}
-use Rattle.i7_rules.specs.Heads.{Head, IsWithin, heading}
+use Rattle.i7_rules.specs.Heads.{IsWithin, heading}
 use Rattle.i7_rules.specs.RulesMeant.{All, Refused, RuleMeant, RulesMeant, rule_meant, rules_meant}
 use Rattle.i7_rules.specs.SourceRules.{AreFound, AreTold, IsMisplaced, IsNamedTwice, IsOver, IsRulesFound, IsTold, IsUnknown, IsUnnested, Stands}
 use Rattle.i7_rules.specs.declared.source_rules.RulesFound.{RulesFound}

@@ -1,5 +1,5 @@
 -- A head says one thing at most.
-use Rattle.std.proofs.Common.{◌≡◌, ℕ, ◌+◌, ◌<◌, ◌≤◌, List, [], true, false, sym, ap, ◌∙◌, true≢false, inl, inr}
+use Rattle.std.proofs.Common.{◌≡◌, ℕ, ◌+◌, ◌<◌, List, [], true, false, sym, ap, ◌∙◌, true≢false, inl, inr}
 use Rattle.std.specs.Prelude.{Option, None, Some}
 use Rattle.std.proofs.lemmas.Bool.{cases_lt}
 use Rattle.i7_sentences.specs.declared.rule.Rule.{Rule}
@@ -9,14 +9,13 @@ use Rattle.i7_sentences.specs.declared.rule.RuleSubject.{RuleSubject}
 use Rattle.i7_sentences.specs.declared.rule.RuleSubject.TheVariants as subject
 use Rattle.play_meaning.specs.Turns.{begins_book, ends_book}
 use Rattle.i7_actions.specs.Books.{IsOwn, first_own}
-use Rattle.i7_conditions.specs.Clauses.{scene_named}
 use Rattle.i7_conditions.specs.Conditions.{IsCondition}
 use Rattle.i7_conditions.specs.Words.{Word}
 use Rattle.i7_conditions.proofs.Listing.{IsOnce, made_once, two_once}
 use Rattle.i7_conditions.proofs.Once.{condition_once}
 use Rattle.i7_patterns.specs.Aspects.{AsksOne}
-use Rattle.i7_rules.specs.Abouts.{Happens, HappensSo, IsAbout, IsScene, IsSubject, during, in_place}
-use Rattle.i7_rules.specs.Heads.{Head, IsAsked, IsBook, IsHead, IsMisplaced, IsOver, head_is_over, head_is_right}
+use Rattle.i7_rules.specs.Abouts.{Happens, IsAbout, IsScene, IsSubject, during, in_place}
+use Rattle.i7_rules.specs.Heads.{Head, IsAsked, IsBook, IsHead, IsMisplaced, head_is_over, head_is_right}
 use Rattle.i7_rules.specs.Knowns.{Known, scope_among}
 use Rattle.i7_rules.proofs.Lows.{both_ways}
 use Rattle.i7_rules.proofs.Once.{AreOnce}

@@ -1,6 +1,6 @@
 -- Of a rule one thing is told: that it says something, or one line at which something is wrong.
-use Rattle.std.proofs.Common.{◌≡◌, ℕ, true, false, List, [], ◌∷◌, ◌++◌, refl, sym, ap, ◌∙◌, subst, true≢false, inl, inr}
-use Rattle.std.specs.Prelude.{Option, None, Some, reverse}
+use Rattle.std.proofs.Common.{◌≡◌, ℕ, false, List, [], ◌∷◌, ◌++◌, refl, sym, ap, ◌∙◌, subst, true≢false, inl, inr}
+use Rattle.std.specs.Prelude.{reverse}
 use Rattle.std.specs.List.{AllZip}
 use Rattle.std.proofs.lemmas.Grind.{reverse_onto}
 use Rattle.std.proofs.lemmas.List.{reverse-reverse}
@@ -14,7 +14,7 @@ use Rattle.i7_conditions.specs.declared.line.Line.{Line}
 use Rattle.i7_rules.specs.Bodies.{AreLines, AreUnderstood, IsBodyOf, IsLine, IsNoBody, IsOver as IsPhraseOver, IsOverAt, IsUnknownAt}
 use Rattle.i7_rules.specs.Knowns.{Known, repeats_around, scope_among}
 use Rattle.i7_rules.specs.Lines.{is_over_behind, stated_in}
-use Rattle.i7_rules.specs.Heads.{HasHead, HasHeadWithin, Head, IsHead, IsMisplaced, IsOver, IsWithin, head_is_over, head_is_right, heading}
+use Rattle.i7_rules.specs.Heads.{HasHead, HasHeadWithin, Head, IsHead, IsMisplaced, IsOver, IsWithin, head_is_over, heading}
 use Rattle.i7_rules.specs.Rules.{IsRuleFound, fault_at, fault_in}
 use Rattle.play_meaning.specs.declared.tree.rule.MeantRule.{MeantRule}
 use Rattle.i7_rules.specs.declared.rule.RuleFound.{RuleFound}

@@ -2,12 +2,11 @@
 use Rattle.std.proofs.Common.{◌≡◌, ◌<◌, ℕ, true, false, List, [], length, refl, sym, ap, ◌∙◌, subst}
 use Rattle.std.specs.Prelude.{Option, None, Some, ◌||◌, Bool}
 use Rattle.std.proofs.lemmas.Bool.{lt-ltb}
-use Rattle.play_meaning.specs.Patterns.{Pattern, anything}
-use Rattle.play_meaning.specs.Rules.{Anything, Aspect}
+use Rattle.play_meaning.specs.Patterns.{Pattern}
 use Rattle.i7_sentences.specs.declared.rule.Rule.{Rule}
 use Rattle.i7_sentences.specs.declared.rule.RuleSubject.{RuleSubject}
 use Rattle.i7_sentences.specs.declared.rule.RuleSubject.TheVariants as subject
-use Rattle.i7_conditions.specs.Clauses.{scene_in, scene_named}
+use Rattle.i7_conditions.specs.Clauses.{scene_in}
 use Rattle.i7_conditions.specs.Keys.{known, plain_key}
 use Rattle.i7_conditions.specs.There.{AreThere, Counts, IsThere}
 use Rattle.i7_conditions.specs.Words.{Word}
@@ -16,7 +15,7 @@ use Rattle.i7_conditions.specs.declared.meaning.Meaning.TheVariants as meaning
 use Rattle.i7_patterns.specs.Patterns.{pattern_is_over}
 use Rattle.i7_patterns.specs.There.{AsksWhatIs, is_one_of}
 use Rattle.i7_patterns.proofs.Present.{one_there, patterns_there}
-use Rattle.i7_rules.specs.Abouts.{Happens, IsAbout, IsScene, IsSubject, during, in_place}
+use Rattle.i7_rules.specs.Abouts.{Happens, IsAbout, IsScene, IsSubject}
 use Rattle.i7_rules.specs.Heads.{Head, IsWithin, is_asked_over}
 use Rattle.i7_rules.specs.Knowns.{Known, scope_among}
 

@@ -6,7 +6,7 @@ use Rattle.world_meaning.specs.declared.fault.FaultCode.TheVariants.{NotUndersto
 use Rattle.object_words.specs.Mentions.{mention}
 use Rattle.i7_sentences.specs.Lowest.{IsLowest, IsNowhere, lower_of}
 use Rattle.i7_rules.specs.Knowns.{Known}
-use Rattle.i7_rules.specs.RuleList.{Placed, RuleAt, name_of, placed, standard_names}
+use Rattle.i7_rules.specs.RuleList.{RuleAt, name_of, placed, standard_names}
 use Rattle.i7_rules.specs.SourceRules.{HoldsTooMuch, IsMisplaced, IsTold, IsUnknown, IsUnnested}
 use Rattle.play_meaning.specs.declared.tree.rule.MeantRule.{MeantRule}
 use Rattle.i7_rules.specs.declared.rule.RuleFound.{RuleFound}

@@ -1,5 +1,5 @@
 -- No sentence lists two of a source's rules: so far none lists any.
-use Rattle.std.proofs.Common.{◌≡◌, ◌∙◌, ap, sym, subst, refl, Bool, true, ◌&&◌, List, [], ◌∷◌, map}
+use Rattle.std.proofs.Common.{◌≡◌, ◌∙◌, ap, sym, subst, refl, Bool, true, List, [], ◌∷◌, map}
 use Rattle.std.specs.Prelude.{reverse}
 use Rattle.std.specs.List.{AllZip, list_all}
 use Rattle.std.proofs.lemmas.List.{reverse-reverse}

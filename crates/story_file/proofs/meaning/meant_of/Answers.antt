@@ -1,7 +1,6 @@
 use Rattle.std.proofs.Common.{[], subst, sym}
 use Rattle.i7_kinds.proofs.Written.{written}
 use Rattle.i7_resolution.specs.Resolutions.{IsResolution}
-use Rattle.i7_conditions.specs.Scopes.{Scope}
 use Rattle.i7_rules.specs.Knowns.{Known, scope_among}
 use Rattle.story_file.specs.Meanings.{AreTexts, known_said}
 use Rattle.story_file.specs.Texts.{AreReadable, texts_kept}
