@@ -77,7 +77,8 @@ echo 'The Hall is a room. "A bare hall." The Garden is north of the Hall.' >two_
 "$program" compile two_rooms.source two_rooms || exit 1
 PYTHONPATH=$here python3 - <<'PY'
 import random
-from plain_stories import NONE8, NONE16, Cursor, rules_written, start_of_rules, table, tables, u
+from plain_stories import NONE8, NONE16, Cursor, start_of_rules, tables
+from written_stories import rules_written, table, u
 data = open("two_rooms", "rb").read()
 head = Cursor(data)
 head.take(6)

@@ -30,6 +30,12 @@ def rows_of(path):
             yield f"{path.name}:{number}", [written_out(field) for field in line.split(b"\t")]
 
 
+def digits_of(path):
+    """The bytes of a file of their hexadecimal digits, in which a line that begins with `#` says what stands below it."""
+    lines = path.read_text().splitlines()
+    return bytes.fromhex("".join(line for line in lines if not line.startswith("#")))
+
+
 def report(name, answers):
     """Counts answers, each a place, what is told and what is wanted, prints how they differ, and ends the program."""
     passed = failed = 0

@@ -13,7 +13,7 @@ import sys
 import tempfile
 
 from plain_stories import NONE8, NONE16, STANDARD_RULES, Fault, has, opening, tables
-from row_files import report, rows_of
+from row_files import digits_of, report, rows_of
 
 program = pathlib.Path(sys.argv[1]).resolve()
 calls = program.parents[2] / "rule_calls/out/rule_calls"
@@ -22,11 +22,6 @@ CHANGE = re.compile(r"(\d+|end)([=+-])([\d,]+)")
 # what a rule is about that asks for no action, noun, second noun, place or scene
 NOTHING = "- - - - -"
 TWO_ROOMS = b"""The Hall is a room. "A bare hall."\n\nThe Garden is north of the Hall.\n"""
-
-
-def digits_of(path):
-    lines = path.read_text().splitlines()
-    return bytes.fromhex("".join(line for line in lines if not line.startswith("#")))
 
 
 def changed(story, told):

@@ -6,19 +6,19 @@ Use: tests/worlds.py PROGRAM [FILE]    (the program of `i7story`; that of `world
 A row is a line: calls, `; ` in between, made one after the other on a world as the story begins, each with what it answers behind
 ` = `; one behind which nothing stands is to be made. The calls have the names of the methods of `World`, `Ground` and
 `GroundMut`, and the words of `crates/world_calls/src/names.rt`; that crate's `row.rt` says what `make`, `copy`, `other` and
-`agree` are. The story of FILE is that of the source of its name beside it, or that of its name in `sample_stories`, or the furnished
+`agree` are. The story of FILE is that of the source of its name beside it, or that of its name in tests/story_files, or the furnished
 one, and a line that begins with `#` says what the rows below it are about."""
 import pathlib
-import re
 import subprocess
 import sys
 import tempfile
+
+from row_files import digits_of
 
 compiler = pathlib.Path(sys.argv[1]).resolve()
 crates = compiler.parents[2]
 wanted_file = sys.argv[2] if len(sys.argv) > 2 else ""
 program = crates / "world_calls/out/world_calls"
-stories = crates / "sample_stories/src"
 folder = pathlib.Path(__file__).resolve().parent / "worlds"
 
 
@@ -37,13 +37,13 @@ def call_in(part):
 def story_of(path, scratch):
     """The story of a file, as `world_calls` is told it: that of a source, the bytes that are written there by hand, or the furnished
     one."""
-    written, story = stories / f"{path.stem}.rt", scratch / "story"
+    written, story = folder.parent / f"story_files/{path.stem}.hex", scratch / "story"
     if path.with_suffix(".i7").exists():
         subprocess.run([compiler, "compile", path.with_suffix(".i7"), story], check=True)
         return story
     if not written.exists():
         return "-"
-    story.write_bytes(bytes.fromhex("".join(re.findall(r"\b0x([0-9a-f]{2})\b", written.read_text()))))
+    story.write_bytes(digits_of(written))
     return story
 
 
