@@ -1,2 +1,4 @@
 mod OneAnswer
+mod OneListing
+mod ReadListings
 mod ReadTexts

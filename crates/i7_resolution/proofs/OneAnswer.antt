@@ -86,30 +86,3 @@ module _ (law : IsOneText) (k : Known) where
 
 pub texts_once : IsOneText → (k : Known) (sentences : List Sentence) (a b : TextsFound) → IsTextsFound k sentences a → IsTextsFound k sentences b → texts_meant a ≡ texts_meant b
 texts_once law k sentences a b one other = found_once law k (reverse (texts_in sentences)) a b one other
-
--- ---- both
-
-abbrev both_meant : RulesMeant → TextsMeant → ResolutionMeant
-both_meant (rules.All rs) (texts.All ts) = Both rs ts
-both_meant (rules.All rs) (texts.Refused fault) = Unresolved fault
-both_meant (rules.Refused fault) (texts.All ts) = Unresolved fault
-both_meant (rules.Refused fault) (texts.Refused other) = Unresolved (first_of fault other)
-
-meant_so : (r : RulesFound) (t : TextsFound) → resolution_meant (joined r t) ≡ both_meant (rules_meant r) (texts_meant t)
-meant_so (ruled.Says rs) (found.Says ts) = refl
-meant_so (ruled.Says rs) (found.Refused fault) = refl
-meant_so (ruled.Refused fault) (found.Says ts) = refl
-meant_so (ruled.Refused fault) (found.Refused other) = refl
-
-abbrev pub AreOnce : Type 0
-AreOnce = (k : Known) (sentences : List Sentence) (a b : TextsFound) → IsTextsFound k sentences a → IsTextsFound k sentences b → texts_meant a ≡ texts_meant b
-
-abbrev pub RulesAreOnce : Type 0
-RulesAreOnce = (k : Known) (sentences : List Sentence) (a b : RulesFound) → IsRulesFound k sentences a → IsRulesFound k sentences b → rules_meant a ≡ rules_meant b
-
-pub resolved_once : RulesAreOnce → AreOnce → (k : Known) (sentences : List Sentence) (a b : Resolution) → IsResolution k sentences a → IsResolution k sentences b → resolution_meant a ≡ resolution_meant b
-resolved_once rules_law texts_law k sentences a b one other =
-    ap resolution_meant one.told_is ∙ meant_so one.rules one.texts
-    ∙ ap (λ (r : RulesMeant). both_meant r (texts_meant one.texts)) (rules_law k sentences one.rules other.rules one.rules_are other.rules_are)
-    ∙ ap (both_meant (rules_meant other.rules)) (texts_law k sentences one.texts other.texts one.texts_are other.texts_are)
-    ∙ sym (meant_so other.rules other.texts) ∙ sym (ap resolution_meant other.told_is)

@@ -1,5 +1,10 @@
+pub mod ListingList
+pub mod ListingScans
+pub mod Listings
+pub mod NumberedRules
 pub mod Resolutions
 pub mod ResolutionsMeant
+pub mod SourceListings
 pub mod SourceTexts
 pub mod TextList
 pub mod TextScans

@@ -1,5 +1,5 @@
--- What is resolved of a source: its rules and the texts that describe, or the first refusal for either.
-use Rattle.std.specs.Prelude.{◌≡◌, ℕ, ◌==◌, Bool, ◌&&◌, ◌||◌, nat_lt, List, [], if◌then◌else◌}
+-- What is resolved of a source: its rules, the texts that describe, and where sentences list rules, or the first refusal for these.
+use Rattle.std.specs.Prelude.{◌≡◌, ℕ, ◌==◌, Bool, ◌&&◌, ◌||◌, nat_lt, List, [], Option, None, Some, if◌then◌else◌}
 use Rattle.std.specs.List.{list_any}
 use Rattle.world_meaning.specs.declared.fault.Fault.{Fault}
 use Rattle.world_meaning.specs.declared.fault.FaultCode.{FaultCode}
@@ -15,9 +15,12 @@ use Rattle.i7_rules.specs.SourceRules.{IsRulesFound}
 use Rattle.i7_rules.specs.declared.source_rules.RulesFound.{RulesFound}
 use Rattle.i7_rules.specs.declared.source_rules.RulesFound.TheVariants as ruled
 use Rattle.i7_sentences.specs.declared.sentence.Sentence.{Sentence}
+use Rattle.i7_resolution.specs.SourceListings.{IsListingsFound}
 use Rattle.i7_resolution.specs.SourceTexts.{IsTextsFound}
 use Rattle.i7_resolution.specs.declared.resolution.Resolution.{Resolution}
 use Rattle.i7_resolution.specs.declared.resolution.Resolution.TheVariants.{Refused, Says}
+use Rattle.i7_resolution.specs.declared.source_listings.ListingsFound.{ListingsFound}
+use Rattle.i7_resolution.specs.declared.source_listings.ListingsFound.TheVariants as listed
 use Rattle.i7_resolution.specs.declared.source_texts.TextsFound.{TextsFound}
 use Rattle.i7_resolution.specs.declared.source_texts.TextsFound.TheVariants as texted
 
@@ -62,19 +65,30 @@ first_of one other = if goes_before other one then other else one
 
 -- ---- the whole
 
-abbrev pub refused_with : Fault → TextsFound → Resolution
-refused_with fault (texted.Says texts) = Refused fault
-refused_with fault (texted.Refused other) = Refused (first_of fault other)
+abbrev pub first_if : Fault → Option Fault → Fault
+first_if fault None = fault
+first_if fault (Some other) = first_of fault other
 
-abbrev pub joined : RulesFound → TextsFound → Resolution
-joined (ruled.Says rules) (texted.Says texts) = Says (record { rules = rules; texts = texts })
-joined (ruled.Says rules) (texted.Refused fault) = Refused fault
-joined (ruled.Refused fault) texts = refused_with fault texts
+abbrev pub texts_fault : TextsFound → Option Fault
+texts_fault (texted.Says texts) = None
+texts_fault (texted.Refused fault) = Some fault
 
--- what is told of a source by what is told of its rules and of its texts
+abbrev pub listings_fault : ListingsFound → Option Fault
+listings_fault (listed.Says listings) = None
+listings_fault (listed.Refused fault) = Some fault
+
+abbrev pub joined : RulesFound → TextsFound → ListingsFound → Resolution
+joined (ruled.Says rules) (texted.Says texts) (listed.Says listings) = Says (record { rules = rules; texts = texts; listings = listings })
+joined (ruled.Says rules) (texted.Says texts) (listed.Refused fault) = Refused fault
+joined (ruled.Says rules) (texted.Refused fault) listings = Refused (first_if fault (listings_fault listings))
+joined (ruled.Refused fault) texts listings = Refused (first_if (first_if fault (texts_fault texts)) (listings_fault listings))
+
+-- what is told of a source by what is told of its rules, of its texts, and of the sentences that list rules
 pub record IsResolution (k : Known) (sentences : List Sentence) (told : Resolution) : Type 0 where
   pub rules : RulesFound
   pub texts : TextsFound
+  pub listings : ListingsFound
   pub rules_are : IsRulesFound k sentences rules
   pub texts_are : IsTextsFound k sentences texts
-  pub told_is : told ≡ joined rules texts
+  pub listings_are : IsListingsFound k sentences listings
+  pub told_is : told ≡ joined rules texts listings

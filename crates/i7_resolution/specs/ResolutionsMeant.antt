@@ -2,14 +2,15 @@
 use Rattle.std.specs.Prelude.{List, map}
 use Rattle.world_meaning.specs.declared.fault.Fault.{Fault}
 use Rattle.i7_rules.specs.RulesMeant.{RuleMeant, rule_meant}
+use Rattle.rule_order.specs.declared.listing.ListingSentence.{ListingSentence}
 use Rattle.i7_resolution.specs.SourceTexts.{TextMeant, meant_in}
 use Rattle.i7_resolution.specs.declared.resolution.Resolution.{Resolution}
 use Rattle.i7_resolution.specs.declared.resolution.Resolution.TheVariants as told
 
 pub data ResolutionMeant : Type 0 where
-  Both : List RuleMeant → List TextMeant → ResolutionMeant
+  All : List RuleMeant → List TextMeant → List ListingSentence → ResolutionMeant
   Refused : Fault → ResolutionMeant
 
 abbrev pub resolution_meant : Resolution → ResolutionMeant
-resolution_meant (told.Says resolved) = Both (map rule_meant resolved.rules.items) (map meant_in resolved.texts.items)
+resolution_meant (told.Says resolved) = All (map rule_meant resolved.rules.items) (map meant_in resolved.texts.items) resolved.listings.items
 resolution_meant (told.Refused fault) = Refused fault

@@ -1,11 +1,13 @@
-//! Laws: of a source's texts, and of all that is resolved of it, one thing is told.
+//! Laws: of a source's texts, of where it lists rules, and of all that is resolved of it, one thing is told.
 ghost use Rattle.std.specs.Prelude.{◌≡◌, List};
 ghost use Rattle.i7_rules.specs.Knowns.{Known};
 ghost use Rattle.i7_sentences.specs.declared.sentence.Sentence.{Sentence as Said};
 ghost use Rattle.i7_resolution.specs.ResolutionsMeant.{resolution_meant};
 ghost use Rattle.i7_resolution.specs.Resolutions.{IsResolution};
+ghost use Rattle.i7_resolution.specs.SourceListings.{IsListingsFound, listings_meant};
 ghost use Rattle.i7_resolution.specs.SourceTexts.{IsTextsFound, texts_meant};
 ghost use Rattle.i7_resolution.specs.declared.resolution.Resolution.{Resolution as Told};
+ghost use Rattle.i7_resolution.specs.declared.source_listings.ListingsFound.{ListingsFound as Listed};
 ghost use Rattle.i7_resolution.specs.declared.source_texts.TextsFound.{TextsFound as Answer};
 
 use i7_phrases::one_text_is_meant;
@@ -17,6 +19,11 @@ pub fn one_list_of_texts()
 {
     one_text_is_meant();
 }
+
+/// No sentences have two answers about where they list rules.
+pub fn one_list_of_listings()
+    ensures { (k : Known) (sentences : List Said) (a b : Listed) → IsListingsFound k sentences a → IsListingsFound k sentences b → listings_meant a ≡ listings_meant b }
+{}
 
 /// No sentences are resolved in two ways.
 pub fn one_resolution()

@@ -1,12 +1,17 @@
-//! What the rules of a source are and what the texts say that describe its objects, once its names are known, or why the
-//! source is refused for them.
+//! What the rules of a source are, what the texts say that describe its objects, and where sentences list its rules, once
+//! its names are known, or why the source is refused for them.
 #![tactic(auto)]
 
 mod laws;
+mod listing;
+mod listing_list;
+mod numbered_rule;
 mod resolution;
+mod source_listings;
 mod source_texts;
 mod text_list;
 
-pub use laws::{one_list_of_texts, one_resolution};
+pub use laws::{one_list_of_listings, one_list_of_texts, one_resolution};
 pub use resolution::{Resolution, Resolved, resolution_of, text_said};
+pub use source_listings::{ListingsFound, listings_of};
 pub use source_texts::{SourceText, TextsFound, texts_of};

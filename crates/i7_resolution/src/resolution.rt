@@ -4,8 +4,9 @@ ghost use Rattle.i7_conditions.specs.Readings.{IsFoundAs};
 ghost use Rattle.i7_phrases.specs.Texts.{found_text, text_is_over};
 ghost use Rattle.i7_rules.specs.Knowns.{known_of};
 ghost use Rattle.i7_resolution.specs.SourceTexts.{SaysIn};
-ghost use Rattle.i7_resolution.specs.Resolutions.{IsResolution, first_of, goes_before, joined, known_in, refused_with, scope_in, turn_of};
+ghost use Rattle.i7_resolution.specs.Resolutions.{IsResolution, first_if, first_of, goes_before, joined, known_in, listings_fault, scope_in, texts_fault, turn_of};
 
+use crate::source_listings::{ListingsFound, listings_of};
 use crate::source_texts::{SourceText, TextsFound, found_in, texts_of};
 use i7_actions::standard_actions;
 use i7_conditions::{Found, Scope};
@@ -13,14 +14,16 @@ use i7_names::SourceNames;
 use i7_rules::{Known, RulesFound, SourceRule, rules_of};
 use i7_sentences::Sentence;
 use play_meaning::tree::Text;
+use rule_order::ListingSentence;
 use std::alloc::{AllocError, Global};
 use world_meaning::{Fault, FaultCode, Tale, TextBytes};
 
-/// The rules of a source, and the texts that describe, both in the order of their sentences.
+/// The rules of a source, the texts that describe, and where sentences list rules, each in the order of their sentences.
 #[derive(Debug, Drop)]
 pub struct Resolved {
     pub rules: Vec<SourceRule>,
     pub texts: Vec<SourceText>,
+    pub listings: Vec<ListingSentence>,
 }
 
 /// What is resolved of a source.
@@ -62,26 +65,58 @@ fn first_of(one: Fault, other: Fault) -> Fault
     }
 }
 
-/// Refused so, or by the texts before that.
-fn refused_with(fault: Fault, texts: TextsFound) -> Resolution
-    ensures { result ≡ refused_with fault texts }
+/// A refusal, or another before it.
+fn first_if(fault: Fault, other: Option<Fault>) -> Fault
+    ensures { result ≡ first_if fault other }
 {
-    match texts {
-        TextsFound::Says(_) => Resolution::Refused(fault),
-        TextsFound::Refused(other) => Resolution::Refused(first_of(fault, other)),
+    match other {
+        None => fault,
+        Some(other) => first_of(fault, other),
     }
 }
 
-/// Both, or the first refusal.
-fn joined(rules: RulesFound, texts: TextsFound) -> Resolution
-    ensures { result ≡ joined rules texts }
+/// What refuses a source for its texts.
+fn texts_fault(texts: &TextsFound) -> Option<Fault>
+    ensures { result ≡ texts_fault texts.now }
+{
+    match texts {
+        TextsFound::Says(_) => None,
+        TextsFound::Refused(fault) => Some(*fault),
+    }
+}
+
+/// What refuses a source for its sentences that list rules.
+fn listings_fault(listings: &ListingsFound) -> Option<Fault>
+    ensures { result ≡ listings_fault listings.now }
+{
+    match listings {
+        ListingsFound::Says(_) => None,
+        ListingsFound::Refused(fault) => Some(*fault),
+    }
+}
+
+/// All three, or the first refusal.
+fn joined(rules: RulesFound, texts: TextsFound, listings: ListingsFound) -> Resolution
+    ensures { result ≡ joined rules texts listings }
 {
     match rules {
         RulesFound::Says(rules) => match texts {
-            TextsFound::Says(texts) => Resolution::Says(Resolved { rules, texts }),
-            TextsFound::Refused(fault) => Resolution::Refused(fault),
+            TextsFound::Says(texts) => match listings {
+                ListingsFound::Says(listings) => Resolution::Says(Resolved {
+                    rules,
+                    texts,
+                    listings,
+                }),
+                ListingsFound::Refused(fault) => Resolution::Refused(fault),
+            },
+            TextsFound::Refused(fault) => {
+                Resolution::Refused(first_if(fault, listings_fault(&listings)))
+            }
         },
-        RulesFound::Refused(fault) => refused_with(fault, texts),
+        RulesFound::Refused(fault) => {
+            let first = first_if(fault, texts_fault(&texts));
+            Resolution::Refused(first_if(first, listings_fault(&listings)))
+        }
     }
 }
 
@@ -95,7 +130,8 @@ fn resolved_of(
 {
     let rules = rules_of(alloc, known, sentences)?;
     let texts = texts_of(alloc, known, sentences)?;
-    Ok(joined(rules, texts))
+    let listings = listings_of(alloc, known, sentences)?;
+    Ok(joined(rules, texts, listings))
 }
 
 /// The names of rulebooks, as they are known.
@@ -123,9 +159,9 @@ pub fn text_said(alloc: Global, names: &SourceNames, text: &[u8]) -> Result<Foun
     Ok(found)
 }
 
-/// The rules of a source and the texts that describe, where its names stand for this and its sentences mean this tale, or the
-/// refusal that stands: each code is looked for in all rules and texts before the next, and told at its lowest line. These
-/// are C9, C7, C8, C12 and C5, as `rules_of` and `texts_of` have them.
+/// The rules of a source, the texts that describe, and where sentences list rules, where its names stand for this and its
+/// sentences mean this tale, or the refusal that stands: each code is looked for in all rules, texts and listings before the
+/// next, and told at its lowest line. These are C9, C7, C8, C12 and C5, as `rules_of`, `texts_of` and `listings_of` have them.
 #[tactic(auto, unfolding(i7_actions::specs::Actions::standard_actions))]
 pub fn resolution_of(
     alloc: Global,

@@ -37,7 +37,7 @@ own_once rulebooks scenes words a b one other = elim (cases_lt one.k other.k) [
 scene_once : (k : Known) (words : List Word) → IsOnce (IsScene k words)
 scene_once k words m n one other = let both : Some m ≡ Some n = sym one ∙ other in cc
 
-book_once : (k : Known) (said : RuleBook) → IsOnce (IsBook k said)
+pub book_once : (k : Known) (said : RuleBook) → IsOnce (IsBook k said)
 book_once k book.Before a b one other = one ∙ sym other
 book_once k book.Instead a b one other = one ∙ sym other
 book_once k book.Check a b one other = one ∙ sym other

@@ -66,7 +66,7 @@ fn book_of_scene(
 }
 
 /// The rulebook that a head names, if it is there.
-fn book_of_head(
+pub fn book_of_head(
     alloc: Global,
     known: &Known<'_>,
     book: &RuleBook,

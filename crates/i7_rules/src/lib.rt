@@ -17,8 +17,11 @@ mod standard_names;
 mod step;
 
 pub use body::{BodyRead, body_of};
+pub use head::book_of_head;
 pub use known::Known;
 pub use laws::{heads_ask_what_is, one_list_of_rules, one_rule_is_told};
 pub use rule::{RuleFound, rule_of};
+pub use rule_list::{RuleAt, rules_in};
+pub use rule_names::name_of;
 pub use source_rules::{RulesFound, SourceRule, rules_of};
 pub use standard_names::STANDARD_NAMES;

@@ -196,7 +196,7 @@ all_speak = (
                           (
                             (λ letters are. never, (λ letters are. never, tt)),
                             (
-                              (λ letters are. never, (λ letters are. never, (λ letters are. never, tt))),
+                              (two _ _ form.ListedFirst (λ a b first second plain. refl), (two _ _ form.ListedLast (λ a b first second plain. refl), (one _ form.NotListed (λ a is plain. refl), tt))),
                               (
                                 (λ letters are. never, (λ letters are. never, (λ letters are. never, tt))),
                                 (

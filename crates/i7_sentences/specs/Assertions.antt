@@ -12,6 +12,7 @@ use Rattle.i7_sentences.specs.Conditions.{are_pieces_read}
 use Rattle.i7_sentences.specs.Keywords.{is_sign}
 use Rattle.i7_sentences.specs.Literals.{literal_of}
 use Rattle.i7_sentences.specs.Names.{joined, name_of, names_from}
+use Rattle.i7_sentences.specs.RuleListings.{listed_first, listed_last, not_listed}
 use Rattle.i7_sentences.specs.TextPieces.{is_text_read, text_pieces}
 use Rattle.i7_sentences.specs.Words.{word_of, direction_named}
 use Rattle.i7_sentences.specs.declared.keyword.Keyword.TheVariants as keyword
@@ -203,6 +204,9 @@ are _ = None
 -- what a form says with these letters
 unfoldable pub assertion_of : Form → List (List Token) → Option Assertion
 assertion_of form.Description letters = description letters
+assertion_of form.ListedFirst letters = listed_first letters
+assertion_of form.ListedLast letters = listed_last letters
+assertion_of form.NotListed letters = not_listed letters
 assertion_of form.Rulebook letters = rulebook letters
 assertion_of form.Scene letters = scene false letters
 assertion_of form.RecurringScene letters = scene true letters
@@ -225,7 +229,7 @@ assertion_of (form.WhatHeld relation) letters = what_held relation letters
 assertion_of form.Is letters = are letters
 assertion_of _ letters = None
 
--- the forms that are read so far: neither rules, actions, understandings, listings nor a scene's begin and end
+-- the forms that are read so far: neither rules, actions, understandings nor a scene's begin and end
 abbrev pub is_asserting : Form → Bool
 is_asserting form.Understand = false
 is_asserting form.BeforeRule = false
@@ -241,9 +245,6 @@ is_asserting form.SceneEndsRule = false
 is_asserting form.OwnRule = false
 is_asserting form.SceneBegins = false
 is_asserting form.SceneEnds = false
-is_asserting form.ListedFirst = false
-is_asserting form.ListedLast = false
-is_asserting form.NotListed = false
 is_asserting form.Action = false
 is_asserting (form.Phrase phrase) = false
 is_asserting _ = true

@@ -3,7 +3,7 @@ use Rattle.std.specs.Prelude.{◌≡◌, ℕ, true, false, List, [], ◌∷◌, 
 use Rattle.std.specs.List.{before_first, list_any, position_or_len}
 use Rattle.i7_lexer.specs.declared.token.Token.{Token}
 use Rattle.i7_sentences.specs.Keywords.{is_sign}
-use Rattle.i7_sentences.specs.SpokenPhrases.{words_in}
+use Rattle.i7_sentences.specs.Names.{words_in}
 use Rattle.i7_sentences.specs.declared.keyword.Keyword.{Keyword}
 use Rattle.i7_sentences.specs.declared.keyword.Keyword.TheVariants as keyword
 use Rattle.i7_sentences.specs.declared.rule.RuleSubject.{RuleSubject}

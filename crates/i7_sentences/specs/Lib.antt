@@ -22,6 +22,7 @@ pub mod Read
 pub mod Reserved
 pub mod RuleBodies
 pub mod RuleHeads
+pub mod RuleListings
 pub mod Rules
 pub mod Seams
 pub mod Sources

@@ -1,5 +1,5 @@
 -- Names as sentences mention them.
-use Rattle.std.specs.Prelude.{ℕ, ◌+◌, true, fold, Bool, false, List, [], ◌∷◌, ◌++◌, if◌then◌else◌}
+use Rattle.std.specs.Prelude.{ℕ, ◌+◌, true, fold, map, Bool, false, List, [], ◌∷◌, ◌++◌, if◌then◌else◌}
 use Rattle.i7_lexer.specs.declared.token.Token.{Token}
 use Rattle.i7_sentences.specs.Classes.{is_joint}
 use Rattle.i7_sentences.specs.Keywords.{is_article, is_sign}
@@ -29,6 +29,14 @@ is_some_article (first ∷ rest) = is_sign keyword.Some first
 
 abbrev pub article_of : List Token → NameArticle
 article_of letter = if has_article letter then (if is_some_article letter then article.Some else article.Plain) else article.None
+
+-- the words of a letter, as they are written
+abbrev pub words_in : List Token → List (List ℕ)
+words_in letter = map word_of letter
+
+-- the same without the one free article in front
+abbrev pub named_in : List Token → List (List ℕ)
+named_in letter = words_in (name_words letter)
 
 -- words parted by one space
 abbrev pub with_word : List ℕ → Token → List ℕ

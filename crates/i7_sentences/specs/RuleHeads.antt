@@ -6,9 +6,8 @@ use Rattle.i7_sentences.specs.Forms.{Variant}
 use Rattle.i7_sentences.specs.HeadWords.{condition_in, scene_in, subject_of, words_if}
 use Rattle.i7_sentences.specs.Keywords.{is_sign}
 use Rattle.i7_sentences.specs.Matching.{Found, lowest_fit}
-use Rattle.i7_sentences.specs.Names.{rest_of}
+use Rattle.i7_sentences.specs.Names.{named_in, rest_of, words_in}
 use Rattle.i7_sentences.specs.Reserved.{has_reserved_among}
-use Rattle.i7_sentences.specs.SpokenPhrases.{named_in, words_in}
 use Rattle.i7_sentences.specs.declared.form.Form.{Form}
 use Rattle.i7_sentences.specs.declared.form.Form.TheVariants as form
 use Rattle.i7_sentences.specs.declared.keyword.Keyword.TheVariants as keyword

@@ -1,15 +1,14 @@
 -- What a phrase says, by the words for the letters of its form.
-use Rattle.std.specs.Prelude.{ℕ, Bool, true, false, List, [], ◌∷◌, map, Option, Some, None, if◌then◌else◌}
+use Rattle.std.specs.Prelude.{ℕ, Bool, true, false, List, [], ◌∷◌, Option, Some, None, if◌then◌else◌}
 use Rattle.i7_lexer.specs.declared.token.Token.{Token}
 use Rattle.i7_lexer.specs.declared.token.TokenKind.{TokenKind}
 use Rattle.i7_lexer.specs.declared.token.TokenKind.TheVariants.{Text, Word, Mark}
 use Rattle.i7_sentences.specs.Assertions.{plain_text}
 use Rattle.i7_sentences.specs.Conditions.{are_pieces_read, is_condition}
 use Rattle.i7_sentences.specs.Matching.{Found, lowest_fit}
-use Rattle.i7_sentences.specs.Names.{name_words}
+use Rattle.i7_sentences.specs.Names.{named_in, words_in}
 use Rattle.i7_sentences.specs.PhraseForms.{is_phrase_form, phrase_forms}
 use Rattle.i7_sentences.specs.TextPieces.{is_text_read, printed, text_pieces}
-use Rattle.i7_sentences.specs.Words.{word_of}
 use Rattle.i7_sentences.specs.declared.phrase_form.NowVerb.{NowVerb}
 use Rattle.i7_sentences.specs.declared.phrase_form.PhraseForm.{PhraseForm}
 use Rattle.i7_sentences.specs.declared.phrase_form.PhraseForm.TheVariants as form
@@ -17,14 +16,6 @@ use Rattle.i7_sentences.specs.declared.spoken.Spoken.{Spoken}
 use Rattle.i7_sentences.specs.declared.spoken.Spoken.TheVariants as spoken
 use Rattle.i7_sentences.specs.declared.spoken_reader.SpokenPhrase.{SpokenPhrase}
 use Rattle.i7_sentences.specs.declared.text_piece.TextPiece.{TextPiece}
-
--- the words of a letter, as they are written
-abbrev pub words_in : List Token → List (List ℕ)
-words_in letter = map word_of letter
-
--- the same without the one free article in front
-abbrev pub named_in : List Token → List (List ℕ)
-named_in letter = words_in (name_words letter)
 
 abbrev pub if_read : Option (List TextPiece) → Option (List TextPiece)
 if_read None = None

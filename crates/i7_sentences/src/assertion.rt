@@ -9,6 +9,7 @@ use crate::declaration::{
 use crate::letter::{describing_text, number_in, side_direction};
 use crate::name::{joined, name_of};
 use crate::names::names_of;
+use crate::rule_listing::{listed_first, listed_last, not_listed};
 use crate::tagged::Tagged;
 use crate::{Assertion, Being, Form, Holder, Side, Way};
 use std::alloc::{AllocError, Global};
@@ -290,6 +291,9 @@ pub fn assertion_of(
 {
     match form {
         Form::Description => Ok(description(alloc, letters)?),
+        Form::ListedFirst => Ok(listed_first(alloc, letters)?),
+        Form::ListedLast => Ok(listed_last(alloc, letters)?),
+        Form::NotListed => Ok(not_listed(alloc, letters)?),
         Form::Rulebook => Ok(rulebook(alloc, letters)?),
         Form::Scene => Ok(scene(alloc, false, letters)?),
         Form::RecurringScene => Ok(scene(alloc, true, letters)?),

@@ -1,5 +1,5 @@
 //! Sentences and what they assert.
-use crate::{Name, Names, Rule};
+use crate::{Name, Names, Rule, RuleListing};
 use world_meaning::{Direction, Rel, TextBytes};
 
 /// What one sentence asserts, its names as it mentions them.
@@ -79,6 +79,8 @@ pub enum Assertion {
     Are(Being),
     /// `every turn: say "Tick."`
     Rule(Rule),
+    /// `the oak rule is listed first in the instead rules`, `the oak rule is not listed in any rulebook`
+    Listing(RuleListing),
 }
 
 /// A way: the subject lies in this direction of the room.

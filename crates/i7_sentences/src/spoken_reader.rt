@@ -1,16 +1,15 @@
 //! Reading a phrase: what it says with the words for the letters of its form.
 ghost use Rattle.std.specs.Prelude.{◌≡◌, Some, None, if◌then◌else◌, map, option_map, IfOk};
 ghost use Rattle.i7_sentences.specs.Found.{found_in};
-ghost use Rattle.i7_sentences.specs.SpokenPhrases.{decrease_of, end_story_of, ending_with, follow_of, if_condition, if_of, if_read, increase_of, move_of, named_in, now_of, otherwise_condition, otherwise_if_of, pieces_said, repeat_of, say_of, saying_pieces, spoken_by, spoken_found, spoken_in, spoken_of, spoken_with, try_of, words_in};
+ghost use Rattle.i7_sentences.specs.SpokenPhrases.{decrease_of, end_story_of, ending_with, follow_of, if_condition, if_of, if_read, increase_of, move_of, now_of, otherwise_condition, otherwise_if_of, pieces_said, repeat_of, say_of, saying_pieces, spoken_by, spoken_found, spoken_in, spoken_of, spoken_with, try_of};
 
 use crate::condition::{are_pieces_read, is_condition};
 use crate::letter::plain_text;
-use crate::name::name_words;
 use crate::phrase_form::{is_phrase_form, phrase_reading};
 use crate::reading::Reading;
 use crate::tagged::{Tagged, with_tags};
 use crate::text_reader::{printed, read_text};
-use crate::word_list::words_in;
+use crate::word_list::{named_in, words_in};
 use crate::{NowVerb, PhraseForm, Spoken, TextPieces, WordList};
 use i7_lexer::{PackedToken, TokenKind};
 use std::alloc::{AllocError, Global};
@@ -21,13 +20,6 @@ use world_meaning::TextBytes;
 pub struct SpokenPhrase {
     pub form: PhraseForm,
     pub said: Spoken,
-}
-
-/// The words of a letter without the free article in front.
-pub fn named_in(alloc: Global, letter: &[Tagged<'_>]) -> Result<WordList, AllocError>
-    ensures { IfOk result (λ words. words ≡ named_in letter.now) }
-{
-    Ok(words_in(alloc, name_words(letter))?)
 }
 
 /// The pieces, if there are any and their ifs have conditions.

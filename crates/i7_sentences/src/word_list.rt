@@ -1,8 +1,9 @@
 //! Lists of words, and those of a form's letter.
 ghost use Rattle.std.specs.Prelude.{◌≡◌, map, IfOk};
-ghost use Rattle.i7_sentences.specs.SpokenPhrases.{words_in};
+ghost use Rattle.i7_sentences.specs.Names.{named_in, words_in};
 ghost use Rattle.i7_sentences.specs.TextPieces.{are_spelled, behind_first};
 
+use crate::name::name_words;
 use crate::tagged::Tagged;
 use crate::word::word_of;
 use std::alloc::{AllocError, Global};
@@ -81,4 +82,11 @@ pub fn words_in(alloc: Global, letter: &[Tagged<'_>]) -> Result<WordList, AllocE
         rest = after;
     }
     Ok(WordList { all })
+}
+
+/// The words of a letter without the free article in front.
+pub fn named_in(alloc: Global, letter: &[Tagged<'_>]) -> Result<WordList, AllocError>
+    ensures { IfOk result (λ words. words ≡ named_in letter.now) }
+{
+    Ok(words_in(alloc, name_words(letter))?)
 }

@@ -1,4 +1,4 @@
-use Rattle.i7_resolution.proofs.OneAnswer.{resolved_once}
+use Rattle.i7_resolution.proofs.OneListing.{resolved_once}
 use Rattle.i7_resolution.proofs.laws.one_resolution.Goals as goal
 
 pub returns : goal.returns

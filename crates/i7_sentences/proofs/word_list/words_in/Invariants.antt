@@ -1,5 +1,5 @@
 use Rattle.std.proofs.Common.{◌≡◌, ◌++◌, length}
-use Rattle.i7_sentences.specs.SpokenPhrases.{words_in}
+use Rattle.i7_sentences.specs.Names.{words_in}
 use Rattle.i7_sentences.proofs.word_list.words_in.Given as goal
 
 abbrev pub invariant-loop-rest : goal.invariant-loop-rest
