@@ -35,9 +35,9 @@ plain_tale t texts = plain_script (script_of t (text_of t texts)) (record { rule
 -- the story's game is the tale's
 pub same_game : (source bytes : List ℕ) (compiled : IsCompiled source bytes) (story : Tables) → Spells bytes story → game_of_story story ≡ game_meant compiled.tale compiled.texts
 same_game source bytes compiled story spells =
-    let same : story ≡ tables_of compiled.tale compiled.texts compiled.rules = same_story bytes story compiled.tables spells compiled.spells ∙ compiled.tables_are in
+    let same : story ≡ tables_of compiled.tale compiled.texts compiled.listings compiled.rules = same_story bytes story compiled.tables spells compiled.spells ∙ compiled.tables_are in
     let held = tale_held compiled.means.sentences compiled.tale (says_ranged source compiled.means.sentences compiled.means.says) compiled.means.meant.tale_is in
-    ap game_of_story same ∙ ap game_of_plain (tables_game compiled.tale compiled.texts compiled.rules held compiled.held) ∙ sym (plain_tale compiled.tale compiled.texts)
+    ap game_of_story same ∙ ap game_of_plain (tables_game compiled.tale compiled.texts compiled.listings compiled.rules held compiled.held) ∙ sym (plain_tale compiled.tale compiled.texts)
 
 pub played_source : (source bytes : List ℕ) (echo : Bool) (unread rest held now : Option (List ℕ)) (result : Result Ending SourceRunFault) → IsCompiled source bytes → IfOk result (PlayedStory bytes echo (streams_of unread held) (streams_of rest now)) → IfOk result (PlayedSource source echo (streams_of unread held) (streams_of rest now))
 played_source source bytes echo unread rest held now (Err fault) compiled played = tt
@@ -45,6 +45,7 @@ played_source source bytes echo unread rest held now (Ok ending) compiled played
   tale = compiled.tale;
   texts = compiled.texts;
   rules = compiled.rules;
+  listings = compiled.listings;
   means = compiled.means;
   held = compiled.held;
   played = subst (λ g. PlayedGame g echo (streams_of unread held) (streams_of rest now) ending) (same_game source bytes compiled played.story played.spells) played.played;
@@ -57,12 +58,13 @@ story_fault source bytes fault compiled refused = not_refused bytes compiled.tab
 pub left_source : (source bytes : List ℕ) (echo : Bool) (unread rest held now : Option (List ℕ)) (result : Result Ending SourceRunFault) → IsCompiled source bytes → IfErr result (λ fault. LeavesStory fault bytes echo (streams_of unread held) (streams_of rest now)) → IfErr result (λ fault. LeavesSource fault source echo (streams_of unread held) (streams_of rest now))
 left_source source bytes echo unread rest held now (Ok ending) compiled left = tt
 left_source source bytes echo unread rest held now (Err (Source fault)) compiled left = absurd left
-left_source source bytes echo unread rest held now (Err (Story fault)) compiled left = (story_fault source bytes fault compiled left, record { tale = compiled.tale; texts = compiled.texts; rules = compiled.rules; means = compiled.means; held = compiled.held })
-left_source source bytes echo unread rest held now (Err (Start fault)) compiled left = (left.0, record { tale = compiled.tale; texts = compiled.texts; rules = compiled.rules; means = compiled.means; held = compiled.held })
+left_source source bytes echo unread rest held now (Err (Story fault)) compiled left = (story_fault source bytes fault compiled left, record { tale = compiled.tale; texts = compiled.texts; rules = compiled.rules; listings = compiled.listings; means = compiled.means; held = compiled.held })
+left_source source bytes echo unread rest held now (Err (Start fault)) compiled left = (left.0, record { tale = compiled.tale; texts = compiled.texts; rules = compiled.rules; listings = compiled.listings; means = compiled.means; held = compiled.held })
 left_source source bytes echo unread rest held now (Err (Run fault)) compiled left = record {
   tale = compiled.tale;
   texts = compiled.texts;
   rules = compiled.rules;
+  listings = compiled.listings;
   means = compiled.means;
   held = compiled.held;
   broke = subst (λ g. BrokeOffGame fault g echo (streams_of unread held) (streams_of rest now)) (same_game source bytes compiled left.story left.spells) left.broke;

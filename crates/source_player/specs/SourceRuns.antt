@@ -7,6 +7,7 @@ use Rattle.play_meaning.specs.Sessions.{State, opened}
 use Rattle.play_meaning.specs.Transcripts.{IsPlay}
 use Rattle.play_meaning.specs.Rules.{Rule}
 use Rattle.play_meaning.specs.Trees.{Text}
+use Rattle.rule_order.specs.declared.listing.ListingSentence.{ListingSentence}
 use Rattle.story_format.specs.Holding.{AreHeld}
 use Rattle.story_format.specs.Refusals.{IsRefused as IsNoStory}
 use Rattle.story_format.specs.Spells.{Spells}
@@ -45,12 +46,13 @@ pub record BrokeOffStory (fault : RunFault) (bytes : List ℕ) (echo : Bool) (be
   pub broke : BrokeOffGame fault (game_of_story story) echo before after
 
 -- The headline: a source of which there is a story file was played, in the game of the tale that its sentences mean and of what
--- its descriptions say; no rule of the author's is consulted so far.
+-- its descriptions say; no rule of the author's is consulted so far, and each standard rule is, wherever sentences list it.
 pub record PlayedSource (source : List ℕ) (echo : Bool) (before after : Streams) (ending : Ending) : Type 0 where
   pub tale : Tale
   pub texts : List Text
   pub rules : List Rule
-  pub means : Means source tale texts rules
+  pub listings : List ListingSentence
+  pub means : Means source tale texts rules listings
   pub held : AreHeld tale texts rules
   pub played : PlayedGame (game_meant tale texts) echo before after ending
 
@@ -58,7 +60,8 @@ pub record BrokeOffSource (fault : RunFault) (source : List ℕ) (echo : Bool) (
   pub tale : Tale
   pub texts : List Text
   pub rules : List Rule
-  pub means : Means source tale texts rules
+  pub listings : List ListingSentence
+  pub means : Means source tale texts rules listings
   pub held : AreHeld tale texts rules
   pub broke : BrokeOffGame fault (game_meant tale texts) echo before after
 
@@ -86,7 +89,8 @@ pub record IsMeant (source : List ℕ) : Type 0 where
   pub tale : Tale
   pub texts : List Text
   pub rules : List Rule
-  pub means : Means source tale texts rules
+  pub listings : List ListingSentence
+  pub means : Means source tale texts rules listings
   pub held : AreHeld tale texts rules
 
 -- Why bytes aren't played to their end as a story: they are none, memory is refused where the story that they are begins,
@@ -110,7 +114,8 @@ pub record PlayedBytes (source commands : List ℕ) (echo : Bool) (transcript : 
   pub tale : Tale
   pub texts : List Text
   pub rules : List Rule
-  pub means : Means source tale texts rules
+  pub listings : List ListingSentence
+  pub means : Means source tale texts rules listings
   pub held : AreHeld tale texts rules
   pub last : State
   pub play : IsPlay (game_meant tale texts) echo (opened (game_meant tale texts)).state commands transcript last

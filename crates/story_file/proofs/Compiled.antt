@@ -12,6 +12,7 @@ use Rattle.play_meaning.specs.declared.tree.rule.MeantRule.{MeantRule as KeptRul
 use Rattle.play_meaning.specs.declared.tree.said.Text.{Text as KeptText}
 use Rattle.i7_conditions.specs.Scopes.{Scope}
 use Rattle.i7_sentences.specs.declared.sentence.Sentence.{Sentence}
+use Rattle.rule_order.specs.declared.listing.ListingSentence.{ListingSentence}
 use Rattle.code_table.specs.declared.fault.TableFault.{TableFault}
 use Rattle.code_table.specs.declared.fault.TableFault.TheVariants.{Memory}
 use Rattle.story_format.specs.Holding.{AreHeld, AreNotHeld, AreOf, IsHeld}
@@ -25,7 +26,6 @@ use Rattle.story_file.specs.Texts.{texts_kept}
 use Rattle.story_file.proofs.Held.{tale_held}
 use Rattle.story_file.proofs.Outcomes.{refused_so}
 use Rattle.story_file.proofs.Ranges.{says_ranged}
-use Rattle.story_file.proofs.RulesApart.{rules_apart}
 use Rattle.story_file.proofs.RulesOf.{as_many, few_rules, rules_named}
 
 -- ---- how many texts there are
@@ -60,9 +60,9 @@ module _ (source : List ℕ) (sentences lent : List Sentence) (says : Says sourc
   refused_by fault (inl refused) = unmeant (record { sentences = sentences; says = says; refused = refused_so _ _ _ same refused })
   refused_by fault (inr is) = memory says.spells.readable.short is
 
-  module _ (tale : Tale) (texts : List Text) (rules : List Rule) (meant : AreMeant lent tale texts rules) where
-    means : Means source tale texts rules
-    means = record { sentences = sentences; says = says; meant = subst (λ (all : List Sentence). AreMeant all tale texts rules) same meant }
+  module _ (tale : Tale) (texts : List Text) (rules : List Rule) (listings : List ListingSentence) (meant : AreMeant lent tale texts rules listings) where
+    means : Means source tale texts rules listings
+    means = record { sentences = sentences; says = says; meant = subst (λ (all : List Sentence). AreMeant all tale texts rules listings) same meant }
 
     pub is_held : IsHeld tale
     unfolding means
@@ -71,22 +71,22 @@ module _ (source : List ℕ) (sentences lent : List Sentence) (says : Says sourc
     pub are_of : AreOf tale texts rules
     are_of = record {
       many = texts_counted (scope_said lent) tale.objects texts meant.texts_are;
-      few = few_rules lent tale texts rules meant;
-      apart = rules_apart lent tale texts rules meant;
-      named = rules_named lent tale texts rules meant;
+      few = few_rules lent tale texts rules listings meant;
+      named = rules_named lent tale texts rules listings meant;
     }
 
-    pub compiled_by : (bytes : List ℕ) → AreHeld tale texts rules → Spells bytes (tables_of tale texts rules) → IsCompiled source bytes
+    pub compiled_by : (bytes : List ℕ) → AreHeld tale texts rules → Spells bytes (tables_of tale texts listings rules) → IsCompiled source bytes
     unfolding means
     compiled_by bytes held spells = record {
       tale = tale;
       texts = texts;
       rules = rules;
+      listings = listings;
       means = means;
       held = held;
-      tables = tables_of tale texts rules;
+      tables = tables_of tale texts listings rules;
       tables_are = refl;
-      carries = tale_carried tale texts rules is_held held;
+      carries = tale_carried tale texts listings rules is_held held;
       spells = spells;
     }
 
@@ -97,6 +97,7 @@ module _ (source : List ℕ) (sentences lent : List Sentence) (says : Says sourc
       tale = tale;
       texts = texts;
       rules = rules;
+      listings = listings;
       means = means;
       reason = reason;
       not_held = not_held;

@@ -7,6 +7,5 @@ pub mod MadeObjects
 pub mod MadePlaces
 pub mod Outcomes
 pub mod Ranges
-pub mod RulesApart
 pub mod RulesOf
 pub mod Understood

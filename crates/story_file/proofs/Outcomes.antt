@@ -20,17 +20,18 @@ use Rattle.i7_rules.specs.Knowns.{Known}
 use Rattle.i7_rules.specs.RulesMeant.{RuleMeant, rule_meant as source_rule_meant}
 use Rattle.i7_rules.specs.declared.source_rules.SourceRule.{SourceRule}
 use Rattle.i7_resolution.specs.Resolutions.{IsResolution}
-use Rattle.i7_resolution.specs.ResolutionsMeant.{Both, Refused as NoneFor, ResolutionMeant, resolution_meant}
+use Rattle.i7_resolution.specs.ResolutionsMeant.{All, Refused as NoneFor, ResolutionMeant, resolution_meant}
 use Rattle.i7_resolution.specs.SourceTexts.{SaysIn}
 use Rattle.i7_resolution.specs.declared.resolution.Resolution.{Resolution}
 use Rattle.i7_resolution.specs.declared.resolution.Resolution.TheVariants.{Refused, Says as Understood}
 use Rattle.i7_resolution.specs.declared.resolution.Resolved.{Resolved}
+use Rattle.rule_order.specs.declared.listing.ListingSentence.{ListingSentence}
 use Rattle.code_table.specs.declared.fault.TableFault.{TableFault}
 use Rattle.code_table.specs.declared.fault.TableFault.TheVariants.{LongRule, LongText, TooMany, Memory as NoMemory}
 use Rattle.story_format.specs.Holding.{AreHeld, NeverHeldAndNot}
 use Rattle.story_file.specs.Compilations.{IsCompiled, IsRefused, IsToldAs, Means, Says, memory, unheld as untold, unmeant as unsaid, unread, unspelled}
 use Rattle.story_file.specs.Meanings.{AreMeant, AreRefused, AreTexts, descriptions_of, known_said, scope_said, unmeant, unresolved}
-use Rattle.story_file.specs.Rules.{rules_told}
+use Rattle.story_file.specs.Rules.{listings_told, rules_told}
 
 -- what is known of texts and of what is resolved: each means one thing
 abbrev pub IsOneText : Type 0
@@ -78,7 +79,7 @@ author_of meant = record {
 }
 
 abbrev rules_of : ResolutionMeant → List Rule
-rules_of (Both rules texts) = map author_of rules
+rules_of (All rules texts listings) = map author_of rules
 rules_of (NoneFor fault) = []
 
 authored : (rules : List SourceRule) → map (λ told. rule_meant told.rule) rules ≡ map author_of (map source_rule_meant rules)
@@ -89,9 +90,18 @@ rules_once : IsOneResolution → (k : Known) (sentences : List Sentence) (one ot
 rules_once law k sentences one other is again =
     authored one.rules.items ∙ ap rules_of (law k sentences (Understood one) (Understood other) is again) ∙ sym (authored other.rules.items)
 
+-- ---- where sentences list rules
+
+abbrev listings_of : ResolutionMeant → List ListingSentence
+listings_of (All rules texts listings) = listings
+listings_of (NoneFor fault) = []
+
+listings_once : IsOneResolution → (k : Known) (sentences : List Sentence) (one other : Resolved) → IsResolution k sentences (Understood one) → IsResolution k sentences (Understood other) → listings_told one ≡ listings_told other
+listings_once law k sentences one other is again = ap listings_of (law k sentences (Understood one) (Understood other) is again)
+
 -- ---- tales
 
-module _ (text_law : IsOneText) (law : IsOneResolution) (sentences : List Sentence) (tale other : Tale) (texts others : List Text) (rules more : List Rule) (one : AreMeant sentences tale texts rules) (second : AreMeant sentences other others more) where
+module _ (text_law : IsOneText) (law : IsOneResolution) (sentences : List Sentence) (tale other : Tale) (texts others : List Text) (rules more : List Rule) (listings again : List ListingSentence) (one : AreMeant sentences tale texts rules listings) (second : AreMeant sentences other others more again) where
   tale_once : tale ≡ other
   tale_once = same_ok tale other (sym one.tale_is ∙ second.tale_is)
 
@@ -100,17 +110,23 @@ module _ (text_law : IsOneText) (law : IsOneResolution) (sentences : List Senten
       same_texts text_law (scope_said sentences) (descriptions_of tale.objects) texts others one.texts_are
       (subst (λ (t : Tale). AreTexts (scope_said sentences) t.objects others) (sym tale_once) second.texts_are)
 
+  resolved_again : IsResolution (known_said sentences tale) sentences (Understood second.resolved)
+  resolved_again = subst (λ (t : Tale). IsResolution (known_said sentences t) sentences (Understood second.resolved)) (sym tale_once) second.resolved_is
+
   meant_rules_once : rules ≡ more
-  meant_rules_once = one.rules_are ∙ rules_once law (known_said sentences tale) sentences one.resolved second.resolved one.resolved_is
-      (subst (λ (t : Tale). IsResolution (known_said sentences t) sentences (Understood second.resolved)) (sym tale_once) second.resolved_is) ∙ sym second.rules_are
+  meant_rules_once = one.rules_are ∙ rules_once law (known_said sentences tale) sentences one.resolved second.resolved one.resolved_is resolved_again ∙ sym second.rules_are
 
-  meant_once : (tale ≡ other) × ((texts ≡ others) × (rules ≡ more))
-  meant_once = (tale_once, (texts_once, meant_rules_once))
+  meant_listings_once : listings ≡ again
+  meant_listings_once = one.listings_are ∙ listings_once law (known_said sentences tale) sentences one.resolved second.resolved one.resolved_is resolved_again ∙ sym second.listings_are
 
-pub same_tale : IsOneText → IsOneResolution → (source : List ℕ) (tale other : Tale) (texts others : List Text) (rules more : List Rule) → Means source tale texts rules → Means source other others more → (tale ≡ other) × ((texts ≡ others) × (rules ≡ more))
-same_tale text_law law source tale other texts others rules more first second =
+  meant_once : (tale ≡ other) × ((texts ≡ others) × ((rules ≡ more) × (listings ≡ again)))
+  meant_once = (tale_once, (texts_once, (meant_rules_once, meant_listings_once)))
+
+pub same_tale : IsOneText → IsOneResolution → (source : List ℕ) (tale other : Tale) (texts others : List Text) (rules more : List Rule) (listings again : List ListingSentence) → Means source tale texts rules listings → Means source other others more again
+    → (tale ≡ other) × ((texts ≡ others) × ((rules ≡ more) × (listings ≡ again)))
+same_tale text_law law source tale other texts others rules more listings again first second =
     let sentences = same_sentences source first.sentences second.sentences first.says second.says in
-    meant_once text_law law second.sentences tale other texts others rules more (subst (λ (all : List Sentence). AreMeant all tale texts rules) sentences first.meant) second.meant
+    meant_once text_law law second.sentences tale other texts others rules more listings again (subst (λ (all : List Sentence). AreMeant all tale texts rules listings) sentences first.meant) second.meant
 
 pub ok_not_err : (tale : Tale) (fault : Fault) → Ok tale ≡ Err fault → ⊥
 ok_not_err tale fault same = absurd cc
@@ -124,9 +140,9 @@ resolved_or_refused law k sentences resolved fault is refused =
     absurd cc
 
 -- sentences that mean a tale aren't refused
-meant_or_refused : IsOneResolution → (sentences : List Sentence) (tale : Tale) (texts : List Text) (rules : List Rule) (fault : Fault) → AreMeant sentences tale texts rules → AreRefused sentences fault → ⊥
-meant_or_refused law sentences tale texts rules fault meant (unmeant refused) = ok_not_err tale fault (sym meant.tale_is ∙ refused)
-meant_or_refused law sentences tale texts rules fault meant (unresolved refused) =
+meant_or_refused : IsOneResolution → (sentences : List Sentence) (tale : Tale) (texts : List Text) (rules : List Rule) (listings : List ListingSentence) (fault : Fault) → AreMeant sentences tale texts rules listings → AreRefused sentences fault → ⊥
+meant_or_refused law sentences tale texts rules listings fault meant (unmeant refused) = ok_not_err tale fault (sym meant.tale_is ∙ refused)
+meant_or_refused law sentences tale texts rules listings fault meant (unresolved refused) =
     let same = same_ok tale refused.tale (sym meant.tale_is ∙ refused.tale_is) in
     resolved_or_refused law (known_said sentences tale) sentences meant.resolved fault meant.resolved_is
     (subst (λ (t : Tale). IsResolution (known_said sentences t) sentences (Refused fault)) (sym same) refused.refused)
@@ -152,9 +168,9 @@ not_both text_law law held_law source bytes fault other compiled (unread refused
     spelled_refused says.tokens compiled.means.sentences fault says.reads other (subst (λ ts. IsUnread ts fault) tokens refused.unread)
 not_both text_law law held_law source bytes fault other compiled (unsaid refused) =
     let sentences = same_sentences source refused.sentences compiled.means.sentences refused.says compiled.means.says in
-    meant_or_refused law compiled.means.sentences compiled.tale compiled.texts compiled.rules fault compiled.means.meant (subst (λ all. AreRefused all fault) sentences refused.refused)
+    meant_or_refused law compiled.means.sentences compiled.tale compiled.texts compiled.rules compiled.listings fault compiled.means.meant (subst (λ all. AreRefused all fault) sentences refused.refused)
 not_both text_law law held_law source bytes fault other compiled (untold refused) =
-    let same = same_tale text_law law source compiled.tale refused.tale compiled.texts refused.texts compiled.rules refused.rules compiled.means refused.means in
-    let held : AreHeld refused.tale refused.texts refused.rules = subst (AreHeld refused.tale refused.texts) same.1.1 (subst (λ (texts : List Text). AreHeld refused.tale texts compiled.rules) same.1.0 (subst (λ (tale : Tale). AreHeld tale compiled.texts compiled.rules) same.0 compiled.held)) in
+    let same = same_tale text_law law source compiled.tale refused.tale compiled.texts refused.texts compiled.rules refused.rules compiled.listings refused.listings compiled.means refused.means in
+    let held : AreHeld refused.tale refused.texts refused.rules = subst (AreHeld refused.tale refused.texts) same.1.1.0 (subst (λ (texts : List Text). AreHeld refused.tale texts compiled.rules) same.1.0 (subst (λ (tale : Tale). AreHeld tale compiled.texts compiled.rules) same.0 compiled.held)) in
     told_never refused.means.sentences refused.tale.objects refused.reason fault (held_law refused.tale refused.texts refused.rules refused.reason held refused.not_held) refused.told
 not_both text_law law held_law source bytes fault other compiled (memory short is) = other (ap (λ f. f.code) is)

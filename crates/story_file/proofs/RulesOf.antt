@@ -34,8 +34,11 @@ use Rattle.i7_resolution.specs.Resolutions.{joined}
 use Rattle.i7_resolution.specs.declared.resolution.Resolution.{Resolution}
 use Rattle.i7_resolution.specs.declared.resolution.Resolution.TheVariants as resolution
 use Rattle.i7_resolution.specs.declared.resolution.Resolved.{Resolved}
+use Rattle.i7_resolution.specs.declared.source_listings.ListingsFound.{ListingsFound}
+use Rattle.i7_resolution.specs.declared.source_listings.ListingsFound.TheVariants as listed
 use Rattle.i7_resolution.specs.declared.source_texts.TextsFound.{TextsFound}
 use Rattle.i7_resolution.specs.declared.source_texts.TextsFound.TheVariants as found
+use Rattle.rule_order.specs.declared.listing.ListingSentence.{ListingSentence}
 use Rattle.story_format.specs.Holding.{Named, is_asked, is_of, is_property, is_there, named_by, named_in}
 use Rattle.story_format.specs.RuleMaking.{book_count}
 use Rattle.story_file.specs.Meanings.{AreMeant, known_said}
@@ -48,13 +51,13 @@ abbrev resolved_or : Resolved → Resolution → Resolved
 resolved_or other (resolution.Says resolved) = resolved
 resolved_or other (resolution.Refused fault) = other
 
-pub told_by : (k : Known) (sentences : List Sentence) (rules : RulesFound) (texts : TextsFound) (resolved : Resolved) → resolution.Says resolved ≡ joined rules texts → IsRulesFound k sentences rules
+pub told_by : (k : Known) (sentences : List Sentence) (rules : RulesFound) (texts : TextsFound) (listings : ListingsFound) (resolved : Resolved) → resolution.Says resolved ≡ joined rules texts listings → IsRulesFound k sentences rules
     → AreTold k (reverse (rules_in sentences)) (reverse resolved.rules.items)
-told_by k sentences (ruled.Says rules) (found.Says texts) resolved told are =
+told_by k sentences (ruled.Says rules) (found.Says texts) (listed.Says listings) resolved told are =
     subst (λ (r : Resolved). AreTold k (reverse (rules_in sentences)) (reverse r.rules.items)) (sym (ap (resolved_or resolved) told)) are
-told_by k sentences (ruled.Says rules) (found.Refused fault) resolved told are = absurd cc
-told_by k sentences (ruled.Refused fault) (found.Says texts) resolved told are = absurd cc
-told_by k sentences (ruled.Refused fault) (found.Refused other) resolved told are = absurd cc
+told_by k sentences (ruled.Says rules) (found.Says texts) (listed.Refused fault) resolved told are = absurd cc
+told_by k sentences (ruled.Says rules) (found.Refused fault) listings resolved told are = absurd cc
+told_by k sentences (ruled.Refused fault) texts listings resolved told are = absurd cc
 
 -- ---- there are few
 
@@ -179,18 +182,18 @@ module _ (k : Known) (d : Declared) (y : Counts) (there : AreThere y k.meanings 
 
 -- ---- all of it
 
-pub few_rules : (sentences : List Sentence) (tale : Tale) (texts : List Text) (rules : List Rule) → AreMeant sentences tale texts rules → length rules ≤ 1939
-few_rules sentences tale texts rules meant =
+pub few_rules : (sentences : List Sentence) (tale : Tale) (texts : List Text) (rules : List Rule) (listings : List ListingSentence) → AreMeant sentences tale texts rules listings → length rules ≤ 1939
+few_rules sentences tale texts rules listings meant =
     let is = meant.resolved_is in
-    let told = told_by (known_said sentences tale) sentences is.rules is.texts meant.resolved is.told_is is.rules_are in
+    let told = told_by (known_said sentences tale) sentences is.rules is.texts is.listings meant.resolved is.told_is is.rules_are in
     let few = few_told (known_said sentences tale) (reverse (rules_in sentences)) meant.resolved.rules.items told in
     subst (λ (all : List Rule). length all ≤ 1939) (sym meant.rules_are) (omega (arith, few, length-map meant.resolved.rules.items (λ (one : SourceRule). rule_meant one.rule)))
 
 -- of books that there are, about what there is
-pub rules_named : (sentences : List Sentence) (tale : Tale) (texts : List Text) (rules : List Rule) → AreMeant sentences tale texts rules → list_all (is_of (named_in tale)) rules ≡ true
-rules_named sentences tale texts rules meant =
+pub rules_named : (sentences : List Sentence) (tale : Tale) (texts : List Text) (rules : List Rule) (listings : List ListingSentence) → AreMeant sentences tale texts rules listings → list_all (is_of (named_in tale)) rules ≡ true
+rules_named sentences tale texts rules listings meant =
     let is = meant.resolved_is in
-    let told = told_by (known_said sentences tale) sentences is.rules is.texts meant.resolved is.told_is is.rules_are in
+    let told = told_by (known_said sentences tale) sentences is.rules is.texts is.listings meant.resolved is.told_is is.rules_are in
     subst (λ (all : List Rule). list_all (is_of (named_in tale)) all ≡ true) (sym meant.rules_are)
     (told_rules_of (known_said sentences tale) tale.declared (counts_of sentences tale) (names_are_there sentences tale meant.tale_is) refl (rulebooks_counted sentences tale meant.tale_is)
     (scenes_counted sentences tale meant.tale_is) refl refl refl (length tale.objects) refl (reverse (rules_in sentences)) meant.resolved.rules.items told.each)

@@ -15,6 +15,8 @@ use Rattle.i7_resolution.specs.TextList.{TextAt, texts_in, texts_said}
 use Rattle.i7_resolution.specs.declared.resolution.Resolution.TheVariants.{Says as Understood}
 use Rattle.i7_resolution.specs.declared.resolution.Resolved.{Resolved}
 use Rattle.i7_resolution.specs.declared.source_texts.SourceText.{SourceText}
+use Rattle.i7_resolution.specs.declared.source_listings.ListingsFound.{ListingsFound}
+use Rattle.i7_resolution.specs.declared.source_listings.ListingsFound.TheVariants as listed
 use Rattle.i7_resolution.specs.declared.source_texts.TextsFound.{TextsFound}
 use Rattle.i7_resolution.specs.declared.source_texts.TextsFound.TheVariants as found
 use Rattle.i7_conditions.specs.Scopes.{Scope}
@@ -83,12 +85,12 @@ turned texts bytes among = record {
 -- ---- what is known of it
 
 -- what is told of sentences' texts where all is understood
-told_of : (k : Known) (sentences : List Sentence) (rules : RulesFound) (texts : TextsFound) (resolved : Resolved) → Understood resolved ≡ joined rules texts → IsTextsFound k sentences texts
+told_of : (k : Known) (sentences : List Sentence) (rules : RulesFound) (texts : TextsFound) (listings : ListingsFound) (resolved : Resolved) → Understood resolved ≡ joined rules texts listings → IsTextsFound k sentences texts
     → (told : List SourceText) × AreTold k (reverse (texts_in sentences)) told
-told_of k sentences (ruled.Says rules) (found.Says texts) resolved told are = (reverse texts.items, are)
-told_of k sentences (ruled.Says rules) (found.Refused fault) resolved told are = absurd cc
-told_of k sentences (ruled.Refused fault) (found.Says texts) resolved told are = absurd cc
-told_of k sentences (ruled.Refused fault) (found.Refused other) resolved told are = absurd cc
+told_of k sentences (ruled.Says rules) (found.Says texts) (listed.Says listings) resolved told are = (reverse texts.items, are)
+told_of k sentences (ruled.Says rules) (found.Says texts) (listed.Refused fault) resolved told are = absurd cc
+told_of k sentences (ruled.Says rules) (found.Refused fault) listings resolved told are = absurd cc
+told_of k sentences (ruled.Refused fault) texts listings resolved told are = absurd cc
 
 abbrev Never : (TextAt → ℕ → Type 0) → TextAt → Type 0
 Never Bad t = (line : ℕ) → Bad t line → ⊥
@@ -114,7 +116,7 @@ readable_by s (Some bytes) each = each bytes refl
 
 pub readable : DescriptionsAreWritten → (k : Known) (sentences : List Sentence) (tale : Tale) (resolved : Resolved) → tale_said sentences ≡ Ok tale → IsResolution k sentences (Understood resolved) → AreReadable (scope_among k []) tale.objects
 readable law k sentences tale resolved means is =
-    let told = told_of k sentences is.rules is.texts resolved is.told_is is.texts_are in
+    let told = told_of k sentences is.rules is.texts is.listings resolved is.told_is is.texts_are in
     by_number (scope_among k []) tale.objects (λ o object at. readable_by (scope_among k []) object.description (λ bytes described.
     let here : description_of tale o ≡ Some bytes = ap description_in at ∙ described in
     let written = law sentences tale o bytes means here in

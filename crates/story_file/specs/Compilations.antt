@@ -15,6 +15,7 @@ use Rattle.i7_lexer.specs.Refusals.{IsRefused as IsUnspelled, longest}
 use Rattle.i7_lexer.specs.declared.token.Token.{Token}
 use Rattle.i7_sentences.specs.Sources.{HasSentences, IsRefused as IsUnread}
 use Rattle.i7_sentences.specs.declared.sentence.Sentence.{Sentence}
+use Rattle.rule_order.specs.declared.listing.ListingSentence.{ListingSentence}
 use Rattle.code_table.specs.declared.fault.TableFault.{TableFault}
 use Rattle.code_table.specs.declared.fault.TableFault.TheVariants.{LongRule, LongText, TooMany, Memory}
 use Rattle.story_format.specs.Carrying.{Carries}
@@ -27,7 +28,7 @@ use Rattle.story_file.specs.LongStrings.{line_of_long_string}
 use Rattle.story_file.specs.Meanings.{AreMeant, AreRefused}
 
 -- the game of a tale whose descriptions say these texts, in the order of the objects that have one; no rule of the author's is
--- consulted so far
+-- consulted so far, and each standard rule is, wherever sentences list it
 abbrev pub game_meant : Tale → List Text → Game
 game_meant tale texts = game_of (script_of tale (text_of tale texts))
 
@@ -37,23 +38,24 @@ pub record Says (source : List ℕ) (sentences : List Sentence) : Type 0 where
   pub spells : HasTokens source tokens
   pub reads : HasSentences tokens sentences
 
--- A source's sentences mean this tale, its descriptions say these texts, and these are its rules.
-pub record Means (source : List ℕ) (tale : Tale) (texts : List Text) (rules : List Rule) : Type 0 where
+-- A source's sentences mean this tale, its descriptions say these texts, and these are its rules, which its sentences list so.
+pub record Means (source : List ℕ) (tale : Tale) (texts : List Text) (rules : List Rule) (listings : List ListingSentence) : Type 0 where
   pub sentences : List Sentence
   pub says : Says source sentences
-  pub meant : AreMeant sentences tale texts rules
+  pub meant : AreMeant sentences tale texts rules listings
 
 -- A source has this story file: it spells the tables of the tale that the source's sentences mean, with codes for what its
--- descriptions say and for its rules, and these tables carry the tale.
+-- descriptions say and for its rules, listed as its sentences say, and these tables carry the tale.
 pub record IsCompiled (source bytes : List ℕ) : Type 0 where
   pub tale : Tale
   pub texts : List Text
   pub rules : List Rule
-  pub means : Means source tale texts rules
+  pub listings : List ListingSentence
+  pub means : Means source tale texts rules listings
   pub held : AreHeld tale texts rules
   pub tables : Tables
-  pub tables_are : tables ≡ tables_of tale texts rules
-  pub carries : Carries tables tale texts rules
+  pub tables_are : tables ≡ tables_of tale texts listings rules
+  pub carries : Carries tables tale texts listings rules
   pub spells : Spells bytes tables
 
 -- A source's tokens are refused.
@@ -82,7 +84,8 @@ pub record IsUnheldSource (source : List ℕ) (fault : Fault) : Type 0 where
   pub tale : Tale
   pub texts : List Text
   pub rules : List Rule
-  pub means : Means source tale texts rules
+  pub listings : List ListingSentence
+  pub means : Means source tale texts rules listings
   pub reason : TableFault
   pub not_held : AreNotHeld tale texts rules reason
   pub told : IsToldAs means.sentences tale.objects reason fault

@@ -1,4 +1,4 @@
--- The tale that sentences mean, what its descriptions say, its rules, and what refuses sentences.
+-- The tale that sentences mean, what its descriptions say, its rules, where sentences list rules, and what refuses sentences.
 use Rattle.std.specs.Prelude.{◌≡◌, ◌||◌, ℕ, List, [], Ok, Err}
 use Rattle.std.specs.List.{AllZip, flat_map, list_any}
 use Rattle.world_meaning.specs.declared.fault.Fault.{Fault}
@@ -18,7 +18,8 @@ use Rattle.i7_resolution.specs.declared.resolution.Resolution.TheVariants.{Refus
 use Rattle.i7_resolution.specs.declared.resolution.Resolved.{Resolved}
 use Rattle.i7_rules.specs.Knowns.{Known}
 use Rattle.i7_sentences.specs.declared.sentence.Sentence.{Sentence}
-use Rattle.story_file.specs.Rules.{rules_told}
+use Rattle.rule_order.specs.declared.listing.ListingSentence.{ListingSentence}
+use Rattle.story_file.specs.Rules.{listings_told, rules_told}
 
 -- ---- what rules and texts may name
 
@@ -56,14 +57,15 @@ AreTexts s objects texts = AllZip (SaysIn s) (descriptions_of objects) texts
 
 -- ---- the tale
 
--- Sentences mean this tale, whose descriptions say these texts, in the order of the objects, and whose rules are these, in the
--- order of the sentences.
-pub record AreMeant (sentences : List Sentence) (tale : Tale) (texts : List Text) (rules : List Rule) : Type 0 where
+-- Sentences mean this tale, whose descriptions say these texts, in the order of the objects, and whose rules are these, listed so,
+-- both in the order of the sentences.
+pub record AreMeant (sentences : List Sentence) (tale : Tale) (texts : List Text) (rules : List Rule) (listings : List ListingSentence) : Type 0 where
   pub tale_is : tale_said sentences ≡ Ok tale
   pub resolved : Resolved
   pub resolved_is : IsResolution (known_said sentences tale) sentences (Says resolved)
   pub texts_are : AreTexts (scope_said sentences) tale.objects texts
   pub rules_are : rules ≡ rules_told resolved
+  pub listings_are : listings ≡ listings_told resolved
 
 -- What rules and texts name, how much they hold, or how the lines of rules stand, refuses sentences that mean a tale.
 pub record AreUnresolved (sentences : List Sentence) (fault : Fault) : Type 0 where

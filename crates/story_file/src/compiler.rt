@@ -62,6 +62,7 @@ pub fn compile(alloc: Global, source: &[u8]) -> Result<Vec<u8>, Fault>
         &meant.tale,
         meant.texts.as_slice(),
         meant.rules.as_slice(),
+        meant.listings.as_slice(),
     ) {
         Ok(bytes) => Ok(bytes),
         Err(fault) => Err(fault_told(sentences, meant.tale.objects.as_slice(), fault)),

@@ -5,15 +5,16 @@ ghost use Rattle.play_meaning.specs.Trees.{Text};
 ghost use Rattle.world_meaning.specs.declared.fault.Fault.{Fault};
 ghost use Rattle.world_meaning.specs.declared.fault.FaultCode.TheVariants.{Memory};
 ghost use Rattle.world_meaning.specs.declared.tale.Tale.{Tale};
+ghost use Rattle.rule_order.specs.declared.listing.ListingSentence.{ListingSentence};
 ghost use Rattle.story_file.specs.Compilations.{IsCompiled, IsRefused, Means};
 
 use i7_phrases::one_text_is_meant;
 use i7_resolution::one_resolution;
 use story_format::never_held_and_not;
 
-/// No source means two tales, or the same with other descriptions or other rules.
+/// No source means two tales, or the same with other descriptions or other rules, or with rules that are listed otherwise.
 pub fn one_tale()
-    ensures { (source : List ℕ) (tale other : Tale) (texts others : List Text) (rules more : List Rule) → Means source tale texts rules → Means source other others more → (tale ≡ other) × ((texts ≡ others) × (rules ≡ more)) }
+    ensures { (source : List ℕ) (tale other : Tale) (texts others : List Text) (rules more : List Rule) (listings again : List ListingSentence) → Means source tale texts rules listings → Means source other others more again → (tale ≡ other) × ((texts ≡ others) × ((rules ≡ more) × (listings ≡ again))) }
 {
     one_text_is_meant();
     one_resolution();

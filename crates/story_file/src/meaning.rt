@@ -1,10 +1,10 @@
-//! From sentences to the tale that they mean, what its descriptions say, and its rules.
+//! From sentences to the tale that they mean, what its descriptions say, its rules, and where they list rules.
 ghost use Rattle.std.specs.Prelude.{◌≡◌, ◌⊎◌, Ok as Said, IfErr, IfOk};
 ghost use Rattle.i7_kinds.specs.Tales.{tale_said};
 ghost use Rattle.i7_resolution.specs.Resolutions.{IsResolution, known_in, scope_in};
 ghost use Rattle.world_meaning.specs.Faults.{out_of_memory};
 ghost use Rattle.story_file.specs.Meanings.{AreMeant, AreRefused, AreTexts, known_said};
-ghost use Rattle.story_file.specs.Rules.{rules_kept, rules_told};
+ghost use Rattle.story_file.specs.Rules.{listings_told, rules_kept, rules_told};
 ghost use Rattle.story_file.specs.Texts.{AreReadable, texts_kept};
 
 use crate::rules::rules_of;
@@ -14,15 +14,26 @@ use i7_names::{SourceNames, names_in};
 use i7_resolution::{Resolution, Resolved, resolution_of};
 use i7_sentences::Sentence;
 use play_meaning::tree::{MeantRule, Text};
+use rule_order::ListingSentence;
 use std::alloc::{AllocError, Global};
 use world_meaning::{Fault, Tale};
 
-/// A tale, what its descriptions say, in the order of the objects that have one, and its rules, in the order of their sentences.
+/// A tale, what its descriptions say, in the order of the objects that have one, its rules, and the sentences that list rules,
+/// both in the order of the source.
 #[derive(Drop)]
 pub struct Meant {
     pub tale: Tale,
     pub texts: Vec<Text>,
     pub rules: Vec<MeantRule>,
+    pub listings: Vec<ListingSentence>,
+}
+
+/// The same without the tale.
+#[derive(Drop)]
+struct Kept {
+    texts: Vec<Text>,
+    rules: Vec<MeantRule>,
+    listings: Vec<ListingSentence>,
 }
 
 /// What the names of sentences stand for that mean this tale, and what is resolved of them.
@@ -40,30 +51,31 @@ fn resolution_said(
     Ok((names, told))
 }
 
-/// What the descriptions of a tale say that the sentences mean, and its rules, where so much is resolved of them.
+/// What is kept beside a tale that the sentences mean, where so much is resolved of them.
 fn kept_of(
     alloc: Global,
     names: &SourceNames,
     tale: &Tale,
     resolved: Resolved,
-) -> Result<(Vec<Text>, Vec<MeantRule>), AllocError>
+) -> Result<Kept, AllocError>
     requires { AreReadable (scope_in names.now) tale.now.objects }
-    ensures texts { IfOk result (λ kept. AreTexts (scope_in names.now) tale.now.objects (texts_kept kept.0.items)) }
-    ensures rules { IfOk result (λ kept. rules_kept kept.1.items ≡ rules_told resolved) }
+    ensures texts { IfOk result (λ kept. AreTexts (scope_in names.now) tale.now.objects (texts_kept kept.texts.items)) }
+    ensures rules { IfOk result (λ kept. rules_kept kept.rules.items ≡ rules_told resolved) }
+    ensures listings { IfOk result (λ kept. kept.listings.items ≡ listings_told resolved) }
 {
     let texts = texts_of(alloc, names, tale.objects.as_slice())?;
     let rules = rules_of(alloc, resolved.rules)?;
-    Ok((texts, rules))
+    Ok(Kept {
+        texts,
+        rules,
+        listings: resolved.listings,
+    })
 }
 
-/// What the descriptions of a tale say that the sentences mean, and its rules, or why they are refused.
-fn meant_of(
-    alloc: Global,
-    sentences: &[Sentence],
-    tale: &Tale,
-) -> Result<(Vec<Text>, Vec<MeantRule>), Fault>
+/// What is kept beside a tale that the sentences mean, or why they are refused.
+fn meant_of(alloc: Global, sentences: &[Sentence], tale: &Tale) -> Result<Kept, Fault>
     requires { tale_said sentences.now ≡ Said tale.now }
-    ensures meant { IfOk result (λ kept. AreMeant sentences.now tale.now (texts_kept kept.0.items) (rules_kept kept.1.items)) }
+    ensures meant { IfOk result (λ kept. AreMeant sentences.now tale.now (texts_kept kept.texts.items) (rules_kept kept.rules.items) kept.listings.items) }
     ensures refused { IfErr result (λ fault. AreRefused sentences.now fault ⊎ (fault ≡ out_of_memory)) }
 {
     let Ok((names, told)) = resolution_said(alloc, sentences, tale) else {
@@ -78,12 +90,17 @@ fn meant_of(
     }
 }
 
-/// The tale that sentences mean, what its descriptions say, and its rules, or why they are refused.
+/// The tale that sentences mean, what its descriptions say, its rules, and where they list rules, or why they are refused.
 pub fn tale_meant(alloc: Global, sentences: &[Sentence]) -> Result<Meant, Fault>
-    ensures meant { IfOk result (λ meant. AreMeant sentences.now meant.tale (texts_kept meant.texts.items) (rules_kept meant.rules.items)) }
+    ensures meant { IfOk result (λ meant. AreMeant sentences.now meant.tale (texts_kept meant.texts.items) (rules_kept meant.rules.items) meant.listings.items) }
     ensures refused { IfErr result (λ fault. AreRefused sentences.now fault ⊎ (fault ≡ out_of_memory)) }
 {
     let tale = tale_of(alloc, sentences)?;
-    let (texts, rules) = meant_of(alloc, sentences, &tale)?;
-    Ok(Meant { tale, texts, rules })
+    let kept = meant_of(alloc, sentences, &tale)?;
+    Ok(Meant {
+        tale,
+        texts: kept.texts,
+        rules: kept.rules,
+        listings: kept.listings,
+    })
 }

@@ -1,6 +1,7 @@
-use Rattle.std.proofs.Common.{List}
+use Rattle.std.proofs.Common.{List, subst}
 use Rattle.play_meaning.specs.Rules.{Rule}
 use Rattle.play_meaning.specs.Trees.{Text}
+use Rattle.rule_order.specs.declared.listing.ListingSentence.{ListingSentence}
 use Rattle.story_format.specs.Holding.{AreHeld, AreNotHeld, AreOf}
 use Rattle.story_format.specs.Making.{tables_of}
 use Rattle.story_format.specs.Spells.{Spells}
@@ -14,27 +15,34 @@ returns-in-Err c = refused_by c.args.source.now c.in_ok-sentences.sentences.item
 
 pub write-requires-clause-held : goal.write-requires-clause-held
 write-requires-clause-held c =
-    is_held c.args.source.now c.in_ok-sentences.sentences.items c.as_slice-sentences.result.now c.in_ok-sentences.ensures.said c.as_slice-sentences.ensures.value c.in-Ok.meant.tale (texts_kept c.in-Ok.meant.texts.items) (rules_kept c.in-Ok.meant.rules.items) c.in-Ok.ensures.meant
+    let meant = c.in-Ok.meant in
+    is_held c.args.source.now c.in_ok-sentences.sentences.items c.as_slice-sentences.result.now c.in_ok-sentences.ensures.said c.as_slice-sentences.ensures.value meant.tale (texts_kept meant.texts.items) (rules_kept meant.rules.items) meant.listings.items
+    c.in-Ok.ensures.meant
 
 pub write-requires-clause-are_of : goal.write-requires-clause-are_of
 write-requires-clause-are_of c =
-    let tale = c.in-Ok.meant.tale in
-    for_lent (AreOf tale) c.in-Ok.meant.texts.items c.as_slice.result.now c.in-Ok.meant.rules.items c.as_slice-2.result.now c.as_slice.ensures.value c.as_slice-2.ensures.value
-    (are_of c.args.source.now c.in_ok-sentences.sentences.items c.as_slice-sentences.result.now c.in_ok-sentences.ensures.said c.as_slice-sentences.ensures.value tale (texts_kept c.in-Ok.meant.texts.items) (rules_kept c.in-Ok.meant.rules.items) c.in-Ok.ensures.meant)
+    let meant = c.in-Ok.meant in
+    for_lent (AreOf meant.tale) meant.texts.items c.as_slice.result.now meant.rules.items c.as_slice-2.result.now c.as_slice.ensures.value c.as_slice-2.ensures.value
+    (are_of c.args.source.now c.in_ok-sentences.sentences.items c.as_slice-sentences.result.now c.in_ok-sentences.ensures.said c.as_slice-sentences.ensures.value meant.tale (texts_kept meant.texts.items) (rules_kept meant.rules.items) meant.listings.items
+    c.in-Ok.ensures.meant)
 
 pub returns-in-Ok-write : goal.returns-in-Ok-write
 returns-in-Ok-write c =
-    let tale = c.in-Ok.meant.tale in
+    let meant = c.in-Ok.meant in
+    let tale = meant.tale in
     let bytes = c.in-Ok-write.bytes.items in
-    let lent = λ (F : List Text → List Rule → Type 0). of_lent F c.in-Ok.meant.texts.items c.as_slice.result.now c.in-Ok.meant.rules.items c.as_slice-2.result.now c.as_slice.ensures.value c.as_slice-2.ensures.value in
-    compiled_by c.args.source.now c.in_ok-sentences.sentences.items c.as_slice-sentences.result.now c.in_ok-sentences.ensures.said c.as_slice-sentences.ensures.value tale (texts_kept c.in-Ok.meant.texts.items) (rules_kept c.in-Ok.meant.rules.items) c.in-Ok.ensures.meant
-    bytes (lent (AreHeld tale) c.in-Ok-write.ensures.said) (lent (λ texts rules. Spells bytes (tables_of tale texts rules)) c.in-Ok-write.ensures.spelled)
+    let lent = λ (F : List Text → List Rule → Type 0). of_lent F meant.texts.items c.as_slice.result.now meant.rules.items c.as_slice-2.result.now c.as_slice.ensures.value c.as_slice-2.ensures.value in
+    let spelled = lent (λ texts rules. Spells bytes (tables_of tale texts c.as_slice-3.result.now rules)) c.in-Ok-write.ensures.spelled in
+    compiled_by c.args.source.now c.in_ok-sentences.sentences.items c.as_slice-sentences.result.now c.in_ok-sentences.ensures.said c.as_slice-sentences.ensures.value tale (texts_kept meant.texts.items) (rules_kept meant.rules.items) meant.listings.items
+    c.in-Ok.ensures.meant bytes (lent (AreHeld tale) c.in-Ok-write.ensures.said)
+    (subst (λ (listings : List ListingSentence). Spells bytes (tables_of tale (texts_kept meant.texts.items) listings (rules_kept meant.rules.items))) c.as_slice-3.ensures.value spelled)
 
 pub returns : goal.returns
 returns c =
-    let tale = c.in-Ok.meant.tale in
+    let meant = c.in-Ok.meant in
+    let tale = meant.tale in
     let fault = c.in-Err-write.fault in
-    unheld_by c.args.source.now c.in_ok-sentences.sentences.items c.as_slice-sentences.result.now c.in_ok-sentences.ensures.said c.as_slice-sentences.ensures.value tale (texts_kept c.in-Ok.meant.texts.items) (rules_kept c.in-Ok.meant.rules.items) c.in-Ok.ensures.meant
-    c.as_slice-in-Err-write.result.now fault c.fault_told.result c.as_slice-in-Err-write.ensures
-    (of_lent (λ texts rules. AreNotHeld tale texts rules fault) c.in-Ok.meant.texts.items c.as_slice.result.now c.in-Ok.meant.rules.items c.as_slice-2.result.now c.as_slice.ensures.value c.as_slice-2.ensures.value c.in-Err-write.ensures.none)
+    unheld_by c.args.source.now c.in_ok-sentences.sentences.items c.as_slice-sentences.result.now c.in_ok-sentences.ensures.said c.as_slice-sentences.ensures.value tale (texts_kept meant.texts.items) (rules_kept meant.rules.items) meant.listings.items
+    c.in-Ok.ensures.meant c.as_slice-in-Err-write.result.now fault c.fault_told.result c.as_slice-in-Err-write.ensures
+    (of_lent (λ texts rules. AreNotHeld tale texts rules fault) meant.texts.items c.as_slice.result.now meant.rules.items c.as_slice-2.result.now c.as_slice.ensures.value c.as_slice-2.ensures.value c.in-Err-write.ensures.none)
     c.fault_told.ensures

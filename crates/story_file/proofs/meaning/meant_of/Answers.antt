@@ -21,6 +21,7 @@ returns-in-Ok-kept_of-clause-meant c =
       tale_is = c.requires;
       resolved = c.in-Says.resolved;
       resolved_is = subst (IsResolution (known_said sentences c.args.tale.now) sentences) c.in-Says.is c.in-Ok.ensures.told;
-      texts_are = subst (λ (k : Known). AreTexts (scope_among k []) c.args.tale.now.objects (texts_kept c.in-Ok-kept_of.kept.0.items)) c.in-Ok.ensures.names c.in-Ok-kept_of.ensures.texts;
+      texts_are = subst (λ (k : Known). AreTexts (scope_among k []) c.args.tale.now.objects (texts_kept c.in-Ok-kept_of.kept.texts.items)) c.in-Ok.ensures.names c.in-Ok-kept_of.ensures.texts;
       rules_are = c.in-Ok-kept_of.ensures.rules;
+      listings_are = c.in-Ok-kept_of.ensures.listings;
     }
