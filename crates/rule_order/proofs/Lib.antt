@@ -6,4 +6,5 @@ mod KeyLemmas
 mod ListedApart
 mod ListingLemmas
 mod Renumbering
+mod StandardBooks
 mod Uniqueness

@@ -1,15 +1,12 @@
 -- Rules that are listed as sentences say are listed apart: a sentence is about one rule.
-use Rattle.std.proofs.Common.{◌≡◌, ◌∙◌, ap, sym, refl, ℕ, zero, suc, ◌+◌, ◌<◌, ◌⊎◌, inl, inr, Bool, true, false, List, [], ◌∷◌, length, map, arith}
+use Rattle.std.proofs.Common.{◌≡◌, ◌∙◌, ap, sym, refl, ℕ, zero, suc, ◌+◌, ◌⊎◌, inl, inr, Bool, true, false, List, [], ◌∷◌, arith}
 use Rattle.std.specs.Prelude.{◌==◌, Option, None, Some, slice_get, if◌then◌else◌}
-use Rattle.std.specs.List.{AllZip}
 use Rattle.play_meaning.specs.Patterns.{listing_meant}
 use Rattle.play_meaning.specs.Rules.{InOrder, Listed, Rule}
 use Rattle.play_meaning.specs.declared.tree.pattern.Listing.{Listing}
 use Rattle.play_meaning.specs.declared.tree.pattern.Listing.TheVariants as listing
 use Rattle.rule_order.specs.Books.{AreListedApart, sentence_of}
-use Rattle.rule_order.specs.Headings.{IsRuleOf}
-use Rattle.rule_order.specs.Listings.{AreListings, latest, listing_by}
-use Rattle.rule_order.specs.declared.heading.Heading.{Heading}
+use Rattle.rule_order.specs.Listings.{latest, listed_by, listed_from, listing_by}
 use Rattle.rule_order.specs.declared.listing.Front.{Front}
 use Rattle.rule_order.specs.declared.listing.Front.TheVariants.{First, Last, Nowhere}
 use Rattle.rule_order.specs.declared.listing.ListingSentence.{ListingSentence}
@@ -27,10 +24,6 @@ rule_in (Some s) = s.rule
 abbrev listed_in : Option Rule → Listed
 listed_in None = InOrder
 listed_in (Some rule) = rule.listed
-
-abbrev listing_in : Option Listing → Listing
-listing_in None = listing.InOrder
-listing_in (Some l) = l
 
 -- ---- the sentence that lists a rule is about it
 
@@ -73,27 +66,24 @@ from_order : (r k : ℕ) (ss : List ListingSentence) → lists listing.InOrder k
 from_order r k ss (inl is) = absurd cc
 from_order r k ss (inr about) = about
 
--- ---- rules by their headings
+-- ---- rules as they are listed
 
-abbrev IsListedAt : List Heading → ℕ → Rule → Type 0
-IsListedAt hs j rule = (l : Listing) × (j < length hs) × (slice_get (map (λ h. h.listing) hs) j ≡ Some l) × (rule.listed ≡ listing_meant l)
+listed_at : (ss : List ListingSentence) (n j : ℕ) (rules : List Rule) (rule : Rule) → slice_get (listed_from ss n rules) j ≡ Some rule → rule.listed ≡ listing_meant (latest listing.InOrder (n + j) 0 ss)
+listed_at ss n j [] rule at = absurd cc
+listed_at ss n zero (first ∷ rules) rule at =
+    let here : n ≡ n + 0 = omega arith in
+    sym (ap listed_in at) ∙ ap (λ m. listing_meant (latest listing.InOrder m 0 ss)) here
+listed_at ss n (suc j) (first ∷ rules) rule at =
+    let there : (n + 1) + j ≡ n + suc j = omega arith in
+    listed_at ss (n + 1) j rules rule at ∙ ap (λ m. listing_meant (latest listing.InOrder m 0 ss)) there
 
-listed_at : (hs : List Heading) (rules : List Rule) (j : ℕ) (rule : Rule) → AllZip IsRuleOf hs rules → slice_get rules j ≡ Some rule → IsListedAt hs j rule
-listed_at [] [] j rule alike at = absurd cc
-listed_at [] (other ∷ rules) j rule alike at = absurd alike
-listed_at (h ∷ hs) [] j rule alike at = absurd alike
-listed_at (h ∷ hs) (other ∷ rules) zero rule alike at = (h.listing, omega arith, refl, sym (ap listed_in at) ∙ alike.0.listed)
-listed_at (h ∷ hs) (other ∷ rules) (suc j) rule alike at =
-    let there = listed_at hs rules j rule alike.1 at in (there.0, omega (arith, there.1), there.2, there.3)
+from_zero : (j : ℕ) → 0 + j ≡ j
+from_zero j = omega arith
 
-about : (ss : List ListingSentence) (hs : List Heading) (rules : List Rule) → AreListings (length hs) ss (map (λ h. h.listing) hs) → AllZip IsRuleOf hs rules
-    → (j k : ℕ) (rule : Rule) → slice_get rules j ≡ Some rule → sentence_of rule.listed ≡ Some k → IsAbout j 0 k ss
-about ss hs rules listings alike j k rule at is =
-    let there = listed_at hs rules j rule alike at in
-    let same : there.0 ≡ latest listing.InOrder j 0 ss = sym (ap listing_in there.2) ∙ ap listing_in (listings.each j there.1) in
-    from_order j k ss (latest_about listing.InOrder j 0 k ss (sym (ap (λ l. sentence_of (listing_meant l)) same) ∙ sym (ap sentence_of there.3) ∙ is))
+about : (ss : List ListingSentence) (rules : List Rule) (j k : ℕ) (rule : Rule) → slice_get (listed_by ss rules) j ≡ Some rule → sentence_of rule.listed ≡ Some k → IsAbout j 0 k ss
+about ss rules j k rule at is =
+    let same : rule.listed ≡ listing_meant (latest listing.InOrder j 0 ss) = listed_at ss 0 j rules rule at ∙ ap (λ m. listing_meant (latest listing.InOrder m 0 ss)) (from_zero j) in
+    from_order j k ss (latest_about listing.InOrder j 0 k ss (sym (ap sentence_of same) ∙ is))
 
-pub listed_apart : (ss : List ListingSentence) (hs : List Heading) (rules : List Rule) → AreListings (length hs) ss (map (λ h. h.listing) hs) → AllZip IsRuleOf hs rules
-    → AreListedApart rules
-listed_apart ss hs rules listings alike j k rule other sentence at_j at_k is so =
-    one_rule j k sentence ss (about ss hs rules listings alike j sentence rule at_j is) (about ss hs rules listings alike k sentence other at_k so)
+pub listed_apart : (ss : List ListingSentence) (rules : List Rule) → AreListedApart (listed_by ss rules)
+listed_apart ss rules j k rule other sentence at_j at_k is so = one_rule j k sentence ss (about ss rules j sentence rule at_j is) (about ss rules k sentence other at_k so)

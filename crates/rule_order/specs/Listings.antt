@@ -1,5 +1,7 @@
 -- Where the sentences of a source list its rules.
 use Rattle.std.specs.Prelude.{◌≡◌, ℕ, ◌+◌, ◌<◌, ◌==◌, List, [], ◌∷◌, length, Some, slice_get, slice_set, if◌then◌else◌}
+use Rattle.play_meaning.specs.Patterns.{listing_meant}
+use Rattle.play_meaning.specs.Rules.{Rule}
 use Rattle.play_meaning.specs.declared.tree.pattern.Listing.{Listing}
 use Rattle.play_meaning.specs.declared.tree.pattern.Listing.TheVariants as listing
 use Rattle.rule_order.specs.declared.listing.Front.{Front}
@@ -20,6 +22,15 @@ latest so_far rule number (sentence ∷ sentences) = latest (if sentence.rule ==
 pub record AreListings (rules : ℕ) (sentences : List ListingSentence) (listings : List Listing) : Type 0 where
   pub count : length listings ≡ rules
   pub each : (rule : ℕ) → rule < rules → slice_get listings rule ≡ Some (latest listing.InOrder rule 0 sentences)
+
+-- the rules from this number on, each listed as the latest of the sentences about it says
+abbrev pub listed_from : List ListingSentence → ℕ → List Rule → List Rule
+listed_from sentences number [] = []
+listed_from sentences number (rule ∷ rules) = record rule { listed = listing_meant (latest listing.InOrder number 0 sentences) } ∷ listed_from sentences (number + 1) rules
+
+-- all rules, by number
+abbrev pub listed_by : List ListingSentence → List Rule → List Rule
+listed_by sentences rules = listed_from sentences 0 rules
 
 -- ---- one sentence after the other
 

@@ -10,6 +10,7 @@ mod laws;
 mod listing;
 mod listing_laws;
 mod specificity;
+mod standard_rules;
 
 pub use books::{Books, order};
 pub use heading::Heading;
@@ -17,3 +18,4 @@ pub use laws::{one_order, order_of_handing_is_nothing};
 pub use listing::{Front, ListingSentence, listings};
 pub use listing_laws::{headings_are_of_rules, rules_are_listed_apart};
 pub use specificity::{aspects_of, grade_of};
+pub use standard_rules::{STANDARD_RULES, standard_book};
