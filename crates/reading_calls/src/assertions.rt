@@ -1,7 +1,7 @@
 //! What assertions say, in words: `<Garden> lies north of <Hall>`.
 use crate::names::{add, add_declared, add_name, add_names};
 use crate::plans::add_plan;
-use crate::rules::add_rule;
+use crate::rules::{add_listing, add_rule};
 use i7_sentences::{Assertion, Being, Name, Side, Way};
 use std::alloc::{AllocError, Global};
 use world_meaning::Rel;
@@ -76,6 +76,7 @@ pub fn add_said(alloc: Global, out: &mut Vec<u8>, said: &Assertion) -> Result<()
         }
         Assertion::Are(being) => add_being(out, being),
         Assertion::Rule(rule) => add_rule(alloc, out, rule),
+        Assertion::Listing(listing) => add_listing(out, listing),
         _ => add_plan(alloc, out, said),
     }
 }

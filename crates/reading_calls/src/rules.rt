@@ -1,10 +1,12 @@
 //! A rule: its rulebook, `[pattern]` or `@[place]`, `~[scene]`, `{condition:` and `(name)`, and of each phrase its line and depth, what
-//! it says, and `!` for an `instead`: `every{in,darkness: 1/0 |x|`.
+//! it says, and `!` for an `instead`: `every{in,darkness: 1/0 |x|`. Where a sentence lists a rule: `first<instead>(oak)`.
 use crate::spoken::add_spoken;
 use crate::texts::add_words;
 use crate::tokens::fault_told;
 use i7_lexer::{Lexed, lex};
-use i7_sentences::{Assertion, Rule, RuleBook, RulePhrase, RuleSubject, Sentence, WordList, read};
+use i7_sentences::{
+    Assertion, ListedIn, Rule, RuleBook, RuleListing, RulePhrase, RuleSubject, Sentence, WordList, read,
+};
 use std::alloc::{AllocError, Global};
 
 /// Adds the book of a scene's beginning or end.
@@ -81,11 +83,28 @@ pub fn add_rule(alloc: Global, out: &mut Vec<u8>, rule: &Rule) -> Result<(), All
     Ok(())
 }
 
-/// What a sentence says as a rule.
+/// Adds where a sentence lists a rule.
+pub fn add_listing(out: &mut Vec<u8>, listing: &RuleListing) -> Result<(), AllocError> {
+    match &listing.place {
+        ListedIn::First(book) => {
+            out.extend_from_slice(b"first")?;
+            add_words(out, b'<', book, b'>')?;
+        }
+        ListedIn::Last(book) => {
+            out.extend_from_slice(b"last")?;
+            add_words(out, b'<', book, b'>')?;
+        }
+        ListedIn::Nowhere => out.extend_from_slice(b"unlisted")?,
+    }
+    add_words(out, b'(', &listing.rule, b')')
+}
+
+/// What a sentence says as a rule, or where it lists one.
 fn said_told(alloc: Global, said: &Assertion) -> Result<Vec<u8>, AllocError> {
     let mut out = Vec::new(alloc);
     match said {
         Assertion::Rule(rule) => add_rule(alloc, &mut out, rule)?,
+        Assertion::Listing(listing) => add_listing(&mut out, listing)?,
         _ => out.extend_from_slice(b"no rule")?,
     }
     Ok(out)

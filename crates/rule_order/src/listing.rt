@@ -22,7 +22,7 @@ pub enum Front {
 #[derive(Clone, Copy, Debug, PartialEq, Eq)]
 pub struct ListingSentence {
     /// The rule, by its number.
-    pub rule: u16,
+    pub rule: usize,
     pub at: Front,
 }
 
@@ -41,19 +41,18 @@ fn listing_by(number: u32, at: Front) -> Listing
 fn list(listings: &mut Vec<Listing>, number: u32, sentence: ListingSentence)
     ensures { listings.new.items ≡ listed_after listings.old.items number sentence }
 {
-    if let Some(listing) = listings.get_mut(usize::from(sentence.rule)) {
+    if let Some(listing) = listings.get_mut(sentence.rule) {
         *listing = listing_by(number, sentence.at);
     }
 }
 
 /// Where so many rules are listed, by their numbers: as the latest sentence about each says, the sentences being numbered in
-/// order from 0; else in order.
+/// order from 0; else in order. More sentences than four bytes number are more than memory holds.
 pub fn listings(
     alloc: Global,
     rules: u16,
     sentences: &[ListingSentence],
 ) -> Result<Vec<Listing>, AllocError>
-    requires countable { length sentences.now ≤ 4294967295 }
     ensures { IfOk result (λ listings. AreListings rules sentences.now listings.items) }
 {
     let mut listings = vec![in alloc; Listing::InOrder; usize::from(rules)]?;
@@ -61,7 +60,7 @@ pub fn listings(
     let mut rest = sentences;
     while let [sentence, after @ ..] = rest {
         list(&mut listings, number, *sentence);
-        number += 1;
+        number = number.checked_add(1).ok_or(AllocError)?;
         rest = after;
     }
     Ok(listings)

@@ -107,17 +107,17 @@ pub const STANDARD_RULES: [(u16, u8); 61] = [
 ];
 
 /// The rulebook of the row of this number.
-fn book_at(rows: &[(u16, u8)], number: u16) -> Option<u16>
+fn book_at(rows: &[(u16, u8)], number: usize) -> Option<u16>
     ensures { result ≡ option_map (λ row. row.0) (slice_get rows.now number) }
 {
-    match rows.get(usize::from(number)) {
+    match rows.get(number) {
         None => None,
         Some(row) => Some(row.0),
     }
 }
 
 /// The rulebook of the standard rule that has this number, from 0.
-pub fn standard_book(number: u16) -> Option<u16>
+pub fn standard_book(number: usize) -> Option<u16>
     ensures { result ≡ option_map (λ rule. rule.book) (slice_get standard_rules number) }
 {
     book_at(STANDARD_RULES.as_slice(), number)

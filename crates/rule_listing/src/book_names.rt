@@ -1,0 +1,49 @@
+//! The names of rulebooks, as rules' heads have them.
+use crate::outline::Outline;
+use object_words::Strings;
+use std::alloc::{AllocError, Global};
+
+/// Those that every story has, by number.
+const BUILT_IN: [&str; 8] = [
+    "before",
+    "instead of",
+    "check",
+    "carry out",
+    "after",
+    "report",
+    "every turn",
+    "when play begins",
+];
+
+/// A name by its number.
+fn name_at(names: &Strings, number: usize) -> &str {
+    match names.as_slice().get(number) {
+        None => "?",
+        Some(name) => str::from_utf8(name.as_slice()).unwrap_or("?"),
+    }
+}
+
+/// The author's rulebook that a book is, if it stands behind those of so many scenes; of these there are two each.
+fn own_number(scenes: usize, number: usize) -> Option<usize> {
+    number.checked_sub(scenes)?.checked_sub(scenes)
+}
+
+/// The name of a book behind the built-in ones.
+fn name_behind(alloc: Global, outline: &Outline, number: usize) -> Result<String, AllocError> {
+    let scenes = outline.scenes.as_slice().len();
+    if let Some(own) = own_number(scenes, number) {
+        let name = name_at(&outline.rulebooks, own);
+        return format!(in alloc; "a {name} rule");
+    }
+    let scene = name_at(&outline.scenes, number / 2);
+    let change = if number % 2 == 0 { "begins" } else { "ends" };
+    format!(in alloc; "when {scene} {change}")
+}
+
+/// The name of the rulebook of this number.
+pub fn name_of(alloc: Global, outline: &Outline, number: usize) -> Result<String, AllocError> {
+    match BUILT_IN.get(number) {
+        Some(name) => format!(in alloc; "{name}"),
+        None => name_behind(alloc, outline, number.saturating_sub(BUILT_IN.len())),
+    }
+}

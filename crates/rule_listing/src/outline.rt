@@ -1,0 +1,101 @@
+//! What is listed of a source: its story, which holds the order, and its rules by their names and lines.
+use crate::unlisted::Unlisted;
+use i7_claims::{Sort, claims_of, names_as};
+use i7_kinds::tale_of;
+use i7_lexer::lex;
+use i7_names::{SourceNames, names_in};
+use i7_resolution::{Resolution, Resolved, resolution_of};
+use i7_rules::SourceRule;
+use i7_sentences::{Sentence, read};
+use object_words::Strings;
+use play_meaning::tree::Listing;
+use rule_order::listings;
+use std::alloc::{AllocError, Global};
+use story_file::compile;
+use story_format::{Story, load};
+use world_meaning::Tale;
+
+/// How many rules every story has.
+const STANDARD_RULES: usize = 61;
+
+/// A source's story and rules.
+#[derive(Drop)]
+pub struct Outline {
+    pub tale: Tale,
+    /// The names of the author's rulebooks, by number.
+    pub rulebooks: Strings,
+    /// The names of the scenes, by number.
+    pub scenes: Strings,
+    /// The author's rules, in the order of their sentences.
+    pub rules: Vec<SourceRule>,
+    /// Where sentences list each rule, the standard ones in front.
+    pub listings: Vec<Listing>,
+    pub story: Story,
+}
+
+/// The story of a source.
+fn story_of(alloc: Global, source: &str) -> Result<Story, Unlisted> {
+    let bytes = compile(alloc, source.as_bytes())?;
+    Ok(load(alloc, bytes.as_slice())?)
+}
+
+/// The sentences of a source.
+fn sentences_of(alloc: Global, source: &str) -> Result<Vec<Sentence>, Unlisted> {
+    let lexed = lex(alloc, source.as_bytes())?;
+    Ok(read(alloc, &lexed)?)
+}
+
+/// The names of the scenes, by number.
+fn scenes_of(alloc: Global, sentences: &[Sentence]) -> Result<Strings, AllocError> {
+    let claims = claims_of(alloc, sentences)?;
+    names_as(alloc, Sort::Scene, claims.as_slice())
+}
+
+/// What is resolved of a source.
+fn resolved_of(
+    alloc: Global,
+    names: &SourceNames,
+    tale: &Tale,
+    sentences: &[Sentence],
+) -> Result<Resolved, Unlisted> {
+    if names.rulebooks.len() > 100 || names.scenes > 50 {
+        return Err(Unlisted::TooManyNames);
+    }
+    match resolution_of(alloc, names, tale, sentences)? {
+        Resolution::Says(resolved) => Ok(resolved),
+        Resolution::Refused(fault) => Err(Unlisted::Refused(fault)),
+    }
+}
+
+/// Where sentences list each rule of a story.
+fn listings_of(alloc: Global, resolved: &Resolved) -> Result<Vec<Listing>, AllocError> {
+    let count = resolved.rules.len().saturating_add(STANDARD_RULES);
+    listings(
+        alloc,
+        count.min(65535) as u16,
+        resolved.listings.as_slice(),
+    )
+}
+
+/// What is listed of sentences that have this story.
+fn outlined(alloc: Global, sentences: &[Sentence], story: Story) -> Result<Outline, Unlisted> {
+    let tale = tale_of(alloc, sentences)?;
+    let names = names_in(alloc, sentences)?;
+    let resolved = resolved_of(alloc, &names, &tale, sentences)?;
+    let listings = listings_of(alloc, &resolved)?;
+    Ok(Outline {
+        tale,
+        rulebooks: names.rulebooks,
+        scenes: scenes_of(alloc, sentences)?,
+        rules: resolved.rules,
+        listings,
+        story,
+    })
+}
+
+/// What is listed of a source, if it is accepted.
+pub fn outline_of(alloc: Global, source: &str) -> Result<Outline, Unlisted> {
+    let story = story_of(alloc, source)?;
+    let sentences = sentences_of(alloc, source)?;
+    outlined(alloc, sentences.as_slice(), story)
+}
