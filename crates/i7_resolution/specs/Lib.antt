@@ -1,3 +1,4 @@
+pub mod BookNames
 pub mod ListingList
 pub mod ListingScans
 pub mod Listings

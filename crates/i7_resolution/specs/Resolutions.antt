@@ -1,4 +1,5 @@
--- What is resolved of a source: its rules, the texts that describe, and where sentences list rules, or the first refusal for these.
+-- What is resolved of a source: its rules, the texts that describe, and where sentences list rules, or the first refusal for these or
+-- for the names of its rulebooks.
 use Rattle.std.specs.Prelude.{◌≡◌, ℕ, ◌==◌, Bool, ◌&&◌, ◌||◌, nat_lt, List, [], Option, None, Some, if◌then◌else◌}
 use Rattle.std.specs.List.{list_any}
 use Rattle.world_meaning.specs.declared.fault.Fault.{Fault}
@@ -15,6 +16,7 @@ use Rattle.i7_rules.specs.SourceRules.{IsRulesFound}
 use Rattle.i7_rules.specs.declared.source_rules.RulesFound.{RulesFound}
 use Rattle.i7_rules.specs.declared.source_rules.RulesFound.TheVariants as ruled
 use Rattle.i7_sentences.specs.declared.sentence.Sentence.{Sentence}
+use Rattle.i7_resolution.specs.BookNames.{book_twice}
 use Rattle.i7_resolution.specs.SourceListings.{IsListingsFound}
 use Rattle.i7_resolution.specs.SourceTexts.{IsTextsFound}
 use Rattle.i7_resolution.specs.declared.resolution.Resolution.{Resolution}
@@ -83,7 +85,17 @@ joined (ruled.Says rules) (texted.Says texts) (listed.Refused fault) = Refused f
 joined (ruled.Says rules) (texted.Refused fault) listings = Refused (first_if fault (listings_fault listings))
 joined (ruled.Refused fault) texts listings = Refused (first_if (first_if fault (texts_fault texts)) (listings_fault listings))
 
--- what is told of a source by what is told of its rules, of its texts, and of the sentences that list rules
+-- refused so, or before that for what is told already
+abbrev pub refused_before : Fault → Resolution → Resolution
+refused_before fault (Says resolved) = Refused fault
+refused_before fault (Refused other) = Refused (first_of fault other)
+
+-- where a rulebook's name is given twice at this line, if at any
+abbrev pub with_books : Option ℕ → Resolution → Resolution
+with_books None told = told
+with_books (Some line) told = refused_before (record { code = Twice; line = line }) told
+
+-- what is told of a source by what is told of its rulebooks' names, of its rules, of its texts, and of the sentences that list rules
 pub record IsResolution (k : Known) (sentences : List Sentence) (told : Resolution) : Type 0 where
   pub rules : RulesFound
   pub texts : TextsFound
@@ -91,4 +103,4 @@ pub record IsResolution (k : Known) (sentences : List Sentence) (told : Resoluti
   pub rules_are : IsRulesFound k sentences rules
   pub texts_are : IsTextsFound k sentences texts
   pub listings_are : IsListingsFound k sentences listings
-  pub told_is : told ≡ joined rules texts listings
+  pub told_is : told ≡ with_books (book_twice k.actions sentences) (joined rules texts listings)

@@ -2,6 +2,7 @@
 //! its names are known, or why the source is refused for them.
 #![tactic(auto)]
 
+mod book_name;
 mod laws;
 mod listing;
 mod listing_list;

@@ -4,8 +4,9 @@ ghost use Rattle.i7_conditions.specs.Readings.{IsFoundAs};
 ghost use Rattle.i7_phrases.specs.Texts.{found_text, text_is_over};
 ghost use Rattle.i7_rules.specs.Knowns.{known_of};
 ghost use Rattle.i7_resolution.specs.SourceTexts.{SaysIn};
-ghost use Rattle.i7_resolution.specs.Resolutions.{IsResolution, first_if, first_of, goes_before, joined, known_in, listings_fault, scope_in, texts_fault, turn_of};
+ghost use Rattle.i7_resolution.specs.Resolutions.{IsResolution, first_if, first_of, goes_before, joined, known_in, listings_fault, refused_before, scope_in, texts_fault, turn_of, with_books};
 
+use crate::book_name::book_twice;
 use crate::source_listings::{ListingsFound, listings_of};
 use crate::source_texts::{SourceText, TextsFound, found_in, texts_of};
 use i7_actions::standard_actions;
@@ -120,6 +121,29 @@ fn joined(rules: RulesFound, texts: TextsFound, listings: ListingsFound) -> Reso
     }
 }
 
+/// Refused so, or before that for what is told already.
+fn refused_before(fault: Fault, told: Resolution) -> Resolution
+    ensures { result ≡ refused_before fault told }
+{
+    match told {
+        Resolution::Says(_) => Resolution::Refused(fault),
+        Resolution::Refused(other) => Resolution::Refused(first_of(fault, other)),
+    }
+}
+
+/// Where a rulebook's name is given twice at this line, if at any.
+fn with_books(line: Option<u32>, told: Resolution) -> Resolution
+    ensures { result ≡ with_books line told }
+{
+    match line {
+        None => told,
+        Some(line) => {
+            let code = FaultCode::Twice;
+            refused_before(Fault { code, line }, told)
+        }
+    }
+}
+
 /// What is resolved where so much is known.
 fn resolved_of(
     alloc: Global,
@@ -131,7 +155,8 @@ fn resolved_of(
     let rules = rules_of(alloc, known, sentences)?;
     let texts = texts_of(alloc, known, sentences)?;
     let listings = listings_of(alloc, known, sentences)?;
-    Ok(joined(rules, texts, listings))
+    let books = book_twice(alloc, known.actions, sentences)?;
+    Ok(with_books(books, joined(rules, texts, listings)))
 }
 
 /// The names of rulebooks, as they are known.
@@ -161,7 +186,8 @@ pub fn text_said(alloc: Global, names: &SourceNames, text: &[u8]) -> Result<Foun
 
 /// The rules of a source, the texts that describe, and where sentences list rules, where its names stand for this and its
 /// sentences mean this tale, or the refusal that stands: each code is looked for in all rules, texts and listings before the
-/// next, and told at its lowest line. These are C9, C7, C8, C12 and C5, as `rules_of`, `texts_of` and `listings_of` have them.
+/// next, and told at its lowest line. These are C9, C7, C8, C12 and C5, as `rules_of`, `texts_of` and `listings_of` have them, and C9
+/// of a rulebook that is named as rules of an action are.
 #[tactic(auto, unfolding(i7_actions::specs::Actions::standard_actions))]
 pub fn resolution_of(
     alloc: Global,

@@ -30,7 +30,8 @@ use Rattle.i7_sentences.specs.Lowest.{IsNowhere}
 use Rattle.i7_sentences.specs.declared.rule.RuleBook.{RuleBook}
 use Rattle.i7_sentences.specs.declared.rule.RuleBook.TheVariants as named
 use Rattle.i7_sentences.specs.declared.sentence.Sentence.{Sentence}
-use Rattle.i7_resolution.specs.Resolutions.{joined}
+use Rattle.i7_resolution.specs.BookNames.{book_twice}
+use Rattle.i7_resolution.specs.Resolutions.{joined, with_books}
 use Rattle.i7_resolution.specs.declared.resolution.Resolution.{Resolution}
 use Rattle.i7_resolution.specs.declared.resolution.Resolution.TheVariants as resolution
 use Rattle.i7_resolution.specs.declared.resolution.Resolved.{Resolved}
@@ -51,13 +52,17 @@ abbrev resolved_or : Resolved → Resolution → Resolved
 resolved_or other (resolution.Says resolved) = resolved
 resolved_or other (resolution.Refused fault) = other
 
-pub told_by : (k : Known) (sentences : List Sentence) (rules : RulesFound) (texts : TextsFound) (listings : ListingsFound) (resolved : Resolved) → resolution.Says resolved ≡ joined rules texts listings → IsRulesFound k sentences rules
+pub told_by : (k : Known) (sentences : List Sentence) (rules : RulesFound) (texts : TextsFound) (listings : ListingsFound) (books : Option ℕ) (resolved : Resolved) → resolution.Says resolved ≡ with_books books (joined rules texts listings) → IsRulesFound k sentences rules
     → AreTold k (reverse (rules_in sentences)) (reverse resolved.rules.items)
-told_by k sentences (ruled.Says rules) (found.Says texts) (listed.Says listings) resolved told are =
+told_by k sentences (ruled.Says rules) (found.Says texts) (listed.Says listings) None resolved told are =
     subst (λ (r : Resolved). AreTold k (reverse (rules_in sentences)) (reverse r.rules.items)) (sym (ap (resolved_or resolved) told)) are
-told_by k sentences (ruled.Says rules) (found.Says texts) (listed.Refused fault) resolved told are = absurd cc
-told_by k sentences (ruled.Says rules) (found.Refused fault) listings resolved told are = absurd cc
-told_by k sentences (ruled.Refused fault) texts listings resolved told are = absurd cc
+told_by k sentences (ruled.Says rules) (found.Says texts) (listed.Says listings) (Some line) resolved told are = absurd cc
+told_by k sentences (ruled.Says rules) (found.Says texts) (listed.Refused fault) None resolved told are = absurd cc
+told_by k sentences (ruled.Says rules) (found.Says texts) (listed.Refused fault) (Some line) resolved told are = absurd cc
+told_by k sentences (ruled.Says rules) (found.Refused fault) listings None resolved told are = absurd cc
+told_by k sentences (ruled.Says rules) (found.Refused fault) listings (Some line) resolved told are = absurd cc
+told_by k sentences (ruled.Refused fault) texts listings None resolved told are = absurd cc
+told_by k sentences (ruled.Refused fault) texts listings (Some line) resolved told are = absurd cc
 
 -- ---- there are few
 
@@ -185,7 +190,7 @@ module _ (k : Known) (d : Declared) (y : Counts) (there : AreThere y k.meanings 
 pub few_rules : (sentences : List Sentence) (tale : Tale) (texts : List Text) (rules : List Rule) (listings : List ListingSentence) → AreMeant sentences tale texts rules listings → length rules ≤ 1939
 few_rules sentences tale texts rules listings meant =
     let is = meant.resolved_is in
-    let told = told_by (known_said sentences tale) sentences is.rules is.texts is.listings meant.resolved is.told_is is.rules_are in
+    let told = told_by (known_said sentences tale) sentences is.rules is.texts is.listings (book_twice standard_actions sentences) meant.resolved is.told_is is.rules_are in
     let few = few_told (known_said sentences tale) (reverse (rules_in sentences)) meant.resolved.rules.items told in
     subst (λ (all : List Rule). length all ≤ 1939) (sym meant.rules_are) (omega (arith, few, length-map meant.resolved.rules.items (λ (one : SourceRule). rule_meant one.rule)))
 
@@ -193,7 +198,7 @@ few_rules sentences tale texts rules listings meant =
 pub rules_named : (sentences : List Sentence) (tale : Tale) (texts : List Text) (rules : List Rule) (listings : List ListingSentence) → AreMeant sentences tale texts rules listings → list_all (is_of (named_in tale)) rules ≡ true
 rules_named sentences tale texts rules listings meant =
     let is = meant.resolved_is in
-    let told = told_by (known_said sentences tale) sentences is.rules is.texts is.listings meant.resolved is.told_is is.rules_are in
+    let told = told_by (known_said sentences tale) sentences is.rules is.texts is.listings (book_twice standard_actions sentences) meant.resolved is.told_is is.rules_are in
     subst (λ (all : List Rule). list_all (is_of (named_in tale)) all ≡ true) (sym meant.rules_are)
     (told_rules_of (known_said sentences tale) tale.declared (counts_of sentences tale) (names_are_there sentences tale meant.tale_is) refl (rulebooks_counted sentences tale meant.tale_is)
     (scenes_counted sentences tale meant.tale_is) refl refl refl (length tale.objects) refl (reverse (rules_in sentences)) meant.resolved.rules.items told.each)
