@@ -75,7 +75,7 @@ def save_listings(name, rules, unit):
 save_listings("listings_of_rules", [f"r{n}" for n in range(1939)], "The {} rule is listed first in the every turn rules.\n")
 save_listings("listings_of_long_names", ["x" * 70 + f"{n}" for n in range(1500)], "The {} rule is listed last in the every turn rules.\n")
 save_listings("listings_of_one_rule", [], "The {} rule is listed first in the carry out looking rules.\n")
-save_listings("listings_unknown", [], "The x{} rule is not listed in any rulebook.\n")
+save_listings("listings_unknown", [f"r{n}" for n in range(1939)], "The x{} rule is not listed in any rulebook.\n")
 save_listings("listings_of_other_books", [f"r{n}" for n in range(1939)], "The {} rule is listed first in the report taking off rules.\n")
 rooms = "".join(f"Room{n} is north of Room{n - 1}. \"The walls of room {n} are bare and cold here.\"\n\n" for n in range(1, 980))
 open("rooms.i7", "w").write("Room0 is a room.\n\n" + rooms)
