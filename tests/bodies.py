@@ -3,7 +3,7 @@
 why it is refused, as of the sources of tests/bodies/rules.rows (tests/row_files.py says how rows are written). The story of each
 source that is taken says what a plain reader of stories says: its tables 8 to 12 are those of the source (tests/rule_sources.py),
 its codes are sound, and the program plays it: it begins, and answers `look`, as the reader says. So does that of a sample with
-rules of all heads.
+rules of all heads, and of one whose rules are listed.
 
 Use: tests/bodies.py PROGRAM [NAME..]    (the program of `i7story`; that of `rule_calls` stands beside it)
 NAME: only cases whose name begins so
@@ -26,7 +26,7 @@ program = pathlib.Path(sys.argv[1]).resolve()
 calls = program.parents[2] / "rule_calls/out/rule_calls"
 wanted = tuple(sys.argv[2:]) or ("",)
 folder = pathlib.Path(__file__).resolve().parent / "bodies"
-sample = folder.parents[1] / "stories/night-watch.i7"
+samples = [folder.parents[1] / "stories" / name for name in ["night-watch.i7", "museum.i7"]]
 
 RESULTS = {"done": "Done", "no decision": "NoDecision", "success": "Success", "failure": "Failure"}
 
@@ -86,7 +86,7 @@ def answers():
         yield name, readable(line), readable(answer)
     taken = [(name, source) for name, source, answer in cases if not answer.startswith("refused")]
     with tempfile.TemporaryDirectory() as scratch:
-        for name, source in [*taken, (sample.name, sample.read_text())]:
+        for name, source in [*taken, *((sample.name, sample.read_text()) for sample in samples)]:
             found, asked = played(pathlib.Path(scratch), source)
             yield f"{name}, its story", str(found), str(asked)
 

@@ -66,6 +66,17 @@ open("rule_blocks.i7", "w").write(hall + "Every turn:\n" + blocks)
 open("rules_many.i7", "w").write(hall + "Every turn, rule fails.\n" * ((longest - len(hall)) // 24))
 open("rules_of_patterns.i7", "w").write(hall + "Before taking a lit thing in a dark room, rule fails.\n" * 1939)
 open("rules_unknown.i7", "w").write(hall + "Before taking x, rule fails.\n" * ((longest - len(hall)) // 29))
+def save_listings(name, rules, unit):
+    """Saves rules of these names, and behind them as many listings as there is room for, of each in turn."""
+    told = "".join(f"Every turn (this is the {rule} rule), rule fails.\n" for rule in rules)
+    listings = [unit.format(rule) for rule in rules or ["list worn"]]
+    count = (longest - len(hall + told)) // max(map(len, listings))
+    open(name + ".i7", "w").write(hall + told + "".join(listings[n % len(listings)] for n in range(count)))
+save_listings("listings_of_rules", [f"r{n}" for n in range(1939)], "The {} rule is listed first in the every turn rules.\n")
+save_listings("listings_of_long_names", ["x" * 70 + f"{n}" for n in range(1500)], "The {} rule is listed last in the every turn rules.\n")
+save_listings("listings_of_one_rule", [], "The {} rule is listed first in the carry out looking rules.\n")
+save_listings("listings_unknown", [f"r{n}" for n in range(1939)], "The x{} rule is not listed in any rulebook.\n")
+save_listings("listings_of_other_books", [f"r{n}" for n in range(1939)], "The {} rule is listed first in the report taking off rules.\n")
 rooms = "".join(f"Room{n} is north of Room{n - 1}. \"The walls of room {n} are bare and cold here.\"\n\n" for n in range(1, 980))
 open("rooms.i7", "w").write("Room0 is a room.\n\n" + rooms)
 open("long_rulebook.i7", "w").write("The Hall is a room. The " + "x" * 65536 + " rules is a rulebook.")
@@ -175,7 +186,7 @@ for source in *.i7; do
   want=1
   limit=$space
   case $source in
-    rooms.i7 | one_room.i7 | rule_phrases.i7 | rules_of_patterns.i7) want=0 limit=unlimited ;;
+    rooms.i7 | one_room.i7 | rule_phrases.i7 | rules_of_patterns.i7 | listings_of_rules.i7 | listings_of_long_names.i7 | listings_of_one_rule.i7) want=0 limit=unlimited ;;
     closed_texts.i7 | rule_colons.i7 | rule_pattern_words.i7 | rule_substitutions.i7 | rules_many.i7 | long_*) limit=unlimited ;;
   esac
   (ulimit -v "$limit"; exec timeout 1 "$program" compile "$source" story) 2>err </dev/null

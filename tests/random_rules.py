@@ -1,7 +1,7 @@
 #!/usr/bin/env python3
-"""Sources of rules with random heads: 300 that are taken, whose tables 8 to 12 are those that a plain reading tells
-(tests/rule_sources.py), and 300 with rules among them that are refused: the code that is looked for first is told, at the first
-rule of which it stands.
+"""Sources of rules with random heads, and of sentences that list these and standard rules: 300 that are taken, whose tables 8 to 12
+are those that a plain reading tells (tests/rule_sources.py), and 300 with rules or listings among them that are refused: the code
+that is looked for first is told, at the first of these of which it stands.
 
 Use: tests/random_rules.py PROGRAM"""
 import pathlib
@@ -10,9 +10,9 @@ import subprocess
 import sys
 import tempfile
 
-from plain_stories import tables
+from plain_stories import standard_rules, tables
 from row_files import report
-from rule_sources import ACTION_BOOKS, KIND_NAMES, PROPERTIES, tables_of
+from rule_sources import ACTION_BOOKS, ACTION_NAMES, KIND_NAMES, LONE_BOOKS, PROPERTIES, STAGES, STANDARD_NAMES, tables_of
 
 program = pathlib.Path(sys.argv[1]).resolve()
 TURNS = 300
@@ -26,7 +26,14 @@ OF_TWO = ["putting {} on {}", "inserting {} into {}"]
 SCENES = ["the storm", "storm", "a calm day", "the calm day"]
 CONDITIONS = ["in darkness", "the noun is lit", "the turn count is 1", "the box is open and Bob is in the Hall"]
 MANY_LIT, MANY_DARK = "lit " * 10, "dark " * 10
-# Rules by what they are refused with, in the order in which it is looked for.
+# Names of rules, among them some that other things have, and that hold words which no other name may.
+RULE_NAMES = [
+    f"{front}{end}" for front in ["ash", "box", "tidy", "storm", "not", "rule", "first in", "zorb's"]
+    for end in ["", " clock", " rule", " 7", " of Bob"]]
+OWN_BOOKS = ["tidy", "long sweep"]
+# The standard rules by their names, each with the words in front of which its book stands.
+STANDARD = dict(zip(STANDARD_NAMES, [list(STAGES)[list(STAGES.values()).index(rule[0])] for rule in standard_rules()], strict=True))
+# Rules and listings by what they are refused with, in the order in which it is looked for.
 FAULTS = {
     "C9 Twice": [
         'Every turn (this is the room heading rule), say "x".', 'Before taking the zorb (this is the can\'t take scenery rule), say "x".'],
@@ -35,11 +42,19 @@ FAULTS = {
         'When the squall ends, say "x".', 'Check frobbing, say "x".', 'Instead of taking the box when the zorb is lit, say "x".',
         'Every turn in the box when the zorb is lit, say "x".', 'After looking in the box during the squall, say "x".',
         f'Before looking in a {MANY_DARK}room during the squall, say "x".', 'The clean rule in the Hall, say "x".',
-        'Every turn, say "[zorb]".', 'Instead of taking the box, try frobbing.'],
+        'Every turn, say "[zorb]".', 'Instead of taking the box, try frobbing.',
+        'The zorb rule is listed first in the instead rules.', 'The zorb rule is not listed in any rulebook.',
+        'A zorb rule is listed last in the zorb rules.', 'The of the rule is not listed in any rulebook.',
+        'The room heading rule is listed last in the zorb rules.', 'The list worn rule is listed last in the storm rules.',
+        'The list worn rule is listed first in the when play begins rules.', 'The room body rule is listed last in the carry out looking rules.',
+        'The room body text rule is listed first in the carry out rules.', 'The mark visited rule is listed last in carry out frobbing rules.'],
     "C8 WrongKind": [
         'Every turn in the box, say "x".', 'Before looking in a thing, say "x".', f'A tidy rule in a {MANY_LIT}thing, say "x".',
         f'After taking {MANY_LIT}things in the box, say "x".', f'Every turn in the box, say "[list of {MANY_LIT}things]".',
-        'Report waiting in north, say "x".'],
+        'Report waiting in north, say "x".',
+        'The room heading rule is listed first in the check looking rules.', 'The list worn rule is listed last in the report taking inventory rules.',
+        "The can't take scenery rule is listed first in the instead rules.", "Can't open open rule is listed last in the tidy rules.",
+        'A standard report taking rule is listed last in after rules.'],
     "C12 TooMany": [
         f'Before taking {MANY_LIT}things, say "x".', f'Every turn in {MANY_DARK}rooms, say "x".', f'Every turn, say "[list of {MANY_LIT}things]".',
         f'Check putting something on {MANY_LIT}things, say "x".', f'Before looking when the box is {MANY_LIT}thing, say "x".'],
@@ -73,16 +88,77 @@ def asked(chance):
 
 
 def rule(chance):
+    """The head of a rule, and the words with which a listing names its book, or begins to, if one can."""
     sort = chance.randrange(10)
     if sort < 6:
-        head = f"{chance.choice(ACTION_BOOKS).capitalize()} {pattern(chance)}{asked(chance)}"
-    elif sort == 6:
-        head = "When play begins"
-    elif sort == 7:
-        head = f"When {chance.choice(SCENES)} {chance.choice(['begins', 'ends'])}"
-    else:
-        head = chance.choice(["Every turn", "A tidy rule", "The long sweep rule", "Tidy rule"]) + asked(chance)
-    return head + ', say "x".'
+        book = chance.choice(ACTION_BOOKS)
+        return f"{book.capitalize()} {pattern(chance)}{asked(chance)}", book.removesuffix(" of")
+    if sort == 6:
+        return "When play begins", None
+    if sort == 7:
+        return f"When {chance.choice(SCENES)} {chance.choice(['begins', 'ends'])}", None
+    book = chance.choice(["every turn", *OWN_BOOKS])
+    head = book if book == "every turn" else f"{chance.choice(['a ', 'the ', ''])}{book} rule"
+    return head.capitalize() + asked(chance), book
+
+
+def rules(chance, count):
+    """Rules, of which some have names; and of each name the words of the rule's book."""
+    names, told, books = chance.sample(RULE_NAMES, len(RULE_NAMES)), [], {}
+    for _ in range(count):
+        head, book = rule(chance)
+        if names and chance.random() < 0.6:
+            name = names.pop()
+            books[name] = book
+            head += f" (this is the {chance.choice([name, name.upper()])} rule)"
+        told.append(head + ', say "x".')
+    return told, books
+
+
+def subject(chance, name):
+    """The words with which a listing of a rule begins."""
+    article = chance.choice(["the ", "The ", "A ", "some ", ""])
+    return f"{article}{chance.choice([name, name.capitalize()])} rule {chance.choice(['is', 'are'])}"
+
+
+def listing_in(chance, name, book):
+    """A sentence that lists a rule in this book."""
+    words = f"{book} {chance.choice(ACTION_NAMES)}" if book in STAGES else book
+    article = chance.choice(["the ", "a ", ""])
+    return f"{subject(chance, name)} listed {chance.choice(['first', 'last'])} in {article}{chance.choice([words, words.title()])} rules."
+
+
+def listing(chance, name, book):
+    """A sentence that lists a rule of this book, or takes it out."""
+    if book is None or chance.random() < 0.2:
+        return f"{subject(chance, name)} not listed in any rulebook."
+    return listing_in(chance, name, book)
+
+
+def listings(chance, books):
+    """Sentences that list some of these rules and of the standard ones, of a few several."""
+    own = chance.sample(list(books), min(len(books), chance.choice([0, 1, 4, 12])))
+    standard = chance.sample(list(STANDARD), chance.choice([0, 0, 1, 6]))
+    listed = [name for name in [*own, *standard] for _ in range(chance.choice([1, 1, 1, 2, 3]))]
+    return [listing(chance, name, {**STANDARD, **books}[name]) for name in chance.sample(listed, len(listed))]
+
+
+def fault(chance, code, books):
+    """A paragraph that is refused so, where the rules of these names stand."""
+    if code == "C8 WrongKind" and chance.random() < 0.4:
+        name = chance.choice([*books, *STANDARD])
+        own = {**STANDARD, **books}[name]
+        return listing_in(chance, name, chance.choice([book for book in [*LONE_BOOKS, *STAGES, *OWN_BOOKS] if book != own]))
+    return chance.choice(FAULTS[code])
+
+
+def mixed(chance, told, more):
+    """These paragraphs, with more at any places among them; each in its order."""
+    places = sorted(chance.choices(range(len(told) + 1), k=len(more)))
+    mix = list(told)
+    for place, paragraph in reversed(list(zip(places, more))):
+        mix.insert(place, paragraph)
+    return mix
 
 
 def compiled(scratch, source):
@@ -96,7 +172,8 @@ def compiled(scratch, source):
 
 def taken(scratch, chance):
     """What the program and a plain reading say of random rules."""
-    source = "\n\n".join([WORLD, *(rule(chance) for _ in range(chance.randrange(1, 60)))])
+    told, books = rules(chance, chance.randrange(1, 60))
+    source = "\n\n".join([WORLD, *mixed(chance, told, listings(chance, books))])
     answer, t = compiled(scratch, source)
     if t is None:
         return answer, "taken"
@@ -105,14 +182,16 @@ def taken(scratch, chance):
 
 
 def refused(scratch, chance):
-    """What the program says of rules some of which are at fault, and what it is to say."""
+    """What the program says of rules and listings some of which are at fault, and what it is to say."""
+    told, books = rules(chance, chance.randrange(1, 6))
     codes = chance.choice([list(FAULTS), *[list(FAULTS)[1:]] * 4, list(FAULTS)[2:], list(FAULTS)[3:]])
-    codes = [None if chance.random() < 0.5 else chance.choice(codes) for _ in range(chance.randrange(1, 10))]
-    rules = [chance.choice(FAULTS[code]) if code else rule(chance) for code in codes]
-    # a rule is a paragraph of one line
-    found = [(list(FAULTS).index(code), 2 * place + 3) for place, code in enumerate(codes) if code]
+    faults = [(code, fault(chance, code, books)) for code in chance.choices(codes, k=chance.randrange(6))]
+    more = [(None, sentence) for sentence in listings(chance, books)] + faults
+    paragraphs = mixed(chance, [(None, sentence) for sentence in told], chance.sample(more, len(more)))
+    # each is a paragraph of one line
+    found = [(list(FAULTS).index(code), 2 * place + 3) for place, (code, _) in enumerate(paragraphs) if code]
     wanted = f"{min(found)[1]}: {list(FAULTS)[min(found)[0]]}" if found else "taken"
-    return compiled(scratch, "\n\n".join([WORLD, *rules]))[0], wanted
+    return compiled(scratch, "\n\n".join([WORLD, *(sentence for _, sentence in paragraphs)]))[0], wanted
 
 
 def answers():

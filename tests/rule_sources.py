@@ -1,7 +1,10 @@
-"""Sources with rules, by a plain reading: where their sentences begin and end, and what these put into tables 8 to 12 of the story."""
+"""Sources with rules, by a plain reading: where their sentences begin and end, and what these put into tables 8 to 12 of the story,
+the rules and the sentences that list them."""
 import re
 
-from plain_stories import ACTIONS, BUILT_IN_BOOKS, EVERY_TURN, KINDS, NONE8, NONE16, kinds_above, standard_rules
+from plain_stories import (
+    ACTIONS, AFTER, BEFORE, BUILT_IN_BOOKS, CARRY_OUT, CHECK, EVERY_TURN, INSTEAD, KINDS, NONE8, NONE16, REPORT, kinds_above,
+    standard_rules)
 
 COMMENT = re.compile(r'("[^"]*")|\[[^]]*\]')
 FINAL = re.compile(r"[.?!]'?$|$")
@@ -10,8 +13,8 @@ RULEBOOK = re.compile(r"(?:an? |the |some )?(.+) rules (?:is|are) a rulebook\.?"
 SCENE = re.compile(r"(?:an? |the |some )?(.+?) (?:is|are) a (recurring )?scene\.?", re.I | re.S)
 # A rule is a head, perhaps with a name, and behind a colon phrases, or behind a comma one of these.
 RULE = re.compile(
-    r"([\w' -]+?)(?: \(this is the .+? rule\))?(?::|, ?(?:say|now|move|increase|decrease|(?:silently )?try|follow|rule|stop|make|continue"
-    r"|end|if|repeat)\b)", re.I)
+    r"([\w' -]+?)(?: \(this is the (?P<name>.+?) rule\))?(?::|, ?(?:say|now|move|increase|decrease|(?:silently )?try|follow|rule|stop"
+    r"|make|continue|end|if|repeat)\b)", re.I)
 ACTION_BOOKS = ["before", "instead of", "check", "carry out", "after", "report"]
 HEAD = re.compile(
     rf"(?P<acts>{'|'.join(ACTION_BOOKS)}) (?P<pattern>.+?)|(?P<every>every turn)|when play begins"
@@ -30,6 +33,34 @@ PROPERTIES = {
                                     [], ["visited", "unvisited"]])
     for place, name in enumerate(names)}
 ANYTHING = (0,)
+# A sentence that lists a rule first or last in a rulebook, or in none.
+LISTING = re.compile(
+    r"(?:an? |the |some )?(?P<rule>.+?) rule (?:is|are) (?:listed (?P<at>first|last) in (?:an? |the |some )?(?P<book>.+?) rules"
+    r"|not listed in any rulebook)\.?", re.I)
+# How a listing names the rulebooks that every story has: alone, or in front of an action.
+LONE_BOOKS = {"before": BEFORE, "instead": INSTEAD, "after": AFTER, "every turn": EVERY_TURN}
+STAGES = {"check": CHECK, "carry out": CARRY_OUT, "report": REPORT}
+STAGE = re.compile(rf"({'|'.join(STAGES)}) (.+)")
+# The names of the sixty-one standard rules, in the order of their numbers.
+STANDARD_NAMES = """
+room heading. room body text. room contents. mark visited.
+examine description. examine containers. examine supporters. examine devices.
+can't take yourself. can't take people. can't take parts. can't take what's held. can't take scenery. can't take what's fixed.
+standard carry out taking. standard report taking.
+can't drop what's not held. standard carry out dropping. standard report dropping.
+can't put on itself. can't put on non-supporters. can't put on its contents.
+standard carry out putting it on. standard report putting it on.
+can't insert into itself. can't insert into non-containers. can't insert into its contents. can't insert into closed containers.
+standard carry out inserting it into. standard report inserting it into.
+can't open unopenable. can't open open. standard carry out opening. standard report opening.
+can't close unopenable. can't close closed. standard carry out closing. standard report closing.
+can't go through closed doors. can't go that way. standard carry out going. standard report going.
+can't wear what's not wearable. can't wear what's worn. standard carry out wearing. standard report wearing.
+can't take off what's not worn. standard carry out taking off. standard report taking off.
+list carried. list worn. standard report waiting. standard report jumping.
+can't switch on non-devices. can't switch on what's on. standard carry out switching on. standard report switching on.
+can't switch off non-devices. can't switch off what's off. standard carry out switching off. standard report switching off
+""".strip().replace(".\n", ". ").split(". ")
 
 
 def without_comments(source):
@@ -101,7 +132,8 @@ def acted(words, objects):
 
 
 def head_of(sentence, rulebooks, scenes, objects):
-    """What table 10 says of a rule in front of its condition, and whether it has one; none of another sentence."""
+    """What table 10 says of a rule in front of its condition, whether it has one, and its name in small letters, if it has one; none
+    of another sentence."""
     rule = RULE.match(" ".join(sentence.split()))
     asked = rule and ASKED.fullmatch(rule[1])
     found = asked and HEAD.fullmatch(asked["front"])
@@ -117,7 +149,25 @@ def head_of(sentence, rulebooks, scenes, objects):
     else:
         book = EVERY_TURN + (not found["every"])
     scene = names.index(asked["scene"].lower()) if asked["scene"] else NONE8
-    return (book, *act, aspect_of(asked["place"], objects), scene), asked["asks"] is not None
+    name = rule["name"] and rule["name"].lower()
+    return (book, *act, aspect_of(asked["place"], objects), scene), asked["asks"] is not None, name
+
+
+def book_named(words, rulebooks, scenes):
+    """The rulebook that a listing names, or none: one that every story has goes before the author's."""
+    words = words.lower()
+    stage = STAGE.fullmatch(words)
+    if words in LONE_BOOKS:
+        return LONE_BOOKS[words]
+    if stage and stage[2] in ACTION_NAMES:
+        return STAGES[stage[1]]
+    return BUILT_IN_BOOKS + 2 * len(scenes) + rulebooks.index(words) if words in rulebooks else None
+
+
+def listing_of(sentence):
+    """The name of the rule that a sentence lists, whether first, last or nowhere, and the words of the book; none of another."""
+    found = LISTING.fullmatch(" ".join(sentence.split()))
+    return found and (found["rule"].lower(), (found["at"] or "nowhere").lower(), found["book"])
 
 
 def closeness(said):
@@ -127,15 +177,20 @@ def closeness(said):
     return said[0] * 2, 0, 0
 
 
-def in_order(rules, book):
-    """The rules of a book: those that ask more stand in front, of others those whose noun is told more closely, then the second
-    noun, then the place, and of others the earlier."""
+def in_order(rules, book, listed):
+    """The rules of a book. First stand those listed first, of these the one of the latest sentence in front; then those that no
+    sentence lists: those that ask more in front, of others those whose noun is told more closely, then the second noun, then the
+    place, and of others the earlier; last those listed last, as their sentences stand."""
     def told(number):
         _, action, noun, second, place, scene, condition, _ = rules[number]
         nouns = [noun, second, place]
         asks = (action != NONE8) + sum(said != ANYTHING for said in nouns) + (scene != NONE8) + (condition != NONE16)
         return asks, *(closeness(said) for said in nouns)
-    return sorted((number for number, rule in enumerate(rules) if rule[0] == book), key=told, reverse=True)
+    own = [number for number, rule in enumerate(rules) if rule[0] == book]
+    plain = sorted((number for number in own if number not in listed), key=told, reverse=True)
+    # a rule that is listed again stands there by its later sentence
+    first, last = ([number for number, at in listed.items() if at == where and number in own] for where in ["first", "last"])
+    return first[::-1] + plain + last
 
 
 def tables_of(source, described, objects=()):
@@ -144,12 +199,20 @@ def tables_of(source, described, objects=()):
     told = list(sentences(source))
     rulebooks, scenes = declared(told)
     heads = [head for sentence in told if (head := head_of(sentence, rulebooks, scenes, objects))]
-    rules, code = standard_rules(), described
-    for head, asks in heads:
+    rules, code, names = standard_rules(), described, list(STANDARD_NAMES)
+    for head, asks, name in heads:
         rules.append((*head, code if asks else NONE16, (0, code + asks)))
         code += asks + 1
+        names.append(name)
+    listed = {}
+    for name, at, book in filter(None, map(listing_of, told)):
+        number = names.index(name)
+        assert book is None or book_named(book, rulebooks, scenes) == rules[number][0], (name, book)
+        # the latest sentence about a rule counts, and stands where it does
+        listed.pop(number, None)
+        listed[number] = at
     return {
         "actions": ACTIONS, "grammar": [], "rules": rules,
-        "books": [in_order(rules, book) for book in range(BUILT_IN_BOOKS + 2 * len(scenes) + len(rulebooks))],
+        "books": [in_order(rules, book, listed) for book in range(BUILT_IN_BOOKS + 2 * len(scenes) + len(rulebooks))],
         "scenes": [bytes([recurs]) + b"\xff" * 4 for recurs in scenes.values()],
     }

@@ -2,7 +2,8 @@
 """A story written by hand from docs/story-format.md, tests/story_files/two_rooms.hex: the source that says it is compiled to its
 bytes, and each change of changes.rows makes it refused, or leaves a story that plays. A plain reader of the format must say the
 same. The numbers with which a story begins are those that numbers.rows tells of numbers.i7, the rules, books and scenes of sources
-those of rules.rows, by the readers of a loaded story too.
+those of rules.rows, by the readers of a loaded story too; the order of rules that sentences list, the standard ones among them, is
+that of listings.rows.
 
 Use: tests/story_files.py PROGRAM    (the program of `i7story`; that of `rule_calls` stands beside it; tests/row_files.py says how
 rows are written)"""
@@ -14,6 +15,7 @@ import tempfile
 
 from plain_stories import NONE8, NONE16, STANDARD_RULES, Fault, has, opening, tables
 from row_files import digits_of, report, rows_of
+from rule_sources import STANDARD_NAMES, tables_of
 
 program = pathlib.Path(sys.argv[1]).resolve()
 calls = program.parents[2] / "rule_calls/out/rule_calls"
@@ -21,6 +23,8 @@ folder = pathlib.Path(__file__).resolve().parent / "story_files"
 CHANGE = re.compile(r"(\d+|end)([=+-])([\d,]+)")
 # what a rule is about that asks for no action, noun, second noun, place or scene
 NOTHING = "- - - - -"
+# the name that a source gives a rule
+NAMED = re.compile(r"\(this is the (.+?) rule\)")
 TWO_ROOMS = b"""The Hall is a room. "A bare hall."\n\nThe Garden is north of the Hall.\n"""
 
 
@@ -103,11 +107,53 @@ def about_told(rule):
 def rules_of(told):
     """What a row of rules tells of a story."""
     own = list(enumerate(told["rules"]))[STANDARD_RULES:]
-    rules = [(rule[0], rule[6], rule[7][1], told["books"][rule[0]].index(number)) for number, rule in own]
-    said = ", ".join(f"{book} {'-' if test == NONE16 else test} {body} {place}" for book, test, body, place in rules)
+    places = {number: place for book in told["books"] for place, number in enumerate(book)}
+    rules = [(rule[0], "-" if rule[6] == NONE16 else rule[6], rule[7][1], places.get(number, "-")) for number, rule in own]
+    said = ", ".join(" ".join(map(str, numbers)) for numbers in rules)
     scenes = " ".join(str(scene[0]) for scene in told["scenes"])
     about = [about_told(rule) for _, rule in own]
     return [said or "-", str(len(told["books"])), scenes or "-", *([", ".join(about)] if set(about) - {NOTHING} else [])]
+
+
+def book_told(book, names):
+    """The rules of a book: standard ones by their numbers from 1 on, joined where they follow one another, others by their names."""
+    runs = []
+    for rule, before in zip(book, [None, *book]):
+        if rule >= STANDARD_RULES:
+            runs.append([names[rule - STANDARD_RULES]])
+        elif before == rule - 1:
+            runs[-1][1:] = [str(rule + 1)]
+        else:
+            runs.append([str(rule + 1)])
+    return ", ".join("-".join(run) for run in runs)
+
+
+def books_of(told, source, asked):
+    """The books that a row of listings asks for, each with its rules."""
+    names = NAMED.findall(source)
+    assert len(names) == len(told["rules"]) - STANDARD_RULES, source
+    numbers = re.findall(r"(?:^|; )(\d+):", asked)
+    return "; ".join(f"{number}: {book_told(told['books'][int(number)], names)}".strip() for number in numbers)
+
+
+def plain_tables(told, source):
+    """Tables 8 to 12 of a story, and what a plain reading of its source, which describes nothing, tells of them."""
+    plain = tables_of(source, 0, [told["strings"][thing["name"]].decode().lower() for thing in told["objects"]])
+    return str({name: told[name] for name in plain}), str(plain)
+
+
+def listings(scratch):
+    """The answers to the rows of listings, and to a source for each standard rule that lists it nowhere."""
+    for place, (source, asked) in rows_of(folder / "listings.rows"):
+        story = compiled(scratch, source)
+        told = tables(story)
+        yield place, books_of(told, source.decode(), asked.decode()), asked.decode()
+        yield f"{place}, plainly", read_plainly(story), b"plays"
+        yield f"{place}, played", played(scratch, story), b"plays"
+        yield f"{place}, by its source", *plain_tables(told, source.decode())
+    for name in STANDARD_NAMES:
+        source = f"The Hall is a room. The {name} rule is not listed in any rulebook."
+        yield f"{name} rule", *plain_tables(tables(compiled(scratch, source.encode())), source)
 
 
 def rules_read(scratch, sources):
@@ -136,6 +182,7 @@ def answers(scratch):
         yield f"{place}, by readers", said, wanted[0].decode()
         yield place, "\t".join(rules_of(tables(story))), b"\t".join(wanted).decode()
         yield f"{place}, plainly", read_plainly(story), b"plays"
+    yield from listings(scratch)
 
 
 with tempfile.TemporaryDirectory() as folder_of_files:
