@@ -1,5 +1,5 @@
 //! What a sentence comes to that lists a rule (*Writing with Inform*, 19.16), once names are known.
-ghost use Rattle.std.specs.Prelude.{◌≡◌, IfOk, MatchOption, None as Nothing, Some as There, option_map};
+ghost use Rattle.std.specs.Prelude.{◌≡◌, Some as There, option_map, IfOk};
 ghost use Rattle.i7_rules.specs.Knowns.{known_of};
 ghost use Rattle.i7_rules.specs.RuleList.{rules_lent};
 ghost use Rattle.i7_resolution.specs.Listings.{IsListing, IsPlaced, book_words, front_of, is_book};
