@@ -1,5 +1,5 @@
 -- The tables of a tale say of each object what the tale says.
-use Rattle.std.proofs.Common.{◌≡◌, ℕ, zero, suc, ◌+◌, ◌-◌, ◌<◌, ◌==◌, Bool, true, false, cond, eqb, List, [], ◌∷◌, length, map, take, drop, Option, Some, None, refl, sym, subst, ap, ◌∙◌, arith, inl, inr, if◌then◌else◌}
+use Rattle.std.proofs.Common.{◌≡◌, ℕ, zero, suc, ◌+◌, ◌-◌, ◌<◌, ◌==◌, Bool, true, false, cond, eqb, List, [], ◌∷◌, ◌++◌, length, map, take, drop, Option, Some, None, refl, sym, subst, ap, ◌∙◌, arith, inl, inr, if◌then◌else◌}
 use Rattle.std.specs.Prelude.{min, slice_get, is_none, is_some}
 use Rattle.std.specs.List.{AllByRecursion, AllZip, list_all, flat_map}
 use Rattle.std.proofs.lemmas.Bool.{ne_eqb}
@@ -32,14 +32,15 @@ use Rattle.play_meaning.specs.StandardRules.{standard_rules}
 use Rattle.play_meaning.specs.Tales.{setting_of}
 use Rattle.play_meaning.specs.declared.action.ActionNow.{ActionNow}
 use Rattle.play_meaning.specs.declared.operand.Counts.{Counts}
+use Rattle.rule_order.specs.declared.listing.ListingSentence.{ListingSentence}
 use Rattle.code_table.specs.Emitted.{AllFit, codes_of_origins}
 use Rattle.code_table.specs.Origins.{Describes, Origin, origins_of, strings_of_origin}
 use Rattle.code_table.proofs.Said.{text_said}
 use Rattle.story_format.specs.Carrying.{Carries, CarriesRule}
-use Rattle.story_format.specs.Codes.{codes_told, counts_of}
+use Rattle.story_format.specs.Codes.{codes_told}
 use Rattle.story_format.specs.Facts.{description_code_in, description_code_of, exits_at, holder_in, is_room_in, name_in, rooms_before, rules_listed, text_at, way_in, words_in}
 use Rattle.story_format.proofs.AboutRules.{IsSmall, small_names}
-use Rattle.story_format.specs.Holding.{named_in, AreHeld, IsHeld}
+use Rattle.story_format.specs.Holding.{counts_in, named_in, AreHeld, IsHeld}
 use Rattle.story_format.specs.RuleMaking.{rule_entries, rules_of, standard_entries}
 use Rattle.story_format.specs.Making.{Worded, code_count, code_number, codes_in, described_in, entries_of, entry_of, entry_strings, place_holder, story_rules, strings_of, strings_said, tables_of, tables_with, text_in, text_of, ways_of, worded, worded_at, worded_from, world_of}
 use Rattle.story_format.specs.Placed.{is_room_entry}
@@ -48,7 +49,8 @@ use Rattle.story_format.proofs.Known.{found_by_number, is_known, said_known}
 use Rattle.story_format.proofs.OrderLemmas.{at_most_one}
 use Rattle.story_format.proofs.RuleLemmas.{origins_in}
 use Rattle.story_format.proofs.OwnBooks.{all_within, books_listed}
-use Rattle.story_format.proofs.RulesCarried.{all_standard_carried, rules_carried}
+use Rattle.story_format.proofs.ListedRules.{zip_listed}
+use Rattle.story_format.proofs.RulesCarried.{all_standard_carried, carried_so, rules_carried}
 use Rattle.story_format.proofs.StandardRuleRows.{zip_append}
 use Rattle.story_format.proofs.SoundLemmas.{bytes_enough, bytes_few, bytes_told}
 use Rattle.story_format.proofs.EntryLemmas.{counted_more, counted_same, entry_room, objects_back, objects_in}
@@ -274,8 +276,8 @@ start_carried parents rooms strings (player ∷ others) h =
 
 -- ---- all of it
 
-module _ (t : Tale) (texts : List Text) (rules : List Rule) (held : IsHeld t) (are : AreHeld t texts rules) where
-  code_says : (o : ℕ) (s : Setting) (now : ActionNow) (w : World) → said_by_code (codes_told (tables_of t texts rules)) s now w (description_code_of (tables_of t texts rules) o) ≡ says (undescribed s) now w (text_of t texts o)
+module _ (t : Tale) (texts : List Text) (listings : List ListingSentence) (rules : List Rule) (held : IsHeld t) (are : AreHeld t texts rules) where
+  code_says : (o : ℕ) (s : Setting) (now : ActionNow) (w : World) → said_by_code (codes_told (tables_of t texts listings rules)) s now w (description_code_of (tables_of t texts listings rules) o) ≡ says (undescribed s) now w (text_of t texts o)
   unfolding tables_with
   code_says o s now w =
       let ws = worded t.objects in
@@ -284,36 +286,37 @@ module _ (t : Tale) (texts : List Text) (rules : List Rule) (held : IsHeld t) (a
       let back : objects_in ws ≡ t.objects = objects_back 0 t.objects in
       let le = few_objects t held in
       let many : length texts ≡ 0 + codes_in (objects_in ws) = omega (arith, are.are_of.many, ap codes_in back) in
-      described_so (counts_of (tables_of t texts rules)) (codes_told (tables_of t texts rules)) (number_in strings) texts rules are.fit (bytes_told strings origins are.said) (origins_stand ws origins are.few) s now w
-      (description_code_of (tables_of t texts rules) o) (text_of t texts o)
+      described_so (counts_in t texts rules) (codes_told (tables_of t texts listings rules)) (number_in strings) texts rules are.fit (bytes_told strings origins are.said) (origins_stand ws origins are.few) s now w
+      (description_code_of (tables_of t texts listings rules) o) (text_of t texts o)
       (subst (λ objects. Told texts (description_code_in (slice_get (entries_of strings 0 ws) o)) (text_in objects texts o)) back (descriptions_told strings texts ws 0 o (omega (arith, le)) many))
 
   small : IsSmall (named_in t)
   small = small_names t.declared (length t.objects) (few_begin t.declared.kinds (sorts_in t).rooms t.objects held.made.begins) held.made.declared
 
-  author_so : AllZip (CarriesRule (codes_told (tables_of t texts rules))) (rule_entries (described_in (worded t.objects)) rules) rules
+  author_so : AllZip (CarriesRule (codes_told (tables_of t texts listings rules))) (rule_entries (described_in (worded t.objects)) rules) rules
   unfolding tables_with rules_of
   author_so =
       let ws = worded t.objects in
       let origins = origins_of texts rules in
       let strings = strings_of ws origins in
       let next : described_in ws ≡ length (map Describes texts) = described_back t ∙ sym are.are_of.many ∙ sym (length-map texts Describes) in
-      rules_carried (counts_of (tables_of t texts rules)) (codes_told (tables_of t texts rules)) (number_in strings) origins are.fit (bytes_told strings origins are.said) (origins_stand ws origins are.few)
+      rules_carried (counts_in t texts rules) (codes_told (tables_of t texts listings rules)) (number_in strings) origins are.fit (bytes_told strings origins are.said) (origins_stand ws origins are.few)
       (named_in t) small rules (map Describes texts)
       (described_in ws) are.are_of.named next refl (omega (arith, next, length-append (map Describes texts) (origins_in rules), bytes_enough strings origins, bytes_few strings origins are.said))
 
-  rules_so : AllZip (CarriesRule (codes_told (tables_of t texts rules))) (tables_of t texts rules).rules.rules (story_rules rules)
+  rules_so : AllZip (CarriesRule (codes_told (tables_of t texts listings rules))) (tables_of t texts listings rules).rules.rules (story_rules listings rules)
   unfolding tables_with rules_of
   rules_so =
-      let codes = codes_told (tables_of t texts rules) in
-      zip_append (CarriesRule codes) standard_entries standard_rules (rule_entries (described_in (worded t.objects)) rules) rules
-      (all_standard_carried codes (named_in t) small (omega arith)) author_so
+      let codes = codes_told (tables_of t texts listings rules) in
+      let author = rule_entries (described_in (worded t.objects)) rules in
+      zip_listed (CarriesRule codes) (carried_so codes) listings 0 (standard_entries ++ author) (standard_rules ++ rules)
+      (zip_append (CarriesRule codes) standard_entries standard_rules author rules (all_standard_carried codes (named_in t) small (omega arith)) author_so)
 
-  books_so : (book : ℕ) → rules_listed (tables_of t texts rules) book ≡ book_of (setting_of t) (story_rules rules) book
+  books_so : (book : ℕ) → rules_listed (tables_of t texts listings rules) book ≡ book_of (setting_of t) (story_rules listings rules) book
   unfolding tables_with rules_of
-  books_so book = books_listed t rules (all_within (named_in t) rules (omega arith) are.are_of.named) book
+  books_so book = books_listed t listings rules (all_within (named_in t) listings rules (omega arith) are.are_of.named) book
 
-  pub tale_carried : Carries (tables_of t texts rules) t texts rules
+  pub tale_carried : Carries (tables_of t texts listings rules) t texts listings rules
   unfolding tables_with world_of
   tale_carried =
       let ws = worded t.objects in

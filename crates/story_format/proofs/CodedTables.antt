@@ -9,6 +9,7 @@ use Rattle.object_words.specs.Mentions.{number_in}
 use Rattle.play_meaning.specs.Rules.{Rule}
 use Rattle.play_meaning.specs.Trees.{Text}
 use Rattle.play_meaning.specs.declared.instruction.Instruction.{Instruction}
+use Rattle.rule_order.specs.declared.listing.ListingSentence.{ListingSentence}
 use Rattle.code_table.specs.Emitted.{AllFit, CanBeSaid, HaveNoTable, codes_of_origins}
 use Rattle.code_table.specs.Laws.{NeverTableAndNone}
 use Rattle.code_table.specs.Origins.{origins_of}
@@ -18,11 +19,12 @@ use Rattle.play_meaning.specs.declared.operand.Counts.{Counts}
 use Rattle.story_code.specs.Emits.{AreSpelled}
 use Rattle.story_code.specs.Spelling.{spelling}
 use Rattle.story_format.specs.Codes.{counts_of}
-use Rattle.story_format.specs.Holding.{AreHeld, AreNotHeld, AreOf, AreTooMany, IsHeld, NeverHeldAndNot, has_short_texts, is_short}
+use Rattle.story_format.specs.Holding.{AreHeld, AreNotHeld, AreOf, AreTooMany, IsHeld, NeverHeldAndNot, counts_in, has_short_texts, is_short}
 use Rattle.story_format.specs.Making.{books_of, code_bytes, strings_of, strings_said, tables_but_codes, tables_of, tables_with, worded}
 use Rattle.story_format.specs.declared.tables.Tables.{Tables}
 use Rattle.story_format.proofs.EntryLemmas.{objects_back}
 use Rattle.story_format.proofs.Fits.{strings_short}
+use Rattle.story_format.proofs.ListedCounts.{counts_without}
 use Rattle.story_format.proofs.Known.{all_known_too, said_known}
 use Rattle.story_format.proofs.TableLemmas.{all_good_words}
 
@@ -36,9 +38,9 @@ pub on_both : {T E P Q R : Type 0} (r : Result T E) → OnOk r P → OnOk r Q �
 on_both (Ok x) p q f = f p q
 on_both (Err e) p q f = tt
 
-module _ (t : Tale) (texts : List Text) (rules : List Rule) (strings : List (List ℕ)) (tables : Tables) (strings_are : strings ≡ strings_of (worded t.objects) (origins_of texts rules))
-    (tables_are : tables ≡ tables_but_codes t.declared (books_of t rules) (worded t.objects) rules (strings_of (worded t.objects) (origins_of texts rules))) where
-  pub coded_is : (coded : Tables) → coded ≡ record tables { codes = code_bytes strings (origins_of texts rules) } → coded ≡ tables_of t texts rules
+module _ (t : Tale) (texts : List Text) (listings : List ListingSentence) (rules : List Rule) (strings : List (List ℕ)) (tables : Tables) (strings_are : strings ≡ strings_of (worded t.objects) (origins_of texts rules))
+    (tables_are : tables ≡ tables_but_codes t.declared (books_of t listings rules) (worded t.objects) rules (strings_of (worded t.objects) (origins_of texts rules))) where
+  pub coded_is : (coded : Tables) → coded ≡ record tables { codes = code_bytes strings (origins_of texts rules) } → coded ≡ tables_of t texts listings rules
   unfolding tables_with
   coded_is coded is = is ∙ (λ i. record (tables_are i) { codes = code_bytes (strings_are i) (origins_of texts rules) })
 
@@ -67,7 +69,7 @@ module _ (t : Tale) (texts : List Text) (rules : List Rule) (strings : List (Lis
           are_of = are_of;
           short = all_known_too is_short every (strings_said os) (said_known (worded t.objects) os) parts.1;
           few = ltb-true (length every) 65535 parts.0;
-          fit = subst (λ (x : Tables). AllFit (counts_of x) (number_in every) os) tables_are (subst (λ l. AllFit (counts_of tables) (number_in l) os) strings_are fit);
+          fit = subst (λ (z : Counts). AllFit z (number_in every) os) (ap counts_of tables_are ∙ counts_without t listings rules every) (subst (λ l. AllFit (counts_of tables) (number_in l) os) strings_are fit);
           said = subst (λ l. CanBeSaid (number_in l) os) strings_are said;
         }
 
@@ -76,8 +78,10 @@ module _ (t : Tale) (texts : List Text) (rules : List Rule) (strings : List (Lis
   abbrev Long : TableFault → Counts → List (List ℕ) → Type 0
   Long fault z l = HaveNoTable z (number_in l) texts rules fault
 
-  moved : (fault : TableFault) → HaveNoTable (counts_of tables) (number_in strings) texts rules fault → HaveNoTable (counts_of (tables_but_codes t.declared (books_of t rules) (worded t.objects) rules (strings_of (worded t.objects) (origins_of texts rules)))) (number_in (strings_of (worded t.objects) (origins_of texts rules))) texts rules fault
-  moved fault none = subst (λ (x : Tables). Long fault (counts_of x) (strings_of (worded t.objects) (origins_of texts rules))) tables_are (subst (Long fault (counts_of tables)) strings_are none)
+  moved : (fault : TableFault) → HaveNoTable (counts_of tables) (number_in strings) texts rules fault → HaveNoTable (counts_of (tables_but_codes t.declared (books_of t [] rules) (worded t.objects) rules (strings_of (worded t.objects) (origins_of texts rules)))) (number_in (strings_of (worded t.objects) (origins_of texts rules))) texts rules fault
+  moved fault none =
+      let every = strings_of (worded t.objects) (origins_of texts rules) in
+      subst (λ (z : Counts). Long fault z every) (ap counts_of tables_are ∙ counts_without t listings rules every) (subst (Long fault (counts_of tables)) strings_are none)
 
   long_text : (number : ℕ) → HaveNoTable (counts_of tables) (number_in strings) texts rules (LongText number) → AreNotHeld t texts rules (LongText number)
   unfolding counts_of tables_with
@@ -116,7 +120,7 @@ module _ (t : Tale) (texts : List Text) (rules : List Rule) (strings : List (Lis
   none_so Memory none = tt
 
 pub never_both : NeverTableAndNone → NeverHeldAndNot
-never_both law t texts rules (LongText number) are long = law (counts_of (tables_of t texts rules)) (number_in (strings_of (worded t.objects) (origins_of texts rules))) texts rules (LongText number) are.fit are.said long
-never_both law t texts rules (LongRule number) are long = law (counts_of (tables_of t texts rules)) (number_in (strings_of (worded t.objects) (origins_of texts rules))) texts rules (LongRule number) are.fit are.said long
+never_both law t texts rules (LongText number) are long = law (counts_in t texts rules) (number_in (strings_of (worded t.objects) (origins_of texts rules))) texts rules (LongText number) are.fit are.said long
+never_both law t texts rules (LongRule number) are long = law (counts_in t texts rules) (number_in (strings_of (worded t.objects) (origins_of texts rules))) texts rules (LongRule number) are.fit are.said long
 never_both law t texts rules TooMany are none = absurd (omega (arith, none are.few are.short, are.said.few))
 never_both law t texts rules Memory are none = refl

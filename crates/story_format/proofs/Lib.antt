@@ -13,8 +13,10 @@ pub mod KindLemmas
 pub mod TableLemmas
 pub mod Fits
 pub mod StandardRuleRows
+pub mod ListedRules
 pub mod OnceLemmas
 pub mod OwnBooks
+pub mod ListedCounts
 pub mod RuleLemmas
 pub mod Stories
 pub mod RulesCarried

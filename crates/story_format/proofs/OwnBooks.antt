@@ -1,5 +1,5 @@
 -- The books of a tale list rules of their own, each once, in the order in which they are asked.
-use Rattle.std.proofs.Common.{◌≡◌, ◌∙◌, ap, sym, subst, refl, ℕ, zero, suc, ◌+◌, ◌<◌, ◌≤◌, Bool, true, false, cond, not, ltb, eqb, List, [], ◌∷◌, length, map, Some, None, inl, inr, arith, length-append}
+use Rattle.std.proofs.Common.{◌≡◌, ◌∙◌, ap, sym, subst, refl, ℕ, zero, suc, ◌+◌, ◌<◌, ◌≤◌, Bool, true, false, cond, not, ltb, eqb, List, [], ◌∷◌, ◌++◌, length, map, Some, None, inl, inr, arith, length-append}
 use Rattle.std.specs.Prelude.{slice_get}
 use Rattle.std.specs.List.{AllZip, list_all, range_with_len}
 use Rattle.std.proofs.lemmas.Bool.{eqb-true, eq-eqb, ltb-true, ltb-false, lt-ltb, ne_eqb}
@@ -20,6 +20,7 @@ use Rattle.rule_order.specs.Books.{AreBooksOf, AreListedApart, book_in}
 use Rattle.rule_order.specs.Headings.{IsRuleOf}
 use Rattle.rule_order.specs.declared.heading.Heading.{Heading}
 use Rattle.rule_order.specs.OrderLaws.{IsConsultedSo}
+use Rattle.rule_order.specs.declared.listing.ListingSentence.{ListingSentence}
 use Rattle.story_format.specs.BookRules.{is_of, list_their_own, lists_its_own}
 use Rattle.story_format.specs.Facts.{rules_in}
 use Rattle.story_format.specs.Holding.{Named, is_of as of_named}
@@ -32,6 +33,7 @@ use Rattle.story_format.specs.Sizes.{are_different}
 use Rattle.story_format.specs.declared.rule_entry.RuleEntry.{RuleEntry}
 use Rattle.story_format.specs.declared.rule_tables.Book.{Book}
 use Rattle.story_format.proofs.AboutRules.{named_parts}
+use Rattle.story_format.proofs.ListedRules.{all_listed, count_listed, zip_listed}
 use Rattle.story_format.proofs.StandardRuleRows.{all_bare, bare_is, is_bare, standard_count, zip_append}
 
 -- ---- what is so of each number that stands in a list
@@ -184,28 +186,32 @@ have_author [] next = tt
 have_author (rule ∷ rules) next = (refl, have_author rules (next + rule_count rule))
 
 -- each entry of table 10 is of its rule's book
-pub have_books : (rules : List Rule) (next : ℕ) → HaveBooks (all_entries next rules) (story_rules rules)
+pub have_books : (listings : List ListingSentence) (rules : List Rule) (next : ℕ) → HaveBooks (all_entries next rules) (story_rules listings rules)
 unfolding standard_entries
-have_books rules next = zip_append (λ (entry : RuleEntry) (rule : Rule). entry.book ≡ rule.book) standard_entries standard_rules (rule_entries next rules) rules (have_standard standard_rules 1) (have_author rules next)
+have_books listings rules next =
+    let own_book : RuleEntry → Rule → Type 0 = λ entry rule. entry.book ≡ rule.book in
+    zip_listed own_book (λ entry rule l same. same) listings 0 (all_entries next rules) (standard_rules ++ rules)
+    (zip_append own_book standard_entries standard_rules (rule_entries next rules) rules (have_standard standard_rules 1) (have_author rules next))
 
-pub story_count : (rules : List Rule) → length (story_rules rules) ≡ 61 + length rules
-story_count rules = omega (arith, length-append standard_rules rules, standard_count)
+pub story_count : (listings : List ListingSentence) (rules : List Rule) → length (story_rules listings rules) ≡ 61 + length rules
+story_count listings rules = omega (arith, count_listed listings 0 (standard_rules ++ rules), length-append standard_rules rules, standard_count)
 
-pub books_counted : (t : Tale) (rules : List Rule) → length (books_of t rules) ≡ book_count t.declared
-unfolding books_of
-books_counted t rules = length-map-range_with_len (listing (setting_of t) (story_rules rules)) 0 (book_count t.declared)
+module _ (t : Tale) (listings : List ListingSentence) (rules : List Rule) where
+  pub books_counted : length (books_of t listings rules) ≡ book_count t.declared
+  unfolding books_of
+  books_counted = length-map-range_with_len (listing (setting_of t) (story_rules listings rules)) 0 (book_count t.declared)
 
-pub books_there : (t : Tale) (rules : List Rule) (count : ℕ) → length (story_rules rules) ≡ count → list_all (lists_what_is_there count) (books_of t rules) ≡ true
-unfolding books_of
-books_there t rules count many = there (setting_of t) (story_rules rules) count many (range_with_len 0 (book_count t.declared))
+  pub books_there : (count : ℕ) → length (story_rules listings rules) ≡ count → list_all (lists_what_is_there count) (books_of t listings rules) ≡ true
+  unfolding books_of
+  books_there count many = there (setting_of t) (story_rules listings rules) count many (range_with_len 0 (book_count t.declared))
 
-pub books_own : (t : Tale) (rules : List Rule) (entries : List RuleEntry) → HaveBooks entries (story_rules rules) → list_their_own entries 0 (books_of t rules) ≡ true
-unfolding books_of
-books_own t rules entries same = own (setting_of t) (story_rules rules) entries same 0 (book_count t.declared)
+  pub books_own : (entries : List RuleEntry) → HaveBooks entries (story_rules listings rules) → list_their_own entries 0 (books_of t listings rules) ≡ true
+  unfolding books_of
+  books_own entries same = own (setting_of t) (story_rules listings rules) entries same 0 (book_count t.declared)
 
-pub books_fit : (t : Tale) (rules : List Rule) (count : ℕ) → length (story_rules rules) ≡ count → count ≤ 2000 → list_all book_layout.format.fits (books_of t rules) ≡ true
-unfolding books_of
-books_fit t rules count many few = fit (setting_of t) (story_rules rules) count many few (range_with_len 0 (book_count t.declared))
+  pub books_fit : (count : ℕ) → length (story_rules listings rules) ≡ count → count ≤ 2000 → list_all book_layout.format.fits (books_of t listings rules) ≡ true
+  unfolding books_of
+  books_fit count many few = fit (setting_of t) (story_rules listings rules) count many few (range_with_len 0 (book_count t.declared))
 
 -- ---- which books there are
 
@@ -221,9 +227,10 @@ author_within z (rule ∷ rules) h =
     let t = both_are (of_named z rule) (list_all (of_named z) rules) h in
     both (ltb rule.book z.books) (list_all (λ (r : Rule). ltb r.book z.books) rules) (lt-ltb _ _ (named_parts z rule t.0).book) (author_within z rules t.1)
 
-pub all_within : (z : Named) (rules : List Rule) → 8 ≤ z.books → list_all (of_named z) rules ≡ true → list_all (λ rule. ltb rule.book z.books) (story_rules rules) ≡ true
-all_within z rules le h =
-    list_all-append (λ (rule : Rule). ltb rule.book z.books) standard_rules rules
+pub all_within : (z : Named) (listings : List ListingSentence) (rules : List Rule) → 8 ≤ z.books → list_all (of_named z) rules ≡ true → list_all (λ rule. ltb rule.book z.books) (story_rules listings rules) ≡ true
+all_within z listings rules le h =
+    all_listed (λ (rule : Rule). ltb rule.book z.books) (λ rule l. refl) listings 0 (standard_rules ++ rules)
+    ∙ list_all-append (λ (rule : Rule). ltb rule.book z.books) standard_rules rules
     ∙ both (list_all (λ (rule : Rule). ltb rule.book z.books) standard_rules) (list_all (λ (rule : Rule). ltb rule.book z.books) rules) (standard_within standard_rules z.books le all_bare) (author_within z rules h)
 
 -- ---- what a book of a number lists
@@ -247,15 +254,15 @@ none_of : (s : Setting) (rules : List Rule) (book count : ℕ) → count ≤ boo
 unfolding book_of
 none_of s rules book count le h = ap (sorted (is_before s rules)) (listed_none book 0 count rules le h)
 
-pub books_listed : (t : Tale) (rules : List Rule) → list_all (λ rule. ltb rule.book (book_count t.declared)) (story_rules rules) ≡ true → (book : ℕ)
-    → rules_in (slice_get (books_of t rules) book) ≡ book_of (setting_of t) (story_rules rules) book
+pub books_listed : (t : Tale) (listings : List ListingSentence) (rules : List Rule) → list_all (λ rule. ltb rule.book (book_count t.declared)) (story_rules listings rules) ≡ true → (book : ℕ)
+    → rules_in (slice_get (books_of t listings rules) book) ≡ book_of (setting_of t) (story_rules listings rules) book
 unfolding books_of
-books_listed t rules within book =
+books_listed t listings rules within book =
     let count = book_count t.declared in
-    let f = listing (setting_of t) (story_rules rules) in
+    let f = listing (setting_of t) (story_rules listings rules) in
     elim (either (ltb book count)) [
       | inl is ↦ ap rules_in (listed_within f 0 count book book (ltb-true book count is) (omega arith))
-      | inr isnt ↦ ap rules_in (listed_past f 0 count book (ltb-false book count isnt)) ∙ sym (none_of (setting_of t) (story_rules rules) book count (ltb-false book count isnt) within)
+      | inr isnt ↦ ap rules_in (listed_past f 0 count book (ltb-false book count isnt)) ∙ sym (none_of (setting_of t) (story_rules listings rules) book count (ltb-false book count isnt) within)
     ]
 
 -- ---- as they are loaded
@@ -293,14 +300,16 @@ same_heading (h ∷ headings) (rule ∷ rules) same =
       same_heading headings rules others,
     )
 
-pub heading_count : (headings : List Heading) (rules : List Rule) → map heading_meant headings ≡ map heading_of (story_rules rules) → length headings ≡ 61 + length rules
-heading_count headings rules same = sym (length-map headings heading_meant) ∙ ap length same ∙ length-map (story_rules rules) heading_of ∙ story_count rules
+pub heading_count : (headings : List Heading) (listings : List ListingSentence) (rules : List Rule) → map heading_meant headings ≡ map heading_of (story_rules listings rules) → length headings ≡ 61 + length rules
+heading_count headings listings rules same =
+    sym (length-map headings heading_meant) ∙ ap length same ∙ length-map (story_rules listings rules) heading_of ∙ story_count listings rules
 
 -- what is computed of the headings are the books of the tale
-pub books_made : IsConsultedSo → (t : Tale) (rules : List Rule) (headings : List Heading) (books : List (List ℕ)) → map heading_meant headings ≡ map heading_of (story_rules rules) → AreListedApart (story_rules rules)
-    → AreBooksOf t.declared.kinds headings books → map (λ book. record { rules = book_in books book }) (range_with_len 0 (book_count t.declared)) ≡ books_of t rules
+pub books_made : IsConsultedSo → (t : Tale) (listings : List ListingSentence) (rules : List Rule) (headings : List Heading) (books : List (List ℕ)) → map heading_meant headings ≡ map heading_of (story_rules listings rules)
+    → AreListedApart (story_rules listings rules) → AreBooksOf t.declared.kinds headings books → map (λ book. record { rules = book_in books book }) (range_with_len 0 (book_count t.declared)) ≡ books_of t listings rules
 unfolding books_of setting_of
-books_made law t rules headings books same apart are =
-    let each : (book : ℕ) → book_in books book ≡ book_of (setting_of t) (story_rules rules) book =
-    λ book. law (setting_of t) (story_rules rules) book (book_in books book) apart (are (setting_of t) (story_rules rules) (λ kind. refl) (same_heading headings (story_rules rules) same) book) in
+books_made law t listings rules headings books same apart are =
+    let every : List Rule = story_rules listings rules in
+    let each : (book : ℕ) → book_in books book ≡ book_of (setting_of t) every book =
+    λ book. law (setting_of t) every book (book_in books book) apart (are (setting_of t) every (λ kind. refl) (same_heading headings every same) book) in
     ap (λ (f : ℕ → Book). map f (range_with_len 0 (book_count t.declared))) (λ i. λ book. record { rules = each book i })

@@ -14,13 +14,12 @@ use Rattle.code_table.specs.Emitted.{AllFit, CanBeSaid}
 use Rattle.code_table.specs.Origins.{Origin, origins_of, part_of}
 use Rattle.story_code.specs.Emitting.{can_say_all}
 use Rattle.story_format.specs.Codes.{counts_of, small}
-use Rattle.story_format.specs.Holding.{PlainTextsAreHeld, is_short}
-use Rattle.story_format.specs.Making.{codes_in, strings_of, strings_said, tables_of, tables_with, worded}
+use Rattle.story_format.specs.Holding.{PlainTextsAreHeld, counts_in, is_short}
+use Rattle.story_format.specs.Making.{codes_in, strings_of, strings_said, tables_with, worded}
 use Rattle.story_format.proofs.EntryLemmas.{objects_back, objects_in}
 use Rattle.story_format.proofs.Fits.{few_strings}
 use Rattle.story_format.proofs.Known.{is_known, passes_at, said_known}
 use Rattle.story_format.proofs.OrderLemmas.{codes_few, number_is_place}
-use Rattle.story_format.proofs.StandardRuleRows.{in_order_apart}
 use Rattle.story_format.proofs.Stories.{few_objects}
 
 -- ---- texts that say bytes
@@ -102,9 +101,9 @@ plain_held t xs held many short =
     let few : length strings < 65535 = omega (arith, few_strings ws origins held.words, ap length said, few_bytes, le) in
     let known : list_all (is_known strings) xs ≡ true = ap (list_all (is_known strings)) (sym said) ∙ said_known ws origins in
     record {
-      are_of = record { many = length-map xs plain ∙ many; few = omega arith; apart = in_order_apart [] refl; named = refl };
+      are_of = record { many = length-map xs plain ∙ many; few = omega arith; named = refl };
       short = ap (list_all is_short) said ∙ short;
       few = few;
-      fit = fit_plain (number_in strings) (counts_of (tables_of t texts [])) xs (all_within strings xs (small (length strings)) (omega (arith, few)) known few);
+      fit = fit_plain (number_in strings) (counts_in t texts []) xs (all_within strings xs (small (length strings)) (omega (arith, few)) known few);
       said = can_be_said (number_in strings) xs (named_small strings) few_bytes;
     }

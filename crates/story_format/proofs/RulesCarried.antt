@@ -7,7 +7,7 @@ use Rattle.std.proofs.lemmas.Bool.{ne_eqb}
 use Rattle.play_meaning.specs.Codes.{Codes, RunsTo, test_of}
 use Rattle.play_meaning.specs.Doing.{Inner, do_body}
 use Rattle.play_meaning.specs.Progress.{Progress}
-use Rattle.play_meaning.specs.Rules.{Rule}
+use Rattle.play_meaning.specs.Rules.{Listed, Rule}
 use Rattle.play_meaning.specs.Saying.{Telling}
 use Rattle.play_meaning.specs.Scripts.{scope_of}
 use Rattle.play_meaning.specs.StandardRules.{standard_rules}
@@ -24,6 +24,7 @@ use Rattle.story_format.specs.Facts.{text_at}
 use Rattle.story_format.specs.Holding.{Named, is_of}
 use Rattle.story_format.specs.RuleMaking.{condition_count, condition_number, rule_count, rule_entries, rule_entry, standard_entries, standard_from}
 use Rattle.story_format.specs.declared.rule_entry.RuleBody.TheVariants.{Code, Standard}
+use Rattle.story_format.specs.declared.rule_entry.RuleEntry.{RuleEntry}
 use Rattle.world_meaning.proofs.Bools.{both_are}
 use Rattle.story_format.proofs.AboutRules.{IsSmall, entry_about}
 use Rattle.story_format.proofs.RuleLemmas.{counted, counted_more, origins_in}
@@ -81,6 +82,16 @@ standard_carried c z front (rule ∷ rules) number parts is small named bare =
 pub all_standard_carried : (c : Codes) (z : Named) → IsSmall z → 8 ≤ z.books → AllZip (CarriesRule c) standard_entries standard_rules
 unfolding standard_entries
 all_standard_carried c z small books = standard_carried c z [] standard_rules 1 refl refl small (each_of z standard_rules books all_bare) all_bare
+
+-- ---- wherever a rule is listed
+
+pub carried_so : (c : Codes) (r : RuleEntry) (rule : Rule) (l : Listed) → CarriesRule c r rule → CarriesRule c r (record rule { listed = l })
+carried_so c r rule l h = record {
+  book = h.book;
+  about = record { action = h.about.action; noun = h.about.noun; second = h.about.second; place = h.about.place; scene = h.about.scene };
+  condition = h.condition;
+  body = h.body;
+}
 
 -- ---- all of them
 

@@ -1,6 +1,6 @@
 -- Tables that carry a tale: they say of each object's name, words and ways, and of the start, what the tale says; its
 -- description's code says its text; its rules are about the same, and their codes answer their conditions and do their
--- bodies; and its books list them in the order in which they are asked.
+-- bodies; and its books list them in the order in which they are asked, as sentences list them.
 use Rattle.std.specs.Prelude.{◌≡◌, ℕ, zero, suc, [], is_some, length, map, slice_get, List, Option, None, Some, if◌then◌else◌, ◌==◌}
 use Rattle.std.specs.List.{AllZip}
 use Rattle.std.specs.Option.{option_map}
@@ -22,6 +22,7 @@ use Rattle.play_meaning.specs.declared.action.ActionNow.{ActionNow}
 use Rattle.world_meaning.specs.Tale.{description_of as told_description, name_of as told_name, start_of as told_start, way_of as told_way}
 use Rattle.world_meaning.specs.declared.tale.Tale.{Tale}
 use Rattle.object_words.specs.Words.{words_of as told_words}
+use Rattle.rule_order.specs.declared.listing.ListingSentence.{ListingSentence}
 use Rattle.story_format.specs.declared.rule_entry.Aspect.{Aspect as Asked}
 use Rattle.story_format.specs.declared.rule_entry.Aspect.TheVariants as aspects
 use Rattle.story_format.specs.declared.rule_entry.PropertySide.{PropertySide}
@@ -87,8 +88,8 @@ pub record CarriesRule (c : Codes) (r : RuleEntry) (rule : Rule) : Type 0 where
 
 -- ---- all of it
 
--- where these texts are said of the objects that are described, in order, and these are the author's rules
-pub record Carries (tables : Tables) (tale : Tale) (texts : List Text) (rules : List Rule) : Type 0 where
+-- where these texts are said of the objects that are described, in order, these sentences list rules, and these are the author's
+pub record Carries (tables : Tables) (tale : Tale) (texts : List Text) (listings : List ListingSentence) (rules : List Rule) : Type 0 where
   pub count : object_count_of tables ≡ length tale.objects
   pub names : (o : ℕ) → name_of tables o ≡ told_name tale o
   pub words : (o : ℕ) → words_of tables o ≡ told_words tale o
@@ -98,6 +99,6 @@ pub record Carries (tables : Tables) (tale : Tale) (texts : List Text) (rules : 
   pub ways : (o direction : ℕ) → way_of tables o direction ≡ told_way tale o direction
   pub start : start_of tables ≡ told_start tale
   -- those that every story has, and behind them the author's
-  pub rules_are : AllZip (CarriesRule (codes_told tables)) tables.rules.rules (story_rules rules)
+  pub rules_are : AllZip (CarriesRule (codes_told tables)) tables.rules.rules (story_rules listings rules)
   -- each book lists its rules in the order in which they are asked
-  pub books : (book : ℕ) → rules_listed tables book ≡ book_of (setting_of tale) (story_rules rules) book
+  pub books : (book : ℕ) → rules_listed tables book ≡ book_of (setting_of tale) (story_rules listings rules) book

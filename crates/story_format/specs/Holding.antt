@@ -9,13 +9,13 @@ use Rattle.object_words.specs.Mentions.{number_in}
 use Rattle.play_meaning.specs.Rules.{Anything, Aspect, Exactly, OfKind, Rule}
 use Rattle.play_meaning.specs.Trees.{Adjective, NotSo, Quality, Text}
 use Rattle.play_meaning.specs.StandardRules.{plain}
+use Rattle.play_meaning.specs.declared.operand.Counts.{Counts}
 use Rattle.code_table.specs.Emitted.{AllFit, CanBeSaid, IsLongRule, IsLongText, codes_of_origins}
 use Rattle.code_table.specs.Origins.{Origin, origins_of}
 use Rattle.code_table.specs.declared.fault.TableFault.{TableFault}
 use Rattle.code_table.specs.declared.fault.TableFault.TheVariants.{LongText, LongRule, TooMany, Memory}
 use Rattle.story_format.specs.Codes.{counts_of}
-use Rattle.rule_order.specs.Books.{AreListedApart}
-use Rattle.story_format.specs.Making.{Worded, codes_in, story_rules, strings_of, strings_said, tables_of, worded}
+use Rattle.story_format.specs.Making.{Worded, codes_in, strings_of, strings_said, tables_of, worded}
 use Rattle.story_format.specs.RuleMaking.{book_count}
 
 abbrev pub is_short : List ℕ → Bool
@@ -75,15 +75,18 @@ unfoldable pub is_of : Named → Rule → Bool
 is_of z rule =
     nat_lt rule.book z.books && is_there 16 rule.action && is_asked z rule.noun && is_asked z rule.second && is_asked z rule.place && is_there z.scenes rule.scene
 
--- What may be said of a tale: a text of each description, and rules, with the sixty-one 2,000 at most, of which no sentence lists two.
+-- What may be said of a tale: a text of each description, and rules, with the sixty-one 2,000 at most.
 pub record AreOf (t : Tale) (texts : List Text) (rules : List Rule) : Type 0 where
   pub many : length texts ≡ codes_in t.objects
   pub few : length rules ≤ 1939
-  pub apart : AreListedApart (story_rules rules)
   pub named : list_all (is_of (named_in t)) rules ≡ true
 
 abbrev pub strings_in : Tale → List Origin → List (List ℕ)
 strings_in t origins = strings_of (worded t.objects) origins
+
+-- how many there are of what codes name: as many, wherever sentences list the rules
+abbrev pub counts_in : Tale → List Text → List Rule → Counts
+counts_in t texts rules = counts_of (tables_of t texts [] rules)
 
 -- The texts of its descriptions, in the order of the objects, and the rules that a story file says: strings of 65,535 bytes at
 -- most, no more than two bytes number, of texts and rules that fit what is there and whose codes bytes can say.
@@ -91,7 +94,7 @@ pub record AreHeld (t : Tale) (texts : List Text) (rules : List Rule) : Type 0 w
   pub are_of : AreOf t texts rules
   pub short : list_all is_short (strings_said (origins_of texts rules)) ≡ true
   pub few : length (strings_in t (origins_of texts rules)) < 65535
-  pub fit : AllFit (counts_of (tables_of t texts rules)) (number_in (strings_in t (origins_of texts rules))) (origins_of texts rules)
+  pub fit : AllFit (counts_in t texts rules) (number_in (strings_in t (origins_of texts rules))) (origins_of texts rules)
   pub said : CanBeSaid (number_in (strings_in t (origins_of texts rules))) (origins_of texts rules)
 
 -- unless there are too many strings, or one is too long, there are too many codes
@@ -101,9 +104,9 @@ AreTooMany t origins = length (strings_in t origins) < 65535 → list_all is_sho
 -- why a story file doesn't say texts and rules: one is the first whose code is too long, or there is too much of them
 abbrev pub AreNotHeld : Tale → List Text → List Rule → TableFault → Type 0
 AreNotHeld t texts rules (LongText number) =
-    IsLongText (counts_of (tables_of t texts rules)) (number_in (strings_in t (origins_of texts rules))) (length (origins_of texts rules)) texts number
+    IsLongText (counts_in t texts rules) (number_in (strings_in t (origins_of texts rules))) (length (origins_of texts rules)) texts number
 AreNotHeld t texts rules (LongRule number) =
-    IsLongRule (counts_of (tables_of t texts rules)) (number_in (strings_in t (origins_of texts rules))) (length (origins_of texts rules)) texts rules number
+    IsLongRule (counts_in t texts rules) (number_in (strings_in t (origins_of texts rules))) (length (origins_of texts rules)) texts rules number
 AreNotHeld t texts rules TooMany = AreTooMany t (origins_of texts rules)
 AreNotHeld t texts rules Memory = Unit {0}
 

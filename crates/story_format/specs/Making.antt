@@ -19,6 +19,8 @@ use Rattle.play_meaning.specs.Tales.{setting_of}
 use Rattle.play_meaning.specs.Trees.{Text}
 use Rattle.code_table.specs.Emitted.{codes_of_origins}
 use Rattle.code_table.specs.Origins.{Origin, origins_of, strings_of_origin}
+use Rattle.rule_order.specs.Listings.{listed_by}
+use Rattle.rule_order.specs.declared.listing.ListingSentence.{ListingSentence}
 use Rattle.story_code.specs.Spelling.{spelling}
 use Rattle.story_format.specs.RuleMaking.{book_count, rules_of}
 use Rattle.story_format.specs.declared.rule_tables.Book.{Book}
@@ -132,13 +134,14 @@ described_in ws = codes_in (map (λ w. w.object) ws)
 
 -- ---- books
 
--- all rules of a story, by number: those that every story has, and behind them the author's
-abbrev pub story_rules : List Rule → List Rule
-story_rules rules = standard_rules ++ rules
+-- all rules of a story, by number: those that every story has, and behind them the author's, each listed as the latest sentence
+-- about it says
+abbrev pub story_rules : List ListingSentence → List Rule → List Rule
+story_rules listings rules = listed_by listings (standard_rules ++ rules)
 
 -- its rulebooks, each with its rules in the order in which they are asked
-unfoldable pub books_of : Tale → List Rule → List Book
-books_of t rules = map (λ book. record { rules = book_of (setting_of t) (story_rules rules) book }) (range_with_len 0 (book_count t.declared))
+unfoldable pub books_of : Tale → List ListingSentence → List Rule → List Book
+books_of t listings rules = map (λ book. record { rules = book_of (setting_of t) (story_rules listings rules) book }) (range_with_len 0 (book_count t.declared))
 
 -- ---- all of it
 
@@ -160,9 +163,10 @@ code_bytes strings origins = map spelling (codes_of_origins (number_in strings) 
 unfoldable pub tables_with : Declared → List Book → List Worded → List Rule → List Origin → Tables
 tables_with d books ws rules origins = record (tables_but_codes d books ws rules (strings_of ws origins)) { codes = code_bytes (strings_of ws origins) origins }
 
--- the tables of a tale whose descriptions say these texts, in the order of the objects that are described, and whose rules are these
-abbrev pub tables_of : Tale → List Text → List Rule → Tables
-tables_of t texts rules = tables_with t.declared (books_of t rules) (worded t.objects) rules (origins_of texts rules)
+-- the tables of a tale whose descriptions say these texts, in the order of the objects that are described, and whose rules are
+-- these, listed as these sentences say
+abbrev pub tables_of : Tale → List Text → List ListingSentence → List Rule → Tables
+tables_of t texts listings rules = tables_with t.declared (books_of t listings rules) (worded t.objects) rules (origins_of texts rules)
 
 -- its strings
 abbrev pub strings_with : Tale → List Text → List Rule → List (List ℕ)

@@ -1,7 +1,9 @@
 -- Rules as the order of their rulebook sees them.
-use Rattle.std.specs.Prelude.{ℕ, Bool, is_some}
+use Rattle.std.specs.Prelude.{ℕ, ◌+◌, Bool, List, [], ◌∷◌, is_some, slice_index_or}
 use Rattle.play_meaning.specs.Patterns.{Pattern, listing_meant, pattern_meant}
 use Rattle.play_meaning.specs.Rules.{Listed, Rule}
+use Rattle.play_meaning.specs.declared.tree.pattern.Listing.{Listing}
+use Rattle.play_meaning.specs.declared.tree.pattern.Listing.TheVariants.{InOrder}
 use Rattle.play_meaning.specs.declared.tree.rule.RuleHead.{RuleHead}
 use Rattle.rule_order.specs.declared.heading.Heading.{Heading}
 
@@ -25,3 +27,18 @@ head_meant head = record { book = head.book; about = pattern_meant head.pattern;
 
 abbrev pub heading_meant : Heading → Headed
 heading_meant h = record { book = h.book; about = pattern_meant h.pattern.now; conditional = h.is_conditional; listed = listing_meant h.listing }
+
+-- ---- as sentences list them
+
+-- the listing of the rule of a number; in order, where there is none
+abbrev pub listing_at : List Listing → ℕ → Listing
+listing_at listings number = slice_index_or listings number InOrder
+
+-- listed so, whatever the head says
+abbrev pub headed_as : Listing → Headed → Headed
+headed_as listing h = record h { listed = listing_meant listing }
+
+-- rules from this number on, each with its listing
+abbrev pub headed_from : List Listing → ℕ → List Headed → List Headed
+headed_from listings number [] = []
+headed_from listings number (h ∷ hs) = headed_as (listing_at listings number) h ∷ headed_from listings (number + 1) hs

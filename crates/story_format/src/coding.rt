@@ -17,6 +17,7 @@ use crate::tables::Tables;
 use code_table::{TableFault, code_table};
 use object_words::Strings;
 use play_meaning::tree::{MeantRule, Text};
+use rule_order::ListingSentence;
 use std::alloc::Global;
 use world_meaning::{Tale, TextBytes};
 
@@ -62,7 +63,8 @@ fn with_codes(
     }
 }
 
-/// The tables of a tale whose descriptions say these texts, in the order of the objects, and whose rules are these.
+/// The tables of a tale whose descriptions say these texts, in the order of the objects, and whose rules are these, all rules
+/// being listed as these sentences say.
 ///
 /// # Errors
 ///
@@ -74,14 +76,15 @@ pub fn tables_of(
     tale: &Tale,
     texts: &[Text],
     rules: &[MeantRule],
+    listings: &[ListingSentence],
 ) -> Result<Tables, TableFault>
     requires held { IsHeld tale.now }
     requires are_of { AreOf tale.now (map text_meant texts.now) (map rule_meant rules.now) }
-    ensures tables { IfOk result (λ tables. tables ≡ tables_of tale.now (map text_meant texts.now) (map rule_meant rules.now)) }
+    ensures tables { IfOk result (λ tables. tables ≡ tables_of tale.now (map text_meant texts.now) listings.now (map rule_meant rules.now)) }
     ensures said { OnOk result (AreHeld tale.now (map text_meant texts.now) (map rule_meant rules.now)) }
     ensures none { IfErr result (AreNotHeld tale.now (map text_meant texts.now) (map rule_meant rules.now)) }
 {
-    let Ok((strings, tables)) = uncoded(alloc, tale, texts, rules) else {
+    let Ok((strings, tables)) = uncoded(alloc, tale, texts, rules, listings) else {
         return Err(TableFault::Memory);
     };
     if !are_few(tables.strings.as_slice()) {

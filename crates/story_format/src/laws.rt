@@ -2,6 +2,7 @@
 ghost use Rattle.std.specs.Prelude.{◌≡◌, ◌≢◌, ◌⊎◌, ℕ, List, true};
 ghost use Rattle.play_meaning.specs.Rules.{Rule};
 ghost use Rattle.play_meaning.specs.Trees.{Text};
+ghost use Rattle.rule_order.specs.declared.listing.ListingSentence.{ListingSentence};
 ghost use Rattle.world_meaning.specs.Sorts.{is_at};
 ghost use Rattle.world_meaning.specs.Standing.{is_at_or_none};
 ghost use Rattle.world_meaning.specs.declared.tale.Tale.{Tale};
@@ -45,15 +46,16 @@ pub fn spelled_or_refused()
     ensures { (bytes : List ℕ) → IsBytes bytes → ((tables : Tables) × Spells bytes tables) ⊎ ((fault : LoadFault) × (fault ≢ Memory) × IsRefused fault bytes) }
 {}
 
-/// The tables of a tale that a story file holds, with texts of its descriptions and rules that it says, are a story's.
+/// The tables of a tale that a story file holds, with texts of its descriptions and rules that it says, are a story's, however
+/// sentences list the rules.
 pub fn tales_are_stories()
-    ensures { (tale : Tale) (texts : List Text) (rules : List Rule) → IsHeld tale → AreHeld tale texts rules → IsStory (tables_of tale texts rules) }
+    ensures { (tale : Tale) (texts : List Text) (listings : List ListingSentence) (rules : List Rule) → IsHeld tale → AreHeld tale texts rules → IsStory (tables_of tale texts listings rules) }
 {}
 
 /// They say of each object's name and ways, and of the start, what the tale says, of each object the text that describes
-/// it, and of each rule what it asks and does.
+/// it, of each rule what it asks and does, and of each rulebook in which order it asks its rules, as sentences list them.
 pub fn story_carries_tale()
-    ensures { (tale : Tale) (texts : List Text) (rules : List Rule) → IsHeld tale → AreHeld tale texts rules → Carries (tables_of tale texts rules) tale texts rules }
+    ensures { (tale : Tale) (texts : List Text) (listings : List ListingSentence) (rules : List Rule) → IsHeld tale → AreHeld tale texts rules → Carries (tables_of tale texts listings rules) tale texts listings rules }
 {}
 
 /// A story file says descriptions that say bytes alone, each at most 65,535, where there is no rule.

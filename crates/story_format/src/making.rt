@@ -5,8 +5,7 @@ ghost use Rattle.object_words.specs.Mentions.{mention, number_in};
 ghost use Rattle.object_words.specs.Words.{words_for};
 ghost use Rattle.code_table.specs.Origins.{origins_meant};
 ghost use Rattle.play_meaning.specs.Patterns.{rule_meant};
-ghost use Rattle.rule_order.specs.Books.{AreListedApart};
-ghost use Rattle.story_format.specs.Making.{books_of, story_rules, worded_from, worded, article_number, relation_number, place_relation, place_holder, code_number, entry_strings, strings_of, entry_of, entries_of, ways_of, described_in, tables_but_codes};
+ghost use Rattle.story_format.specs.Making.{books_of, worded_from, worded, article_number, relation_number, place_relation, place_holder, code_number, entry_strings, strings_of, entry_of, entries_of, ways_of, described_in, tables_but_codes};
 ghost use Rattle.story_format.specs.WordedViews.{worded_of, all_worded};
 
 use crate::mentioning::mention_texts;
@@ -20,6 +19,7 @@ use crate::tables::{Entry, Tables};
 use crate::world_making::{numbers_of, world_of};
 use object_words::{Strings, words_for};
 use play_meaning::tree::{MeantRule, Text};
+use rule_order::ListingSentence;
 use std::alloc::{AllocError, Global};
 use world_meaning::{
     Article, Declared, Exits, KindNo, Listed, Object, Place, Rel, Tale, TextBytes, is_under,
@@ -291,20 +291,20 @@ pub fn uncoded(
     tale: &Tale,
     texts: &[Text],
     rules: &[MeantRule],
+    listings: &[ListingSentence],
 ) -> Result<(Strings, Tables), AllocError>
     requires few { described_in (worded tale.now.objects) ≤ 1000 }
     requires few_kinds { length tale.now.declared.kinds ≤ 255 }
     requires few_rules { length rules.now ≤ 1939 }
     requires few_scenes { length tale.now.declared.scenes ≤ 50 }
     requires few_books { tale.now.declared.rulebooks ≤ 100 }
-    requires apart { AreListedApart (story_rules (map rule_meant rules.now)) }
     ensures strings { IfOk result (λ made. made.0 ≡ strings_of (worded tale.now.objects) (origins_meant texts.now rules.now)) }
-    ensures tables { IfOk result (λ made. made.1 ≡ tables_but_codes tale.now.declared (books_of tale.now (map rule_meant rules.now)) (worded tale.now.objects) (map rule_meant rules.now) (strings_of (worded tale.now.objects) (origins_meant texts.now rules.now))) }
+    ensures tables { IfOk result (λ made. made.1 ≡ tables_but_codes tale.now.declared (books_of tale.now listings.now (map rule_meant rules.now)) (worded tale.now.objects) (map rule_meant rules.now) (strings_of (worded tale.now.objects) (origins_meant texts.now rules.now))) }
 {
     let worded = with_words(alloc, tale.objects.as_slice())?;
     let worded = worded.as_slice();
     let strings = strings_of(alloc, worded, texts, rules)?;
-    let books = books_of(alloc, tale, rules)?;
+    let books = books_of(alloc, tale, rules, listings)?;
     let tables = tables_but_codes(alloc, &tale.declared, books, worded, rules, &strings)?;
     Ok((strings, tables))
 }

@@ -12,6 +12,7 @@ use crate::field::Field;
 use crate::tables::Tables;
 use code_table::TableFault;
 use play_meaning::tree::{MeantRule, Text};
+use rule_order::ListingSentence;
 use std::alloc::{AllocError, Global};
 use world_meaning::Tale;
 
@@ -34,7 +35,8 @@ fn spelling(alloc: Global, tables: &Tables) -> Result<Vec<u8>, AllocError>
 }
 
 /// The bytes of the story of a tale whose descriptions say these texts, in the order of the objects that are described, and
-/// whose rules are these, in the order of the source.
+/// whose rules are these, in the order of the source, listed as these sentences say of all rules of the story, by number: what
+/// the head of a rule says of its listing doesn't count.
 ///
 /// # Errors
 ///
@@ -46,14 +48,15 @@ pub fn write(
     tale: &Tale,
     texts: &[Text],
     rules: &[MeantRule],
+    listings: &[ListingSentence],
 ) -> Result<Vec<u8>, TableFault>
     requires held { IsHeld tale.now }
     requires are_of { AreOf tale.now (map text_meant texts.now) (map rule_meant rules.now) }
-    ensures spelled { IfOk result (λ bytes. Spells bytes.items (tables_of tale.now (map text_meant texts.now) (map rule_meant rules.now))) }
+    ensures spelled { IfOk result (λ bytes. Spells bytes.items (tables_of tale.now (map text_meant texts.now) listings.now (map rule_meant rules.now))) }
     ensures said { OnOk result (AreHeld tale.now (map text_meant texts.now) (map rule_meant rules.now)) }
     ensures none { IfErr result (AreNotHeld tale.now (map text_meant texts.now) (map rule_meant rules.now)) }
 {
-    match tables_of(alloc, tale, texts, rules) {
+    match tables_of(alloc, tale, texts, rules, listings) {
         Ok(tables) => match spelling(alloc, &tables) {
             Ok(bytes) => Ok(bytes),
             Err(_) => Err(TableFault::Memory),

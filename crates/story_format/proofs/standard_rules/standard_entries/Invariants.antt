@@ -1,7 +1,7 @@
 -- Those so far, and those of the rows that are left.
 use Rattle.std.proofs.Common.{◌≡◌, ◌++◌, ◌+◌, ◌≤◌, length}
 use Rattle.story_format.specs.StandardRows.{row_entries}
-use Rattle.story_format.specs.declared.standard_rules.TheConstants.{STANDARD_RULES}
+use Rattle.rule_order.specs.declared.standard_rules.TheConstants.{STANDARD_RULES}
 use Rattle.story_format.proofs.standard_rules.standard_entries.Given as goal
 
 abbrev pub invariant-loop-rest : goal.invariant-loop-rest

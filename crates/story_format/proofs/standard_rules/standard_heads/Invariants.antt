@@ -2,7 +2,7 @@
 use Rattle.std.proofs.Common.{◌≡◌, ◌++◌, length, map}
 use Rattle.story_format.specs.RuleHeadings.{head_meant, heading_of}
 use Rattle.story_format.specs.StandardRows.{row_rule}
-use Rattle.story_format.specs.declared.standard_rules.TheConstants.{STANDARD_RULES}
+use Rattle.rule_order.specs.declared.standard_rules.TheConstants.{STANDARD_RULES}
 use Rattle.story_format.proofs.standard_rules.standard_heads.Given as goal
 
 abbrev pub invariant-loop-rest : goal.invariant-loop-rest
