@@ -8,6 +8,7 @@ ghost use Rattle.play_meaning.specs.Rules.{Rule};
 ghost use Rattle.play_meaning.specs.Trees.{Text};
 ghost use Rattle.play_meaning.specs.Worlds.{World as PlayWorld, is_true_of, number_of, place_of, scene_of, set_flag, set_number, set_place, set_scene, set_variable, variable_of};
 ghost use Rattle.play_meaning.specs.declared.scene.SceneNow.{SceneNow};
+ghost use Rattle.rule_order.specs.declared.listing.ListingSentence.{ListingSentence};
 ghost use Rattle.story_format.specs.Holding.{AreHeld, IsHeld};
 ghost use Rattle.story_format.specs.Making.{tables_of, text_of};
 ghost use Rattle.world_meaning.specs.Sight.{direction};
@@ -37,9 +38,10 @@ pub fn directions_are_directions(world: &World)
 }
 
 /// The tables of a tale that a story file holds, with texts of its descriptions and rules that it says, give the game of the tale
-/// with these texts: the same setting, start, descriptions and reading of lines. The rules are in neither.
+/// with these texts, however sentences list the rules: the same setting, start, descriptions and reading of lines. The rules are in
+/// neither.
 pub fn tables_give_their_tales_game()
-    ensures { (t : Tale) (texts : List Text) (rules : List Rule) → IsHeld t → AreHeld t texts rules → plain_story (tables_of t texts rules) ≡ story_of_script (script_of t (text_of t texts)) }
+    ensures { (t : Tale) (texts : List Text) (listings : List ListingSentence) (rules : List Rule) → IsHeld t → AreHeld t texts rules → plain_story (tables_of t texts listings rules) ≡ story_of_script (script_of t (text_of t texts)) }
 {}
 
 /// A change of one thing leaves the others.
