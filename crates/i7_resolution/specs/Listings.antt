@@ -58,7 +58,7 @@ pub record IsListed (k : Known) (rules : List RuleAt) (said : RuleListing) (list
 abbrev pub NamesNone : Known → List RuleAt → RuleListing → Type 0
 NamesNone k rules said = Names rules said None ⊎ IsInUnknown k (book_words said.place)
 
--- it names a rulebook that isn't the rule's own
+-- it names a rulebook that isn't the rule's own; so it does of a rule whose own isn't there, which is refused for that before
 abbrev pub NamesOther : Known → List RuleAt → RuleListing → Type 0
 NamesOther k rules said = (rule : ℕ) × Names rules said (Some rule) × IsInOther k rules rule (book_words said.place)
 
