@@ -131,6 +131,11 @@ def acted(words, objects):
     raise ValueError(words)
 
 
+def key_of(name):
+    """The name of a rule in small letters; `are` reads as `is`."""
+    return " ".join("is" if word == "are" else word for word in name.lower().split())
+
+
 def head_of(sentence, rulebooks, scenes, objects):
     """What table 10 says of a rule in front of its condition, whether it has one, and its name in small letters, if it has one; none
     of another sentence."""
@@ -149,7 +154,7 @@ def head_of(sentence, rulebooks, scenes, objects):
     else:
         book = EVERY_TURN + (not found["every"])
     scene = names.index(asked["scene"].lower()) if asked["scene"] else NONE8
-    name = rule["name"] and rule["name"].lower()
+    name = rule["name"] and key_of(rule["name"])
     return (book, *act, aspect_of(asked["place"], objects), scene), asked["asks"] is not None, name
 
 
@@ -167,7 +172,7 @@ def book_named(words, rulebooks, scenes):
 def listing_of(sentence):
     """The name of the rule that a sentence lists, whether first, last or nowhere, and the words of the book; none of another."""
     found = LISTING.fullmatch(" ".join(sentence.split()))
-    return found and (found["rule"].lower(), (found["at"] or "nowhere").lower(), found["book"])
+    return found and (key_of(found["rule"]), (found["at"] or "nowhere").lower(), found["book"])
 
 
 def closeness(said):

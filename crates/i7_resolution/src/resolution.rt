@@ -34,7 +34,7 @@ pub enum Resolution {
     Refused(Fault),
 }
 
-/// Where a code comes among those that refuse a source for its rules and its texts.
+/// Where a code comes among those that refuse a source for its rules, its texts and its listings.
 fn turn_of(code: FaultCode) -> u8
     ensures { result ≡ turn_of code }
 {
