@@ -46,8 +46,8 @@ fn fault_told(sentences: &[Sentence], objects: &[Object], fault: TableFault) -> 
 }
 
 /// The story file of a source, or the refusal that stands: that of the first step that refuses, each
-/// step being the lexer, the reader of sentences, the tale, the rules with the sentences that list them and the texts that describe, and the story's codes
-/// (C12), in this order.
+/// step being the lexer, the reader of sentences, the tale, the rules with the sentences that list them and the texts that
+/// describe, and the story's codes (C12), in this order.
 pub fn compile(alloc: Global, source: &[u8]) -> Result<Vec<u8>, Fault>
     ensures { MatchResult result (λ bytes. IsCompiled source.now bytes.items) (IsRefused source.now) }
 {
