@@ -1,4 +1,4 @@
--- No sentences have two answers about the texts that describe, or about all that is resolved.
+-- No sentences have two answers about the texts that describe.
 use Rattle.std.proofs.Common.{◌≡◌, ℕ, List, [], ◌∷◌, ◌++◌, refl, sym, ◌∙◌, ap}
 use Rattle.std.specs.Prelude.{map, reverse}
 use Rattle.std.specs.List.{AllZip}
@@ -8,20 +8,11 @@ use Rattle.world_meaning.specs.declared.fault.FaultCode.{FaultCode}
 use Rattle.world_meaning.specs.declared.fault.FaultCode.TheVariants.{TooMany, UnknownName}
 use Rattle.i7_rules.proofs.Lows.{lowest_once, nowhere_there}
 use Rattle.i7_rules.specs.Knowns.{Known}
-use Rattle.i7_rules.specs.RulesMeant.{RulesMeant, rules_meant}
-use Rattle.i7_rules.specs.RulesMeant as rules
-use Rattle.i7_rules.specs.SourceRules.{IsRulesFound}
-use Rattle.i7_rules.specs.declared.source_rules.RulesFound.{RulesFound}
-use Rattle.i7_rules.specs.declared.source_rules.RulesFound.TheVariants as ruled
 use Rattle.i7_sentences.specs.Lowest.{IsLowest, IsNowhere}
 use Rattle.i7_sentences.specs.declared.sentence.Sentence.{Sentence}
 use Rattle.play_meaning.specs.Meant.{text_meant}
-use Rattle.i7_resolution.specs.Resolutions.{IsResolution, first_of, joined}
-use Rattle.i7_resolution.specs.ResolutionsMeant.{Both, ResolutionMeant, Refused as Unresolved, resolution_meant}
 use Rattle.i7_resolution.specs.SourceTexts.{All, AreFound, AreTold, IsOver, IsTextsFound, IsTold, IsUnknown, Refused, Stands, TextMeant, TextsMeant, meant_in, texts_meant}
-use Rattle.i7_resolution.specs.SourceTexts as texts
 use Rattle.i7_resolution.specs.TextList.{TextAt, texts_in}
-use Rattle.i7_resolution.specs.declared.resolution.Resolution.{Resolution}
 use Rattle.i7_resolution.specs.declared.source_texts.SourceText.{SourceText}
 use Rattle.i7_resolution.specs.declared.source_texts.TextsFound.{TextsFound}
 use Rattle.i7_resolution.specs.declared.source_texts.TextsFound.TheVariants as found

@@ -16,7 +16,7 @@ use Rattle.rule_order.specs.declared.listing.ListingSentence.{ListingSentence}
 use Rattle.i7_resolution.specs.ListingList.{ListingAt, listings_in}
 use Rattle.i7_resolution.specs.Listings.{IsInOther, IsInOwn, IsInUnknown, IsListed, IsListing, NamesNone, NamesOther, book_words}
 use Rattle.i7_resolution.specs.ListingScans.{IsSoFar, State, refused_or, so_far_told, state_of, with_found}
-use Rattle.i7_resolution.specs.NumberedRules.{HasBook}
+use Rattle.i7_resolution.specs.NumberedRules.{HasBook, all_names, rule_named}
 use Rattle.i7_resolution.specs.SourceListings.{AreFound, IsListingsFound, IsMisplaced, IsUnknown}
 use Rattle.i7_resolution.specs.declared.listing.ListingFound.{ListingFound}
 use Rattle.i7_resolution.specs.declared.listing.ListingFound.TheVariants as found
@@ -33,11 +33,17 @@ IsOneBook = (actions : List Action) (names : List (List ℕ)) (scenes : ℕ) (wo
 
 -- ---- a sentence comes to one thing
 
-same_rule : (a b : ℕ) → Some a ≡ Some b → a ≡ b
+pub same_rule : (a b : ℕ) → Some a ≡ Some b → a ≡ b
 same_rule a b e = cc
 
 some_none : (a : ℕ) (o : Option ℕ) → o ≡ Some a → o ≡ None → ⊥
 some_none a o is isnt = cc
+
+-- where no rule is found by the words
+pub none_named : (k : Known) (rules : List RuleAt) (said : RuleListing) (names : List (Option (List ℕ))) (words : List Word) (found : Option ℕ) → names ≡ all_names rules → words ≡ said.rule
+    → found ≡ rule_named names words → found ≡ None → NamesNone k rules said
+none_named k rules said names words found names_are words_are told none =
+    inl (sym (ap (λ (all : List (Option (List ℕ))). rule_named all words) names_are ∙ ap (rule_named (all_names rules)) words_are) ∙ sym told ∙ none)
 
 own_unknown : (k : Known) (rules : List RuleAt) (rule : ℕ) (words : Option (List Word)) → IsInOwn k rules rule words → IsInUnknown k words → ⊥
 own_unknown k rules rule None own unknown = unknown

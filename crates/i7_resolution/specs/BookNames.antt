@@ -1,5 +1,5 @@
 -- Rulebooks of the author's that are named as rules of actions are, which is a name given twice.
-use Rattle.std.specs.Prelude.{ℕ, Bool, List, [], ◌∷◌, ◌++◌, bytes_eq, codes, flat_map, Option, None, Some, if◌then◌else◌}
+use Rattle.std.specs.Prelude.{ℕ, Bool, List, ◌++◌, bytes_eq, codes, map, Option, None, Some, if◌then◌else◌}
 use Rattle.std.specs.List.{list_any}
 use Rattle.world_meaning.specs.Spelling.{lowered}
 use Rattle.i7_actions.specs.declared.action.Action.{Action}
@@ -9,12 +9,13 @@ use Rattle.i7_sentences.specs.declared.sentence.Assertion.{Assertion}
 use Rattle.i7_sentences.specs.declared.sentence.Assertion.TheVariants as asserts
 use Rattle.i7_sentences.specs.declared.sentence.Sentence.{Sentence}
 
--- the names by which `follow` knows the rules of an action, in small letters
-unfoldable pub books_of_action : Action → List (List ℕ)
-books_of_action action = (codes "check " ++ key_of action.name) ∷ (codes "carry out " ++ key_of action.name) ∷ (codes "report " ++ key_of action.name) ∷ []
+-- the names by which `follow` knows the rules of actions in one stage, in small letters
+abbrev pub books_of_stage : List ℕ → List Action → List (List ℕ)
+books_of_stage stage actions = map (λ action. stage ++ key_of action.name) actions
 
+-- in all three
 abbrev pub action_books : List Action → List (List ℕ)
-action_books actions = flat_map books_of_action actions
+action_books actions = (books_of_stage (codes "check ") actions ++ books_of_stage (codes "carry out ") actions) ++ books_of_stage (codes "report ") actions
 
 abbrev pub is_action_book : List (List ℕ) → List ℕ → Bool
 is_action_book names name = list_any (λ other. bytes_eq other name) names

@@ -2,4 +2,4 @@ use Rattle.i7_resolution.proofs.OneListing.{listings_once}
 use Rattle.i7_resolution.proofs.laws.one_list_of_listings.Goals as goal
 
 pub returns : goal.returns
-returns = listings_once
+returns c = listings_once
