@@ -65,13 +65,7 @@ fn placed_in(
 ) -> Result<ListingFound, AllocError>
     ensures { IfOk result (λ found. IsPlaced (known_of known.now) (rules_lent rules.now) listing (There words.now) found) }
 {
-    match book_of(
-        alloc,
-        known.actions,
-        known.rulebooks,
-        known.scenes,
-        words,
-    )? {
+    match book_of(alloc, known.actions, known.rulebooks, known.scenes, words)? {
         None => Ok(ListingFound::Unknown),
         Some(book) => {
             let own = book_of_rule(alloc, known, rules, listing.rule)?;
@@ -115,7 +109,13 @@ pub fn listing_of(
         None => Ok(ListingFound::Unknown),
         Some(rule) => {
             let at = front_of(&said.place);
-            placed(alloc, known, rules, ListingSentence { rule, at }, &said.place)
+            placed(
+                alloc,
+                known,
+                rules,
+                ListingSentence { rule, at },
+                &said.place,
+            )
         }
     }
 }

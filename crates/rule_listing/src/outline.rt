@@ -70,11 +70,7 @@ fn resolved_of(
 /// Where sentences list each rule of a story.
 fn listings_of(alloc: Global, resolved: &Resolved) -> Result<Vec<Listing>, AllocError> {
     let count = resolved.rules.len().saturating_add(STANDARD_RULES);
-    listings(
-        alloc,
-        count.min(65535) as u16,
-        resolved.listings.as_slice(),
-    )
+    listings(alloc, count.min(65535) as u16, resolved.listings.as_slice())
 }
 
 /// What is listed of sentences that have this story.
