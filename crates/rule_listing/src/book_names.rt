@@ -1,6 +1,5 @@
 //! The names of rulebooks, as rules' heads have them.
 use crate::outline::Outline;
-use object_words::Strings;
 use std::alloc::{AllocError, Global};
 
 /// Those that every story has, by number.
@@ -15,12 +14,24 @@ const BUILT_IN: [&str; 8] = [
     "when play begins",
 ];
 
-/// A name by its number.
-fn name_at(names: &Strings, number: usize) -> &str {
-    match names.as_slice().get(number) {
+/// A name, if it is there.
+fn readable(name: Option<&[u8]>) -> &str {
+    match name {
         None => "?",
-        Some(name) => str::from_utf8(name.as_slice()).unwrap_or("?"),
+        Some(name) => str::from_utf8(name).unwrap_or("?"),
     }
+}
+
+/// The name of an author's rulebook.
+fn own_name(outline: &Outline, number: usize) -> &str {
+    let name = outline.rulebooks.as_slice().get(number);
+    readable(name.map(|name| name.as_slice()))
+}
+
+/// The name of a scene.
+fn scene_name(outline: &Outline, number: usize) -> &str {
+    let name = outline.scenes.get(number);
+    readable(name.map(|name| name.as_slice()))
 }
 
 /// The author's rulebook that a book is, if it stands behind those of so many scenes; of these there are two each.
@@ -30,12 +41,12 @@ fn own_number(scenes: usize, number: usize) -> Option<usize> {
 
 /// The name of a book behind the built-in ones.
 fn name_behind(alloc: Global, outline: &Outline, number: usize) -> Result<String, AllocError> {
-    let scenes = outline.scenes.as_slice().len();
+    let scenes = outline.scenes.len();
     if let Some(own) = own_number(scenes, number) {
-        let name = name_at(&outline.rulebooks, own);
+        let name = own_name(outline, own);
         return format!(in alloc; "a {name} rule");
     }
-    let scene = name_at(&outline.scenes, number / 2);
+    let scene = scene_name(outline, number / 2);
     let change = if number % 2 == 0 { "begins" } else { "ends" };
     format!(in alloc; "when {scene} {change}")
 }

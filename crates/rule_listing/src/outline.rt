@@ -1,19 +1,18 @@
 //! What is listed of a source: its story, which holds the order, and its rules by their names and lines.
 use crate::unlisted::Unlisted;
-use i7_claims::{Sort, claims_of, names_as};
 use i7_kinds::tale_of;
 use i7_lexer::lex;
 use i7_names::{SourceNames, names_in};
 use i7_resolution::{Resolution, Resolved, resolution_of};
 use i7_rules::SourceRule;
-use i7_sentences::{Sentence, read};
+use i7_sentences::{Assertion, Sentence, read};
 use object_words::Strings;
 use play_meaning::tree::Listing;
 use rule_order::listings;
 use std::alloc::{AllocError, Global};
 use story_file::compile;
 use story_format::{Story, load};
-use world_meaning::Tale;
+use world_meaning::{Tale, TextBytes};
 
 /// How many rules every story has.
 const STANDARD_RULES: usize = 61;
@@ -24,8 +23,8 @@ pub struct Outline {
     pub tale: Tale,
     /// The names of the author's rulebooks, by number.
     pub rulebooks: Strings,
-    /// The names of the scenes, by number.
-    pub scenes: Strings,
+    /// The names of the scenes, by number, as their sentences write them.
+    pub scenes: Vec<TextBytes>,
     /// The author's rules, in the order of their sentences.
     pub rules: Vec<SourceRule>,
     /// Where sentences list each rule, the standard ones in front.
@@ -45,10 +44,15 @@ fn sentences_of(alloc: Global, source: &str) -> Result<Vec<Sentence>, Unlisted> 
     Ok(read(alloc, &lexed)?)
 }
 
-/// The names of the scenes, by number.
-fn scenes_of(alloc: Global, sentences: &[Sentence]) -> Result<Strings, AllocError> {
-    let claims = claims_of(alloc, sentences)?;
-    names_as(alloc, Sort::Scene, claims.as_slice())
+/// The names of the scenes, by number, as their sentences write them.
+fn scenes_of(alloc: Global, sentences: &[Sentence]) -> Result<Vec<TextBytes>, AllocError> {
+    let mut scenes = Vec::new(alloc);
+    for sentence in sentences {
+        if let Assertion::Scene { name, .. } = &sentence.said {
+            scenes.push(TextBytes::copied(alloc, name.text.as_slice())?)?;
+        }
+    }
+    Ok(scenes)
 }
 
 /// What is resolved of a source.
