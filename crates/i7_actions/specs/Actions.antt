@@ -1,8 +1,8 @@
 -- The actions that every story has, as their table tells them.
 use Rattle.std.specs.Prelude.{List, map}
-use Rattle.play_meaning.specs.declared.action.Needs.{Needs}
-use Rattle.play_meaning.specs.declared.action.Slot.{Slot}
-use Rattle.play_meaning.specs.declared.action.Slot.TheVariants.{Absent}
+use Rattle.world_meaning.specs.declared.needs.Needs.{Needs}
+use Rattle.world_meaning.specs.declared.needs.Slot.{Slot}
+use Rattle.world_meaning.specs.declared.needs.Slot.TheVariants.{Absent}
 use Rattle.i7_actions.specs.declared.action.Action.{Action}
 use Rattle.i7_actions.specs.declared.action.NounCount.{NounCount}
 use Rattle.i7_actions.specs.declared.action.NounCount.TheVariants.{Zero, One, Two}

@@ -2,12 +2,15 @@
 use Rattle.std.proofs.Common.{◌≡◌, Bool, true, false, List, [], ◌∷◌, ◌++◌, refl, ap, sym, ◌∙◌, subst, append_assoc}
 use Rattle.std.specs.Prelude.{not, ◌&&◌, ◌||◌, Option, Some, None, if◌then◌else◌}
 use Rattle.std.specs.List.{list_all}
+use denote.Enum.Bare.{same_true}
 use Rattle.i7_lexer.specs.declared.token.Token.{Token}
+use Rattle.i7_sentences.specs.contracts.keyword.Keyword.{the_type}
 use Rattle.i7_sentences.specs.Words.{is_word, is_text}
-use Rattle.i7_sentences.specs.Keywords.{is_article, is_sign}
-use Rattle.i7_sentences.specs.Classes.{IsRun, IsAlone, IsListed, IsNames, IsOf, is_joint, is_name_word, is_vertical, is_direction, is_inner, is_behind, is_side, is_number, is_choice, is_head_token, is_body, opens_phrase}
+use Rattle.i7_sentences.specs.Keywords.{is_article, is_same, is_sign, keyword_of}
+use Rattle.i7_sentences.specs.Classes.{is_asked, is_degree, IsRun, IsAlone, IsListed, IsNames, IsOf, is_joint, is_name_word, is_vertical, is_direction, is_inner, is_behind, is_side, is_number, is_choice, is_head_token, is_body, opens_phrase}
 use Rattle.i7_sentences.specs.Classes.IsNames.{one_name, more_names}
-use Rattle.i7_sentences.specs.Automata.{accepts, alone_step, body_step, is_of, names_step, run_step, runs, side_start, side_step, step, then_runs}
+use Rattle.i7_sentences.specs.Automata.{accepts, alone_step, asked_step, body_step, is_of, names_step, run_step, runs, side_start, side_step, step, then_runs}
+use Rattle.i7_sentences.specs.declared.keyword.Keyword.{Keyword}
 use Rattle.i7_sentences.specs.declared.keyword.Keyword.TheVariants as keyword
 use Rattle.i7_sentences.specs.declared.class.Class.{Class}
 use Rattle.i7_sentences.specs.declared.class.Class.TheVariants as class
@@ -257,6 +260,42 @@ body_same (mark ∷ token ∷ tokens) =
     ∙ (λ i. if is_sign keyword.Colon mark then body_between token tokens i else (is_sign keyword.Comma mark && body_beside token tokens i))
     ∙ body_some (is_sign keyword.Colon mark) (is_sign keyword.Comma mark) (opens_phrase token)
 
+-- `thing` tells nothing of how near it must be
+thing_signs : (found : Option Keyword) → is_same found keyword.Thing ≡ true → (is_same found keyword.Visible || is_same found keyword.Carried) ≡ false
+thing_signs None is = absurd (false-true is)
+thing_signs (Some sign) is = ap (λ s. is_same (Some s) keyword.Visible || is_same (Some s) keyword.Carried) (same_true the_type tt sign keyword.Thing is)
+
+thing_is_no_degree : (token : Token) → is_sign keyword.Thing token ≡ true → is_degree token ≡ false
+unfolding is_degree is_sign
+thing_is_no_degree token is = thing_signs (keyword_of token) is
+
+asked_alone : (degree thing : Bool) → (thing ≡ true → degree ≡ false) → then_runs (if degree then Some Between else run_step thing) accepts ≡ thing
+asked_alone true true apart = sym (apart refl)
+asked_alone true false apart = refl
+asked_alone false true apart = refl
+asked_alone false false apart = refl
+
+run_then : (passes : Bool) (ends : State → Bool) → then_runs (run_step passes) ends ≡ (passes && ends Inside)
+run_then true ends = refl
+run_then false ends = refl
+
+asked_by : (degree thing : Bool) (ends : State → Bool) → ends Inside ≡ false → then_runs (if degree then Some Between else run_step thing) ends ≡ (degree && ends Between)
+asked_by true thing ends none = refl
+asked_by false true ends none = none
+asked_by false false ends none = refl
+
+asked_same : (tokens : List Token) → is_of class.Asked tokens ≡ is_asked tokens
+unfolding asked_step
+asked_same [] = refl
+asked_same (thing ∷ []) = asked_alone (is_degree thing) (is_sign keyword.Thing thing) (thing_is_no_degree thing)
+asked_same (degree ∷ thing ∷ []) =
+    asked_by (is_degree degree) (is_sign keyword.Thing degree) (λ after. runs class.Asked after (thing ∷ [])) refl
+    ∙ ap (λ behind. is_degree degree && behind) (run_then (is_sign keyword.Thing thing) accepts ∙ and_true (is_sign keyword.Thing thing))
+asked_same (degree ∷ thing ∷ third ∷ tokens) =
+    asked_by (is_degree degree) (is_sign keyword.Thing degree) (λ after. runs class.Asked after (thing ∷ third ∷ tokens)) refl
+    ∙ ap (λ behind. is_degree degree && behind) (run_then (is_sign keyword.Thing thing) (λ after. runs class.Asked after (third ∷ tokens)) ∙ and_false (is_sign keyword.Thing thing))
+    ∙ and_false (is_degree degree)
+
 -- what an automaton takes is of its class
 pub of_runs : (class : Class) (tokens : List Token) → is_of class tokens ≡ true → IsOf class tokens
 of_runs class.Words tokens taken = run_of class.Words is_word (λ state token. refl) tokens taken
@@ -271,6 +310,7 @@ of_runs class.Number tokens taken = alone_of class.Number is_number (λ state to
 of_runs class.Text tokens taken = alone_of class.Text is_text (λ state token. refl) tokens taken
 of_runs class.Head tokens taken = run_of class.Head is_head_token (λ state token. refl) tokens taken
 of_runs class.Body tokens taken = sym (body_same tokens) ∙ taken
+of_runs class.Asked tokens taken = sym (asked_same tokens) ∙ taken
 
 -- what is of a class its automaton takes
 pub runs_of : (class : Class) (tokens : List Token) → IsOf class tokens → is_of class tokens ≡ true
@@ -286,3 +326,4 @@ runs_of class.Number tokens is = of_alone class.Number is_number (λ state token
 runs_of class.Text tokens is = of_alone class.Text is_text (λ state token. refl) tokens is
 runs_of class.Head tokens is = of_run class.Head is_head_token (λ state token. refl) tokens is
 runs_of class.Body tokens is = body_same tokens ∙ is
+runs_of class.Asked tokens is = asked_same tokens ∙ is

@@ -1,6 +1,6 @@
 -- A form that is read says something wherever it fits.
 use Rattle.std.proofs.Common.{◌≡◌, inl, inr, ℕ, Bool, true, false, not, ◌&&◌, ◌||◌, List, [], ◌∷◌, ◌++◌, refl, ap, sym, ◌∙◌, subst}
-use Rattle.std.specs.Prelude.{Option, Some, None, is_some, if◌then◌else◌}
+use Rattle.std.specs.Prelude.{map, Option, Some, None, is_some, if◌then◌else◌}
 use Rattle.std.specs.List.{list_all}
 use Rattle.std.proofs.lemmas.List.Folds.{list_all-append}
 use Rattle.world_meaning.specs.declared.direction.Direction.{Direction}
@@ -19,6 +19,8 @@ use Rattle.i7_sentences.specs.Reserved.{has_reserved_among}
 use Rattle.i7_sentences.specs.RuleHeads.{is_rule_form}
 use Rattle.i7_sentences.specs.Sources.{IsSpeaking, Says, SaysInWords}
 use Rattle.i7_sentences.specs.Words.{direction_named, is_text_kind, word_of}
+use Rattle.i7_sentences.specs.declared.action_form.ActionSort.TheVariants as sort
+use Rattle.i7_sentences.specs.declared.action_form.TheConstants.{ACTION_FORMS}
 use Rattle.i7_sentences.specs.declared.class.Class.{Class}
 use Rattle.i7_sentences.specs.declared.class.Class.TheVariants as class
 use Rattle.i7_sentences.specs.declared.form.Form.{Form}
@@ -165,6 +167,49 @@ side_there (token ∷ next ∷ []) is =
     named_there (is_sign keyword.Above token) (is_sign keyword.Below token) (direction_named (word_of token)) (both (not (is_vertical token)) (is_direction token) found.0).1
 side_there (token ∷ next ∷ third ∷ more) is = absurd (false-true is)
 
+actions_speak : Each Speaks (map (λ variant. record { form = variant.0; pieces = variant.1.now }) ACTION_FORMS.now)
+unfolding assertion_of
+actions_speak = (
+  one _ (form.Action sort.InWorld) (λ a is plain. refl),
+  (
+    two _ _ (form.Action sort.InWorld) (λ a b first second plain. refl),
+    (
+      three _ _ _ (form.Action sort.InWorld) (λ a b c first second third plain. refl),
+      (
+        one _ (form.ActionOnTwo sort.InWorld) (λ a is plain. refl),
+        (
+          one _ (form.Action sort.InLight) (λ a is plain. refl),
+          (
+            two _ _ (form.Action sort.InLight) (λ a b first second plain. refl),
+            (
+              three _ _ _ (form.Action sort.InLight) (λ a b c first second third plain. refl),
+              (
+                one _ (form.ActionOnTwo sort.InLight) (λ a is plain. refl),
+                (
+                  one _ (form.Action sort.OutOfWorld) (λ a is plain. refl),
+                  (
+                    one _ (form.Action sort.OutOfWorld) (λ a is plain. refl),
+                    (
+                      two _ _ (form.Action sort.OutOfWorld) (λ a b first second plain. refl),
+                      (
+                        three _ _ _ (form.Action sort.OutOfWorld) (λ a b c first second third plain. refl),
+                        (
+                          one _ (form.ActionOnTwo sort.OutOfWorld) (λ a is plain. refl),
+                          tt,
+                        ),
+                      ),
+                    ),
+                  ),
+                ),
+              ),
+            ),
+          ),
+        ),
+      ),
+    ),
+  ),
+)
+
 all_speak : Each (Each Speaks) all_forms
 unfolding all_forms assertion_of
 all_speak = (
@@ -198,7 +243,7 @@ all_speak = (
                             (
                               (two _ _ form.ListedFirst (λ a b first second plain. refl), (two _ _ form.ListedLast (λ a b first second plain. refl), (one _ form.NotListed (λ a is plain. refl), tt))),
                               (
-                                (λ letters are. never, (λ letters are. never, (λ letters are. never, tt))),
+                                actions_speak,
                                 (
                                   (one _ form.Rulebook (λ a is plain. refl), tt),
                                   (

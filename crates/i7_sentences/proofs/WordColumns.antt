@@ -44,6 +44,7 @@ steps_by_words class.Text is = absurd (false-true is)
 steps_by_words class.Texts is = absurd (false-true is)
 steps_by_words class.Head is = absurd (false-true is)
 steps_by_words class.Body is = absurd (false-true is)
+steps_by_words class.Asked is = absurd (false-true is)
 
 pub words_same : (class : Class) (behind : List Bool) (tokens : List Token) → is_words class ≡ true → letter_column class behind tokens ≡ words_column behind tokens
 words_same class behind tokens is = column_same class (steps_by_words class is) behind tokens

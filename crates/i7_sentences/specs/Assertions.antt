@@ -8,6 +8,7 @@ use Rattle.world_meaning.specs.Spelling.{is_spelled}
 use Rattle.i7_lexer.specs.declared.token.Token.{Token}
 use Rattle.i7_lexer.specs.declared.token.TokenKind.{TokenKind}
 use Rattle.i7_lexer.specs.declared.token.TokenKind.TheVariants.{Text, Word, Mark}
+use Rattle.i7_sentences.specs.ActionDeclarations.{action, action_on_two}
 use Rattle.i7_sentences.specs.Conditions.{are_pieces_read}
 use Rattle.i7_sentences.specs.Keywords.{is_sign}
 use Rattle.i7_sentences.specs.Literals.{literal_of}
@@ -207,6 +208,8 @@ assertion_of form.Description letters = description letters
 assertion_of form.ListedFirst letters = listed_first letters
 assertion_of form.ListedLast letters = listed_last letters
 assertion_of form.NotListed letters = not_listed letters
+assertion_of (form.Action sort) letters = action sort letters
+assertion_of (form.ActionOnTwo sort) letters = action_on_two sort letters
 assertion_of form.Rulebook letters = rulebook letters
 assertion_of form.Scene letters = scene false letters
 assertion_of form.RecurringScene letters = scene true letters
@@ -229,7 +232,7 @@ assertion_of (form.WhatHeld relation) letters = what_held relation letters
 assertion_of form.Is letters = are letters
 assertion_of _ letters = None
 
--- the forms that are read so far: neither rules, actions, understandings nor a scene's begin and end
+-- the forms that are read so far: neither rules, understandings nor a scene's begin and end
 abbrev pub is_asserting : Form → Bool
 is_asserting form.Understand = false
 is_asserting form.BeforeRule = false
@@ -245,7 +248,6 @@ is_asserting form.SceneEndsRule = false
 is_asserting form.OwnRule = false
 is_asserting form.SceneBegins = false
 is_asserting form.SceneEnds = false
-is_asserting form.Action = false
 is_asserting (form.Phrase phrase) = false
 is_asserting _ = true
 

@@ -3,7 +3,7 @@ use Rattle.std.specs.Prelude.{Bool, true, false, List, [], ◌∷◌, Option, So
 use Rattle.i7_lexer.specs.declared.token.Token.{Token}
 use Rattle.i7_sentences.specs.Words.{is_word, is_text}
 use Rattle.i7_sentences.specs.Keywords.{is_article, is_sign}
-use Rattle.i7_sentences.specs.Classes.{is_joint, is_name_word, is_vertical, is_direction, is_inner, is_number, is_choice, is_head_token, opens_phrase}
+use Rattle.i7_sentences.specs.Classes.{is_degree, is_joint, is_name_word, is_vertical, is_direction, is_inner, is_number, is_choice, is_head_token, opens_phrase}
 use Rattle.i7_sentences.specs.declared.keyword.Keyword.TheVariants as keyword
 use Rattle.i7_sentences.specs.declared.class.Class.{Class}
 use Rattle.i7_sentences.specs.declared.class.Class.TheVariants as class
@@ -47,6 +47,13 @@ body_step Inside token = Some Inside
 body_step Between token = Some Inside
 body_step Beside token = run_step (opens_phrase token)
 
+-- `thing`, perhaps behind how near it must be
+unfoldable pub asked_step : State → Token → Option State
+asked_step Start token = if is_degree token then Some Between else run_step (is_sign keyword.Thing token)
+asked_step Inside token = None
+asked_step Between token = run_step (is_sign keyword.Thing token)
+asked_step Beside token = None
+
 -- how far a letter is read behind one more token, if it may go on with it
 abbrev pub step : Class → State → Token → Option State
 step class.Words state token = run_step (is_word token)
@@ -61,6 +68,7 @@ step class.Text state token = alone_step state (is_text token)
 step class.Texts state token = run_step (is_choice token)
 step class.Head state token = run_step (is_head_token token)
 step class.Body state token = body_step state token
+step class.Asked state token = asked_step state token
 
 -- whether a letter may end here
 abbrev pub accepts : State → Bool

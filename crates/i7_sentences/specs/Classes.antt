@@ -81,6 +81,17 @@ is_body [] = false
 is_body (mark ∷ []) = false
 is_body (mark ∷ first ∷ more) = is_sign keyword.Colon mark || (is_sign keyword.Comma mark && opens_phrase first)
 
+-- how near a thing must be: seen, or carried
+unfoldable pub is_degree : Token → Bool
+is_degree token = is_sign keyword.Visible token || is_sign keyword.Carried token
+
+-- what an action asks of a noun: `thing`, `visible thing` or `carried thing`
+abbrev pub is_asked : List Token → Bool
+is_asked [] = false
+is_asked (thing ∷ []) = is_sign keyword.Thing thing
+is_asked (degree ∷ thing ∷ []) = is_degree degree && is_sign keyword.Thing thing
+is_asked (degree ∷ thing ∷ third ∷ more) = false
+
 -- a letter of the class may stand for these words
 abbrev pub IsOf : Class → List Token → Type 0
 IsOf class.Words tokens = IsRun is_word tokens
@@ -95,3 +106,4 @@ IsOf class.Text tokens = IsAlone is_text tokens
 IsOf class.Texts tokens = IsRun is_choice tokens
 IsOf class.Head tokens = IsRun is_head_token tokens
 IsOf class.Body tokens = is_body tokens ≡ true
+IsOf class.Asked tokens = is_asked tokens ≡ true

@@ -1,3 +1,4 @@
+pub mod ActionDeclarations
 pub mod Assertions
 pub mod Automata
 pub mod Bodies

@@ -20,7 +20,7 @@ abbrev pub marked : List Bool → Keyword → List Bool
 marked table keyword = slice_set table (place_of keyword) true
 
 unfoldable pub no_marks : List Bool
-no_marks = replicate 96 false
+no_marks = replicate 104 false
 
 -- the table of the words and marks among these tokens
 abbrev pub table_of : List Token → List Bool

@@ -20,6 +20,7 @@ is_words class.Text = false
 is_words class.Texts = false
 is_words class.Head = false
 is_words class.Body = false
+is_words class.Asked = false
 
 -- whether a letter that has a word can end in the words left
 abbrev pub inside_of : List Bool → List Token → Bool

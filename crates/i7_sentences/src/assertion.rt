@@ -2,6 +2,7 @@
 ghost use Rattle.std.specs.Prelude.{◌≡◌, map, IfOk};
 ghost use Rattle.i7_sentences.specs.Assertions.{are, assertion_of, being, described, described_object, description, description_of, door_between, door_to, held, holder_by, holds, number_of, side_of, variable_is, way_assertion, way_from, way_to, what_held};
 
+use crate::action_declaration::{action, action_on_two};
 use crate::declaration::{
     can_be, can_be_either, kind_of_kind, number_property, rulebook, scene, usually, usually_number,
     variable,
@@ -294,6 +295,8 @@ pub fn assertion_of(
         Form::ListedFirst => Ok(listed_first(alloc, letters)?),
         Form::ListedLast => Ok(listed_last(alloc, letters)?),
         Form::NotListed => Ok(not_listed(alloc, letters)?),
+        Form::Action(sort) => Ok(action(alloc, sort, letters)?),
+        Form::ActionOnTwo(sort) => Ok(action_on_two(alloc, sort, letters)?),
         Form::Rulebook => Ok(rulebook(alloc, letters)?),
         Form::Scene => Ok(scene(alloc, false, letters)?),
         Form::RecurringScene => Ok(scene(alloc, true, letters)?),

@@ -2,8 +2,8 @@
 ghost use Rattle.std.specs.Prelude.{◌≡◌};
 ghost use Rattle.std.specs.List.{list_any};
 ghost use Rattle.world_meaning.specs.Spelling.{is_spelled};
-ghost use Rattle.i7_sentences.specs.Automata.{accepts, alone_step, body_step, names_step, run_step, side_start, side_step, step};
-ghost use Rattle.i7_sentences.specs.Classes.{is_head_token, is_inner, is_choice, is_joint, is_name_word, is_vertical, opens_phrase};
+ghost use Rattle.i7_sentences.specs.Automata.{accepts, alone_step, asked_step, body_step, names_step, run_step, side_start, side_step, step};
+ghost use Rattle.i7_sentences.specs.Classes.{is_degree, is_head_token, is_inner, is_choice, is_joint, is_name_word, is_vertical, opens_phrase};
 
 use crate::Keyword;
 use crate::tagged::Tagged;
@@ -56,6 +56,8 @@ pub enum Class {
     Head,
     /// `:` and what stands behind it, or `,` and what begins as a phrase does.
     Body,
+    /// `thing`, `visible thing` or `carried thing`.
+    Asked,
 }
 
 /// How far the words of a letter are read.
@@ -106,6 +108,14 @@ fn is_head_token(token: &Tagged<'_>) -> bool
     ensures { result ≡ is_head_token token.now }
 {
     token.is_word() || token.is_sign(Keyword::Open) || token.is_sign(Keyword::Close)
+}
+
+/// Whether the token tells how near a thing must be.
+#[tactic(auto, unfolding(crate::specs::Classes::is_degree))]
+fn is_degree(token: &Tagged<'_>) -> bool
+    ensures { result ≡ is_degree token.now }
+{
+    token.is_sign(Keyword::Visible) || token.is_sign(Keyword::Carried)
 }
 
 /// Whether the word is one of these.
@@ -220,6 +230,24 @@ fn body_step(state: State, token: &Tagged<'_>) -> Option<State>
     }
 }
 
+/// The step of `thing`, perhaps behind how near it must be.
+#[tactic(auto, unfolding(crate::specs::Automata::asked_step))]
+fn asked_step(state: State, token: &Tagged<'_>) -> Option<State>
+    ensures { result ≡ asked_step state token.now }
+{
+    match state {
+        State::Start => {
+            if is_degree(token) {
+                Some(State::Between)
+            } else {
+                run_step(token.is_sign(Keyword::Thing))
+            }
+        }
+        State::Between => run_step(token.is_sign(Keyword::Thing)),
+        State::Inside | State::Beside => None,
+    }
+}
+
 impl State {
     /// Whether a letter may end here.
     pub fn accepts(self) -> bool
@@ -247,6 +275,7 @@ impl Class {
             Class::Texts => run_step(is_choice(token)),
             Class::Head => run_step(is_head_token(token)),
             Class::Body => body_step(state, token),
+            Class::Asked => asked_step(state, token),
         }
     }
 }

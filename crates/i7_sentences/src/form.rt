@@ -1,4 +1,5 @@
 //! The sentence forms as data, the lowest first.
+use crate::action_form::{ACTION_FORMS, ActionSort};
 use crate::form::Piece::{Letter, Word};
 use crate::rule_form::{HeadBook, HeadParts};
 use crate::{Class, Keyword, PhraseForm};
@@ -35,7 +36,10 @@ pub enum Form {
     ListedFirst,
     ListedLast,
     NotListed,
-    Action,
+    /// `weighing it with is an action applying to one carried thing and one thing`
+    Action(ActionSort),
+    /// `weighing it with is an action applying to two things`
+    ActionOnTwo(ActionSort),
     /// `the cleanup rules is a rulebook`
     Rulebook,
     /// `the storm is a scene`
@@ -138,15 +142,7 @@ const LISTED: Piece = Word(Keyword::Listed);
 
 const SCENE: Piece = Word(Keyword::Scene);
 
-const AN: Piece = Word(Keyword::An);
-
-const ACTION: Piece = Word(Keyword::Action);
-
-const APPLYING: Piece = Word(Keyword::Applying);
-
 const OUT: Piece = Word(Keyword::Out);
-
-const WORLD: Piece = Word(Keyword::World);
 
 const USUALLY: Piece = Word(Keyword::Usually);
 
@@ -250,14 +246,7 @@ pub const FORMS: [&[(Form, &[Piece])]; 30] = [
             ],
         ),
     ],
-    &[
-        (Form::Action, &[WORDS, IS, AN, ACTION, APPLYING, WORDS]),
-        (Form::Action, &[WORDS, IS, AN, ACTION, OUT, OF, WORLD]),
-        (
-            Form::Action,
-            &[WORDS, IS, AN, ACTION, OUT, OF, WORLD, AND, APPLYING, WORDS],
-        ),
-    ],
+    ACTION_FORMS,
     &[(Form::Rulebook, &[NAME, RULES, IS, A, RULEBOOK])],
     &[
         (Form::Scene, &[NAME, IS, A, SCENE]),

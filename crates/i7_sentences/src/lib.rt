@@ -6,6 +6,8 @@
 //! How most forms are passed over for each sentence is marked `inline(always)`: as one loop it takes a fifth less.
 #![tactic(auto)]
 
+mod action_declaration;
+mod action_form;
 mod assertion;
 mod body;
 mod body_order;
@@ -55,6 +57,8 @@ mod text_words;
 mod word;
 mod word_list;
 
+pub use action_declaration::ActionDeclaration;
+pub use action_form::{ACTION_FORMS, ActionSort};
 pub use body::{PhraseLine, phrases_of};
 pub use body_order::{body_fault, reserved_line};
 pub use class::{Class, PHRASES, State};

@@ -77,7 +77,7 @@ impl Ahead {
                 class.step(State::Start, token),
                 class.step(State::Inside, token),
             ),
-            Class::Side | Class::Body => Ahead {
+            Class::Side | Class::Body | Class::Asked => Ahead {
                 start: self.reaches(class, can, token, State::Start),
                 inside: self.reaches(class, can, token, State::Inside),
                 between: self.reaches(class, can, token, State::Between),
@@ -213,7 +213,8 @@ fn is_words(class: Class) -> bool
         | Class::Text
         | Class::Texts
         | Class::Head
-        | Class::Body => false,
+        | Class::Body
+        | Class::Asked => false,
     }
 }
 

@@ -9,7 +9,7 @@ use std::marker::Model;
 /// A mark at the number of each word or mark of forms that stands among the tokens.
 #[derive(Drop)]
 pub struct Signs {
-    marks: [bool; 96],
+    marks: [bool; 104],
 }
 
 impl Model for Signs {
@@ -32,7 +32,9 @@ impl Signs {
     fn none() -> Signs
         ensures { result ≡ no_marks }
     {
-        Signs { marks: [false; 96] }
+        Signs {
+            marks: [false; 104],
+        }
     }
 
     /// Marks one that is.

@@ -22,7 +22,7 @@ use Rattle.play_meaning.specs.Turns.{beginning_of, begins_book, begins_now, coun
 use Rattle.play_meaning.specs.Values.{Scope, is_one, number_in, object_in}
 use Rattle.play_meaning.specs.Worlds.{World, next_turn, scene_of, set_variable}
 use Rattle.play_meaning.specs.declared.action.ActionNow.{ActionNow}
-use Rattle.play_meaning.specs.declared.action.Slot.{Slot}
+use Rattle.world_meaning.specs.declared.needs.Slot.{Slot}
 use Rattle.play_meaning.specs.declared.scene.SceneNow.{SceneNow}
 use Rattle.play_meaning.specs.declared.outcome.Flow.{Flow}
 use Rattle.play_meaning.specs.declared.outcome.Flow.TheVariants.{GoesOn, NoDecision, Decides}

@@ -15,8 +15,8 @@ use Rattle.play_meaning.specs.Trees.{Definite}
 use Rattle.play_meaning.specs.Truth.{has_thing, of_some}
 use Rattle.play_meaning.specs.Worlds.{World}
 use Rattle.play_meaning.specs.declared.action.ActionNow.{ActionNow}
-use Rattle.play_meaning.specs.declared.action.Slot.{Slot}
-use Rattle.play_meaning.specs.declared.action.Slot.TheVariants.{Absent, Visible, Touched, Carried}
+use Rattle.world_meaning.specs.declared.needs.Slot.{Slot}
+use Rattle.world_meaning.specs.declared.needs.Slot.TheVariants.{Absent, Visible, Touched, Carried}
 use Rattle.play_meaning.specs.declared.outcome.Outcome.TheVariants.{Failure}
 
 -- ---- the three stages between the rulebooks

@@ -11,7 +11,7 @@ use Rattle.play_meaning.specs.Sketches.{Item, Sketch}
 use Rattle.play_meaning.specs.StandardActions.{asking, jumping, taking, waiting}
 use Rattle.play_meaning.specs.StandardRules.{line, only, plain, standard_rules}
 use Rattle.play_meaning.specs.Trees.{Body, Bytes, Definite, Figure, Follow, IsAtMost, IsLess, Literal, Name, Nothing, Noun, NowVariable, Plus, Say, The, Then, Try, Variable}
-use Rattle.play_meaning.specs.declared.action.Slot.TheVariants.{Carried as Held, Touched}
+use Rattle.world_meaning.specs.declared.needs.Slot.TheVariants.{Carried as Held, Touched}
 
 -- a ball, scales, and a coin in a closed box of glass; weighing wants its first noun carried and its second touched
 unfoldable pub weighing : Sketch

@@ -15,7 +15,7 @@ use Rattle.play_meaning.specs.Trees.{End}
 use Rattle.play_meaning.specs.Turns.{no_action}
 use Rattle.play_meaning.specs.Worlds.{World}
 use Rattle.play_meaning.specs.declared.action.ActionNow.{ActionNow}
-use Rattle.play_meaning.specs.declared.action.Needs.{Needs}
+use Rattle.world_meaning.specs.declared.needs.Needs.{Needs}
 
 -- what a rule does: as one of the standard rules, numbered from 1, or by a code
 pub data RuleBody : Type 0 where

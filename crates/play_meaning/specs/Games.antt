@@ -6,7 +6,7 @@ use Rattle.play_meaning.specs.Progress.{Done, Progress}
 use Rattle.play_meaning.specs.Saying.{Telling}
 use Rattle.play_meaning.specs.Worlds.{World}
 use Rattle.play_meaning.specs.declared.action.ActionNow.{ActionNow}
-use Rattle.play_meaning.specs.declared.action.Needs.{Needs}
+use Rattle.world_meaning.specs.declared.needs.Needs.{Needs}
 
 -- what is asked where a phrase of a command means several things: the nouns that are chosen, those of which one is
 -- meant, and those that the slots behind it may mean

@@ -14,7 +14,7 @@ use Rattle.play_meaning.specs.Turns.{no_action}
 use Rattle.play_meaning.specs.Values.{Scope}
 use Rattle.play_meaning.specs.Worlds.{World}
 use Rattle.play_meaning.specs.declared.action.ActionNow.{ActionNow}
-use Rattle.play_meaning.specs.declared.action.Needs.{Needs}
+use Rattle.world_meaning.specs.declared.needs.Needs.{Needs}
 
 -- a scene without a condition never begins, or never ends
 pub record Scene : Type 0 where

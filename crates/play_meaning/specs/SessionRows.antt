@@ -11,8 +11,8 @@ use Rattle.play_meaning.specs.Sketches.{Sketch}
 use Rattle.play_meaning.specs.StandardActions.{jumping}
 use Rattle.play_meaning.specs.StandardRules.{line, only, plain}
 use Rattle.play_meaning.specs.Trees.{Body, Bytes, Condition, End, EndStory, Equals, Figure, Happens, IfSaid, IsAtMost, Literal, NowVariable, Number, Phrase, Plus, Repeat, Say, Silence, Text, Then, Those, Variable}
-use Rattle.play_meaning.specs.declared.action.Needs.{Needs}
-use Rattle.play_meaning.specs.declared.action.Slot.TheVariants.{Absent}
+use Rattle.world_meaning.specs.declared.needs.Needs.{Needs}
+use Rattle.world_meaning.specs.declared.needs.Slot.TheVariants.{Absent}
 
 abbrev pub score : Number
 score = Variable 0

@@ -25,7 +25,7 @@ use Rattle.play_meaning.specs.StandardGrammar.{standard_lines}
 use Rattle.play_meaning.specs.Tales.{setting_of, start_of}
 use Rattle.play_meaning.specs.Trees.{Text}
 use Rattle.play_meaning.specs.Worlds.{World}
-use Rattle.play_meaning.specs.declared.action.Needs.{Needs}
+use Rattle.world_meaning.specs.declared.needs.Needs.{Needs}
 
 pub record Item : Type 0 where
   pub kind : ℕ
@@ -73,6 +73,7 @@ declared_in k = record {
   variables = k.variables;
   scenes = map (λ scene. scene.recurs) k.scenes;
   rulebooks = 0;
+  actions = k.actions;
 }
 
 abbrev pub leads_from : ℕ → ℕ → Exit → Bool

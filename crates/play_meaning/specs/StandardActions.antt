@@ -1,8 +1,8 @@
 -- The actions that every story has: their numbers, and what each asks for.
 use Rattle.std.specs.Prelude.{ℕ, Bool, true, false, List, [], ◌∷◌, slice_index_or}
-use Rattle.play_meaning.specs.declared.action.Needs.{Needs}
-use Rattle.play_meaning.specs.declared.action.Slot.{Slot}
-use Rattle.play_meaning.specs.declared.action.Slot.TheVariants.{Absent, Visible, Touched, Carried}
+use Rattle.world_meaning.specs.declared.needs.Needs.{Needs}
+use Rattle.world_meaning.specs.declared.needs.Slot.{Slot}
+use Rattle.world_meaning.specs.declared.needs.Slot.TheVariants.{Absent, Visible, Touched, Carried}
 
 abbrev pub looking : ℕ
 looking = 0

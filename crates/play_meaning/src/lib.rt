@@ -24,7 +24,7 @@ pub mod tree;
 mod way;
 mod work_laws;
 
-pub use action::{ActNo, ActionNow, Needs, Slot};
+pub use action::{ActNo, ActionNow};
 pub use change::{Change, make};
 pub use code_laws::{
     bodies_run_among_codes, bodies_run_as_they_mean, runs_stand_where_codes_say, sound_codes_run,

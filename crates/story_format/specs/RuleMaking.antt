@@ -7,9 +7,9 @@ use Rattle.play_meaning.specs.StandardActions.{standard_needs}
 use Rattle.play_meaning.specs.StandardRules.{standard_rules}
 use Rattle.play_meaning.specs.Trees as tree
 use Rattle.play_meaning.specs.Trees.{Condition}
-use Rattle.play_meaning.specs.declared.action.Needs.{Needs}
-use Rattle.play_meaning.specs.declared.action.Slot.{Slot}
-use Rattle.play_meaning.specs.declared.action.Slot.TheVariants.{Absent, Visible, Touched, Carried}
+use Rattle.world_meaning.specs.declared.needs.Needs.{Needs}
+use Rattle.world_meaning.specs.declared.needs.Slot.{Slot}
+use Rattle.world_meaning.specs.declared.needs.Slot.TheVariants.{Absent, Visible, Touched, Carried}
 use Rattle.story_format.specs.declared.rule_entry.Aspect.{Aspect as Asked}
 use Rattle.story_format.specs.declared.rule_entry.Aspect.TheVariants as aspects
 use Rattle.story_format.specs.declared.rule_entry.PropertySide.{PropertySide}

@@ -6,8 +6,8 @@ ghost use Rattle.story_format.specs.declared.actions.TheConstants.{STANDARD_NEED
 
 use crate::rule_tables::ActionEntry;
 use crate::table::Table;
-use play_meaning::{Needs, Slot};
 use std::alloc::{AllocError, Global};
+use world_meaning::{Needs, Slot};
 
 /// No noun.
 const NOTHING: Needs = Needs {

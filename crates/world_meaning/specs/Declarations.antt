@@ -10,7 +10,7 @@ use Rattle.world_meaning.specs.declared.tale.Object.{Object}
 
 -- the built-in kinds and properties alone
 unfoldable pub built_in_declared : Declared
-built_in_declared = record { kinds = built_in_parents; flags = map (λ p. record { kinds = p.kinds }) built_in_properties; numbers = []; variables = []; scenes = []; rulebooks = 0 }
+built_in_declared = record { kinds = built_in_parents; flags = map (λ p. record { kinds = p.kinds }) built_in_properties; numbers = []; variables = []; scenes = []; rulebooks = 0; actions = [] }
 
 -- each number is above the one before it, and the first is not below next
 unfoldable pub are_rising : ℕ → List ℕ → Bool

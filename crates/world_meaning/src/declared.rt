@@ -1,9 +1,10 @@
-//! What a source declares besides its objects: kinds, properties, variables, scenes and rulebooks.
+//! What a source declares besides its objects: kinds, properties, variables, scenes, rulebooks and actions.
 ghost use Rattle.std.specs.Prelude.{◌≡◌, [], IfOk, map};
 ghost use Rattle.world_meaning.specs.Declarations.{built_in_declared};
 
 use crate::kinds::{KindNo, PROPERTIES, PropertyRow, built_in_parents};
 use crate::listed::Listed;
+use crate::needs::Needs;
 use std::alloc::{AllocError, Global};
 
 /// A property: the kinds that it is given to, rising.
@@ -27,6 +28,8 @@ pub struct Declared {
     pub scenes: Listed<bool>,
     /// How many rulebooks there are of the author's own.
     pub rulebooks: usize,
+    /// What each of the author's actions asks for, in the order of their sentences.
+    pub actions: Listed<Needs>,
 }
 
 fn granted_to(alloc: Global, kinds: &[u8]) -> Result<Granted, AllocError>
@@ -69,5 +72,6 @@ pub fn built_in_declared(alloc: Global) -> Result<Declared, AllocError>
         variables: none(alloc),
         scenes: none(alloc),
         rulebooks: 0,
+        actions: none(alloc),
     })
 }

@@ -12,6 +12,7 @@ mod holders;
 mod kind_laws;
 mod kinds;
 mod listed;
+mod needs;
 mod numbers;
 mod place;
 mod placing_laws;
@@ -36,6 +37,7 @@ pub use kinds::{
     KINDS, KindNo, KindRow, PROPERTIES, PropertyRow, ROOTS, built_in_parents, is_under,
 };
 pub use listed::Listed;
+pub use needs::{Needs, Slot};
 pub use numbers::ObjNo;
 pub use place::{Place, Rel};
 pub use placing_laws::placing_keeps_its_rules;
