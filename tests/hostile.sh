@@ -91,15 +91,15 @@ save_rule("action_of_one_long_word", "", "x", " is an action applying to nothing
 save_rule("action_of_its", "", "it ", "is an action applying to one thing.")
 save_rule("action_named_as_actions", "", "x is an action applying to nothing ", "is an action out of world.")
 save_rule("action_without_end", "", "x is an action applying to one thing and one thing ", ".")
-save_rule("action_in_places", "Waiting in is an action applying to one thing.\n\nBefore waiting", " in", ", rule fails.")
 save_actions("actions_many", [f"x{n} {APPLYING}" for n in range(9000)])
 save_actions("actions_of_one_name", [f"x {APPLYING}"] * 9000)
 save_actions("actions_of_long_names", [f"{'x' * 1000} {n} {APPLYING}" for n in range(184)])
 save_actions("actions_of_many_words", [f"{'x ' * 500}{n} {APPLYING}" for n in range(184)])
-save_actions("actions_of_near_names", [f"go it{' it' * n} {APPLYING}" for n in range(184)], "Before go" + " it" * 30000 + ", rule fails.\n")
-save_actions("actions_of_one_front", [f"go it {n} {APPLYING}" for n in range(184)], "Before go" + " x" * 50000 + ", rule fails.\n")
+save_actions("actions_of_near_names", [f"go it{' it' * n} {APPLYING}" for n in range(184)], "Before go" + " it" * 60 + ", rule fails.\n")
+save_actions("actions_in_places", [f"go in{' in' * n} {APPLYING}" for n in range(184)], "Before go" + " in" * 60 + ", rule fails.\n")
+save_actions("actions_of_one_front", [f"go it {n} {APPLYING}" for n in range(184)], "Before go" + " x" * 20000 + ", rule fails.\n")
 save_actions("actions_tried", [f"go it {n} {APPLYING}" for n in range(184)], "Every turn, try go" + " x" * 50000 + ".\n")
-save_actions("rules_of_actions", [f"go it {n} {APPLYING}" for n in range(184)], "Before go the player 183 the player in a dark room, try go the player 0 the player.\n" * 1939)
+save_actions("rules_of_actions", [f"go it {n} {APPLYING}" for n in range(184)], "Before go the player 183 the player in a dark room, try go the player 0 the player.\n" * 1000)
 save_actions("listings_of_actions", [f"go it {n} {APPLYING}" for n in range(184)], "The list worn rule is listed first in the carry out go it 183 rules.\n" * 3500)
 save_actions("rulebooks_of_actions", [f"go it {n} {APPLYING}" for n in range(184)] + [f"The check go it {n} all rules is a rulebook.\n" for n in range(100)])
 rooms = "".join(f"Room{n} is north of Room{n - 1}. \"The walls of room {n} are bare and cold here.\"\n\n" for n in range(1, 980))
@@ -222,7 +222,7 @@ for source in *.i7; do
     rooms.i7 | one_room.i7 | rule_phrases.i7 | rules_of_patterns.i7 | listings_of_rules.i7 | listings_of_long_names.i7 | listings_of_one_rule.i7) want=0 limit=unlimited ;;
     action_of_* | action_named_as_actions.i7 | action_without_end.i7 | actions_of_long_names.i7 | actions_of_many_words.i7) want=0 limit=unlimited ;;
     rules_of_actions.i7 | listings_of_actions.i7 | rulebooks_of_actions.i7) want=0 limit=unlimited ;;
-    action_in_places.i7 | actions_many.i7 | actions_of_one_name.i7 | actions_of_near_names.i7 | actions_of_one_front.i7 | actions_tried.i7) limit=unlimited ;;
+    actions_in_places.i7 | actions_many.i7 | actions_of_one_name.i7 | actions_of_near_names.i7 | actions_of_one_front.i7 | actions_tried.i7) limit=unlimited ;;
     closed_texts.i7 | rule_colons.i7 | rule_pattern_words.i7 | rule_substitutions.i7 | rules_many.i7 | long_*) limit=unlimited ;;
   esac
   (ulimit -v "$limit"; exec timeout 1 "$program" compile "$source" story) 2>err </dev/null
