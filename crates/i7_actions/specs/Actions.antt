@@ -1,5 +1,5 @@
 -- The actions that every story has, as their table tells them.
-use Rattle.std.specs.Prelude.{List, map}
+use Rattle.std.specs.Prelude.{ℕ, List, map}
 use Rattle.world_meaning.specs.declared.needs.Needs.{Needs}
 use Rattle.world_meaning.specs.declared.needs.Slot.{Slot}
 use Rattle.world_meaning.specs.declared.needs.Slot.TheVariants.{Absent}
@@ -20,3 +20,7 @@ counted noun second = Two
 
 abbrev pub count_needed : Needs → NounCount
 count_needed needs = counted needs.noun needs.second
+
+-- the action of this name that asks for so much
+abbrev pub action_named : List (List ℕ) → Needs → Action
+action_named name needs = record { name = name; nouns = count_needed needs }

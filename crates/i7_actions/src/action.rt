@@ -1,10 +1,10 @@
 //! Actions by their names (*Writing with Inform*, chapter 12): `taking`, `putting it on`.
 ghost use Rattle.std.specs.Prelude.{◌≡◌, map, IfOk};
-ghost use Rattle.i7_actions.specs.Actions.{count_needed, standard_actions};
+ghost use Rattle.i7_actions.specs.Actions.{action_named, count_needed, counted, standard_actions};
 ghost use Rattle.play_meaning.specs.StandardActions.{standard_needs};
 
 use std::alloc::{AllocError, Global};
-use world_meaning::{Listed, TextBytes};
+use world_meaning::{Listed, Needs, Slot, TextBytes};
 
 /// How many nouns an action has.
 #[derive(Clone, Copy, Debug, PartialEq, Eq)]
@@ -82,6 +82,41 @@ pub fn standard_actions(alloc: Global) -> Result<Vec<Action>, AllocError>
     ensures { IfOk result (λ actions. actions.items ≡ standard_actions) }
 {
     actions_of(alloc, &STANDARD_ACTIONS)
+}
+
+/// How many nouns are there where these are asked for.
+fn counted(noun: Slot, second: Slot) -> NounCount
+    ensures { result ≡ counted noun second }
+{
+    match noun {
+        Slot::Absent => NounCount::Zero,
+        Slot::Visible | Slot::Touched | Slot::Carried => match second {
+            Slot::Absent => NounCount::One,
+            Slot::Visible | Slot::Touched | Slot::Carried => NounCount::Two,
+        },
+    }
+}
+
+/// A copy of words.
+fn copied(alloc: Global, words: &[TextBytes]) -> Result<Listed<TextBytes>, AllocError>
+    ensures { IfOk result (λ copies. copies ≡ words.now) }
+{
+    let mut copies = Vec::new(alloc);
+    let mut rest = words;
+    while let [word, after @ ..] = rest {
+        copies.push(TextBytes::copied(alloc, word.as_slice())?)?;
+        rest = after;
+    }
+    Ok(Listed::new(copies))
+}
+
+/// The action of this name that asks for so much.
+pub fn action_named(alloc: Global, name: &[TextBytes], needs: Needs) -> Result<Action, AllocError>
+    ensures { IfOk result (λ action. action ≡ action_named name.now needs) }
+{
+    let name = copied(alloc, name)?;
+    let nouns = counted(needs.noun, needs.second);
+    Ok(Action { name, nouns })
 }
 
 /// The standard actions have the nouns that they ask for in play.

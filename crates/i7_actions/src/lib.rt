@@ -9,7 +9,9 @@ mod nouns;
 mod part;
 mod tried;
 
-pub use action::{Action, NounCount, STANDARD_ACTIONS, nouns_are_those_needed, standard_actions};
+pub use action::{
+    Action, NounCount, STANDARD_ACTIONS, action_named, nouns_are_those_needed, standard_actions,
+};
 pub use book::{book_of, one_book_is_followed, own_book_of};
 pub use choice::is_better;
 pub use noun::noun_said;

@@ -4,6 +4,7 @@ use Rattle.std.specs.Prelude.{Option, None, Some, find, map, option_map, slice_g
 use Rattle.world_meaning.specs.Tale.{description_in, description_of as told_description}
 use Rattle.world_meaning.specs.declared.declared.Declared.{Declared}
 use Rattle.world_meaning.specs.declared.fault.Fault.{Fault}
+use Rattle.world_meaning.specs.declared.needs.Needs.{Needs}
 use Rattle.world_meaning.specs.declared.place.Rel.{Rel}
 use Rattle.world_meaning.specs.declared.place.Rel.TheVariants.{In, On, Carried, Worn, Part}
 use Rattle.world_meaning.specs.declared.tale.Tale.{Tale}
@@ -15,6 +16,7 @@ use Rattle.i7_claims.specs.Claims.{claims_of}
 use Rattle.i7_claims.specs.Statements.{Named, named_by, numbered_holding, numbered_in, numbered_subject, statement_in}
 use Rattle.i7_claims.specs.declared.statements.Numbered.{Numbered}
 use Rattle.i7_claims.specs.declared.statements.Numbered.TheVariants as numbered
+use Rattle.i7_kinds.specs.Actions.{actions_said, told_with, with_actions}
 use Rattle.i7_kinds.specs.Demands.{described_after, description_of, is_room, subject_of, told_in}
 use Rattle.i7_kinds.specs.KindClaims.{kind_names, parents_of}
 use Rattle.i7_kinds.specs.Knowns.{knowns_of}
@@ -66,6 +68,7 @@ of_assertion named (asserts.VariableIs variable number) text e = cc
 of_assertion named (asserts.Are being) text e = none_of_subject named being.subjects text e
 of_assertion named (asserts.Rule rule) text e = cc
 of_assertion named (asserts.Listing listing) text e = cc
+of_assertion named (asserts.Action declaration) text e = cc
 
 -- ---- what a statement describes
 
@@ -120,17 +123,17 @@ object_described m [] from o text e = cc
 object_described m (entry ∷ entries) from zero text e = (from, e)
 object_described m (entry ∷ entries) from (suc o) text e = object_described m entries (from + 1) o text e
 
-tale_described : (m : Made) (declared : Declared) (entries : List Entry) (refusal : Option Fault) (tale : Tale) (o : ℕ) (text : List ℕ)
-    → or_refused refusal (record { declared = declared; objects = objects_of m 0 entries }) ≡ Ok tale → told_description tale o ≡ Some text
+tale_described : (m : Made) (declared : Declared) (entries : List Entry) (actions : List Needs) (refusal : Option Fault) (tale : Tale) (o : ℕ) (text : List ℕ)
+    → with_actions actions (or_refused refusal (record { declared = declared; objects = objects_of m 0 entries })) ≡ Ok tale → told_description tale o ≡ Some text
     → (n : ℕ) × (description_of m.descriptions n ≡ Some text)
-tale_described m declared entries None tale o text means described =
-    let same : record { declared = declared; objects = objects_of m 0 entries } ≡ tale = cc in
+tale_described m declared entries actions None tale o text means described =
+    let same : told_with actions (record { declared = declared; objects = objects_of m 0 entries }) ≡ tale = cc in
     object_described m entries 0 o text (ap (λ t. told_description t o) same ∙ described)
-tale_described m declared entries (Some fault) tale o text means described = cc
+tale_described m declared entries actions (Some fault) tale o text means described = cc
 
 pub written : DescriptionsAreWritten
 written sentences tale o text means described =
     let claims = claims_of sentences in
     let scope = scope_with (kind_names claims) (parents_of (kind_names claims) claims) claims (named_by sentences).keys in
-    let found = tale_described _ _ _ _ tale o text means described in
+    let found = tale_described _ _ _ (actions_said sentences) _ tale o text means described in
     in_sentences scope.parents (knowns_of scope claims) (named_by sentences) sentences None found.0 text found.1

@@ -84,7 +84,7 @@ flags_by claims = flags_from (parents_of (kind_names claims) claims) (givens_by 
 abbrev pub numbers_by : List Claim → List Granted
 numbers_by claims = flags_from (parents_of (kind_names claims) claims) (givens_by claims) (length (flags_by claims)) [] (names_as sort.Number claims)
 
--- what a source declares besides objects
+-- what a source declares besides objects; nothing is claimed of its actions
 abbrev pub declared_by : List Claim → Declared
 declared_by claims = record {
   kinds = parents_of (kind_names claims) claims;
@@ -93,6 +93,7 @@ declared_by claims = record {
   variables = starts_of claims (names_as sort.Variable claims);
   scenes = scenes_of claims (names_as sort.Scene claims);
   rulebooks = length (names_as sort.Rulebook claims);
+  actions = [];
 }
 
 -- ---- refusals

@@ -1,3 +1,4 @@
+pub mod Actions
 pub mod Bounds
 pub mod Demands
 pub mod Described

@@ -21,6 +21,7 @@ use Rattle.world_meaning.specs.Standing.{place_at}
 use Rattle.i7_sentences.specs.declared.name.NameArticle.{NameArticle}
 use Rattle.i7_sentences.specs.declared.name.NameArticle.TheVariants as written
 use Rattle.i7_sentences.specs.declared.sentence.Sentence.{Sentence}
+use Rattle.i7_kinds.specs.Actions.{actions_said, with_actions}
 use Rattle.i7_kinds.specs.Demands.{wrong_kind, descriptions_of, description_of, second_description, second_target, target_of, first_of_author, line_at, line_of_description}
 use Rattle.object_words.specs.Words.{words_for}
 use Rattle.i7_claims.specs.Claims.{claims_of}
@@ -282,6 +283,6 @@ said_in kinds parents claims sentences = judged (scope_with kinds parents claims
 abbrev pub said_by : List Claim → List Sentence → Result Tale Fault
 said_by claims sentences = said_in (kind_names claims) (parents_of (kind_names claims) claims) claims sentences
 
--- the tale of a source's sentences, or the refusal that stands
+-- the tale of a source's sentences with the actions that they declare, or the refusal that stands
 abbrev pub tale_said : List Sentence → Result Tale Fault
-tale_said sentences = said_by (claims_of sentences) sentences
+tale_said sentences = with_actions (actions_said sentences) (said_by (claims_of sentences) sentences)

@@ -127,7 +127,7 @@ fn numbers_by(
     Ok(numbers)
 }
 
-/// What a source declares besides objects, where its kinds have these names.
+/// What a source declares besides objects, where its kinds have these names; nothing is claimed of its actions.
 pub fn declared_by(alloc: Global, names: &Strings, claims: &[Claim]) -> Result<Declared, AllocError>
     requires named { names.now ≡ kind_names claims.now }
     requires few { AreSmallKinds (parents_of names.now claims.now) }
@@ -153,5 +153,6 @@ pub fn declared_by(alloc: Global, names: &Strings, claims: &[Claim]) -> Result<D
         variables: Listed::new(starts),
         scenes: Listed::new(recurring),
         rulebooks: rulebooks.len(),
+        actions: Listed::new(Vec::new(alloc)),
     })
 }

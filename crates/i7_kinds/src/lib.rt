@@ -2,6 +2,7 @@
 //! say together, and the tale that they mean.
 #![tactic(auto)]
 
+mod actions;
 mod author_kinds;
 mod claim_laws;
 mod declaring;

@@ -12,6 +12,7 @@ ghost use Rattle.i7_kinds.specs.Suits.{first_room, with_player};
 ghost use Rattle.i7_kinds.specs.Tales.{entries_of, frame_refusal, judged, limit_refusal, made_of, no_room, objects_of, refusal_at, refusal_of, said_by, said_in, scope_of, tale_said};
 ghost use Rattle.i7_claims.specs.Views.{mentions_of};
 
+use crate::actions::{actions_said, with_actions};
 use crate::author_kinds::{kind_nos, parents_of};
 use crate::declaring::declared_by;
 use crate::descriptions::Descriptions;
@@ -255,7 +256,8 @@ fn tale_said(alloc: Global, sentences: &[Sentence]) -> Result<Result<Tale, Fault
 {
     let claims = claims_of(alloc, sentences)?;
     let said = said_by(alloc, claims.as_slice(), sentences)?;
-    Ok(said)
+    let actions = actions_said(alloc, sentences)?;
+    Ok(with_actions(actions, said))
 }
 
 /// The tale that the sentences mean, or the refusal that stands, each code being looked for in the

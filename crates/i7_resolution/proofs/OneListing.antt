@@ -5,7 +5,7 @@ use Rattle.std.specs.List.{AllZip}
 use Rattle.std.proofs.lemmas.List.{reverse-reverse}
 use Rattle.world_meaning.specs.declared.fault.Fault.{Fault}
 use Rattle.world_meaning.specs.declared.fault.FaultCode.{FaultCode}
-use Rattle.world_meaning.specs.declared.fault.FaultCode.TheVariants.{Twice, UnknownName, WrongKind}
+use Rattle.world_meaning.specs.declared.fault.FaultCode.TheVariants.{TooMany, Twice, UnknownName, WrongKind}
 use Rattle.i7_rules.proofs.Lows.{lowest_once, nowhere_there}
 use Rattle.i7_rules.specs.Knowns.{Known}
 use Rattle.i7_rules.specs.RuleList.{RuleAt, rules_in}
@@ -15,11 +15,13 @@ use Rattle.i7_rules.specs.SourceRules.{IsRulesFound}
 use Rattle.i7_rules.specs.declared.source_rules.RulesFound.{RulesFound}
 use Rattle.i7_rules.specs.declared.source_rules.RulesFound.TheVariants as ruled
 use Rattle.i7_sentences.specs.Lowest.{IsLowest, IsNowhere}
+use Rattle.i7_sentences.specs.ActionDeclarations.{actions_declared}
 use Rattle.i7_sentences.specs.declared.sentence.Sentence.{Sentence}
 use Rattle.rule_order.specs.declared.listing.ListingSentence.{ListingSentence}
 use Rattle.i7_resolution.specs.ListingList.{ListingAt, listings_in}
 use Rattle.i7_resolution.specs.BookNames.{book_twice}
-use Rattle.i7_resolution.specs.Resolutions.{IsResolution, first_if, first_of, joined, with_books}
+use Rattle.i7_resolution.specs.Resolutions.{IsJoined, IsResolution, first_if, first_of, joined, with_fault}
+use Rattle.i7_resolution.specs.SourceActions.{action_over, action_twice, actions_in}
 use Rattle.i7_resolution.specs.ResolutionsMeant.{All as Resolved, ResolutionMeant, Refused as Unresolved, resolution_meant}
 use Rattle.i7_resolution.specs.SourceListings.{All, AreFound, AreTold, IsListingsFound, IsMisplaced, IsTold, IsUnknown, ListingsMeant, Refused, Stands, listings_meant}
 use Rattle.i7_resolution.specs.SourceTexts.{IsTextsFound, TextsMeant, texts_meant}
@@ -116,28 +118,41 @@ TextsAreOnce = (k : Known) (sentences : List Sentence) (a b : TextsFound) → Is
 abbrev pub RulesAreOnce : Type 0
 RulesAreOnce = (k : Known) (sentences : List Sentence) (a b : RulesFound) → IsRulesFound k sentences a → IsRulesFound k sentences b → rules_meant a ≡ rules_meant b
 
--- a resolution that may be refused for a rulebook's name
+-- a resolution that may be refused for an action or a rulebook's name
 abbrev before_meant : Fault → ResolutionMeant → ResolutionMeant
 before_meant fault (Resolved rs ts ls) = Unresolved fault
 before_meant fault (Unresolved other) = Unresolved (first_of fault other)
 
-abbrev books_meant : Option ℕ → ResolutionMeant → ResolutionMeant
-books_meant None told = told
-books_meant (Some line) told = before_meant (record { code = Twice; line = line }) told
+abbrev fault_meant : FaultCode → Option ℕ → ResolutionMeant → ResolutionMeant
+fault_meant code None told = told
+fault_meant code (Some line) told = before_meant (record { code = code; line = line }) told
 
-books_so : (line : Option ℕ) (told : Resolution) → resolution_meant (with_books line told) ≡ books_meant line (resolution_meant told)
-books_so None told = refl
-books_so (Some line) (told.Says resolved) = refl
-books_so (Some line) (told.Refused fault) = refl
+fault_so : (code : FaultCode) (line : Option ℕ) (told : Resolution) → resolution_meant (with_fault code line told) ≡ fault_meant code line (resolution_meant told)
+fault_so code None told = refl
+fault_so code (Some line) (told.Says resolved) = refl
+fault_so code (Some line) (told.Refused fault) = refl
 
-pub resolved_once : RulesAreOnce → TextsAreOnce → (k : Known) (sentences : List Sentence) (a b : Resolution) → IsResolution k sentences a → IsResolution k sentences b → resolution_meant a ≡ resolution_meant b
-resolved_once rules_law texts_law k sentences a b one other =
-    let books = book_twice k.actions sentences in
-    let same : resolution_meant (joined one.rules one.texts one.listings) ≡ resolution_meant (joined other.rules other.texts other.listings) =
-    meant_so one.rules one.texts one.listings
+same_behind : (code : FaultCode) (line : Option ℕ) (a b : Resolution) → resolution_meant a ≡ resolution_meant b → resolution_meant (with_fault code line a) ≡ resolution_meant (with_fault code line b)
+same_behind code line a b same = fault_so code line a ∙ ap (fault_meant code line) same ∙ sym (fault_so code line b)
+
+joined_once : RulesAreOnce → TextsAreOnce → (k : Known) (sentences : List Sentence) (a b : Resolution) → IsJoined k sentences a → IsJoined k sentences b → resolution_meant a ≡ resolution_meant b
+joined_once rules_law texts_law k sentences a b one other =
+    ap resolution_meant one.told_is
+    ∙ meant_so one.rules one.texts one.listings
     ∙ ap (λ (r : RulesMeant). all_meant r (texts_meant one.texts) (listings_meant one.listings)) (rules_law k sentences one.rules other.rules one.rules_are other.rules_are)
     ∙ ap (λ (t : TextsMeant). all_meant (rules_meant other.rules) t (listings_meant one.listings)) (texts_law k sentences one.texts other.texts one.texts_are other.texts_are)
     ∙ ap (all_meant (rules_meant other.rules) (texts_meant other.texts)) (listings_once k sentences one.listings other.listings one.listings_are other.listings_are)
-    ∙ sym (meant_so other.rules other.texts other.listings) in
-    ap resolution_meant one.told_is ∙ books_so books (joined one.rules one.texts one.listings) ∙ ap (books_meant books) same ∙ sym (books_so books (joined other.rules other.texts other.listings))
+    ∙ sym (meant_so other.rules other.texts other.listings)
+    ∙ sym (ap resolution_meant other.told_is)
+
+pub resolved_once : RulesAreOnce → TextsAreOnce → (k : Known) (sentences : List Sentence) (a b : Resolution) → IsResolution k sentences a → IsResolution k sentences b → resolution_meant a ≡ resolution_meant b
+resolved_once rules_law texts_law k sentences a b one other =
+    let over = action_over (actions_declared sentences) in
+    let twice = action_twice (actions_declared sentences) in
+    let few : Resolution → Resolution = with_fault TooMany over in
+    let apart : Resolution → Resolution = λ before. with_fault Twice twice (few before) in
+    ap resolution_meant one.told_is
+    ∙ same_behind Twice (book_twice (actions_in sentences) sentences) (apart one.before) (apart other.before)
+    (same_behind Twice twice (few one.before) (few other.before)
+    (same_behind TooMany over one.before other.before (joined_once rules_law texts_law k sentences one.before other.before one.is_joined other.is_joined)))
     ∙ sym (ap resolution_meant other.told_is)

@@ -5,6 +5,7 @@ pub mod Listings
 pub mod NumberedRules
 pub mod Resolutions
 pub mod ResolutionsMeant
+pub mod SourceActions
 pub mod SourceListings
 pub mod SourceTexts
 pub mod TextList

@@ -1,12 +1,11 @@
 -- What is resolved of a source: its rules, the texts that describe, and where sentences list rules, or the first refusal for these or
--- for the names of its rulebooks.
+-- for its actions and the names of its rulebooks.
 use Rattle.std.specs.Prelude.{◌≡◌, ℕ, ◌==◌, Bool, ◌&&◌, ◌||◌, nat_lt, List, [], Option, None, Some, if◌then◌else◌}
 use Rattle.std.specs.List.{list_any}
 use Rattle.world_meaning.specs.declared.fault.Fault.{Fault}
 use Rattle.world_meaning.specs.declared.fault.FaultCode.{FaultCode}
 use Rattle.world_meaning.specs.declared.fault.FaultCode.TheVariants.{TooMany, Twice, UnknownName, WrongKind}
 use Rattle.world_meaning.specs.declared.tale.Tale.{Tale}
-use Rattle.i7_actions.specs.Actions.{standard_actions}
 use Rattle.i7_conditions.specs.NamesOf.{has_operators, meanings_of, plurals_of}
 use Rattle.i7_conditions.specs.Operators.{holds_operator}
 use Rattle.i7_conditions.specs.Scopes.{Scope}
@@ -15,8 +14,10 @@ use Rattle.i7_rules.specs.Knowns.{Known}
 use Rattle.i7_rules.specs.SourceRules.{IsRulesFound}
 use Rattle.i7_rules.specs.declared.source_rules.RulesFound.{RulesFound}
 use Rattle.i7_rules.specs.declared.source_rules.RulesFound.TheVariants as ruled
+use Rattle.i7_sentences.specs.ActionDeclarations.{actions_declared}
 use Rattle.i7_sentences.specs.declared.sentence.Sentence.{Sentence}
 use Rattle.i7_resolution.specs.BookNames.{book_twice}
+use Rattle.i7_resolution.specs.SourceActions.{action_over, action_twice, actions_in, known_actions}
 use Rattle.i7_resolution.specs.SourceListings.{IsListingsFound}
 use Rattle.i7_resolution.specs.SourceTexts.{IsTextsFound}
 use Rattle.i7_resolution.specs.declared.resolution.Resolution.{Resolution}
@@ -26,14 +27,14 @@ use Rattle.i7_resolution.specs.declared.source_listings.ListingsFound.TheVariant
 use Rattle.i7_resolution.specs.declared.source_texts.TextsFound.{TextsFound}
 use Rattle.i7_resolution.specs.declared.source_texts.TextsFound.TheVariants as texted
 
--- what rules and texts may name: what the names of a source stand for, its rulebooks and scenes, the standard actions, and
--- the kinds and objects of its tale
-abbrev pub known_in : SourceNames → Tale → Known
-known_in source tale = record {
+-- what rules and texts may name: what the names of a source stand for, its rulebooks and scenes, its sentences' actions behind the
+-- standard ones, and the kinds and objects of its tale
+abbrev pub known_in : SourceNames → Tale → List Sentence → Known
+known_in source tale sentences = record {
   meanings = meanings_of source.names;
   plurals = plurals_of source.names;
   has_operators = has_operators source.names;
-  actions = standard_actions;
+  actions = known_actions (actions_in sentences);
   rulebooks = source.rulebooks;
   scenes = source.scenes;
   parents = tale.declared.kinds;
@@ -90,17 +91,29 @@ abbrev pub refused_before : Fault → Resolution → Resolution
 refused_before fault (Says resolved) = Refused fault
 refused_before fault (Refused other) = Refused (first_of fault other)
 
--- where a rulebook's name is given twice at this line, if at any
-abbrev pub with_books : Option ℕ → Resolution → Resolution
-with_books None told = told
-with_books (Some line) told = refused_before (record { code = Twice; line = line }) told
+-- refused with this code where it stands at a line
+abbrev pub with_fault : FaultCode → Option ℕ → Resolution → Resolution
+with_fault code None told = told
+with_fault code (Some line) told = refused_before (record { code = code; line = line }) told
 
--- what is told of a source by what is told of its rulebooks' names, of its rules, of its texts, and of the sentences that list rules
-pub record IsResolution (k : Known) (sentences : List Sentence) (told : Resolution) : Type 0 where
+-- where a name is given twice, an action's or a rulebook's, or an action is one too many
+abbrev pub with_actions : List Sentence → Resolution → Resolution
+with_actions sentences told =
+    with_fault Twice (book_twice (actions_in sentences) sentences)
+    (with_fault Twice (action_twice (actions_declared sentences)) (with_fault TooMany (action_over (actions_declared sentences)) told))
+
+-- what is told of a source by what is told of its rules, of its texts, and of the sentences that list rules
+pub record IsJoined (k : Known) (sentences : List Sentence) (told : Resolution) : Type 0 where
   pub rules : RulesFound
   pub texts : TextsFound
   pub listings : ListingsFound
   pub rules_are : IsRulesFound k sentences rules
   pub texts_are : IsTextsFound k sentences texts
   pub listings_are : IsListingsFound k sentences listings
-  pub told_is : told ≡ with_books (book_twice k.actions sentences) (joined rules texts listings)
+  pub told_is : told ≡ joined rules texts listings
+
+-- and of the names of its actions and rulebooks, and of how many actions there are
+pub record IsResolution (k : Known) (sentences : List Sentence) (told : Resolution) : Type 0 where
+  pub before : Resolution
+  pub is_joined : IsJoined k sentences before
+  pub told_is : told ≡ with_actions sentences before

@@ -2,12 +2,14 @@
 //! its names are known, or why the source is refused for them.
 #![tactic(auto)]
 
+mod action_list;
 mod book_name;
 mod laws;
 mod listing;
 mod listing_list;
 mod numbered_rule;
 mod resolution;
+mod source_actions;
 mod source_listings;
 mod source_texts;
 mod text_list;

@@ -3,13 +3,17 @@ ghost use Rattle.std.specs.Prelude.{◌≡◌, ◌+◌, ◌*◌, ◌≤◌, leng
 ghost use Rattle.i7_conditions.specs.Readings.{IsFoundAs};
 ghost use Rattle.i7_phrases.specs.Texts.{found_text, text_is_over};
 ghost use Rattle.i7_rules.specs.Knowns.{known_of};
+ghost use Rattle.i7_sentences.specs.ActionDeclarations.{actions_declared};
 ghost use Rattle.i7_resolution.specs.SourceTexts.{SaysIn};
-ghost use Rattle.i7_resolution.specs.Resolutions.{IsResolution, first_if, first_of, goes_before, joined, known_in, listings_fault, refused_before, scope_in, texts_fault, turn_of, with_books};
+ghost use Rattle.i7_resolution.specs.Resolutions.{IsJoined, IsResolution, first_if, first_of, goes_before, joined, known_in, listings_fault, refused_before, scope_in, texts_fault, turn_of, with_actions, with_fault};
+ghost use Rattle.i7_resolution.specs.SourceActions.{actions_in, actions_lent};
 
+use crate::action_list::{ActionAt, actions_declared};
 use crate::book_name::book_twice;
+use crate::source_actions::{action_over, action_twice, actions_of, known_actions};
 use crate::source_listings::{ListingsFound, listings_of};
 use crate::source_texts::{SourceText, TextsFound, found_in, texts_of};
-use i7_actions::standard_actions;
+use i7_actions::Action;
 use i7_conditions::{Found, Scope};
 use i7_names::SourceNames;
 use i7_rules::{Known, RulesFound, SourceRule, rules_of};
@@ -131,32 +135,47 @@ fn refused_before(fault: Fault, told: Resolution) -> Resolution
     }
 }
 
-/// Where a rulebook's name is given twice at this line, if at any.
-fn with_books(line: Option<u32>, told: Resolution) -> Resolution
-    ensures { result ≡ with_books line told }
+/// Refused with this code where it stands at a line.
+fn with_fault(code: FaultCode, line: Option<u32>, told: Resolution) -> Resolution
+    ensures { result ≡ with_fault code line told }
 {
     match line {
         None => told,
-        Some(line) => {
-            let code = FaultCode::Twice;
-            refused_before(Fault { code, line }, told)
-        }
+        Some(line) => refused_before(Fault { code, line }, told),
     }
 }
 
-/// What is resolved where so much is known.
-fn resolved_of(
+/// What is told, unless a name is given twice, an action's or a rulebook's, or an action is one too many.
+fn with_actions(
+    alloc: Global,
+    declared: &[ActionAt<'_>],
+    actions: &[Action],
+    sentences: &[Sentence],
+    told: Resolution,
+) -> Result<Resolution, AllocError>
+    requires declared { actions_lent declared.now ≡ actions_declared sentences.now }
+    requires actions { actions.now ≡ actions_in sentences.now }
+    ensures { IfOk result (λ found. found ≡ with_actions sentences.now told) }
+{
+    let book = book_twice(alloc, actions, sentences)?;
+    let action = action_twice(alloc, declared)?;
+    let few = with_fault(FaultCode::TooMany, action_over(declared), told);
+    let apart = with_fault(FaultCode::Twice, action, few);
+    Ok(with_fault(FaultCode::Twice, book, apart))
+}
+
+/// What is told of rules, texts and listings where so much is known.
+fn joined_of(
     alloc: Global,
     known: &Known<'_>,
     sentences: &[Sentence],
 ) -> Result<Resolution, AllocError>
-    ensures { IfOk result (λ told. IsResolution (known_of known.now) sentences.now told) }
+    ensures { IfOk result (λ told. IsJoined (known_of known.now) sentences.now told) }
 {
     let rules = rules_of(alloc, known, sentences)?;
     let texts = texts_of(alloc, known, sentences)?;
     let listings = listings_of(alloc, known, sentences)?;
-    let books = book_twice(alloc, known.actions, sentences)?;
-    Ok(with_books(books, joined(rules, texts, listings)))
+    Ok(joined(rules, texts, listings))
 }
 
 /// The names of rulebooks, as they are known.
@@ -186,9 +205,10 @@ pub fn text_said(alloc: Global, names: &SourceNames, text: &[u8]) -> Result<Foun
 
 /// The rules of a source, the texts that describe, and where sentences list rules, where its names stand for this and its
 /// sentences mean this tale, or the refusal that stands: each code is looked for in all rules, texts and listings before the
-/// next, and told at its lowest line. These are C9, C7, C8, C12 and C5, as `rules_of`, `texts_of` and `listings_of` have them, and C9
-/// of a rulebook that is named as rules of an action are.
-#[tactic(auto, unfolding(i7_actions::specs::Actions::standard_actions))]
+/// next, and told at its lowest line. These are C9, C7, C8, C12 and C5, as `rules_of`, `texts_of` and `listings_of` have them, C9 of
+/// an action whose name another has and of a rulebook that is named as rules of an action are, and C12 of an action that is one
+/// too many.
+#[tactic(auto, unfolding(crate::specs::SourceActions::actions_in))]
 pub fn resolution_of(
     alloc: Global,
     names: &SourceNames,
@@ -196,18 +216,20 @@ pub fn resolution_of(
     sentences: &[Sentence],
 ) -> Result<Resolution, AllocError>
     requires countable { 8 + 2 * names.now.scenes + length names.now.rulebooks ≤ 65535 }
-    ensures { IfOk result (λ told. IsResolution (known_in names.now tale.now) sentences.now told) }
+    ensures { IfOk result (λ told. IsResolution (known_in names.now tale.now sentences.now) sentences.now told) }
 {
-    let actions = standard_actions(alloc)?;
+    let declared = actions_declared(alloc, sentences)?;
+    let actions = actions_of(alloc, declared.as_slice())?;
+    let actions = actions.as_slice();
     let rulebooks = rulebooks_of(alloc, names.rulebooks.as_slice())?;
     let known = Known {
         names: &names.names,
-        actions: actions.as_slice(),
+        actions: known_actions(actions),
         rulebooks: rulebooks.as_slice(),
         scenes: names.scenes as u16,
         parents: tale.declared.kinds.as_slice(),
         objects: tale.objects.as_slice(),
     };
-    let told = resolved_of(alloc, &known, sentences)?;
-    Ok(told)
+    let told = joined_of(alloc, &known, sentences)?;
+    Ok(with_actions(alloc, declared.as_slice(), actions, sentences, told)?)
 }

@@ -26,7 +26,7 @@ use Rattle.story_file.specs.Texts.{texts_kept}
 use Rattle.story_file.proofs.Held.{tale_held}
 use Rattle.story_file.proofs.Outcomes.{refused_so}
 use Rattle.story_file.proofs.Ranges.{says_ranged}
-use Rattle.story_file.proofs.RulesOf.{as_many, few_rules, rules_named}
+use Rattle.story_file.proofs.RulesOf.{acts_few, as_many, few_rules, rules_named}
 
 -- ---- how many texts there are
 
@@ -72,6 +72,7 @@ module _ (source : List ℕ) (sentences lent : List Sentence) (says : Says sourc
     are_of = record {
       many = texts_counted (scope_said lent) tale.objects texts meant.texts_are;
       few = few_rules lent tale texts rules listings meant;
+      few_actions = acts_few lent tale texts rules listings meant;
       named = rules_named lent tale texts rules listings meant;
     }
 

@@ -20,17 +20,24 @@ use Rattle.i7_kinds.specs.Demands.{descriptions_of}
 use Rattle.i7_kinds.specs.KindClaims.{declared_by, givens_by, is_recurring_by, kind_names, kind_too_many, parents_of}
 use Rattle.i7_kinds.specs.Knowns.{knowns_of}
 use Rattle.i7_kinds.specs.Suits.{first_room}
-use Rattle.i7_kinds.specs.Tales.{entries_of, faults_of, frame_refusal, limit_refusal, made_of, objects_of, refusal_of, scope_of, tale_said}
+use Rattle.i7_kinds.specs.Actions.{actions_said, told_with}
+use Rattle.i7_kinds.specs.Tales.{or_refused, entries_of, faults_of, frame_refusal, limit_refusal, made_of, objects_of, refusal_of, scope_of, tale_said}
 use Rattle.i7_names.specs.SourceNames.{names_in, rulebooks_by, rulebooks_in, scene_count, scenes_by}
 use Rattle.i7_names.specs.There.{counts_in}
 use Rattle.i7_names.proofs.Present.{names_there, plurals_there}
+use Rattle.i7_sentences.specs.ActionDeclarations.{actions_declared}
 use Rattle.i7_sentences.specs.declared.sentence.Sentence.{Sentence}
+use Rattle.story_file.proofs.Acted.{acted, actions_counted}
 use Rattle.story_file.proofs.Held.{few_by, meant_none}
 use Rattle.story_file.proofs.MadeObjects.{entries_counted, objects_counted}
 
+-- what sentences declare: what they claim, and their actions
+abbrev declared_of : List Sentence → Declared
+declared_of sentences = record (declared_by (claims_of sentences)) { actions = actions_said sentences }
+
 -- not too much is claimed, it is what the tale declares, and the objects are those that are named
 claimed : (sentences : List Sentence) (tale : Tale) → tale_said sentences ≡ Ok tale
-    → (name_too_many (claims_of sentences) ≡ None) × (declared_by (claims_of sentences) ≡ tale.declared) × (length (named_by sentences).keys ≡ length tale.objects)
+    → (name_too_many (claims_of sentences) ≡ None) × (declared_of sentences ≡ tale.declared) × (length (named_by sentences).keys ≡ length tale.objects)
 claimed sentences tale meant =
     let claims = claims_of sentences in
     let s = scope_of claims (named_by sentences).keys in
@@ -38,16 +45,20 @@ claimed sentences tale meant =
     let statements = stated_by sentences in
     let mentions = (named_by sentences).mentions in
     let whole : Tale = record { declared = declared_by claims; objects = objects_of (made_of s knowns claims statements) 0 (entries_of mentions) } in
-    let t = meant_none (refusal_of s knowns claims statements mentions) whole tale meant in
+    let told = acted (actions_said sentences) (or_refused (refusal_of s knowns claims statements mentions) whole) tale meant in
+    let t = meant_none (refusal_of s knowns claims statements mentions) whole told.before told.said_is in
     let faults = faults_of s knowns claims statements in
     let found = first_room s.parents knowns in
     let u = first_none_both (frame_refusal faults mentions found) (limit_refusal claims (descriptions_of s.parents knowns statements) mentions) t.0 in
     let fine = frame_parts faults mentions found u.0 in
     let made : length whole.objects ≡ 13 + length mentions = objects_counted (made_of s knowns claims statements) 0 (entries_of mentions) ∙ entries_counted mentions in (
       (earlier_none (kind_too_many claims) (name_too_many claims) fine.too_many).1,
-      ap (λ (made : Tale). made.declared) t.1,
-      counted-source sentences ∙ sym made ∙ ap (λ (made : Tale). length made.objects) t.1,
+      ap (λ (made : Tale). (told_with (actions_said sentences) made).declared) t.1 ∙ ap (λ (made : Tale). made.declared) told.tale_is,
+      counted-source sentences ∙ sym made ∙ ap (λ (made : Tale). length made.objects) t.1 ∙ ap (λ (made : Tale). length made.objects) told.tale_is,
     )
+
+pub actions_are : (sentences : List Sentence) (tale : Tale) → tale_said sentences ≡ Ok tale → length tale.declared.actions ≡ length (actions_declared sentences)
+actions_are sentences tale meant = sym (ap (λ (d : Declared). length d.actions) (claimed sentences tale meant).1) ∙ actions_counted sentences
 
 pub rulebooks_counted : (sentences : List Sentence) (tale : Tale) → tale_said sentences ≡ Ok tale → length (rulebooks_in sentences) ≡ tale.declared.rulebooks
 unfolding rulebooks_by

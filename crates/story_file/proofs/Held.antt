@@ -35,6 +35,7 @@ use Rattle.i7_kinds.specs.Suits.{first_room, unsuited, with_player}
 use Rattle.i7_kinds.specs.Values.{Values, values_by}
 use Rattle.i7_kinds.specs.declared.values.Bearer.TheVariants as bearer
 use Rattle.i7_kinds.specs.LongNames.{longer_name}
+use Rattle.i7_kinds.specs.Actions.{actions_said}
 use Rattle.i7_kinds.specs.Tales.{Made, author_entry, entries_of, faults_of, frame_refusal, has_long_name, has_long_text, is_too_long, limit_refusal, made_of, name_too_long, no_room, object_as, object_of, objects_of, or_refused, refusal_of, scope_of, tale_said, text_too_long, way_to}
 use Rattle.i7_claims.specs.declared.claim.Claim.{Claim}
 use Rattle.i7_kinds.specs.declared.descriptions.Description.{Description as Described}
@@ -55,6 +56,7 @@ use Rattle.i7_claims.proofs.Ranged.{AreRanged, AreRangedSentences, source_ranged
 use Rattle.i7_kinds.proofs.Ranged.{AreRangedValues, said_ranged, starts_in_range}
 use Rattle.i7_kinds.proofs.Readiness.{fine_of}
 use Rattle.i7_kinds.proofs.Rooted.{authors_behind, authors_rooted}
+use Rattle.story_file.proofs.Acted.{acted, held_with}
 use Rattle.story_file.proofs.MadeDeclarations.{Behind, behind_of, declared_held, declared_is, declared_with, kinds_many, kinds_with, starts_counted, suited_held}
 use Rattle.story_file.proofs.MadeObjects.{LeadToRooms, all_lead, all_placed, begins_held, entries_counted, kinds_counted, kinds_held, objects_kinds, objects_places, same_kinds, told}
 use Rattle.story_file.proofs.MadePlaces.{all_suited, all_whole, direction_is, direction_nowhere, kind_known, place_in_room, player_person, tree_with_player}
@@ -434,5 +436,7 @@ tale_held sentences tale ranged meant =
     let statements = stated_by sentences in
     let mentions = (named_by sentences).mentions in
     let whole : Tale = record { declared = declared_by claims; objects = objects_of (made_of s knowns claims statements) 0 (entries_of mentions) } in
-    let t = meant_none (refusal_of s knowns claims statements mentions) whole tale meant in
-    subst IsHeld t.1 (objects_held claims keys statements mentions (counted-source sentences) (source_ranged sentences ranged) t.0)
+    let told = acted (actions_said sentences) (or_refused (refusal_of s knowns claims statements mentions) whole) tale meant in
+    let t = meant_none (refusal_of s knowns claims statements mentions) whole told.before told.said_is in
+    let held = objects_held claims keys statements mentions (counted-source sentences) (source_ranged sentences ranged) t.0 in
+    subst IsHeld told.tale_is (held_with (actions_said sentences) told.before (subst IsHeld t.1 held))

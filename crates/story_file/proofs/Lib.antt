@@ -1,3 +1,4 @@
+pub mod Acted
 pub mod Compiled
 pub mod Counted
 pub mod Gathered
@@ -7,5 +8,6 @@ pub mod MadeObjects
 pub mod MadePlaces
 pub mod Outcomes
 pub mod Ranges
+pub mod Resolving
 pub mod RulesOf
 pub mod Understood

@@ -42,7 +42,7 @@ abbrev pub numbers_with : Behind → List Granted
 numbers_with b = flags_from (kinds_with b) b.givens (length (flags_with b)) [] b.numbers
 
 abbrev pub declared_with : Behind → Declared
-declared_with b = record { kinds = kinds_with b; flags = flags_with b; numbers = numbers_with b; variables = b.starts; scenes = b.scenes; rulebooks = b.rulebooks }
+declared_with b = record { kinds = kinds_with b; flags = flags_with b; numbers = numbers_with b; variables = b.starts; scenes = b.scenes; rulebooks = b.rulebooks; actions = [] }
 
 abbrev pub behind_of : List Claim → Behind
 behind_of claims = record {
@@ -66,6 +66,7 @@ declared_is claims =
       variables = starts_of claims (names_as sort.Variable claims);
       scenes = scenes_of claims (names_as sort.Scene claims);
       rulebooks = length (names_as sort.Rulebook claims);
+      actions = [];
     }
 
 pub starts_counted : (claims : List Claim) (names : List (List ℕ)) → length (starts_of claims names) ≡ length names

@@ -1,10 +1,10 @@
 -- The rules of sentences that mean a tale are few, stand in its books, and ask for what is there.
-use Rattle.std.proofs.Common.{◌≡◌, ◌∙◌, ap, refl, subst, sym, ℕ, zero, suc, ◌<◌, ◌≤◌, Bool, true, ◌&&◌, List, [], ◌∷◌, length, map, Some, arith, inl, inr}
+use Rattle.std.proofs.Common.{◌+◌, ◌≡◌, ◌∙◌, ap, refl, subst, sym, ℕ, zero, suc, ◌<◌, ◌≤◌, Bool, true, ◌&&◌, List, [], ◌∷◌, length, map, Some, arith, inl, inr}
 use Rattle.std.specs.Prelude.{None, Option, nat_le, nat_lt, reverse, slice_get}
 use Rattle.std.specs.List.{AllZip, list_all}
 use Rattle.std.proofs.lemmas.Bool.{cases_lt, lt-ltb}
 use Rattle.std.proofs.lemmas.Grind.{reverse_onto}
-use Rattle.std.proofs.lemmas.List.{length-map, length-reverse, reverse-reverse}
+use Rattle.std.proofs.lemmas.List.{length-append, length-map, length-reverse, reverse-reverse}
 use Rattle.std.proofs.lemmas.List.Elements.{All-head, All-tail}
 use Rattle.std.proofs.lemmas.List.Folds.{list_all-append}
 use Rattle.world_meaning.proofs.Bools.{both, both_are}
@@ -15,7 +15,6 @@ use Rattle.play_meaning.specs.declared.tree.rule.MeantRule.{MeantRule}
 use Rattle.play_meaning.specs.Rules.{Anything, Aspect, Exactly, OfKind, Rule}
 use Rattle.play_meaning.specs.Trees.{Adjective, NotSo, Quality, Text, Touchable, Visible}
 use Rattle.i7_actions.specs.Actions.{standard_actions}
-use Rattle.i7_actions.specs.declared.action.Action.{Action}
 use Rattle.i7_conditions.specs.There.{AreThere, Counts}
 use Rattle.i7_patterns.specs.There.{AsksWhatIs, is_aspect_of, is_one_of, is_quality_of}
 use Rattle.i7_rules.specs.Knowns.{Known}
@@ -26,12 +25,13 @@ use Rattle.i7_rules.specs.SourceRules.{AreTold, IsOver, IsRulesFound, IsTold, mo
 use Rattle.i7_rules.specs.declared.source_rules.RulesFound.{RulesFound}
 use Rattle.i7_rules.specs.declared.source_rules.RulesFound.TheVariants as ruled
 use Rattle.i7_rules.specs.declared.source_rules.SourceRule.{SourceRule}
+use Rattle.i7_sentences.specs.ActionDeclarations.{actions_declared}
 use Rattle.i7_sentences.specs.Lowest.{IsNowhere}
 use Rattle.i7_sentences.specs.declared.rule.RuleBook.{RuleBook}
 use Rattle.i7_sentences.specs.declared.rule.RuleBook.TheVariants as named
 use Rattle.i7_sentences.specs.declared.sentence.Sentence.{Sentence}
-use Rattle.i7_resolution.specs.BookNames.{book_twice}
-use Rattle.i7_resolution.specs.Resolutions.{joined, with_books}
+use Rattle.i7_resolution.specs.Resolutions.{IsResolution, joined}
+use Rattle.i7_resolution.specs.SourceActions.{action_of, actions_in, known_actions}
 use Rattle.i7_resolution.specs.declared.resolution.Resolution.{Resolution}
 use Rattle.i7_resolution.specs.declared.resolution.Resolution.TheVariants as resolution
 use Rattle.i7_resolution.specs.declared.resolution.Resolved.{Resolved}
@@ -43,7 +43,8 @@ use Rattle.rule_order.specs.declared.listing.ListingSentence.{ListingSentence}
 use Rattle.story_format.specs.Holding.{Named, is_asked, is_of, is_property, is_there, named_by, named_in}
 use Rattle.story_format.specs.RuleMaking.{book_count}
 use Rattle.story_file.specs.Meanings.{AreMeant, known_said}
-use Rattle.story_file.proofs.Counted.{counts_of, names_are_there, rulebooks_counted, scenes_counted}
+use Rattle.story_file.proofs.Counted.{actions_are, counts_of, names_are_there, rulebooks_counted, scenes_counted}
+use Rattle.story_file.proofs.Resolving.{few_actions, resolved_before}
 
 -- ---- what is told of the rules
 
@@ -52,17 +53,19 @@ abbrev resolved_or : Resolved → Resolution → Resolved
 resolved_or other (resolution.Says resolved) = resolved
 resolved_or other (resolution.Refused fault) = other
 
-pub told_by : (k : Known) (sentences : List Sentence) (rules : RulesFound) (texts : TextsFound) (listings : ListingsFound) (books : Option ℕ) (resolved : Resolved) → resolution.Says resolved ≡ with_books books (joined rules texts listings) → IsRulesFound k sentences rules
+pub told_by : (k : Known) (sentences : List Sentence) (rules : RulesFound) (texts : TextsFound) (listings : ListingsFound) (resolved : Resolved) → resolution.Says resolved ≡ joined rules texts listings → IsRulesFound k sentences rules
     → AreTold k (reverse (rules_in sentences)) (reverse resolved.rules.items)
-told_by k sentences (ruled.Says rules) (found.Says texts) (listed.Says listings) None resolved told are =
+told_by k sentences (ruled.Says rules) (found.Says texts) (listed.Says listings) resolved told are =
     subst (λ (r : Resolved). AreTold k (reverse (rules_in sentences)) (reverse r.rules.items)) (sym (ap (resolved_or resolved) told)) are
-told_by k sentences (ruled.Says rules) (found.Says texts) (listed.Says listings) (Some line) resolved told are = absurd cc
-told_by k sentences (ruled.Says rules) (found.Says texts) (listed.Refused fault) None resolved told are = absurd cc
-told_by k sentences (ruled.Says rules) (found.Says texts) (listed.Refused fault) (Some line) resolved told are = absurd cc
-told_by k sentences (ruled.Says rules) (found.Refused fault) listings None resolved told are = absurd cc
-told_by k sentences (ruled.Says rules) (found.Refused fault) listings (Some line) resolved told are = absurd cc
-told_by k sentences (ruled.Refused fault) texts listings None resolved told are = absurd cc
-told_by k sentences (ruled.Refused fault) texts listings (Some line) resolved told are = absurd cc
+told_by k sentences (ruled.Says rules) (found.Says texts) (listed.Refused fault) resolved told are = absurd cc
+told_by k sentences (ruled.Says rules) (found.Refused fault) listings resolved told are = absurd cc
+told_by k sentences (ruled.Refused fault) texts listings resolved told are = absurd cc
+
+-- where nothing refuses the sentences
+told_all : (k : Known) (sentences : List Sentence) (resolved : Resolved) → IsResolution k sentences (resolution.Says resolved) → AreTold k (reverse (rules_in sentences)) (reverse resolved.rules.items)
+told_all k sentences resolved is =
+    let whole = is.is_joined in
+    told_by k sentences whole.rules whole.texts whole.listings resolved ((resolved_before k sentences resolved is).1 ∙ whole.told_is) whole.rules_are
 
 -- ---- there are few
 
@@ -129,7 +132,13 @@ sixteen : length standard_actions ≡ 16
 unfolding standard_actions
 sixteen = refl
 
-module _ (k : Known) (d : Declared) (y : Counts) (there : AreThere y k.meanings k.plurals) (actions : k.actions ≡ standard_actions) (books : length k.rulebooks ≡ d.rulebooks) (scenes : k.scenes ≡ length d.scenes)
+-- rules know all actions where they are few
+known_counted : (sentences : List Sentence) → length (actions_declared sentences) ≤ 184 → length (known_actions (actions_in sentences)) ≡ 16 + length (actions_declared sentences)
+unfolding actions_in
+known_counted sentences few =
+    omega (arith, few, sixteen, length-map (actions_declared sentences) action_of, length-append standard_actions (map action_of (actions_declared sentences)))
+
+module _ (k : Known) (d : Declared) (y : Counts) (there : AreThere y k.meanings k.plurals) (actions : length k.actions ≡ 16 + length d.actions) (books : length k.rulebooks ≡ d.rulebooks) (scenes : k.scenes ≡ length d.scenes)
     (kinds : length d.kinds ≡ y.kinds) (flags : length d.flags ≡ y.qualities) (happen : length d.scenes ≡ y.scenes) where
   book_below : (book : RuleBook) (number : ℕ) → IsBook k book number → number < book_count d
   book_below named.Before number is = omega (arith, is)
@@ -157,7 +166,7 @@ module _ (k : Known) (d : Declared) (y : Counts) (there : AreThere y k.meanings 
       let same = same_aspect z y counted kinds flags in
       rw (
         lt-ltb rule.head.book (book_count d) book,
-        same_number 16 about.action ∙ ap (λ (n : ℕ). is_one_of n about.action) (sym (ap (λ (all : List Action). length all) actions ∙ sixteen)) ∙ asks.action,
+        same_number z.actions about.action ∙ ap (λ (n : ℕ). is_one_of n about.action) (sym actions) ∙ asks.action,
         same about.noun ∙ asks.noun,
         same about.second ∙ asks.second,
         same about.place ∙ asks.place,
@@ -189,16 +198,21 @@ module _ (k : Known) (d : Declared) (y : Counts) (there : AreThere y k.meanings 
 
 pub few_rules : (sentences : List Sentence) (tale : Tale) (texts : List Text) (rules : List Rule) (listings : List ListingSentence) → AreMeant sentences tale texts rules listings → length rules ≤ 1939
 few_rules sentences tale texts rules listings meant =
-    let is = meant.resolved_is in
-    let told = told_by (known_said sentences tale) sentences is.rules is.texts is.listings (book_twice standard_actions sentences) meant.resolved is.told_is is.rules_are in
+    let told = told_all (known_said sentences tale) sentences meant.resolved meant.resolved_is in
     let few = few_told (known_said sentences tale) (reverse (rules_in sentences)) meant.resolved.rules.items told in
     subst (λ (all : List Rule). length all ≤ 1939) (sym meant.rules_are) (omega (arith, few, length-map meant.resolved.rules.items (λ (one : SourceRule). rule_meant one.rule)))
+
+pub acts_few : (sentences : List Sentence) (tale : Tale) (texts : List Text) (rules : List Rule) (listings : List ListingSentence) → AreMeant sentences tale texts rules listings → length tale.declared.actions ≤ 184
+acts_few sentences tale texts rules listings meant =
+    omega (arith, actions_are sentences tale meant.tale_is, few_actions (known_said sentences tale) sentences meant.resolved meant.resolved_is)
 
 -- of books that there are, about what there is
 pub rules_named : (sentences : List Sentence) (tale : Tale) (texts : List Text) (rules : List Rule) (listings : List ListingSentence) → AreMeant sentences tale texts rules listings → list_all (is_of (named_in tale)) rules ≡ true
 rules_named sentences tale texts rules listings meant =
-    let is = meant.resolved_is in
-    let told = told_by (known_said sentences tale) sentences is.rules is.texts is.listings (book_twice standard_actions sentences) meant.resolved is.told_is is.rules_are in
+    let k = known_said sentences tale in
+    let told = told_all k sentences meant.resolved meant.resolved_is in
+    let acts : length k.actions ≡ 16 + length tale.declared.actions =
+    known_counted sentences (few_actions k sentences meant.resolved meant.resolved_is) ∙ ap (λ (n : ℕ). 16 + n) (sym (actions_are sentences tale meant.tale_is)) in
     subst (λ (all : List Rule). list_all (is_of (named_in tale)) all ≡ true) (sym meant.rules_are)
-    (told_rules_of (known_said sentences tale) tale.declared (counts_of sentences tale) (names_are_there sentences tale meant.tale_is) refl (rulebooks_counted sentences tale meant.tale_is)
+    (told_rules_of k tale.declared (counts_of sentences tale) (names_are_there sentences tale meant.tale_is) acts (rulebooks_counted sentences tale meant.tale_is)
     (scenes_counted sentences tale meant.tale_is) refl refl refl (length tale.objects) refl (reverse (rules_in sentences)) meant.resolved.rules.items told.each)

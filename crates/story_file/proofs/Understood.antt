@@ -9,8 +9,7 @@ use Rattle.world_meaning.specs.declared.tale.Object.{Object}
 use Rattle.world_meaning.specs.declared.tale.Tale.{Tale}
 use Rattle.i7_kinds.specs.Tales.{tale_said}
 use Rattle.i7_kinds.specs.Written.{DescribesWith, DescriptionsAreWritten}
-use Rattle.i7_resolution.specs.BookNames.{book_twice}
-use Rattle.i7_resolution.specs.Resolutions.{IsResolution, joined, with_books}
+use Rattle.i7_resolution.specs.Resolutions.{IsResolution, joined}
 use Rattle.i7_resolution.specs.SourceTexts.{AreTold, IsOver, IsTextsFound, IsUnknown}
 use Rattle.i7_resolution.specs.TextList.{TextAt, texts_in, texts_said}
 use Rattle.i7_resolution.specs.declared.resolution.Resolution.TheVariants.{Says as Understood}
@@ -28,6 +27,7 @@ use Rattle.i7_sentences.proofs.Sameness.{all_there}
 use Rattle.i7_sentences.specs.declared.sentence.Assertion.{Assertion}
 use Rattle.i7_sentences.specs.declared.sentence.Assertion.TheVariants as asserts
 use Rattle.i7_sentences.specs.declared.sentence.Sentence.{Sentence}
+use Rattle.story_file.proofs.Resolving.{resolved_before}
 use Rattle.story_file.specs.Texts.{AreReadable, CanBeRead, IsReadable}
 
 -- ---- where a text stands
@@ -86,16 +86,12 @@ turned texts bytes among = record {
 -- ---- what is known of it
 
 -- what is told of sentences' texts where all is understood
-told_of : (k : Known) (sentences : List Sentence) (rules : RulesFound) (texts : TextsFound) (listings : ListingsFound) (books : Option ℕ) (resolved : Resolved) → Understood resolved ≡ with_books books (joined rules texts listings) → IsTextsFound k sentences texts
+told_of : (k : Known) (sentences : List Sentence) (rules : RulesFound) (texts : TextsFound) (listings : ListingsFound) (resolved : Resolved) → Understood resolved ≡ joined rules texts listings → IsTextsFound k sentences texts
     → (told : List SourceText) × AreTold k (reverse (texts_in sentences)) told
-told_of k sentences (ruled.Says rules) (found.Says texts) (listed.Says listings) None resolved told are = (reverse texts.items, are)
-told_of k sentences (ruled.Says rules) (found.Says texts) (listed.Says listings) (Some line) resolved told are = absurd cc
-told_of k sentences (ruled.Says rules) (found.Says texts) (listed.Refused fault) None resolved told are = absurd cc
-told_of k sentences (ruled.Says rules) (found.Says texts) (listed.Refused fault) (Some line) resolved told are = absurd cc
-told_of k sentences (ruled.Says rules) (found.Refused fault) listings None resolved told are = absurd cc
-told_of k sentences (ruled.Says rules) (found.Refused fault) listings (Some line) resolved told are = absurd cc
-told_of k sentences (ruled.Refused fault) texts listings None resolved told are = absurd cc
-told_of k sentences (ruled.Refused fault) texts listings (Some line) resolved told are = absurd cc
+told_of k sentences (ruled.Says rules) (found.Says texts) (listed.Says listings) resolved told are = (reverse texts.items, are)
+told_of k sentences (ruled.Says rules) (found.Says texts) (listed.Refused fault) resolved told are = absurd cc
+told_of k sentences (ruled.Says rules) (found.Refused fault) listings resolved told are = absurd cc
+told_of k sentences (ruled.Refused fault) texts listings resolved told are = absurd cc
 
 abbrev Never : (TextAt → ℕ → Type 0) → TextAt → Type 0
 Never Bad t = (line : ℕ) → Bad t line → ⊥
@@ -121,7 +117,8 @@ readable_by s (Some bytes) each = each bytes refl
 
 pub readable : DescriptionsAreWritten → (k : Known) (sentences : List Sentence) (tale : Tale) (resolved : Resolved) → tale_said sentences ≡ Ok tale → IsResolution k sentences (Understood resolved) → AreReadable (scope_among k []) tale.objects
 readable law k sentences tale resolved means is =
-    let told = told_of k sentences is.rules is.texts is.listings (book_twice k.actions sentences) resolved is.told_is is.texts_are in
+    let whole = is.is_joined in
+    let told = told_of k sentences whole.rules whole.texts whole.listings resolved ((resolved_before k sentences resolved is).1 ∙ whole.told_is) whole.texts_are in
     by_number (scope_among k []) tale.objects (λ o object at. readable_by (scope_among k []) object.description (λ bytes described.
     let here : description_of tale o ≡ Some bytes = ap description_in at ∙ described in
     let written = law sentences tale o bytes means here in

@@ -7,12 +7,12 @@ use Rattle.world_meaning.specs.declared.tale.Tale.{Tale}
 use Rattle.play_meaning.specs.TranslatedScripts.{in_list}
 use Rattle.play_meaning.specs.Rules.{Rule}
 use Rattle.play_meaning.specs.Trees.{Text}
-use Rattle.i7_actions.specs.Actions.{standard_actions}
 use Rattle.i7_conditions.specs.Operators.{holds_operator}
 use Rattle.i7_conditions.specs.Scopes.{Scope}
 use Rattle.i7_kinds.specs.Tales.{tale_said}
 use Rattle.i7_names.specs.SourceNames.{names_in, rulebooks_in, scene_count}
 use Rattle.i7_resolution.specs.Resolutions.{IsResolution}
+use Rattle.i7_resolution.specs.SourceActions.{actions_in, known_actions}
 use Rattle.i7_resolution.specs.SourceTexts.{SaysIn}
 use Rattle.i7_resolution.specs.declared.resolution.Resolution.TheVariants.{Refused, Says}
 use Rattle.i7_resolution.specs.declared.resolution.Resolved.{Resolved}
@@ -29,7 +29,7 @@ known_said sentences tale = record {
   meanings = (names_in sentences).meanings;
   plurals = (names_in sentences).plurals;
   has_operators = (names_in sentences).has_operators;
-  actions = standard_actions;
+  actions = known_actions (actions_in sentences);
   rulebooks = rulebooks_in sentences;
   scenes = scene_count sentences;
   parents = tale.declared.kinds;

@@ -43,7 +43,7 @@ fn resolution_said(
     tale: &Tale,
 ) -> Result<(SourceNames, Resolution), AllocError>
     requires meant { tale_said sentences.now ≡ Said tale.now }
-    ensures names { IfOk result (λ found. known_in found.0 tale.now ≡ known_said sentences.now tale.now) }
+    ensures names { IfOk result (λ found. known_in found.0 tale.now sentences.now ≡ known_said sentences.now tale.now) }
     ensures told { IfOk result (λ found. IsResolution (known_said sentences.now tale.now) sentences.now found.1) }
 {
     let names = names_in(alloc, sentences)?;
