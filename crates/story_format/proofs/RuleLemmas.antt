@@ -19,7 +19,7 @@ use Rattle.story_format.specs.Holding.{Named, has_first_noun, is_of}
 use Rattle.story_format.specs.Layout.{aspect_layout, body_layout, book_layout, kind_aspect_layout, rule_layout, rules_layout, scene_layout, side_layout}
 use Rattle.story_format.specs.Making.{Worded, described_in, entries_of}
 use Rattle.story_format.specs.RuleChecks.{are_right_books, are_right_rules, code_of_body, codes_in_rule, codes_in_rules, is_number_or_none, is_right_body, is_right_rule, is_right_scene, lists_what_is_there, use_in_body, uses_in_rule, uses_in_rules}
-use Rattle.story_format.specs.RuleMaking.{all_entries, book_count, condition_count, condition_number, entry_with, first_own_book, number_or_none, rule_count, rule_entries, rule_entry, rules_of, scene_entry, standard_entries, standard_entry, standard_from}
+use Rattle.story_format.specs.RuleMaking.{all_entries, book_count, condition_count, condition_number, entry_with, first_own_book, rule_count, rule_entries, rule_entry, rules_of, scene_entry, standard_entries, standard_entry, standard_from}
 use Rattle.story_format.specs.Soundness.{are_in_turn}
 use Rattle.story_format.specs.declared.rule_entry.RuleBody.{RuleBody}
 use Rattle.story_format.specs.declared.rule_entry.RuleBody.TheVariants.{Code, Standard, Unknown}

@@ -80,7 +80,7 @@ fn each_action_is_right(actions: &[ActionEntry]) -> bool
     actions.iter().all(is_right_action)
 }
 
-/// Whether the sixteen actions stand first, and few others behind them.
+/// Whether the sixteen actions stand first, and behind them 184 at most.
 #[tactic(auto, unfolding(crate::specs::RuleChecks::are_right_actions))]
 fn are_right_actions(alloc: Global, actions: &[ActionEntry]) -> Result<bool, AllocError>
     ensures { IfOk result (λ right. right ≡ are_right_actions actions.now) }
@@ -211,8 +211,9 @@ fn are_right_scenes(scenes: &[SceneEntry]) -> bool
     scenes.len() <= MOST_SCENES && each_scene_is_right(scenes)
 }
 
-/// Whether tables 8 to 12 are those of a story: the sixteen actions and behind them the author's, no grammar so far, rules that
-/// name what is there, books that list such, and scenes that nothing begins or ends. Whether a book's rules are its own is asked apart.
+/// Whether tables 8 to 12 are those of a story: the sixteen actions and behind them the author's, no grammar so far, rules
+/// that name what is there, books that list such, and scenes that nothing begins or ends. Whether a book's rules are its own
+/// is asked apart.
 #[tactic(auto, unfolding(crate::specs::RuleChecks::are_right_rules))]
 pub fn are_right_rules(
     alloc: Global,
