@@ -87,13 +87,7 @@ pub(crate) fn action(
     match letters {
         [name] => Ok(declared(alloc, name, Slot::Absent, Slot::Absent, sort)?),
         [name, noun] => Ok(declared(alloc, name, asked_of(noun), Slot::Absent, sort)?),
-        [name, noun, second] => Ok(declared(
-            alloc,
-            name,
-            asked_of(noun),
-            asked_of(second),
-            sort,
-        )?),
+        [name, noun, second] => Ok(declared(alloc, name, asked_of(noun), asked_of(second), sort)?),
         _ => Ok(None),
     }
 }
@@ -107,13 +101,7 @@ pub(crate) fn action_on_two(
     ensures { IfOk result (λ said. said ≡ action_on_two sort (map (λ letter. letter.now) letters.now)) }
 {
     match letters {
-        [name] => Ok(declared(
-            alloc,
-            name,
-            Slot::Touched,
-            Slot::Touched,
-            sort,
-        )?),
+        [name] => Ok(declared(alloc, name, Slot::Touched, Slot::Touched, sort)?),
         _ => Ok(None),
     }
 }

@@ -1,5 +1,5 @@
 -- The tale of sentences is what is told of it by their claims, with the actions that they declare.
-use Rattle.std.proofs.Common.{◌≡◌, ◌∙◌, ap, refl, List, length, Ok}
+use Rattle.std.proofs.Common.{◌≡◌, refl, List, length, Ok}
 use Rattle.std.specs.Prelude.{Result, Err}
 use Rattle.std.proofs.lemmas.List.{length-map}
 use Rattle.world_meaning.specs.Declarations.{is_well_declared, suits_kind}

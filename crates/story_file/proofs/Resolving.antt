@@ -1,11 +1,11 @@
 -- Where nothing refuses sentences, all that is resolved of them is what their rules, texts and listings say, and their actions are few.
-use Rattle.std.proofs.Common.{◌≡◌, ◌≤◌, ◌∙◌, ap, refl, sym, ℕ, zero, suc, List, [], ◌∷◌, length, arith}
+use Rattle.std.proofs.Common.{◌≡◌, ◌≤◌, refl, ℕ, zero, suc, List, [], ◌∷◌, length, arith}
 use Rattle.std.specs.Prelude.{Option, None, Some, option_map, slice_get}
 use Rattle.world_meaning.specs.declared.fault.FaultCode.{FaultCode}
 use Rattle.world_meaning.specs.declared.fault.FaultCode.TheVariants.{TooMany, Twice}
 use Rattle.i7_resolution.specs.BookNames.{book_twice}
 use Rattle.i7_resolution.specs.Resolutions.{IsResolution, with_fault}
-use Rattle.i7_resolution.specs.SourceActions.{action_over, action_twice, actions_in, most_actions}
+use Rattle.i7_resolution.specs.SourceActions.{action_over, action_twice, actions_in}
 use Rattle.i7_resolution.specs.declared.resolution.Resolution.{Resolution}
 use Rattle.i7_resolution.specs.declared.resolution.Resolution.TheVariants.{Says, Refused}
 use Rattle.i7_resolution.specs.declared.resolution.Resolved.{Resolved}
