@@ -1,4 +1,4 @@
--- The actions that every story has, as their table tells them.
+-- Actions by their names and how many nouns they ask for; those that every story has, as their table tells them.
 use Rattle.std.specs.Prelude.{ℕ, List, map}
 use Rattle.world_meaning.specs.declared.needs.Needs.{Needs}
 use Rattle.world_meaning.specs.declared.needs.Slot.{Slot}

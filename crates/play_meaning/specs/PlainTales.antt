@@ -1,4 +1,4 @@
--- What a tale gives to play while no rule, listing or scene is told and no command names a thing.
+-- What a tale gives to play while no rule, listing, scene or action is told and no command names a thing.
 use Rattle.std.specs.Prelude.{◌≡◌, ℕ, [], Option}
 use Rattle.world_meaning.specs.declared.tale.Tale.{Tale}
 use Rattle.object_words.specs.Words.{words_of}

@@ -1,4 +1,4 @@
-//! Actions: which is tried, on what, and what it asks for.
+//! Actions: which is tried, and on what.
 ghost use Rattle.std.specs.Prelude.{◌≡◌};
 
 use std::marker::Model;

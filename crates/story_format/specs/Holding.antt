@@ -34,7 +34,7 @@ has_short_texts o = is_short o.name && is_short_or_none o.description
 abbrev pub has_few_words : Worded → Bool
 has_few_words w = nat_le (length w.words) 32
 
--- A tale that a story file holds.
+-- A tale that a story file holds, its actions aside, of which `AreOf` speaks.
 pub record IsHeld (t : Tale) : Type 0 where
   pub made : IsWellMade t
   pub texts : list_all has_short_texts t.objects ≡ true

@@ -80,7 +80,7 @@ fn each_action_is_right(actions: &[ActionEntry]) -> bool
     actions.iter().all(is_right_action)
 }
 
-/// Whether the sixteen actions stand first, and behind them 184 at most.
+/// Whether the sixteen actions stand first, behind them 184 at most, and each is right.
 #[tactic(auto, unfolding(crate::specs::RuleChecks::are_right_actions))]
 fn are_right_actions(alloc: Global, actions: &[ActionEntry]) -> Result<bool, AllocError>
     ensures { IfOk result (λ right. right ≡ are_right_actions actions.now) }

@@ -74,7 +74,7 @@ is_number (negsuc n) = nat_lt n 2147483648
 
 -- ---- all of it
 
--- the built-in kinds and properties with the author's, 100 variables, 50 scenes and 100 rulebooks at most
+-- the built-in kinds and properties with the author's, 100 variables, 50 scenes and 100 rulebooks at most, whatever actions
 unfoldable pub is_well_declared : Declared → Bool
 is_well_declared d =
     are_right_kinds d.kinds && begin_with_properties d.flags built_in_properties && are_right_grants (length d.kinds) d.flags && are_right_grants (length d.kinds) d.numbers
