@@ -25,6 +25,10 @@ save("of", "of ")
 save("articles", "a ")
 save("ways", "x is north of ")
 save("rules", "rule is listed first in ")
+save("actions", "is an action ")
+save("actions_applying", "x is an action applying to one thing and ")
+save("actions_requiring", "x is an action applying to nothing and requiring light ")
+save("actions_out_of_world", "is an action out of world and applying to one ")
 save("stops", ".")
 save("and", "and ")
 save("commas", ",")
@@ -77,6 +81,27 @@ save_listings("listings_of_long_names", ["x" * 70 + f"{n}" for n in range(1500)]
 save_listings("listings_of_one_rule", [], "The {} rule is listed first in the carry out looking rules.\n")
 save_listings("listings_unknown", [f"r{n}" for n in range(1939)], "The x{} rule is not listed in any rulebook.\n")
 save_listings("listings_of_other_books", [f"r{n}" for n in range(1939)], "The {} rule is listed first in the report taking off rules.\n")
+def save_actions(name, actions, behind=""):
+    """Saves as many of these sentences as there is room for, each in turn, and these behind them."""
+    count = (longest - len(hall + behind)) // max(map(len, actions))
+    open(name + ".i7", "w").write(hall + "".join(actions[:count]) + behind)
+APPLYING = "is an action applying to two things and requiring light.\n"
+save_rule("action_of_many_words", "", "x ", "is an action applying to nothing.")
+save_rule("action_of_one_long_word", "", "x", " is an action applying to nothing.")
+save_rule("action_of_its", "", "it ", "is an action applying to one thing.")
+save_rule("action_named_as_actions", "", "x is an action applying to nothing ", "is an action out of world.")
+save_rule("action_without_end", "", "x is an action applying to one thing and one thing ", ".")
+save_actions("actions_many", [f"x{n} {APPLYING}" for n in range(9000)])
+save_actions("actions_of_one_name", [f"x {APPLYING}"] * 9000)
+save_actions("actions_of_long_names", [f"{'x' * 1000} {n} {APPLYING}" for n in range(184)])
+save_actions("actions_of_many_words", [f"{'x ' * 500}{n} {APPLYING}" for n in range(184)])
+save_actions("actions_of_near_names", [f"go it{' it' * n} {APPLYING}" for n in range(184)], "Before go" + " it" * 60 + ", rule fails.\n")
+save_actions("actions_in_places", [f"go in{' in' * n} {APPLYING}" for n in range(184)], "Before go" + " in" * 60 + ", rule fails.\n")
+save_actions("actions_of_one_front", [f"go it {n} {APPLYING}" for n in range(184)], "Before go" + " x" * 20000 + ", rule fails.\n")
+save_actions("actions_tried", [f"go it {n} {APPLYING}" for n in range(184)], "Every turn, try go" + " x" * 50000 + ".\n")
+save_actions("rules_of_actions", [f"go it {n} {APPLYING}" for n in range(184)], "Before go the player 183 the player in a dark room, try go the player 0 the player.\n" * 1000)
+save_actions("listings_of_actions", [f"go it {n} {APPLYING}" for n in range(184)], "The list worn rule is listed first in the carry out go it 183 rules.\n" * 3500)
+save_actions("rulebooks_of_actions", [f"go it {n} {APPLYING}" for n in range(184)] + [f"The check go it {n} all rules is a rulebook.\n" for n in range(100)])
 rooms = "".join(f"Room{n} is north of Room{n - 1}. \"The walls of room {n} are bare and cold here.\"\n\n" for n in range(1, 980))
 open("rooms.i7", "w").write("Room0 is a room.\n\n" + rooms)
 open("long_rulebook.i7", "w").write("The Hall is a room. The " + "x" * 65536 + " rules is a rulebook.")
@@ -88,7 +113,7 @@ echo 'The Hall is a room. "A bare hall." The Garden is north of the Hall.' >two_
 "$program" compile two_rooms.source two_rooms || exit 1
 PYTHONPATH=$here python3 - <<'PY'
 import random
-from plain_stories import NONE8, NONE16, Cursor, start_of_rules, tables
+from plain_stories import ACTIONS, NONE8, NONE16, Cursor, start_of_rules, tables
 from written_stories import rules_written, table, u
 data = open("two_rooms", "rb").read()
 head = Cursor(data)
@@ -160,7 +185,15 @@ save("L7_last_again", [standard(6)] * 2000, [], books=in_every_turn([*range(2000
 save("L7_last_of_another", [standard(6)] * 1999 + [standard(7)], [], books=in_every_turn(list(range(2000))))
 save("L5_listed_behind", [standard(6)] * 2000, [], books=in_every_turn(list(range(2001))))
 save("L5_many_scenes", [], [], books=[[]] * LONGEST, scenes=[b"\0" + b"\xff" * 4] * LONGEST)
-save("L5_many_actions", [], [], actions=[bytes([1, 1, 255, 0])] * LONGEST)
+save("L5_many_actions", [], [], actions=ACTIONS + [bytes([1, 1, 255, 0])] * (LONGEST - len(ACTIONS)))
+save("L5_many_standard_actions", [], [], actions=(ACTIONS * LONGEST)[:LONGEST])
+def about(action):
+    """A rule about this action that does the first code."""
+    return (6, action, ANYTHING, ANYTHING, ANYTHING, NONE8, NONE16, (0, 1))
+OWN = [bytes([2, 2, 2, 3])] * 184
+save("plays_actions", [(*about(199)[:7], (0, code)) for code in range(1, 2001)], [bytes.fromhex("0e 0f 30 00 c7") * 6 + b"\x37"] * 2000, actions=ACTIONS + OWN)
+save("L5_rules_of_other_actions", [about(199)] * 1999 + [about(200)], [b"\x37"], actions=ACTIONS + OWN)
+save("L6_other_action_tried", FOUR, [bytes.fromhex("0e 0f 30 00 c7") * 13106 + b"\x37"] * 3 + [bytes.fromhex("0e 0f 30 00 c7") * 13105 + bytes.fromhex("0e 0f 30 00 c8 37")], actions=ACTIONS + OWN)
 def described(count):
     """A rule about three kinds with so many properties each."""
     kind = (2, 4, [(2, 0)] * count)
@@ -187,6 +220,9 @@ for source in *.i7; do
   limit=$space
   case $source in
     rooms.i7 | one_room.i7 | rule_phrases.i7 | rules_of_patterns.i7 | listings_of_rules.i7 | listings_of_long_names.i7 | listings_of_one_rule.i7) want=0 limit=unlimited ;;
+    action_of_* | action_named_as_actions.i7 | action_without_end.i7 | actions_of_long_names.i7 | actions_of_many_words.i7) want=0 limit=unlimited ;;
+    rules_of_actions.i7 | listings_of_actions.i7 | rulebooks_of_actions.i7) want=0 limit=unlimited ;;
+    actions_in_places.i7 | actions_many.i7 | actions_of_one_name.i7 | actions_of_near_names.i7 | actions_of_one_front.i7 | actions_tried.i7) limit=unlimited ;;
     closed_texts.i7 | rule_colons.i7 | rule_pattern_words.i7 | rule_substitutions.i7 | rules_many.i7 | long_*) limit=unlimited ;;
   esac
   (ulimit -v "$limit"; exec timeout 1 "$program" compile "$source" story) 2>err </dev/null

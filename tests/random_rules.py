@@ -1,7 +1,8 @@
 #!/usr/bin/env python3
-"""Sources of rules with random heads, and of sentences that list these and standard rules: 300 that are taken, whose tables 8 to 12
-are those that a plain reading tells (tests/rule_sources.py), and 300 with rules or listings among them that are refused: the code
-that is looked for first is told, at the first of these of which it stands.
+"""Sources of rules with random heads, of sentences that list these and standard rules, and of some that declare actions: 300 that
+are taken, whose tables 8 to 12 and the actions that their rules try are those that a plain reading tells (tests/rule_sources.py), and
+300 with rules, listings or actions among them that are refused: the code that is looked for first is told, at the first of these of
+which it stands.
 
 Use: tests/random_rules.py PROGRAM"""
 import pathlib
@@ -10,19 +11,31 @@ import subprocess
 import sys
 import tempfile
 
-from plain_stories import standard_rules, tables
+import plain_codes
+from plain_stories import STANDARD_RULES, standard_rules, tables
 from row_files import report
-from rule_sources import ACTION_BOOKS, ACTION_NAMES, KIND_NAMES, LONE_BOOKS, PROPERTIES, STAGES, STANDARD_NAMES, tables_of
+from rule_sources import (
+    ACTION_BOOKS, ACTION_NAMES, KIND_NAMES, LONE_BOOKS, PROPERTIES, STAGES, STANDARD_NAMES, actions_of, parts_of, sentences,
+    tables_of, tried)
 
 program = pathlib.Path(sys.argv[1]).resolve()
 TURNS = 300
 WORLD = """The Hall is a room. The Yard is north of the Hall. The box is an openable container in the Hall. The red ball is in the box. \
 The table is a supporter in the Yard. Bob is a man in the Yard. The gate is a door. The storm is a scene. The calm day is a recurring \
-scene. The tidy rules is a rulebook. The long sweep rules is a rulebook."""
+scene. The tidy rules is a rulebook. The long sweep rules is a rulebook. Gazing it through is an action applying to one visible thing \
+and one thing and requiring light."""
 OBJECTS = ["the box", "box", "a red ball", "the red ball", "Bob", "the table", "the gate", "the player", "north", "yourself", "the Hall"]
-ALONE = ["doing anything", "looking", "taking inventory", "waiting", "jumping"]
-OF_ONE = ["examining", "taking", "dropping", "opening", "closing", "going", "wearing", "taking off", "switching on", "switching off"]
-OF_TWO = ["putting {} on {}", "inserting {} into {}"]
+# The names of actions by how many nouns they have: standard ones, and those that a source may declare, among them some that begin
+# like others or are parts of these, and that hold words which no other name may.
+STANDARD_ACTIONS = {
+    0: ["doing anything", "looking", "taking inventory", "waiting", "jumping"],
+    1: ["examining", "taking", "dropping", "opening", "closing", "going", "wearing", "taking off", "switching on", "switching off"],
+    2: ["putting it on", "inserting it into", "gazing it through"]}
+NEW_ACTIONS = {
+    0: ["jumping up", "waiting in line", "going for it", "is", "doing", "the taking", "looking and listening", "storm", "a"],
+    1: ["lifting", "taking it in", "peering in", "asking it twice", "switching", "if", "is kind of", "breaking it of the rule", "box"],
+    2: ["weighing it with", "taking it from", "giving it", "tying", "putting it on top of", "putting it", "it", "looking at it through"]}
+SLOTS = ["one thing", "one visible thing", "one carried thing"]
 SCENES = ["the storm", "storm", "a calm day", "the calm day"]
 CONDITIONS = ["in darkness", "the noun is lit", "the turn count is 1", "the box is open and Bob is in the Hall"]
 MANY_LIT, MANY_DARK = "lit " * 10, "dark " * 10
@@ -36,13 +49,18 @@ STANDARD = dict(zip(STANDARD_NAMES, [list(STAGES)[list(STAGES.values()).index(ru
 # Rules and listings by what they are refused with, in the order in which it is looked for.
 FAULTS = {
     "C9 Twice": [
-        'Every turn (this is the room heading rule), say "x".', 'Before taking the zorb (this is the can\'t take scenery rule), say "x".'],
+        'Every turn (this is the room heading rule), say "x".', 'Before taking the zorb (this is the can\'t take scenery rule), say "x".',
+        "Taking is an action applying to one thing.", "The Putting It On are an action out of world.",
+        "A gazing IT through is an action applying to nothing.", "The report waiting rules is a rulebook.",
+        "Check gazing it through rules are a rulebook."],
     "C7 UnknownName": [
         'Before taking the zorb, say "x".', 'Every turn in the zorb, say "x".', 'A tidy rule during the squall, say "x".',
         'When the squall ends, say "x".', 'Check frobbing, say "x".', 'Instead of taking the box when the zorb is lit, say "x".',
         'Every turn in the box when the zorb is lit, say "x".', 'After looking in the box during the squall, say "x".',
         f'Before looking in a {MANY_DARK}room during the squall, say "x".', 'The clean rule in the Hall, say "x".',
         'Every turn, say "[zorb]".', 'Instead of taking the box, try frobbing.',
+        'Check gazing, say "x".', 'Instead of gazing the box, say "x".', "Every turn, try gazing the box through.",
+        "Every turn, try gazing a box through something.", "The list worn rule is listed first in the carry out gazing rules.",
         'The zorb rule is listed first in the instead rules.', 'The zorb rule is not listed in any rulebook.',
         'A zorb rule is listed last in the zorb rules.', 'The of the rule is not listed in any rulebook.',
         'The room heading rule is listed last in the zorb rules.', 'The list worn rule is listed last in the storm rules.',
@@ -51,7 +69,7 @@ FAULTS = {
     "C8 WrongKind": [
         'Every turn in the box, say "x".', 'Before looking in a thing, say "x".', f'A tidy rule in a {MANY_LIT}thing, say "x".',
         f'After taking {MANY_LIT}things in the box, say "x".', f'Every turn in the box, say "[list of {MANY_LIT}things]".',
-        'Report waiting in north, say "x".',
+        'Report waiting in north, say "x".', 'Report gazing the box through Bob in the box, say "x".',
         'The room heading rule is listed first in the check looking rules.', 'The list worn rule is listed last in the report taking inventory rules.',
         "The can't take scenery rule is listed first in the instead rules.", "Can't open open rule is listed last in the tidy rules.",
         'A standard report taking rule is listed last in after rules.'],
@@ -71,13 +89,60 @@ def noun(chance):
     return chance.choice([chance.choice(OBJECTS), "something", described(chance, KIND_NAMES)])
 
 
-def pattern(chance):
-    nouns = chance.choice([0, 1, 1, 2])
-    if nouns == 0:
-        return chance.choice(ALONE)
-    if nouns == 1:
-        return chance.choice(OF_ONE) + chance.choice(["", *[" " + noun(chance)] * 3])
-    return chance.choice(OF_TWO).format(noun(chance), noun(chance))
+def action(chance, own):
+    """The name of an action, a standard one or one of the source's, and how many nouns it has."""
+    count = chance.choice([0, 1, 1, 2])
+    if own and chance.random() < 0.5:
+        return chance.choice(list(own.items()))
+    return chance.choice(STANDARD_ACTIONS[count]), count
+
+
+def with_nouns(name, count, noun, second):
+    """An action with its nouns, as many as it has."""
+    if count == 0:
+        return name
+    first, behind = parts_of(name)
+    return " ".join(part for part in [*first, noun, *behind, second if count == 2 else ""] if part)
+
+
+def pattern(chance, own):
+    name, count = action(chance, own)
+    first = noun(chance)
+    # an action of one noun may leave it out
+    if count == 1 and chance.random() < 0.25:
+        first = ""
+    return with_nouns(name, count, first, noun(chance))
+
+
+def body(chance, own):
+    """A phrase, and the words that it tries, if it tries an action."""
+    if chance.random() < 0.7:
+        return 'say "x"', None
+    name, count = action(chance, own)
+    if name == "doing anything":
+        name = "jumping"
+    words = with_nouns(name, count, chance.choice(OBJECTS), chance.choice(OBJECTS))
+    return chance.choice(["try ", "silently try "]) + words, words
+
+
+def declaration(chance, name, count):
+    """A sentence that declares an action of this name."""
+    slots = " and ".join(chance.choices(SLOTS, k=count)) or "nothing"
+    if count == 2:
+        slots = chance.choice([slots, "two things"])
+    told = [f"applying to {slots}", f"applying to {slots} and requiring light", f"out of world and applying to {slots}"]
+    told = chance.choice([*told, *["out of world"] * (count == 0)])
+    # an article in front of the name is the free one
+    article = chance.choice(["", "the ", "A ", "some "] if len(name.split()) == 1 or parts_of(name)[0][0] != "the" else ["A "])
+    sentence = f"{article}{name} {chance.choice(['is', 'are'])} an action {told}."
+    return chance.choice([sentence, sentence.capitalize(), sentence.upper()])
+
+
+def declarations(chance):
+    """Sentences that declare some actions, and how many nouns each of these has."""
+    new = [(name, count) for count, names in NEW_ACTIONS.items() for name in names]
+    own = dict(chance.sample(new, chance.choice([0, 2, 6, len(new)])))
+    return [declaration(chance, name, count) for name, count in own.items()], own
 
 
 def asked(chance):
@@ -87,12 +152,12 @@ def asked(chance):
     return "".join(words for words in all_asked if chance.random() < 0.3)
 
 
-def rule(chance):
+def rule(chance, own):
     """The head of a rule, and the words with which a listing names its book, or begins to, if one can."""
     sort = chance.randrange(10)
     if sort < 6:
         book = chance.choice(ACTION_BOOKS)
-        return f"{book.capitalize()} {pattern(chance)}{asked(chance)}", book.removesuffix(" of")
+        return f"{book.capitalize()} {pattern(chance, own)}{asked(chance)}", book.removesuffix(" of")
     if sort == 6:
         return "When play begins", None
     if sort == 7:
@@ -102,16 +167,17 @@ def rule(chance):
     return head.capitalize() + asked(chance), book
 
 
-def rules(chance, count):
-    """Rules, of which some have names; and of each name the words of the rule's book."""
+def rules(chance, count, own):
+    """Rules, of which some have names, each with the words that it tries; and of each name the words of the rule's book."""
     names, told, books = chance.sample(RULE_NAMES, len(RULE_NAMES)), [], {}
     for _ in range(count):
-        head, book = rule(chance)
+        head, book = rule(chance, own)
         if names and chance.random() < 0.6:
             name = names.pop()
             books[name] = book
             head += f" (this is the {chance.choice([name, name.upper()])} rule)"
-        told.append(head + ', say "x".')
+        phrase, words = body(chance, own)
+        told.append((f"{head}, {phrase}.", words))
     return told, books
 
 
@@ -121,34 +187,34 @@ def subject(chance, name):
     return f"{article}{chance.choice([name, name.capitalize()])} rule {chance.choice(['is', 'are'])}"
 
 
-def listing_in(chance, name, book):
+def listing_in(chance, name, book, own):
     """A sentence that lists a rule in this book."""
-    words = f"{book} {chance.choice(ACTION_NAMES)}" if book in STAGES else book
+    words = f"{book} {chance.choice([*ACTION_NAMES, 'gazing it through', *own])}" if book in STAGES else book
     article = chance.choice(["the ", "a ", ""])
     return f"{subject(chance, name)} listed {chance.choice(['first', 'last'])} in {article}{chance.choice([words, words.title()])} rules."
 
 
-def listing(chance, name, book):
+def listing(chance, name, book, own):
     """A sentence that lists a rule of this book, or takes it out."""
     if book is None or chance.random() < 0.2:
         return f"{subject(chance, name)} not listed in any rulebook."
-    return listing_in(chance, name, book)
+    return listing_in(chance, name, book, own)
 
 
-def listings(chance, books):
+def listings(chance, books, actions):
     """Sentences that list some of these rules and of the standard ones, of a few several."""
     own = chance.sample(list(books), min(len(books), chance.choice([0, 1, 4, 12])))
     standard = chance.sample(list(STANDARD), chance.choice([0, 0, 1, 6]))
     listed = [name for name in [*own, *standard] for _ in range(chance.choice([1, 1, 1, 2, 3]))]
-    return [listing(chance, name, {**STANDARD, **books}[name]) for name in chance.sample(listed, len(listed))]
+    return [listing(chance, name, {**STANDARD, **books}[name], actions) for name in chance.sample(listed, len(listed))]
 
 
-def fault(chance, code, books):
+def fault(chance, code, books, actions):
     """A paragraph that is refused so, where the rules of these names stand."""
     if code == "C8 WrongKind" and chance.random() < 0.4:
         name = chance.choice([*books, *STANDARD])
         own = {**STANDARD, **books}[name]
-        return listing_in(chance, name, chance.choice([book for book in [*LONE_BOOKS, *STAGES, *OWN_BOOKS] if book != own]))
+        return listing_in(chance, name, chance.choice([book for book in [*LONE_BOOKS, *STAGES, *OWN_BOOKS] if book != own]), actions)
     return chance.choice(FAULTS[code])
 
 
@@ -170,24 +236,37 @@ def compiled(scratch, source):
     return done.stderr.strip().removeprefix(f"{scratch}/source:"), None
 
 
+def tries_of(t, rule):
+    """The actions that the body of a rule tries, by number."""
+    return [arguments["a"] for _, _, arguments, _ in plain_codes.cut(t["codes"][rule[7][1]]) if "a" in arguments]
+
+
 def taken(scratch, chance):
     """What the program and a plain reading say of random rules."""
-    told, books = rules(chance, chance.randrange(1, 60))
-    source = "\n\n".join([WORLD, *mixed(chance, told, listings(chance, books))])
+    actions, own = declarations(chance)
+    told, books = rules(chance, chance.randrange(1, 60), own)
+    paragraphs = mixed(chance, [sentence for sentence, _ in told], listings(chance, books, own))
+    source = "\n\n".join([WORLD, *mixed(chance, paragraphs, actions)])
     answer, t = compiled(scratch, source)
     if t is None:
         return answer, "taken"
-    wanted = tables_of(source, 0, [t["strings"][o["name"]].decode().lower() for o in t["objects"]])
-    return str({name: t[name] for name in wanted}), str(wanted)
+    objects = [t["strings"][o["name"]].decode().lower() for o in t["objects"]]
+    wanted = tables_of(source, 0, objects)
+    known = actions_of(sentences(source))
+    tries = [[tried(words, objects, known)] if words else [] for _, words in told]
+    return str(({name: t[name] for name in wanted}, [tries_of(t, rule) for rule in t["rules"][STANDARD_RULES:]])), str((wanted, tries))
 
 
 def refused(scratch, chance):
-    """What the program says of rules and listings some of which are at fault, and what it is to say."""
-    told, books = rules(chance, chance.randrange(1, 6))
+    """What the program says of rules, listings and actions some of which are at fault, and what it is to say."""
+    actions, own = declarations(chance)
+    told, books = rules(chance, chance.randrange(1, 6), own)
     codes = chance.choice([list(FAULTS), *[list(FAULTS)[1:]] * 4, list(FAULTS)[2:], list(FAULTS)[3:]])
-    faults = [(code, fault(chance, code, books)) for code in chance.choices(codes, k=chance.randrange(6))]
-    more = [(None, sentence) for sentence in listings(chance, books)] + faults
-    paragraphs = mixed(chance, [(None, sentence) for sentence in told], chance.sample(more, len(more)))
+    faults = [(code, fault(chance, code, books, own)) for code in chance.choices(codes, k=chance.randrange(6))]
+    # a rulebook that is declared twice is refused before
+    faults = list(dict.fromkeys(faults))
+    more = [(None, sentence) for sentence in [*listings(chance, books, own), *actions]] + faults
+    paragraphs = mixed(chance, [(None, sentence) for sentence, _ in told], chance.sample(more, len(more)))
     # each is a paragraph of one line
     found = [(list(FAULTS).index(code), 2 * place + 3) for place, (code, _) in enumerate(paragraphs) if code]
     wanted = f"{min(found)[1]}: {list(FAULTS)[min(found)[0]]}" if found else "taken"

@@ -1,26 +1,34 @@
 """Sources with rules, by a plain reading: where their sentences begin and end, and what these put into tables 8 to 12 of the story,
-the rules and the sentences that list them."""
+the actions, the rules and the sentences that list them."""
 import re
 
 from plain_stories import (
-    ACTIONS, AFTER, BEFORE, BUILT_IN_BOOKS, CARRY_OUT, CHECK, EVERY_TURN, INSTEAD, KINDS, NONE8, NONE16, REPORT, kinds_above,
-    standard_rules)
+    ACTIONS, AFTER, BEFORE, BUILT_IN_BOOKS, CARRIED, CARRY_OUT, CHECK, EVERY_TURN, INSTEAD, KINDS, LIGHT, NONE8, NONE16, OUT_OF_WORLD,
+    REPORT, SEEN, TOUCHED, kinds_above, standard_rules)
 
 COMMENT = re.compile(r'("[^"]*")|\[[^]]*\]')
 FINAL = re.compile(r"[.?!]'?$|$")
 NEXT = re.compile(r'\s+["A-Z]|\s*$')
 RULEBOOK = re.compile(r"(?:an? |the |some )?(.+) rules (?:is|are) a rulebook\.?", re.I | re.S)
 SCENE = re.compile(r"(?:an? |the |some )?(.+?) (?:is|are) a (recurring )?scene\.?", re.I | re.S)
+# A sentence that declares an action: what it applies to, and whether it requires light or is out of world.
+SLOT = "one (?:visible |carried )?thing"
+SLOTS = f"nothing|{SLOT}(?: and {SLOT})?|two things"
+ACTION = re.compile(
+    rf"(?:an? |the |some )?(?P<name>.+?) (?:is|are) an action (?:applying to (?P<slots>{SLOTS})(?P<light> and requiring light)?"
+    rf"|(?P<out>out of world)(?: and applying to (?P<out_slots>{SLOTS}))?)\.?", re.I)
+NEEDS = {
+    "nothing": [], "one thing": [TOUCHED], "one visible thing": [SEEN], "one carried thing": [CARRIED], "two things": [TOUCHED, TOUCHED]}
 # A rule is a head, perhaps with a name, and behind a colon phrases, or behind a comma one of these.
 RULE = re.compile(
     r"([\w' -]+?)(?: \(this is the (?P<name>.+?) rule\))?(?::|, ?(?:say|now|move|increase|decrease|(?:silently )?try|follow|rule|stop"
     r"|make|continue|end|if|repeat)\b)", re.I)
 ACTION_BOOKS = ["before", "instead of", "check", "carry out", "after", "report"]
 HEAD = re.compile(
-    rf"(?P<acts>{'|'.join(ACTION_BOOKS)}) (?P<pattern>.+?)|(?P<every>every turn)|when play begins"
-    r"|when (?:an? |the |some )?(?P<scene>.+) (?P<edge>begins|ends)|(?:an? |the |some )?(?P<own>.+?) rule", re.I)
-# What may stand behind all that: a place, a scene and a condition.
-ASKED = re.compile(r"(?P<front>.+?)(?: in (?P<place>.+?))?(?: during (?:an? |the |some )?(?P<scene>.+?))?(?P<asks> when .+)?", re.I)
+    rf"(?P<acts>{'|'.join(ACTION_BOOKS)}) (?P<pattern>.+)|(?P<every>every turn)(?: in (?P<at>.+))?|when play begins"
+    r"|when (?:an? |the |some )?(?P<scene>.+) (?P<edge>begins|ends)|(?:an? |the |some )?(?P<own>.+?) rule(?: in (?P<place>.+))?", re.I)
+# What may stand behind all that: a scene and a condition.
+ASKED = re.compile(r"(?P<front>.+?)(?: during (?:an? |the |some )?(?P<scene>.+?))?(?P<asks> when .+)?", re.I)
 ACTION_NAMES = [
     "looking", "examining", "taking", "dropping", "putting it on", "inserting it into", "opening", "closing", "going", "wearing",
     "taking off", "taking inventory", "waiting", "jumping", "switching on", "switching off"]
@@ -100,6 +108,8 @@ def declared(told):
     """The names of the rulebooks that sentences declare, and of the scenes, each with whether it may happen again."""
     rulebooks, scenes = [], {}
     for sentence in told:
+        if action_of(sentence):
+            continue
         if found := RULEBOOK.fullmatch(sentence):
             rulebooks.append(found[1].lower())
         elif found := SCENE.fullmatch(sentence):
@@ -107,27 +117,98 @@ def declared(told):
     return rulebooks, scenes
 
 
+def action_of(sentence):
+    """The name of the action that a sentence declares, in small letters, and its entry of table 8; none of another sentence."""
+    found = ACTION.fullmatch(" ".join(sentence.split()))
+    if not found:
+        return None
+    slots = (found["slots"] or found["out_slots"] or "nothing").lower()
+    needs = [need for slot in slots.split(" and ") for need in NEEDS[slot]]
+    marks = LIGHT * bool(found["light"]) + OUT_OF_WORLD * bool(found["out"])
+    return found["name"].lower(), bytes([len(needs), *needs, *[NONE8] * (2 - len(needs)), marks])
+
+
+def actions_of(told):
+    """The actions of a source, each with its entry of table 8, by number: those of every story, and those that sentences declare."""
+    return [*zip(ACTION_NAMES, ACTIONS, strict=True), *filter(None, map(action_of, told))]
+
+
 def aspect_of(words, objects):
-    """What words ask of a noun or of a place: nothing, one of these objects, or adjectives and a kind."""
+    """What words ask of a noun or of a place: nothing, one of these objects, or adjectives and a kind; none if they name neither."""
     words = re.sub(r"^(?:an?|the|some) ", "", (words or "").lower())
     if words in ("", "something"):
         return ANYTHING
     if words == "player" or words in objects:
         return 1, 0 if words == "player" else objects.index(words)
     *adjectives, kind = words.split()
+    if kind not in KIND_NAMES or not all(name in PROPERTIES for name in adjectives):
+        return None
     return 2, KIND_NAMES.index(kind), [PROPERTIES[name] for name in adjectives]
 
 
-def acted(words, objects):
-    """The action of a pattern, its noun and its second noun."""
-    if words.lower() == "doing anything":
-        return NONE8, ANYTHING, ANYTHING
-    # the longest name goes first
-    for name in sorted(ACTION_NAMES, key=len, reverse=True):
-        form = re.escape(name).replace(r"\ it\ ", " (.+?) ") + (" (.+)" if " it " in name else "(?: (.+))?")
-        if found := re.fullmatch(form, words, re.I):
-            noun, second = (*found.groups(), None)[:2]
-            return ACTION_NAMES.index(name), aspect_of(noun, objects), aspect_of(second, objects)
+def parts_of(name):
+    """The words of an action's name in front of its `it`, and those behind."""
+    words = name.split()
+    cut = words.index("it") if "it" in words else len(words)
+    return words[:cut], words[cut + 1 :]
+
+
+def nouns_in(words, name, count):
+    """The nouns that words may give an action of this name, which has so many: those with the shortest first noun in front."""
+    if count == 0:
+        return [("", "")] if words == name.split() else []
+    first, second = parts_of(name)
+    if words[: len(first)] != first:
+        return []
+    rest = words[len(first) :]
+    found = []
+    for cut in range(len(rest) + 1):
+        noun, behind = " ".join(rest[:cut]), " ".join(rest[cut + len(second) :])
+        fits = not behind if count == 1 else noun and behind
+        if rest[cut : cut + len(second)] == second and fits:
+            found.append((noun, behind))
+    return found
+
+
+def length_of(name):
+    """How long an action's name is: the part in front of its `it` counts first."""
+    return tuple(map(len, parts_of(name)))
+
+
+def by_length(actions):
+    """The numbers of actions, in the order in which they are tried: the longest name goes first, of names as long the lower number."""
+    return sorted(range(len(actions)), key=lambda number: length_of(actions[number][0]), reverse=True)
+
+
+def tried(words, objects, actions):
+    """The number of the action that words behind `try` name: it has all its nouns."""
+    words = words.lower().split()
+    for number in by_length(actions):
+        name, entry = actions[number]
+        for nouns in nouns_in(words, name, entry[0]):
+            if all((aspect_of(noun, objects) or ANYTHING)[0] == 1 for noun in nouns[: entry[0]]):
+                return number
+    raise ValueError(words)
+
+
+def acted(words, objects, actions):
+    """The action of a pattern, its noun, its second noun and the place."""
+    words = words.lower().split()
+    # the place begins as early as it can, and has a word
+    cuts = [cut for cut, word in enumerate(words[:-1]) if word == "in"] + [len(words)]
+    for number in [None, *by_length(actions)]:
+        for cut in cuts:
+            place = aspect_of(" ".join(words[cut + 1 :]), objects)
+            front = words[:cut]
+            if number is None:
+                nouns = [("", "")] if front == ["doing", "anything"] else []
+            else:
+                name, entry = actions[number]
+                nouns = nouns_in(front, name, entry[0])
+            for noun, second in nouns:
+                asked = [aspect_of(noun, objects), aspect_of(second, objects), place]
+                if None not in asked:
+                    return NONE8 if number is None else number, *asked
     raise ValueError(words)
 
 
@@ -136,7 +217,7 @@ def key_of(name):
     return " ".join("is" if word == "are" else word for word in name.lower().split())
 
 
-def head_of(sentence, rulebooks, scenes, objects):
+def head_of(sentence, rulebooks, scenes, objects, actions):
     """What table 10 says of a rule in front of its condition, whether it has one, and its name in small letters, if it has one; none
     of another sentence."""
     rule = RULE.match(" ".join(sentence.split()))
@@ -144,9 +225,9 @@ def head_of(sentence, rulebooks, scenes, objects):
     found = asked and HEAD.fullmatch(asked["front"])
     if not found:
         return None
-    names, act = list(scenes), (NONE8, ANYTHING, ANYTHING)
+    names, act = list(scenes), (NONE8, ANYTHING, ANYTHING, aspect_of(found["at"] or found["place"], objects))
     if found["acts"]:
-        book, act = ACTION_BOOKS.index(found["acts"].lower()), acted(found["pattern"], objects)
+        book, act = ACTION_BOOKS.index(found["acts"].lower()), acted(found["pattern"], objects, actions)
     elif found["scene"]:
         book = BUILT_IN_BOOKS + 2 * names.index(found["scene"].lower()) + (found["edge"].lower() == "ends")
     elif found["own"]:
@@ -155,16 +236,16 @@ def head_of(sentence, rulebooks, scenes, objects):
         book = EVERY_TURN + (not found["every"])
     scene = names.index(asked["scene"].lower()) if asked["scene"] else NONE8
     name = rule["name"] and key_of(rule["name"])
-    return (book, *act, aspect_of(asked["place"], objects), scene), asked["asks"] is not None, name
+    return (book, *act, scene), asked["asks"] is not None, name
 
 
-def book_named(words, rulebooks, scenes):
+def book_named(words, rulebooks, scenes, actions):
     """The rulebook that a listing names, or none: one that every story has goes before the author's."""
     words = words.lower()
     stage = STAGE.fullmatch(words)
     if words in LONE_BOOKS:
         return LONE_BOOKS[words]
-    if stage and stage[2] in ACTION_NAMES:
+    if stage and stage[2] in dict(actions):
         return STAGES[stage[1]]
     return BUILT_IN_BOOKS + 2 * len(scenes) + rulebooks.index(words) if words in rulebooks else None
 
@@ -203,7 +284,8 @@ def tables_of(source, described, objects=()):
     objects have these names, in small letters."""
     told = list(sentences(source))
     rulebooks, scenes = declared(told)
-    heads = [head for sentence in told if (head := head_of(sentence, rulebooks, scenes, objects))]
+    actions = actions_of(told)
+    heads = [head for sentence in told if (head := head_of(sentence, rulebooks, scenes, objects, actions))]
     rules, code, names = standard_rules(), described, list(STANDARD_NAMES)
     for head, asks, name in heads:
         rules.append((*head, code if asks else NONE16, (0, code + asks)))
@@ -212,12 +294,12 @@ def tables_of(source, described, objects=()):
     listed = {}
     for name, at, book in filter(None, map(listing_of, told)):
         number = names.index(name)
-        assert book is None or book_named(book, rulebooks, scenes) == rules[number][0], (name, book)
+        assert book is None or book_named(book, rulebooks, scenes, actions) == rules[number][0], (name, book)
         # the latest sentence about a rule counts, and stands where it does
         listed.pop(number, None)
         listed[number] = at
     return {
-        "actions": ACTIONS, "grammar": [], "rules": rules,
+        "actions": [entry for _, entry in actions], "grammar": [], "rules": rules,
         "books": [in_order(rules, book, listed) for book in range(BUILT_IN_BOOKS + 2 * len(scenes) + len(rulebooks))],
         "scenes": [bytes([recurs]) + b"\xff" * 4 for recurs in scenes.values()],
     }

@@ -3,7 +3,7 @@
 bytes, and each change of changes.rows makes it refused, or leaves a story that plays. A plain reader of the format must say the
 same. The numbers with which a story begins are those that numbers.rows tells of numbers.i7, the rules, books and scenes of sources
 those of rules.rows, by the readers of a loaded story too; the order of rules that sentences list, the standard ones among them, is
-that of listings.rows.
+that of listings.rows; and what sentences declare that an action asks for is what actions.rows tells.
 
 Use: tests/story_files.py PROGRAM    (the program of `i7story`; that of `rule_calls` stands beside it; tests/row_files.py says how
 rows are written)"""
@@ -13,7 +13,7 @@ import subprocess
 import sys
 import tempfile
 
-from plain_stories import NONE8, NONE16, STANDARD_RULES, Fault, has, opening, tables
+from plain_stories import ACTIONS, NONE8, NONE16, STANDARD_RULES, Fault, has, opening, tables
 from row_files import digits_of, report, rows_of
 from rule_sources import STANDARD_NAMES, tables_of
 
@@ -142,6 +142,22 @@ def plain_tables(told, source):
     return str({name: told[name] for name in plain}), str(plain)
 
 
+def entry_told(entry):
+    """An entry of table 8."""
+    return " ".join("-" if byte == NONE8 else str(byte) for byte in entry)
+
+
+def actions(scratch):
+    """The answers to the rows of actions."""
+    for place, (source, asked) in rows_of(folder / "actions.rows"):
+        story = compiled(scratch, source)
+        told = tables(story)
+        yield place, ", ".join(map(entry_told, told["actions"][len(ACTIONS) :])) or "-", asked.decode()
+        yield f"{place}, plainly", read_plainly(story), b"plays"
+        yield f"{place}, played", played(scratch, story), b"plays"
+        yield f"{place}, by its source", *plain_tables(told, source.decode())
+
+
 def listings(scratch):
     """The answers to the rows of listings, and to a source for each standard rule that lists it nowhere."""
     for place, (source, asked) in rows_of(folder / "listings.rows"):
@@ -183,6 +199,7 @@ def answers(scratch):
         yield place, "\t".join(rules_of(tables(story))), b"\t".join(wanted).decode()
         yield f"{place}, plainly", read_plainly(story), b"plays"
     yield from listings(scratch)
+    yield from actions(scratch)
 
 
 with tempfile.TemporaryDirectory() as folder_of_files:

@@ -1,8 +1,8 @@
 """A plain writer of story files, from docs/story-format.md alone: the bytes of tables, and of stories that hold much."""
 import plain_codes
 from plain_stories import (
-    BUILT_IN_BOOKS, CONTAINER, DONE, DOOR, EVERY_TURN, FLAGS, KINDS, NONE16, NONE8, ROOM, SAY, SUPPORTER, THING, Said,
-    name_words, tables)
+    BUILT_IN_BOOKS, CARRIED, CONTAINER, DONE, DOOR, EVERY_TURN, FLAGS, KINDS, LIGHT, NONE16, NONE8, OUT_OF_WORLD, ROOM, SAY, SEEN,
+    SUPPORTER, THING, Said, name_words, tables)
 
 
 def u(width, n):
@@ -122,9 +122,11 @@ def furnished(story):
 
 
 def ruled(story):
-    """A furnished story with two scenes, two rulebooks and rules, among them one about nouns, a place and a scene and one that is
-    standard; the Hall's description asks about a scene."""
+    """A furnished story with two actions, two scenes, two rulebooks and rules, among them one about nouns, a place and a scene and
+    one that is standard and about an action of the author's, and one that tries another; the Hall's description asks about a
+    scene."""
     t = unnumbered(furnished(story))
+    t["actions"] += [bytes([2, CARRIED, SEEN, LIGHT]), bytes([0, NONE8, NONE8, OUT_OF_WORLD])]
     t["scenes"] = [b"\1" + b"\xff" * 4, b"\0" + b"\xff" * 4]
     t["books"] = [[] for _ in range(BUILT_IN_BOOKS + 4 + 2)]
     t["books"][0], t["books"][EVERY_TURN], t["books"][13] = [2], [4, 0], [3]
@@ -132,7 +134,7 @@ def ruled(story):
     t["rules"] = [
         (EVERY_TURN, NONE8, anything, anything, anything, NONE8, always, (0, 4)),
         (12, 2, (1, 16), (2, CONTAINER, [(0, 1), (2, 0)]), (1, 13), 1, 5, (0, 6)),
-        (0, 0, anything, (2, THING, []), anything, NONE8, always, (1, 61)),
+        (0, 16, anything, (2, THING, []), anything, NONE8, always, (1, 61)),
         (13, NONE8, anything, anything, anything, NONE8, 7, (0, 8)),
         (EVERY_TURN, NONE8, anything, anything, anything, NONE8, always, (1, 1)),
     ]
@@ -148,7 +150,7 @@ def ruled(story):
         [bytes.fromhex("0e 26 03 01 38")],
         # fewer than two rooms; each lit thing is named, an action tried, a rulebook followed, the story ended
         [bytes.fromhex("20 00 000b 01 00000002 09 3b")],
-        [bytes.fromhex("34 00 35 00 000c 000f 11 00 23 01 33 0002 0e 0f 30 01 0c 31 000d 36"), Said(b"Over."), bytes.fromhex("3a")],
+        [bytes.fromhex("34 00 35 00 000c 000f 11 00 23 01 33 0002 0e 0f 30 01 11 31 000d 36"), Said(b"Over."), bytes.fromhex("3a")],
         *tests,
         [bytes.fromhex("11 00 13 01 3b")],
         [bytes.fromhex("11 00 12 03 01 3b")],

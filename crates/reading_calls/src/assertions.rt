@@ -1,4 +1,5 @@
 //! What assertions say, in words: `<Garden> lies north of <Hall>`.
+use crate::actions::add_action;
 use crate::names::{add, add_declared, add_name, add_names};
 use crate::plans::add_plan;
 use crate::rules::{add_listing, add_rule};
@@ -77,6 +78,7 @@ pub fn add_said(alloc: Global, out: &mut Vec<u8>, said: &Assertion) -> Result<()
         Assertion::Are(being) => add_being(out, being),
         Assertion::Rule(rule) => add_rule(alloc, out, rule),
         Assertion::Listing(listing) => add_listing(out, listing),
+        Assertion::Action(action) => add_action(out, action),
         _ => add_plan(alloc, out, said),
     }
 }

@@ -3,6 +3,7 @@
 //! and of sources that are one rule the `phrases` of its body, with the line at which it is refused, and the `rules`.
 #![tactic(auto)]
 
+mod actions;
 mod assertions;
 mod names;
 mod phrases;

@@ -1,8 +1,10 @@
 -- How many texts a tale has, and the sentences, texts and rules that the compiler hands on, by their names in the definitions.
 use Rattle.std.proofs.Common.{◌≡◌, ◌∙◌, refl, subst, sym, ℕ, ◌+◌, List, [], ◌∷◌, ◌++◌, length, inl, inr, ◌⊎◌, arith}
-use Rattle.std.specs.Prelude.{Option, None, Some}
+use Rattle.std.specs.Prelude.{Option, None, Some, true}
+use Rattle.std.specs.List.{list_all}
 use Rattle.world_meaning.specs.Faults.{out_of_memory}
 use Rattle.world_meaning.specs.declared.fault.Fault.{Fault}
+use Rattle.world_meaning.specs.declared.needs.Needs.{Needs}
 use Rattle.world_meaning.specs.declared.tale.Object.{Object}
 use Rattle.world_meaning.specs.declared.tale.Tale.{Tale}
 use Rattle.play_meaning.specs.Rules.{Rule}
@@ -15,7 +17,7 @@ use Rattle.i7_sentences.specs.declared.sentence.Sentence.{Sentence}
 use Rattle.rule_order.specs.declared.listing.ListingSentence.{ListingSentence}
 use Rattle.code_table.specs.declared.fault.TableFault.{TableFault}
 use Rattle.code_table.specs.declared.fault.TableFault.TheVariants.{Memory}
-use Rattle.story_format.specs.Holding.{AreHeld, AreNotHeld, AreOf, IsHeld}
+use Rattle.story_format.specs.Holding.{AreHeld, AreNotHeld, AreOf, IsHeld, has_first_noun}
 use Rattle.story_format.specs.Making.{code_count, codes_in, tables_of}
 use Rattle.story_format.specs.Spells.{Spells}
 use Rattle.story_format.proofs.Carried.{tale_carried}
@@ -25,7 +27,8 @@ use Rattle.story_file.specs.Rules.{rules_kept}
 use Rattle.story_file.specs.Texts.{texts_kept}
 use Rattle.story_file.proofs.Held.{tale_held}
 use Rattle.story_file.proofs.Outcomes.{refused_so}
-use Rattle.story_file.proofs.Ranges.{says_ranged}
+use Rattle.story_file.proofs.Counted.{acts_are}
+use Rattle.story_file.proofs.Ranges.{says_first_nouns, says_ranged}
 use Rattle.story_file.proofs.RulesOf.{acts_few, as_many, few_rules, rules_named}
 
 -- ---- how many texts there are
@@ -69,10 +72,12 @@ module _ (source : List ℕ) (sentences lent : List Sentence) (says : Says sourc
     is_held = tale_held sentences tale (says_ranged source sentences says) means.meant.tale_is
 
     pub are_of : AreOf tale texts rules
+    unfolding means
     are_of = record {
       many = texts_counted (scope_said lent) tale.objects texts meant.texts_are;
       few = few_rules lent tale texts rules listings meant;
       few_actions = acts_few lent tale texts rules listings meant;
+      first_nouns = subst (λ (all : List Needs). list_all has_first_noun all ≡ true) (acts_are sentences tale means.meant.tale_is) (says_first_nouns source sentences says);
       named = rules_named lent tale texts rules listings meant;
     }
 

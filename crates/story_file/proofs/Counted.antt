@@ -2,6 +2,7 @@
 use Rattle.std.proofs.Common.{◌≡◌, ◌∙◌, ap, sym, ◌+◌, ◌*◌, ◌≤◌, ◌<◌, subst, List, length, Ok, None, arith}
 use Rattle.std.proofs.lemmas.List.{length-map}
 use Rattle.world_meaning.specs.declared.declared.Declared.{Declared}
+use Rattle.world_meaning.specs.declared.needs.Needs.{Needs}
 use Rattle.world_meaning.specs.declared.tale.Tale.{Tale}
 use Rattle.i7_claims.specs.Claims.{claims_of}
 use Rattle.i7_claims.specs.Sorts.{name_too_many, names_as}
@@ -57,8 +58,11 @@ claimed sentences tale meant =
       counted-source sentences ∙ sym made ∙ ap (λ (made : Tale). length made.objects) t.1 ∙ ap (λ (made : Tale). length made.objects) told.tale_is,
     )
 
+pub acts_are : (sentences : List Sentence) (tale : Tale) → tale_said sentences ≡ Ok tale → actions_said sentences ≡ tale.declared.actions
+acts_are sentences tale meant = ap (λ (d : Declared). d.actions) (claimed sentences tale meant).1
+
 pub actions_are : (sentences : List Sentence) (tale : Tale) → tale_said sentences ≡ Ok tale → length tale.declared.actions ≡ length (actions_declared sentences)
-actions_are sentences tale meant = sym (ap (λ (d : Declared). length d.actions) (claimed sentences tale meant).1) ∙ actions_counted sentences
+actions_are sentences tale meant = ap (λ (needs : List Needs). length needs) (sym (acts_are sentences tale meant)) ∙ actions_counted sentences
 
 pub rulebooks_counted : (sentences : List Sentence) (tale : Tale) → tale_said sentences ≡ Ok tale → length (rulebooks_in sentences) ≡ tale.declared.rulebooks
 unfolding rulebooks_by

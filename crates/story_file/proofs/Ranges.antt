@@ -1,18 +1,23 @@
--- The numbers of the sentences that a source says are in range.
+-- The numbers of the sentences that a source says are in range, and its actions ask for no second noun without a first.
 use Rattle.std.proofs.Common.{◌≡◌, ℕ, zero, suc, Bool, true, false, ◌≤◌, ◌-ℤ◌, ℤ, pos, negsuc, List, [], ◌∷◌, Option, Some, None, min, refl, sym, subst, arith, inl, inr}
-use Rattle.std.specs.Prelude.{if◌then◌else◌}
-use Rattle.std.specs.List.{AllZip}
+use Rattle.std.specs.Prelude.{if◌then◌else◌, map, nat_le}
+use Rattle.std.specs.List.{AllZip, cons_option, list_all}
 use Rattle.std.proofs.lemmas.Bool.{lt-ltb}
 use Rattle.std.proofs.lemmas.Int.{ints}
-use Rattle.world_meaning.proofs.Bools.{either}
+use Rattle.world_meaning.proofs.Bools.{both, either}
 use Rattle.world_meaning.specs.Declarations.{is_number}
 use Rattle.world_meaning.specs.declared.direction.Direction.{Direction}
+use Rattle.world_meaning.specs.declared.needs.Needs.{Needs}
+use Rattle.world_meaning.specs.declared.needs.Slot.TheVariants.{Visible, Touched, Carried}
+use Rattle.i7_kinds.specs.Actions.{actions_said}
 use Rattle.i7_lexer.specs.declared.token.Token.{Token}
+use Rattle.i7_sentences.specs.ActionDeclarations.{ActionAt, action_at, actions_declared, asked_of}
 use Rattle.i7_sentences.specs.Assertions.{assertion_of, described, described_object, door_between, number_in, describing_text, side_direction, side_of, way_assertion}
 use Rattle.i7_sentences.specs.Bodies.{body_lines}
 use Rattle.i7_sentences.specs.BodyOrder.{reserved_line}
 use Rattle.i7_sentences.specs.Cuts.{Piece, line_in, parts_of}
 use Rattle.i7_sentences.specs.Forms.{Variant}
+use Rattle.i7_sentences.specs.Keywords.{is_sign}
 use Rattle.i7_sentences.specs.Literals.{digits_of, is_negative, literal_of, magnitude}
 use Rattle.i7_sentences.specs.Lowest.{lower_of}
 use Rattle.i7_sentences.specs.Read.{named_heard, plain_heard}
@@ -26,6 +31,7 @@ use Rattle.i7_sentences.specs.declared.form.Form.{Form}
 use Rattle.i7_sentences.specs.declared.form.Form.TheVariants as form
 use Rattle.i7_sentences.specs.declared.heard.Heard.{Heard}
 use Rattle.i7_sentences.specs.declared.heard.Heard.TheVariants as heard
+use Rattle.i7_sentences.specs.declared.keyword.Keyword.TheVariants as keyword
 use Rattle.i7_sentences.specs.declared.part.PartKind.{PartKind}
 use Rattle.i7_sentences.specs.declared.part.PartKind.TheVariants.{Title, Heading, Sentence as Said}
 use Rattle.i7_sentences.specs.declared.rule.Rule.{Rule}
@@ -35,6 +41,8 @@ use Rattle.i7_sentences.specs.declared.sentence.Assertion.TheVariants as asserti
 use Rattle.i7_sentences.specs.declared.sentence.Sentence.{Sentence}
 use Rattle.i7_sentences.specs.declared.sentence.Side.{Side}
 use Rattle.i7_claims.proofs.Ranged.{AreRangedSentences, IsRangedSaid}
+use Rattle.story_format.specs.Holding.{has_first_noun}
+use Rattle.story_format.specs.RuleMaking.{noun_count}
 use Rattle.story_file.specs.Compilations.{Says}
 
 -- ---- a literal
@@ -65,28 +73,42 @@ number_ranged (token ∷ tokens) = literal_ranged (word_of token)
 
 -- ---- what a form says
 
-abbrev IsRangedFound : Option Assertion → Type 0
-IsRangedFound None = Unit {0}
-IsRangedFound (Some said) = IsRangedSaid said
+-- its numbers are in range, and the action that it declares has a first noun, if it has a second
+abbrev IsWellSaid : Assertion → Type 0
+IsWellSaid (assertion.Action declaration) = has_first_noun declaration.needs ≡ true
+IsWellSaid said = IsRangedSaid said
 
-described_ranged : (text : Option (List ℕ)) → IsRangedFound (described text)
+degree_there : (visible carried : Bool) → noun_count (if visible then Visible else (if carried then Carried else Touched)) ≡ 1
+degree_there true carried = refl
+degree_there false true = refl
+degree_there false false = refl
+
+asked_there : (words : List Token) → noun_count (asked_of words) ≡ 1
+asked_there [] = refl
+asked_there (first ∷ more) = degree_there (is_sign keyword.Visible first) (is_sign keyword.Carried first)
+
+abbrev IsWellFound : Option Assertion → Type 0
+IsWellFound None = Unit {0}
+IsWellFound (Some said) = IsWellSaid said
+
+described_ranged : (text : Option (List ℕ)) → IsWellFound (described text)
 described_ranged None = tt
 described_ranged (Some text) = tt
 
-object_ranged : (object : List Token) (text : Option (List ℕ)) → IsRangedFound (described_object object text)
+object_ranged : (object : List Token) (text : Option (List ℕ)) → IsWellFound (described_object object text)
 object_ranged object None = tt
 object_ranged object (Some text) = tt
 
-way_ranged : (subject : List Token) (direction : Option Direction) (room : List Token) (is_room_first : Bool) → IsRangedFound (way_assertion subject direction room is_room_first)
+way_ranged : (subject : List Token) (direction : Option Direction) (room : List Token) (is_room_first : Bool) → IsWellFound (way_assertion subject direction room is_room_first)
 way_ranged subject None room is_room_first = tt
 way_ranged subject (Some direction) room is_room_first = tt
 
-door_ranged : (door : List Token) (first second : Option Side) → IsRangedFound (door_between door first second)
+door_ranged : (door : List Token) (first second : Option Side) → IsWellFound (door_between door first second)
 door_ranged door None second = tt
 door_ranged door (Some first) None = tt
 door_ranged door (Some first) (Some second) = tt
 
-form_ranged : (f : Form) (letters : List (List Token)) → IsRangedFound (assertion_of f letters)
+form_ranged : (f : Form) (letters : List (List Token)) → IsWellFound (assertion_of f letters)
 unfolding assertion_of
 form_ranged form.Description (text ∷ []) = described_ranged (describing_text text)
 form_ranged form.UsuallyNumber (property ∷ kind ∷ number ∷ []) = number_ranged number
@@ -100,6 +122,10 @@ form_ranged form.DoorTo (door ∷ side ∷ room ∷ other ∷ behind ∷ []) = d
 form_ranged form.ListedFirst (rule ∷ book ∷ []) = tt
 form_ranged form.ListedLast (rule ∷ book ∷ []) = tt
 form_ranged form.NotListed (rule ∷ []) = tt
+form_ranged (form.Action sort) (name ∷ []) = refl
+form_ranged (form.Action sort) (name ∷ noun ∷ []) = refl
+form_ranged (form.Action sort) (name ∷ noun ∷ second ∷ []) = (λ i. nat_le (asked_there second i) (asked_there noun i))
+form_ranged (form.ActionOnTwo sort) (name ∷ []) = refl
 form_ranged form.Rulebook (name ∷ []) = tt
 form_ranged form.Scene (name ∷ []) = tt
 form_ranged form.RecurringScene (name ∷ []) = tt
@@ -117,56 +143,99 @@ form_ranged _ _ = tt
 
 -- ---- what a part says
 
-abbrev IsRangedHeard : Heard → Type 0
-IsRangedHeard (heard.Says said) = IsRangedSaid said
-IsRangedHeard (heard.Unread line) = Unit {0}
-IsRangedHeard (heard.Reserved line) = Unit {0}
+abbrev IsWellHeard : Heard → Type 0
+IsWellHeard (heard.Says said) = IsWellSaid said
+IsWellHeard (heard.Unread line) = Unit {0}
+IsWellHeard (heard.Reserved line) = Unit {0}
 
-named_ranged : (line : ℕ) (is_reserved : Bool) (said : Assertion) → IsRangedSaid said → IsRangedHeard (named_heard line is_reserved said)
+named_ranged : (line : ℕ) (is_reserved : Bool) (said : Assertion) → IsWellSaid said → IsWellHeard (named_heard line is_reserved said)
 named_ranged line true said ranged = tt
 named_ranged line false said ranged = ranged
 
-plain_ranged : (line : ℕ) (is_reserved : Bool) (said : Option Assertion) → IsRangedFound said → IsRangedHeard (plain_heard line is_reserved said)
+plain_ranged : (line : ℕ) (is_reserved : Bool) (said : Option Assertion) → IsWellFound said → IsWellHeard (plain_heard line is_reserved said)
 plain_ranged line is_reserved None ranged = tt
 plain_ranged line is_reserved (Some said) ranged = named_ranged line is_reserved said ranged
 
-free_ranged : (line : Option ℕ) (rule : Rule) → IsRangedHeard (unless_reserved line (heard.Says (assertion.Rule rule)))
+free_ranged : (line : Option ℕ) (rule : Rule) → IsWellHeard (unless_reserved line (heard.Says (assertion.Rule rule)))
 free_ranged None rule = tt
 free_ranged (Some line) rule = tt
 
-read_ranged : (line reserved : Option ℕ) (rule : Rule) → IsRangedHeard (unless_unread line (unless_reserved reserved (heard.Says (assertion.Rule rule))))
+read_ranged : (line reserved : Option ℕ) (rule : Rule) → IsWellHeard (unless_unread line (unless_reserved reserved (heard.Says (assertion.Rule rule))))
 read_ranged None reserved rule = free_ranged reserved rule
 read_ranged (Some line) reserved rule = tt
 
-head_ranged : (tokens : List Token) (head : Option Head) → IsRangedHeard (head_heard tokens head)
+head_ranged : (tokens : List Token) (head : Option Head) → IsWellHeard (head_heard tokens head)
 head_ranged tokens None = tt
 head_ranged tokens (Some head) =
     let phrases = body_lines (body_tokens head tokens) in
     read_ranged (unread_line (line_in tokens) head.takes_one phrases) (lower_of (head_reserved (line_in tokens) head) (reserved_line phrases))
     (record { book = head.book; subject = head.subject; scene = head.scene; condition = head.condition; name = head.name; body = body_phrases (line_in tokens) phrases })
 
-form_heard : (tokens : List Token) (variant : Variant) (letters : List (List Token)) (is_rule : Bool) → IsRangedHeard (if is_rule then rule_heard tokens else plain_heard (line_in tokens) (has_reserved_among variant.pieces letters) (assertion_of variant.form letters))
+form_heard : (tokens : List Token) (variant : Variant) (letters : List (List Token)) (is_rule : Bool) → IsWellHeard (if is_rule then rule_heard tokens else plain_heard (line_in tokens) (has_reserved_among variant.pieces letters) (assertion_of variant.form letters))
 form_heard tokens variant letters true = head_ranged tokens (head_in tokens)
 form_heard tokens variant letters false = plain_ranged (line_in tokens) (has_reserved_among variant.pieces letters) (assertion_of variant.form letters) (form_ranged variant.form letters)
 
-words_ranged : (tokens : List Token) (said : Assertion) → SaysInWords tokens (heard.Says said) → IsRangedSaid said
-words_ranged tokens said (inl reads) = subst IsRangedHeard (sym reads.says) (form_heard tokens reads.variant reads.letters (is_rule_form reads.variant.form))
+words_ranged : (tokens : List Token) (said : Assertion) → SaysInWords tokens (heard.Says said) → IsWellSaid said
+words_ranged tokens said (inl reads) = subst IsWellHeard (sym reads.says) (form_heard tokens reads.variant reads.letters (is_rule_form reads.variant.form))
 words_ranged tokens said (inr unread) = absurd (let e = unread.1 in cc)
 
 same_said : (said other : Assertion) → heard.Says said ≡ heard.Says other → said ≡ other
 same_said said other same = cc
 
-part_ranged : (part : Piece) (sentence : Sentence) (kind : PartKind) → Tells kind part.tokens (heard.Says sentence.said) → IsRangedSaid sentence.said
-part_ranged part sentence Title says = subst IsRangedSaid (sym (same_said sentence.said assertion.Aside says)) tt
-part_ranged part sentence Heading says = subst IsRangedSaid (sym (same_said sentence.said assertion.Aside says)) tt
+part_ranged : (part : Piece) (sentence : Sentence) (kind : PartKind) → Tells kind part.tokens (heard.Says sentence.said) → IsWellSaid sentence.said
+part_ranged part sentence Title says = subst IsWellSaid (sym (same_said sentence.said assertion.Aside says)) tt
+part_ranged part sentence Heading says = subst IsWellSaid (sym (same_said sentence.said assertion.Aside says)) tt
 part_ranged part sentence Said says = words_ranged part.tokens sentence.said says
 
-parts_ranged : (parts : List Piece) (sentences : List Sentence) → AllZip IsSentence parts sentences → AreRangedSentences sentences
+abbrev AreWellSaid : List Sentence → Type 0
+AreWellSaid [] = Unit {0}
+AreWellSaid (sentence ∷ sentences) = IsWellSaid sentence.said × AreWellSaid sentences
+
+parts_ranged : (parts : List Piece) (sentences : List Sentence) → AllZip IsSentence parts sentences → AreWellSaid sentences
 parts_ranged [] [] said = tt
 parts_ranged [] (sentence ∷ sentences) said = absurd said
 parts_ranged (part ∷ parts) [] said = absurd said
 parts_ranged (part ∷ parts) (sentence ∷ sentences) said =
     (part_ranged part sentence part.kind (said.0).says, parts_ranged parts sentences said.1)
 
+said_well : (source : List ℕ) (sentences : List Sentence) → Says source sentences → AreWellSaid sentences
+said_well source sentences says = parts_ranged (parts_of says.tokens) sentences (says.reads).said
+
+-- ---- what a source says
+
+ranged_said : (said : Assertion) → IsWellSaid said → IsRangedSaid said
+ranged_said (assertion.NumberOf property object number) well = well
+ranged_said (assertion.UsuallyNumber property kind number) well = well
+ranged_said (assertion.VariableIs variable number) well = well
+ranged_said _ well = tt
+
+ranged_each : (sentences : List Sentence) → AreWellSaid sentences → AreRangedSentences sentences
+ranged_each [] well = tt
+ranged_each (sentence ∷ sentences) well = (ranged_said sentence.said well.0, ranged_each sentences well.1)
+
 pub says_ranged : (source : List ℕ) (sentences : List Sentence) → Says source sentences → AreRangedSentences sentences
-says_ranged source sentences says = parts_ranged (parts_of says.tokens) sentences (says.reads).said
+says_ranged source sentences says = ranged_each sentences (said_well source sentences says)
+
+abbrev HasFirstNoun : Option ActionAt → Type 0
+HasFirstNoun None = Unit {0}
+HasFirstNoun (Some action) = has_first_noun action.said.needs ≡ true
+
+first_noun_said : (line : ℕ) (said : Assertion) → IsWellSaid said → HasFirstNoun (action_at line said)
+first_noun_said line (assertion.Action declaration) well = well
+first_noun_said line _ well = tt
+
+abbrev needs_of : List ActionAt → List Needs
+needs_of actions = map (λ action. action.said.needs) actions
+
+one_more : (found : Option ActionAt) (more : List ActionAt) → HasFirstNoun found → list_all has_first_noun (needs_of more) ≡ true → list_all has_first_noun (needs_of (cons_option found more)) ≡ true
+one_more None more first all = all
+one_more (Some action) more first all = both (has_first_noun action.said.needs) (list_all has_first_noun (needs_of more)) first all
+
+first_nouns_each : (sentences : List Sentence) → AreWellSaid sentences → list_all has_first_noun (needs_of (actions_declared sentences)) ≡ true
+first_nouns_each [] well = refl
+first_nouns_each (sentence ∷ sentences) well =
+    one_more (action_at sentence.line sentence.said) (actions_declared sentences) (first_noun_said sentence.line sentence.said well.0) (first_nouns_each sentences well.1)
+
+pub says_first_nouns : (source : List ℕ) (sentences : List Sentence) → Says source sentences → list_all has_first_noun (actions_said sentences) ≡ true
+unfolding actions_said
+says_first_nouns source sentences says = first_nouns_each sentences (said_well source sentences says)

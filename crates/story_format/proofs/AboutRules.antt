@@ -22,7 +22,7 @@ use Rattle.story_format.proofs.Known.{or_right}
 
 pub record AreThere (z : Named) (rule : Rule) : Type 0 where
   pub book : rule.book < z.books
-  pub action : is_there 16 rule.action ≡ true
+  pub action : is_there z.actions rule.action ≡ true
   pub noun : is_asked z rule.noun ≡ true
   pub second : is_asked z rule.second ≡ true
   pub place : is_asked z rule.place ≡ true
@@ -32,7 +32,7 @@ pub named_parts : (z : Named) (rule : Rule) → is_of z rule ≡ true → AreThe
 unfolding is_of
 named_parts z rule h =
     let book = ltb rule.book z.books in
-    let action = is_there 16 rule.action in
+    let action = is_there z.actions rule.action in
     let noun = is_asked z rule.noun in
     let second = is_asked z rule.second in
     let place = is_asked z rule.place in
@@ -47,7 +47,7 @@ named_parts z rule h =
 
 -- as many of what rules are about as of what codes name
 abbrev pub named_of : Counts → Named
-named_of z = record { books = z.books; objects = z.objects; kinds = z.kinds; flags = z.flags; scenes = z.scenes }
+named_of z = record { books = z.books; objects = z.objects; kinds = z.kinds; flags = z.flags; scenes = z.scenes; actions = z.actions }
 
 pub number_right : (count : ℕ) (o : Option ℕ) → is_there count o ≡ true → is_number_or_none 255 count (number_or_none o) ≡ true
 number_right count None h = refl
@@ -83,20 +83,21 @@ aspect_right z (OfKind kind qs) h =
 
 -- ---- there is room for them
 
--- a byte tells a kind, a property and a scene, two bytes an object and a book
+-- a byte tells a kind, a property, a scene and an action, two bytes an object and a book
 pub record IsSmall (z : Named) : Type 0 where
   pub books : z.books ≤ 65536
   pub objects : z.objects ≤ 65536
   pub kinds : z.kinds ≤ 256
   pub flags : z.flags ≤ 256
   pub scenes : z.scenes ≤ 255
+  pub actions : z.actions ≤ 255
 
-pub small_names : (d : Declared) (objects : ℕ) → objects ≤ 1000 → is_well_declared d ≡ true → IsSmall (named_by d objects)
-small_names d objects few h =
+pub small_names : (d : Declared) (objects : ℕ) → objects ≤ 1000 → length d.actions ≤ 184 → is_well_declared d ≡ true → IsSmall (named_by d objects)
+small_names d objects few few_actions h =
     let p = declared_parts d h in
     let kinds = few_kinds d.kinds p.kinds in
     let flags = few_grants (length d.kinds) d.flags p.flags in
-    record { books = omega (arith, p.scenes, p.rulebooks); objects = omega (arith, few); kinds = omega (arith, kinds); flags = omega (arith, flags); scenes = omega (arith, p.scenes) }
+    record { books = omega (arith, p.scenes, p.rulebooks); objects = omega (arith, few); kinds = omega (arith, kinds); flags = omega (arith, flags); scenes = omega (arith, p.scenes); actions = omega (arith, few_actions) }
 
 pub number_fits : (count : ℕ) (o : Option ℕ) → count ≤ 255 → is_there count o ≡ true → ltb (number_or_none o) 256 ≡ true
 number_fits count None le h = refl
@@ -170,7 +171,7 @@ pub entry_about : (z : Named) (rule : Rule) (condition : ℕ) (body : RuleBody) 
 entry_about z rule condition body small h =
     let p = named_parts z rule h in
     record {
-      action = number_told 16 rule.action (omega arith) p.action;
+      action = number_told z.actions rule.action small.actions p.action;
       noun = aspect_told z rule.noun p.noun;
       second = aspect_told z rule.second p.second;
       place = aspect_told z rule.place p.place;

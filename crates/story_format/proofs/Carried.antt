@@ -28,6 +28,7 @@ use Rattle.play_meaning.specs.Rules.{Rule}
 use Rattle.play_meaning.specs.Trees.{Text}
 use Rattle.play_meaning.specs.Worlds.{World}
 use Rattle.play_meaning.specs.Order.{book_of}
+use Rattle.play_meaning.specs.StandardActions.{standard_needs}
 use Rattle.play_meaning.specs.StandardRules.{standard_rules}
 use Rattle.play_meaning.specs.Tales.{setting_of}
 use Rattle.play_meaning.specs.declared.action.ActionNow.{ActionNow}
@@ -36,10 +37,11 @@ use Rattle.rule_order.specs.declared.listing.ListingSentence.{ListingSentence}
 use Rattle.code_table.specs.Emitted.{AllFit, codes_of_origins}
 use Rattle.code_table.specs.Origins.{Describes, Origin, origins_of, strings_of_origin}
 use Rattle.code_table.proofs.Said.{text_said}
-use Rattle.story_format.specs.Carrying.{Carries, CarriesRule}
+use Rattle.story_format.specs.Carrying.{AsksFor, Carries, CarriesRule}
 use Rattle.story_format.specs.Codes.{codes_told}
 use Rattle.story_format.specs.Facts.{description_code_in, description_code_of, exits_at, holder_in, is_room_in, name_in, rooms_before, rules_listed, text_at, way_in, words_in}
 use Rattle.story_format.proofs.AboutRules.{IsSmall, small_names}
+use Rattle.story_format.proofs.ActionLemmas.{actions_ask}
 use Rattle.story_format.specs.Holding.{counts_in, named_in, AreHeld, IsHeld}
 use Rattle.story_format.specs.RuleMaking.{rule_entries, rules_of, standard_entries}
 use Rattle.story_format.specs.Making.{Worded, code_count, code_number, codes_in, described_in, entries_of, entry_of, entry_strings, place_holder, story_rules, strings_of, strings_said, tables_of, tables_with, text_in, text_of, ways_of, worded, worded_at, worded_from, world_of}
@@ -291,7 +293,7 @@ module _ (t : Tale) (texts : List Text) (listings : List ListingSentence) (rules
       (subst (λ objects. Told texts (description_code_in (slice_get (entries_of strings 0 ws) o)) (text_in objects texts o)) back (descriptions_told strings texts ws 0 o (omega (arith, le)) many))
 
   small : IsSmall (named_in t)
-  small = small_names t.declared (length t.objects) (few_begin t.declared.kinds (sorts_in t).rooms t.objects held.made.begins) held.made.declared
+  small = small_names t.declared (length t.objects) (few_begin t.declared.kinds (sorts_in t).rooms t.objects held.made.begins) are.are_of.few_actions held.made.declared
 
   author_so : AllZip (CarriesRule (codes_told (tables_of t texts listings rules))) (rule_entries (described_in (worded t.objects)) rules) rules
   unfolding tables_with rules_of
@@ -310,11 +312,15 @@ module _ (t : Tale) (texts : List Text) (listings : List ListingSentence) (rules
       let codes = codes_told (tables_of t texts listings rules) in
       let author = rule_entries (described_in (worded t.objects)) rules in
       zip_listed (CarriesRule codes) (carried_so codes) listings 0 (standard_entries ++ author) (standard_rules ++ rules)
-      (zip_append (CarriesRule codes) standard_entries standard_rules author rules (all_standard_carried codes (named_in t) small (omega arith)) author_so)
+      (zip_append (CarriesRule codes) standard_entries standard_rules author rules (all_standard_carried codes (named_in t) small (omega arith) (omega arith)) author_so)
 
   books_so : (book : ℕ) → rules_listed (tables_of t texts listings rules) book ≡ book_of (setting_of t) (story_rules listings rules) book
   unfolding tables_with rules_of
   books_so book = books_listed t listings rules (all_within (named_in t) listings rules (omega arith) are.are_of.named) book
+
+  actions_so : AllZip AsksFor (tables_of t texts listings rules).rules.actions (standard_needs ++ t.declared.actions)
+  unfolding tables_with rules_of
+  actions_so = actions_ask t.declared.actions
 
   pub tale_carried : Carries (tables_of t texts listings rules) t texts listings rules
   unfolding tables_with world_of
@@ -335,6 +341,7 @@ module _ (t : Tale) (texts : List Text) (listings : List ListingSentence) (rules
         descriptions = code_says;
         ways = λ o direction. ways_found parents sorts strings ws o direction (slice_get ws o) refl exits ∙ ap (λ (objects : List Object). told_way (slice_get objects o) direction) back;
         start = start_carried parents sorts.rooms strings ws (ap (begin_rightly parents sorts.rooms) back ∙ held.made.begins) ∙ ap (λ (objects : List Object). told_place (slice_get objects 0)) back;
+        actions = actions_so;
         rules_are = rules_so;
         books = books_so;
       }

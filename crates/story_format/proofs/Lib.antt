@@ -1,4 +1,5 @@
 pub mod AboutRules
+pub mod ActionLemmas
 pub mod Loops
 pub mod StoryLemmas
 pub mod DeclaredLemmas

@@ -88,7 +88,7 @@ all_within strings (x ∷ xs) count is known few =
 
 pub plain_held : PlainTextsAreHeld
 unfolding tables_with counts_of
-plain_held t xs held many short =
+plain_held t xs held few_actions nouns many short =
     let ws = worded t.objects in
     let texts = map plain xs in
     let origins = Plain xs in
@@ -101,7 +101,7 @@ plain_held t xs held many short =
     let few : length strings < 65535 = omega (arith, few_strings ws origins held.words, ap length said, few_bytes, le) in
     let known : list_all (is_known strings) xs ≡ true = ap (list_all (is_known strings)) (sym said) ∙ said_known ws origins in
     record {
-      are_of = record { many = length-map xs plain ∙ many; few = omega arith; named = refl };
+      are_of = record { many = length-map xs plain ∙ many; few = omega arith; named = refl; few_actions = few_actions; first_nouns = nouns };
       short = ap (list_all is_short) said ∙ short;
       few = few;
       fit = fit_plain (number_in strings) (counts_in t texts []) xs (all_within strings xs (small (length strings)) (omega (arith, few)) known few);

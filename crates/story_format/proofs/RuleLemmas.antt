@@ -9,24 +9,24 @@ use Rattle.std.proofs.lemmas.Grind.{flat_map-append}
 use Rattle.world_meaning.proofs.Bools.{both, both_are, either}
 use Rattle.world_meaning.specs.declared.declared.Declared.{Declared}
 use Rattle.play_meaning.specs.Rules.{Rule}
-use Rattle.play_meaning.specs.StandardActions.{standard_needs}
 use Rattle.play_meaning.specs.StandardRules.{rules_of_closing, rules_of_dropping, rules_of_examining, rules_of_going, rules_of_inserting, rules_of_inventory, rules_of_looking, rules_of_opening, rules_of_putting, rules_of_switching, rules_of_taking, rules_of_wearing, standard_rules}
 use Rattle.play_meaning.specs.Trees.{Condition}
 use Rattle.play_meaning.specs.declared.operand.Counts.{Counts}
 use Rattle.play_meaning.specs.declared.operand.Use.TheVariants.{Test}
 use Rattle.code_table.specs.Origins.{Origin, origins_of_rule, use_for}
 use Rattle.story_format.specs.Checks.{codes_named}
-use Rattle.story_format.specs.Holding.{Named, is_of}
-use Rattle.story_format.specs.Layout.{action_layout, aspect_layout, body_layout, book_layout, kind_aspect_layout, rule_layout, rules_layout, scene_layout, side_layout}
+use Rattle.story_format.specs.Holding.{Named, has_first_noun, is_of}
+use Rattle.story_format.specs.Layout.{aspect_layout, body_layout, book_layout, kind_aspect_layout, rule_layout, rules_layout, scene_layout, side_layout}
 use Rattle.story_format.specs.Making.{Worded, described_in, entries_of}
-use Rattle.story_format.specs.RuleChecks.{are_right_books, are_right_rules, are_same_actions, code_of_body, codes_in_rule, codes_in_rules, is_number_or_none, is_right_body, is_right_rule, is_right_scene, lists_what_is_there, use_in_body, uses_in_rule, uses_in_rules}
-use Rattle.story_format.specs.RuleMaking.{action_entries, all_entries, book_count, condition_count, condition_number, entry_with, first_own_book, number_or_none, rule_count, rule_entries, rule_entry, rules_of, scene_entry, standard_entries, standard_entry, standard_from}
+use Rattle.story_format.specs.RuleChecks.{are_right_books, are_right_rules, code_of_body, codes_in_rule, codes_in_rules, is_number_or_none, is_right_body, is_right_rule, is_right_scene, lists_what_is_there, use_in_body, uses_in_rule, uses_in_rules}
+use Rattle.story_format.specs.RuleMaking.{all_entries, book_count, condition_count, condition_number, entry_with, first_own_book, rule_count, rule_entries, rule_entry, rules_of, scene_entry, standard_entries, standard_entry, standard_from}
 use Rattle.story_format.specs.Soundness.{are_in_turn}
 use Rattle.story_format.specs.declared.rule_entry.RuleBody.{RuleBody}
 use Rattle.story_format.specs.declared.rule_entry.RuleBody.TheVariants.{Code, Standard, Unknown}
 use Rattle.story_format.specs.declared.rule_entry.RuleEntry.{RuleEntry}
 use Rattle.story_format.specs.declared.rule_tables.Book.{Book}
 use Rattle.story_format.proofs.AboutRules.{IsSmall, aspect_fits, aspect_right, named_of, named_parts, number_fits, number_right}
+use Rattle.story_format.proofs.ActionLemmas.{action_count, actions_fit, actions_right}
 use Rattle.story_format.proofs.Known.{or_right}
 use Rattle.story_format.proofs.OrderLemmas.{codes_counted, codes_in_turn}
 use Rattle.story_format.proofs.StandardRuleRows.{all_bare, each_of, no_codes, no_uses, standard_count}
@@ -160,14 +160,13 @@ condition_right next count (Some condition) lt le =
     let there : ltb next count ≡ true = lt-ltb _ _ (omega (arith, lt)) in
     rw first (or_right (eqb next 65535) (ltb next count) there)
 
-entry_right : (z : Counts) (rule : Rule) (condition : ℕ) (body : RuleBody) → z.actions ≡ 16 → is_of (named_of z) rule ≡ true → is_number_or_none 65535 z.codes condition ≡ true → is_right_body z.codes body ≡ true → is_right_rule z (entry_with rule condition body) ≡ true
+entry_right : (z : Counts) (rule : Rule) (condition : ℕ) (body : RuleBody) → is_of (named_of z) rule ≡ true → is_number_or_none 65535 z.codes condition ≡ true → is_right_body z.codes body ≡ true → is_right_rule z (entry_with rule condition body) ≡ true
 unfolding is_right_rule
-entry_right z rule condition body actions is asked done =
+entry_right z rule condition body is asked done =
     let p = named_parts (named_of z) rule is in
-    let action : is_number_or_none 255 z.actions (number_or_none rule.action) ≡ true = ap (λ n. is_number_or_none 255 n (number_or_none rule.action)) actions ∙ number_right 16 rule.action p.action in
     rw (
       lt-ltb _ _ p.book,
-      action,
+      number_right z.actions rule.action p.action,
       aspect_right z rule.noun p.noun,
       aspect_right z rule.second p.second,
       aspect_right z rule.place p.place,
@@ -176,36 +175,36 @@ entry_right z rule condition body actions is asked done =
       done,
     ) refl
 
-rule_right : (z : Counts) (next : ℕ) (rule : Rule) → z.actions ≡ 16 → is_of (named_of z) rule ≡ true → next + condition_count rule.condition < z.codes → z.codes ≤ 65535 → is_right_rule z (rule_entry next rule) ≡ true
+rule_right : (z : Counts) (next : ℕ) (rule : Rule) → is_of (named_of z) rule ≡ true → next + condition_count rule.condition < z.codes → z.codes ≤ 65535 → is_right_rule z (rule_entry next rule) ≡ true
 unfolding is_right_body
-rule_right z next rule actions is lt le =
+rule_right z next rule is lt le =
     let own : min (next + condition_count rule.condition) 65535 ≡ next + condition_count rule.condition = omega (arith, lt, le) in
     let there : is_right_body z.codes (Code (min (next + condition_count rule.condition) 65535)) ≡ true = rw own (lt-ltb _ _ lt) in
-    entry_right z rule (condition_number next rule.condition) (Code (min (next + condition_count rule.condition) 65535)) actions is (condition_right next z.codes rule.condition lt le) there
+    entry_right z rule (condition_number next rule.condition) (Code (min (next + condition_count rule.condition) 65535)) is (condition_right next z.codes rule.condition lt le) there
 
-pub rules_right : (z : Counts) (rules : List Rule) (next : ℕ) → z.actions ≡ 16 → list_all (is_of (named_of z)) rules ≡ true → next + length (origins_in rules) ≤ z.codes → z.codes ≤ 65535 → list_all (is_right_rule z) (rule_entries next rules) ≡ true
+pub rules_right : (z : Counts) (rules : List Rule) (next : ℕ) → list_all (is_of (named_of z)) rules ≡ true → next + length (origins_in rules) ≤ z.codes → z.codes ≤ 65535 → list_all (is_right_rule z) (rule_entries next rules) ≡ true
 unfolding rule_entries
-rules_right z [] next actions named le few = refl
-rules_right z (rule ∷ rules) next actions named le few =
+rules_right z [] next named le few = refl
+rules_right z (rule ∷ rules) next named le few =
     let more = counted_more rule rules in
     let t = both_are (is_of (named_of z) rule) (list_all (is_of (named_of z)) rules) named in
     both (is_right_rule z (rule_entry next rule)) (list_all (is_right_rule z) (rule_entries (next + rule_count rule) rules))
-    (rule_right z next rule actions t.0 (omega (arith, le, more)) few) (rules_right z rules (next + rule_count rule) actions t.1 (omega (arith, le, more)) few)
+    (rule_right z next rule t.0 (omega (arith, le, more)) few) (rules_right z rules (next + rule_count rule) t.1 (omega (arith, le, more)) few)
 
 -- ---- the entries of the rules that every story has are right
 
-standard_right : (z : Counts) (rules : List Rule) (number : ℕ) → z.actions ≡ 16 → list_all (is_of (named_of z)) rules ≡ true → 1 ≤ number → number + length rules ≤ 62 → list_all (is_right_rule z) (standard_from number rules) ≡ true
+standard_right : (z : Counts) (rules : List Rule) (number : ℕ) → list_all (is_of (named_of z)) rules ≡ true → 1 ≤ number → number + length rules ≤ 62 → list_all (is_right_rule z) (standard_from number rules) ≡ true
 unfolding is_right_body
-standard_right z [] number actions named first last = refl
-standard_right z (rule ∷ rules) number actions named first last =
+standard_right z [] number named first last = refl
+standard_right z (rule ∷ rules) number named first last =
     let t = both_are (is_of (named_of z) rule) (list_all (is_of (named_of z)) rules) named in
     let there : is_right_body z.codes (Standard number) ≡ true = both (leb 1 number) (leb number 61) (le-leb 1 number first) (le-leb number 61 (omega (arith, last))) in
     both (is_right_rule z (standard_entry number rule)) (list_all (is_right_rule z) (standard_from (number + 1) rules))
-    (entry_right z rule 65535 (Standard number) actions t.0 refl there) (standard_right z rules (number + 1) actions t.1 (omega arith) (omega (arith, last)))
+    (entry_right z rule 65535 (Standard number) t.0 refl there) (standard_right z rules (number + 1) t.1 (omega arith) (omega (arith, last)))
 
-all_standard_right : (z : Counts) → z.actions ≡ 16 → 8 ≤ z.books → list_all (is_right_rule z) standard_entries ≡ true
+all_standard_right : (z : Counts) → 16 ≤ z.actions → 8 ≤ z.books → list_all (is_right_rule z) standard_entries ≡ true
 unfolding standard_entries
-all_standard_right z actions books = standard_right z standard_rules 1 actions (each_of (named_of z) standard_rules books all_bare) (omega arith) (omega (arith, standard_count))
+all_standard_right z actions books = standard_right z standard_rules 1 (each_of (named_of z) standard_rules books actions all_bare) (omega arith) (omega (arith, standard_count))
 
 pub length_standard : length standard_entries ≡ 61
 unfolding standard_entries standard_rules rules_of_looking rules_of_examining rules_of_taking rules_of_dropping rules_of_putting rules_of_inserting rules_of_opening rules_of_closing rules_of_going rules_of_wearing rules_of_inventory rules_of_switching
@@ -231,10 +230,6 @@ each_scene_right : (scenes : List Bool) → list_all is_right_scene (map scene_e
 each_scene_right [] = refl
 each_scene_right (recurs ∷ scenes) = both (is_right_scene (scene_entry recurs)) (list_all is_right_scene (map scene_entry scenes)) (scene_right recurs) (each_scene_right scenes)
 
-actions_same : are_same_actions action_entries action_entries ≡ true
-unfolding are_same_actions action_entries standard_needs
-actions_same = refl
-
 pub length_entries : (rules : List Rule) (next : ℕ) → length (rule_entries next rules) ≡ length rules
 unfolding rule_entries
 length_entries [] next = refl
@@ -243,10 +238,10 @@ length_entries (rule ∷ rules) next = ap suc (length_entries rules (next + rule
 pub length_all : (rules : List Rule) (next : ℕ) → length (all_entries next rules) ≡ 61 + length rules
 length_all rules next = omega (arith, length-append standard_entries (rule_entries next rules), length_standard, length_entries rules next)
 
-all_right : (z : Counts) (rules : List Rule) (next : ℕ) → z.actions ≡ 16 → 8 ≤ z.books → list_all (is_of (named_of z)) rules ≡ true → next + length (origins_in rules) ≤ z.codes → z.codes ≤ 65535 → list_all (is_right_rule z) (all_entries next rules) ≡ true
+all_right : (z : Counts) (rules : List Rule) (next : ℕ) → 16 ≤ z.actions → 8 ≤ z.books → list_all (is_of (named_of z)) rules ≡ true → next + length (origins_in rules) ≤ z.codes → z.codes ≤ 65535 → list_all (is_right_rule z) (all_entries next rules) ≡ true
 all_right z rules next actions books named le codes =
     list_all-append (is_right_rule z) standard_entries (rule_entries next rules)
-    ∙ both (list_all (is_right_rule z) standard_entries) (list_all (is_right_rule z) (rule_entries next rules)) (all_standard_right z actions books) (rules_right z rules next actions named le codes)
+    ∙ both (list_all (is_right_rule z) standard_entries) (list_all (is_right_rule z) (rule_entries next rules)) (all_standard_right z actions books) (rules_right z rules next named le codes)
 
 -- what is known of the books of a tale with so many rules, those that every story has among them
 pub record AreRightBooks (d : Declared) (books : List Book) (count : ℕ) : Type 0 where
@@ -255,27 +250,19 @@ pub record AreRightBooks (d : Declared) (books : List Book) (count : ℕ) : Type
   pub fit : list_all book_layout.format.fits books ≡ true
 
 -- tables 8 to 12 are right, where there are so many codes and these books
-pub rule_tables_right : (d : Declared) (books : List Book) (z : Counts) (rules : List Rule) (next : ℕ) → length d.scenes ≤ 50 → d.rulebooks ≤ 100 → length rules ≤ 1939 → AreRightBooks d books (61 + length rules) → z.actions ≡ 16 → 8 ≤ z.books
+pub rule_tables_right : (d : Declared) (books : List Book) (z : Counts) (rules : List Rule) (next : ℕ) → length d.scenes ≤ 50 → d.rulebooks ≤ 100 → length rules ≤ 1939 → AreRightBooks d books (61 + length rules) → length d.actions ≤ 184 → list_all has_first_noun d.actions ≡ true → 16 ≤ z.actions → 8 ≤ z.books
     → list_all (is_of (named_of z)) rules ≡ true → next + length (origins_in rules) ≤ z.codes → z.codes ≤ 65535 → are_right_rules z (rules_of d books next rules) ≡ true
 unfolding are_right_rules rules_of
-rule_tables_right d books z rules next few_scenes few_own few known actions built_in named le codes =
+rule_tables_right d books z rules next few_scenes few_own few known few_actions nouns actions built_in named le codes =
     let count : length (map scene_entry d.scenes) ≡ length d.scenes = length-map d.scenes scene_entry in
     let scenes : leb (length (map scene_entry d.scenes)) 50 ≡ true = le-leb _ _ (omega (arith, count, few_scenes)) in
     let many = length_all rules next in
     let own_books : are_right_books (length (map scene_entry d.scenes)) (length (all_entries next rules)) books ≡ true =
     (λ i. are_right_books (count i) (many i) books) ∙ books_right (length d.scenes) d.rulebooks (61 + length rules) books few_own known.count_is known.there in
     let few_entries : leb (length (all_entries next rules)) 2000 ≡ true = le-leb _ _ (omega (arith, many, few)) in
-    rw (scenes, each_scene_right d.scenes, own_books, actions_same, few_entries) (all_right z rules next actions built_in named le codes)
+    rw (scenes, each_scene_right d.scenes, own_books, actions_right d.actions few_actions nouns, few_entries) (all_right z rules next actions built_in named le codes)
 
 -- ---- there is room for each in its bytes
-
-action_count : ltb (length action_entries) 65536 ≡ true
-unfolding action_entries standard_needs
-action_count = refl
-
-actions_fit : list_all action_layout.format.fits action_entries ≡ true
-unfolding action_layout action_entries standard_needs
-actions_fit = refl
 
 condition_fits : (next : ℕ) (c : Option Condition) → ltb (condition_number next c) 65536 ≡ true
 condition_fits next None = refl
@@ -288,7 +275,7 @@ rule_fits z next rule small is =
     let own : ltb (min (next + condition_count rule.condition) 65535) 65536 ≡ true = lt-ltb _ _ (omega arith) in
     rw (
       lt-ltb rule.book 65536 (omega (arith, p.book, small.books)),
-      number_fits 16 rule.action (omega arith) p.action,
+      number_fits z.actions rule.action small.actions p.action,
       aspect_fits z rule.noun small p.noun,
       aspect_fits z rule.second small p.second,
       aspect_fits z rule.place small p.place,
@@ -322,11 +309,11 @@ all_fit z rules next small named =
     list_all-append rule_layout.format.fits standard_entries (rule_entries next rules)
     ∙ both (list_all rule_layout.format.fits standard_entries) (list_all rule_layout.format.fits (rule_entries next rules)) standard_fit (rules_fit z rules next small named)
 
-pub rule_tables_fit : (d : Declared) (books : List Book) (z : Named) (rules : List Rule) (next : ℕ) → length d.scenes ≤ 50 → d.rulebooks ≤ 100 → length rules ≤ 1939 → AreRightBooks d books (61 + length rules) → IsSmall z
+pub rule_tables_fit : (d : Declared) (books : List Book) (z : Named) (rules : List Rule) (next : ℕ) → length d.scenes ≤ 50 → d.rulebooks ≤ 100 → length rules ≤ 1939 → AreRightBooks d books (61 + length rules) → length d.actions ≤ 184 → IsSmall z
     → list_all (is_of z) rules ≡ true → rules_layout.format.fits (rules_of d books next rules) ≡ true
 unfolding rules_layout rules_of
-rule_tables_fit d books z rules next few_scenes few_own few known small named =
+rule_tables_fit d books z rules next few_scenes few_own few known few_actions small named =
     let scene_count : ltb (length (map scene_entry d.scenes)) 65536 ≡ true = lt-ltb _ _ (omega (arith, length-map d.scenes scene_entry, few_scenes)) in
     let all : ltb (length books) 65536 ≡ true = lt-ltb _ _ (omega (arith, known.count_is, few_scenes, few_own)) in
     let rule_few : ltb (length (all_entries next rules)) 65536 ≡ true = lt-ltb _ _ (omega (arith, length_all rules next, few)) in
-    rw (action_count, actions_fit, rule_few, all_fit z rules next small named, all, known.fit, scene_count) (scenes_fit d.scenes)
+    rw (action_count d.actions few_actions, actions_fit d.actions, rule_few, all_fit z rules next small named, all, known.fit, scene_count) (scenes_fit d.scenes)

@@ -79,9 +79,9 @@ standard_carried c z front (rule ∷ rules) number parts is small named bare =
       standard_carried c z (front ++ rule ∷ []) rules (number + 1) (parts ∙ sym (append_assoc front (rule ∷ []) rules)) later small t.1 u.1,
     )
 
-pub all_standard_carried : (c : Codes) (z : Named) → IsSmall z → 8 ≤ z.books → AllZip (CarriesRule c) standard_entries standard_rules
+pub all_standard_carried : (c : Codes) (z : Named) → IsSmall z → 8 ≤ z.books → 16 ≤ z.actions → AllZip (CarriesRule c) standard_entries standard_rules
 unfolding standard_entries
-all_standard_carried c z small books = standard_carried c z [] standard_rules 1 refl refl small (each_of z standard_rules books all_bare) all_bare
+all_standard_carried c z small books actions = standard_carried c z [] standard_rules 1 refl refl small (each_of z standard_rules books actions all_bare) all_bare
 
 -- ---- wherever a rule is listed
 

@@ -91,19 +91,23 @@ bare_is rule h =
       condition = none_is rule.condition f.1;
     }
 
+there_among : (few many : ℕ) (o : Option ℕ) → few ≤ many → is_there few o ≡ true → is_there many o ≡ true
+there_among few many None le h = refl
+there_among few many (Some n) le h = lt-ltb _ _ (omega (arith, ltb-true n few h, le))
+
 -- so each story has what they name
-pub bare_of : (z : Named) (rule : Rule) → 8 ≤ z.books → is_bare rule ≡ true → is_of z rule ≡ true
+pub bare_of : (z : Named) (rule : Rule) → 8 ≤ z.books → 16 ≤ z.actions → is_bare rule ≡ true → is_of z rule ≡ true
 unfolding is_of
-bare_of z rule books h =
+bare_of z rule books actions h =
     let b = bare_is rule h in
     let book : ltb rule.book z.books ≡ true = lt-ltb _ _ (omega (arith, ltb-true rule.book 8 b.book, books)) in
-    rw (book, b.action, b.noun, b.second, b.place, b.scene) refl
+    rw (book, there_among 16 z.actions rule.action actions b.action, b.noun, b.second, b.place, b.scene) refl
 
-pub each_of : (z : Named) (rules : List Rule) → 8 ≤ z.books → list_all is_bare rules ≡ true → list_all (is_of z) rules ≡ true
-each_of z [] books h = refl
-each_of z (rule ∷ rules) books h =
+pub each_of : (z : Named) (rules : List Rule) → 8 ≤ z.books → 16 ≤ z.actions → list_all is_bare rules ≡ true → list_all (is_of z) rules ≡ true
+each_of z [] books actions h = refl
+each_of z (rule ∷ rules) books actions h =
     let t = both_are (is_bare rule) (list_all is_bare rules) h in
-    both (is_of z rule) (list_all (is_of z) rules) (bare_of z rule books t.0) (each_of z rules books t.1)
+    both (is_of z rule) (list_all (is_of z) rules) (bare_of z rule books actions t.0) (each_of z rules books actions t.1)
 
 -- ---- they name no code
 

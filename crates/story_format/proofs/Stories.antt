@@ -58,8 +58,8 @@ tale_is_story t texts listings rules held said =
     let books = books_of t listings rules in
     let known = right_books t listings rules of.few in
     record {
-      fits = tables_fit t.declared books t.objects rules origins held.made held.texts held.words of.few known of.named said.few said.short few (bytes_short strings origins said.said);
-      right = tables_right t.declared books t.objects rules origins held.made held.texts held.words of.few known of.named said.few few enough;
+      fits = tables_fit t.declared books t.objects rules origins held.made held.texts held.words of.few_actions of.few known of.named said.few said.short few (bytes_short strings origins said.said);
+      right = tables_right t.declared books t.objects rules origins held.made held.texts held.words of.few_actions of.first_nouns of.few known of.named said.few few enough;
       sound = tables_sound t.declared books ws texts rules said.few (few_objects t held) (of.many ∙ sym (described_back t)) (fit_listed t listings rules texts (number_in strings) origins said.fit) said.said;
       ordered = tale_ordered t texts listings rules;
     }

@@ -35,8 +35,8 @@ use Rattle.story_format.specs.declared.tables.Entry.{Entry}
 use Rattle.story_format.specs.Making.{Worded, worded_at, worded_from, worded, code_bytes, code_count, codes_in, described_in, entry_strings, strings_of, strings_said, article_number, relation_number, place_relation, place_holder, code_number, entry_of, entries_of, ways_of, tables_with, world_of}
 use Rattle.story_format.specs.Counts.{counts_of}
 use Rattle.story_format.specs.RuleChecks.{are_right_rules}
-use Rattle.story_format.specs.RuleMaking.{action_entries, book_count, rules_of, scene_entry}
-use Rattle.story_format.specs.Holding.{is_of, named_by, has_few_words, has_short_texts, is_short, is_short_or_none}
+use Rattle.story_format.specs.RuleMaking.{book_count, rules_of, scene_entry}
+use Rattle.story_format.specs.Holding.{has_first_noun, is_of, named_by, has_few_words, has_short_texts, is_short, is_short_or_none}
 use Rattle.story_format.specs.Sizes.{are_different, is_right_entry}
 use Rattle.story_format.specs.Placed.{is_room_entry, kinds_in, places_in}
 use Rattle.story_format.specs.Checks.{are_named_in_order, codes_named, heads_named, is_named, begin_with, has_words, have_words, is_small, is_small_at, has_small_words, is_player_entry, is_direction_entry, are_direction_entries, are_in_place, are_right_objects, are_right_ways, is_right_frame, stand_rightly, are_right}
@@ -46,8 +46,8 @@ use Rattle.story_format.proofs.Known.{or_right, text_is_itself, found_by_number,
 use Rattle.story_format.proofs.OrderLemmas.{at_most_one, in_turn_in_order, strings_distinct, strings_in_order}
 use Rattle.story_format.proofs.RuleLemmas.{AreRightBooks, codes_in_all, heads_by, heads_in_turn, origins_in, rule_tables_right}
 use Rattle.story_format.proofs.DeclaredLemmas.{all_suit, declared_parts, few_grants, few_kinds, world_right}
-use Rattle.play_meaning.specs.StandardActions.{standard_needs}
 use Rattle.story_format.proofs.AboutRules.{named_of}
+use Rattle.story_format.proofs.ActionLemmas.{length_actions}
 use Rattle.story_format.proofs.WordFacts.{differ, is_good, words_differ, words_good}
 
 -- ---- each entry is plain
@@ -321,20 +321,20 @@ module _ (d : Declared) (books : List Book) (ws : List Worded) (rules : List Rul
   unfolding counts_of tables_with rules_of
   books_counted count few few_own = omega (arith, count, few, few_own)
 
-  actions_counted : (counts_of (tables_with d books ws rules said)).actions ≡ 16
-  unfolding counts_of tables_with rules_of action_entries standard_needs
-  actions_counted = refl
+  actions_counted : length d.actions ≤ 184 → (counts_of (tables_with d books ws rules said)).actions ≡ 16 + length d.actions
+  unfolding counts_of tables_with rules_of
+  actions_counted few = omega (arith, length_actions d.actions, few)
 
-  names_counted : (objects : ℕ) → length books ≡ book_count d → length ws ≡ objects → objects ≤ 1000 → length d.kinds ≤ 100 → length d.flags ≤ 100 → length d.scenes ≤ 50 → d.rulebooks ≤ 100
+  names_counted : (objects : ℕ) → length books ≡ book_count d → length ws ≡ objects → objects ≤ 1000 → length d.kinds ≤ 100 → length d.flags ≤ 100 → length d.scenes ≤ 50 → d.rulebooks ≤ 100 → length d.actions ≤ 184
       → named_of (counts_of (tables_with d books ws rules said)) ≡ named_by d objects
   unfolding counts_of tables_with rules_of world_of
-  names_counted objects many count few_objects few_of_kinds few_of_flags few_scenes few_own =
+  names_counted objects many count few_objects few_of_kinds few_of_flags few_scenes few_own few_actions =
       let of_objects : min (length (entries_of (strings_of ws said) 0 ws)) 65535 ≡ objects = omega (arith, entries_counted (strings_of ws said) 0 ws, count, few_objects) in
       let of_kinds : min (length d.kinds) 65535 ≡ length d.kinds = omega (arith, few_of_kinds) in
       let of_flags : min (length d.flags) 65535 ≡ length d.flags = omega (arith, few_of_flags) in
       let of_scenes : min (length (map scene_entry d.scenes)) 65535 ≡ length d.scenes = omega (arith, length-map d.scenes scene_entry, few_scenes) in
       let of_books : min (length books) 65535 ≡ book_count d = omega (arith, many, few_scenes, few_own) in
-      λ i. record { books = of_books i; objects = of_objects i; kinds = of_kinds i; flags = of_flags i; scenes = of_scenes i }
+      λ i. record { books = of_books i; objects = of_objects i; kinds = of_kinds i; flags = of_flags i; scenes = of_scenes i; actions = actions_counted few_actions i }
 
   codes_counted : length (code_bytes (strings_of ws said) said) < 65536 → (counts_of (tables_with d books ws rules said)).codes ≡ length (code_bytes (strings_of ws said) said)
   unfolding counts_of tables_with
@@ -345,10 +345,10 @@ module _ (d : Declared) (books : List Book) (ws : List Worded) (rules : List Rul
   heads_told h = ap (λ codes. are_named_in_order 0 (codes_named (entries_of (strings_of ws said) 0 ws) ++ codes)) (codes_in_all rules (described_in ws)) ∙ h
 
 pub tables_right : (d : Declared) (books : List Book) (objects : List Object) (rules : List Rule) (said : List Origin) → IsWellMade (record { declared = d; objects = objects }) → list_all has_short_texts objects ≡ true → list_all has_few_words (worded objects) ≡ true
-    → length rules ≤ 1939 → AreRightBooks d books (61 + length rules) → list_all (is_of (named_by d (length objects))) rules ≡ true → length (strings_of (worded objects) said) < 65535 → length (code_bytes (strings_of (worded objects) said) said) < 65536
+    → length d.actions ≤ 184 → list_all has_first_noun d.actions ≡ true → length rules ≤ 1939 → AreRightBooks d books (61 + length rules) → list_all (is_of (named_by d (length objects))) rules ≡ true → length (strings_of (worded objects) said) < 65535 → length (code_bytes (strings_of (worded objects) said) said) < 65536
     → described_in (worded objects) + length (origins_in rules) ≤ length (code_bytes (strings_of (worded objects) said) said) → are_right (tables_with d books (worded objects) rules said) ≡ true
 unfolding are_right is_right_frame are_right_objects stand_rightly are_right_ways tables_with
-tables_right d books objects rules said made texts few_words few_rules known_books named few few_codes enough =
+tables_right d books objects rules said made texts few_words few_actions nouns few_rules known_books named few few_codes enough =
     let ws = worded objects in
     let strings = strings_of ws said in
     let back : objects_in ws ≡ objects = objects_back 0 objects in
@@ -361,7 +361,7 @@ tables_right d books objects rules said made texts few_words few_rules known_boo
     let all_codes = codes_counted d books ws rules said few_codes in
     let built_in : 8 ≤ z.books = omega (arith, books_counted d books ws rules said known_books.count_is declared.scenes declared.rulebooks) in
     let rules_so : are_right_rules z (rules_of d books (described_in ws) rules) ≡ true =
-    rule_tables_right d books z rules (described_in ws) declared.scenes declared.rulebooks few_rules known_books (actions_counted d books ws rules said) built_in (ap (λ n. list_all (is_of n) rules) (names_counted d books ws rules said (length objects) known_books.count_is count few_objects (few_kinds d.kinds declared.kinds) (few_grants (length d.kinds) d.flags declared.flags) declared.scenes declared.rulebooks) ∙ named) (omega (arith, enough, all_codes)) (omega (arith, few_codes, all_codes)) in
+    rule_tables_right d books z rules (described_in ws) declared.scenes declared.rulebooks few_rules known_books few_actions nouns (omega (arith, actions_counted d books ws rules said few_actions)) built_in (ap (λ n. list_all (is_of n) rules) (names_counted d books ws rules said (length objects) known_books.count_is count few_objects (few_kinds d.kinds declared.kinds) (few_grants (length d.kinds) d.flags declared.flags) declared.scenes declared.rulebooks few_actions) ∙ named) (omega (arith, enough, all_codes)) (omega (arith, few_codes, all_codes)) in
     let order : are_named_in_order 0 (heads_named (tables_with d books ws rules said)) ≡ true =
     heads_told d books ws rules said (in_turn_in_order (heads_by strings ws rules) 0 (heads_in_turn strings ws rules (omega (arith, few_objects, count)) (omega (arith, enough, few_codes)))) in
     let entry_count : leb (length (entries_of strings 0 ws)) 1000 ≡ true = le-leb _ _ (omega (arith, few_objects, count, entries_counted strings 0 ws)) in

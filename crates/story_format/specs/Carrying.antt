@@ -1,7 +1,7 @@
 -- Tables that carry a tale: they say of each object's name, words and ways, and of the start, what the tale says; its
--- description's code says its text; its rules are about the same, and their codes answer their conditions and do their
--- bodies; and its books list them in the order in which they are asked, as sentences list them.
-use Rattle.std.specs.Prelude.{◌≡◌, ℕ, zero, suc, [], is_some, length, map, slice_get, List, Option, None, Some, if◌then◌else◌, ◌==◌}
+-- description's code says its text; its actions ask for the same; its rules are about the same, and their codes answer their
+-- conditions and do their bodies; and its books list them in the order in which they are asked, as sentences list them.
+use Rattle.std.specs.Prelude.{◌≡◌, ℕ, zero, suc, Bool, true, false, ◌||◌, [], ◌∷◌, ◌++◌, count_by, is_some, length, map, slice_get, List, Option, None, Some, if◌then◌else◌, ◌==◌}
 use Rattle.std.specs.List.{AllZip}
 use Rattle.std.specs.Option.{option_map}
 use Rattle.play_meaning.specs.Codes.{Codes, RunsTo, test_of}
@@ -13,6 +13,7 @@ use Rattle.play_meaning.specs.Rules.{Anything, Aspect, Exactly, OfKind, Rule}
 use Rattle.play_meaning.specs.Saying.{Telling}
 use Rattle.play_meaning.specs.Scripts.{says, scope_of, undescribed}
 use Rattle.play_meaning.specs.Settings.{Setting}
+use Rattle.play_meaning.specs.StandardActions.{standard_needs}
 use Rattle.play_meaning.specs.StandardRules.{standard_rules}
 use Rattle.play_meaning.specs.Tales.{setting_of}
 use Rattle.play_meaning.specs.Trees.{Adjective, Body, Condition, First, NotSo, Quality, Second, Text}
@@ -20,6 +21,9 @@ use Rattle.play_meaning.specs.Truth.{truth_in}
 use Rattle.play_meaning.specs.Worlds.{World}
 use Rattle.play_meaning.specs.declared.action.ActionNow.{ActionNow}
 use Rattle.world_meaning.specs.Tale.{description_of as told_description, name_of as told_name, start_of as told_start, way_of as told_way}
+use Rattle.world_meaning.specs.declared.needs.Needs.{Needs}
+use Rattle.world_meaning.specs.declared.needs.Slot.{Slot}
+use Rattle.world_meaning.specs.declared.needs.Slot.TheVariants.{Absent, Visible, Touched, Carried}
 use Rattle.world_meaning.specs.declared.tale.Tale.{Tale}
 use Rattle.object_words.specs.Words.{words_of as told_words}
 use Rattle.rule_order.specs.declared.listing.ListingSentence.{ListingSentence}
@@ -29,10 +33,29 @@ use Rattle.story_format.specs.declared.rule_entry.PropertySide.{PropertySide}
 use Rattle.story_format.specs.declared.rule_entry.RuleBody.{RuleBody}
 use Rattle.story_format.specs.declared.rule_entry.RuleBody.TheVariants.{Code, Standard}
 use Rattle.story_format.specs.declared.rule_entry.RuleEntry.{RuleEntry}
+use Rattle.story_format.specs.declared.rule_tables.ActionEntry.{ActionEntry}
 use Rattle.story_format.specs.declared.tables.Tables.{Tables}
 use Rattle.story_format.specs.Codes.{codes_told}
 use Rattle.story_format.specs.Facts.{description_code_of, name_of, object_count_of, rules_listed, start_of, way_of, words_of}
 use Rattle.story_format.specs.Making.{story_rules, text_of}
+
+-- ---- actions
+
+-- what this number says that an action asks of a noun; 255 that it has none
+abbrev pub need_told : ℕ → Option Slot
+need_told n = if n == 255 then Some Absent else (if n == 0 then Some Visible else (if n == 1 then Some Touched else (if n == 2 then Some Carried else None)))
+
+abbrev pub is_present : Slot → Bool
+is_present Absent = false
+is_present _ = true
+
+-- the entry asks for what the action does; of its marks 1 is that for light, 2 that for out of world, and 3 is both
+pub record AsksFor (e : ActionEntry) (needs : Needs) : Type 0 where
+  pub nouns : e.nouns ≡ count_by is_present (needs.noun ∷ needs.second ∷ [])
+  pub noun : need_told e.noun ≡ Some needs.noun
+  pub second : need_told e.second ≡ Some needs.second
+  pub light : ((e.marks == 1) || (e.marks == 3)) ≡ needs.light
+  pub out_of_world : ((e.marks == 2) || (e.marks == 3)) ≡ needs.out_of_world
 
 -- ---- rules
 
@@ -98,6 +121,8 @@ pub record Carries (tables : Tables) (tale : Tale) (texts : List Text) (listings
   pub descriptions : (o : ℕ) (s : Setting) (now : ActionNow) (w : World) → said_by_code (codes_told tables) s now w (description_code_of tables o) ≡ says (undescribed s) now w (text_of tale texts o)
   pub ways : (o direction : ℕ) → way_of tables o direction ≡ told_way tale o direction
   pub start : start_of tables ≡ told_start tale
+  -- the sixteen, and behind them the author's
+  pub actions : AllZip AsksFor tables.rules.actions (standard_needs ++ tale.declared.actions)
   -- those that every story has, and behind them the author's
   pub rules_are : AllZip (CarriesRule (codes_told tables)) tables.rules.rules (story_rules listings rules)
   -- each book lists its rules in the order in which they are asked

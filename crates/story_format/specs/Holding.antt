@@ -1,8 +1,9 @@
 -- The tales that a story file holds, and the texts and rules that it says of them.
-use Rattle.std.specs.Prelude.{◌≡◌, ◌<◌, ◌≤◌, ℕ, Bool, true, false, ◌&&◌, nat_lt, nat_le, List, [], length, map, Option, Some, None}
+use Rattle.std.specs.Prelude.{◌≡◌, ◌<◌, ◌≤◌, ℕ, ◌+◌, Bool, true, false, ◌&&◌, nat_lt, nat_le, List, [], length, map, Option, Some, None}
 use Rattle.std.specs.List.{list_all}
 use Rattle.world_meaning.specs.WellMade.{IsWellMade}
 use Rattle.world_meaning.specs.declared.declared.Declared.{Declared}
+use Rattle.world_meaning.specs.declared.needs.Needs.{Needs}
 use Rattle.world_meaning.specs.declared.tale.Object.{Object}
 use Rattle.world_meaning.specs.declared.tale.Tale.{Tale}
 use Rattle.object_words.specs.Mentions.{number_in}
@@ -16,7 +17,7 @@ use Rattle.code_table.specs.declared.fault.TableFault.{TableFault}
 use Rattle.code_table.specs.declared.fault.TableFault.TheVariants.{LongText, LongRule, TooMany, Memory}
 use Rattle.story_format.specs.Codes.{counts_of}
 use Rattle.story_format.specs.Making.{Worded, codes_in, strings_of, strings_said, tables_of, worded}
-use Rattle.story_format.specs.RuleMaking.{book_count}
+use Rattle.story_format.specs.RuleMaking.{book_count, noun_count}
 
 abbrev pub is_short : List ℕ → Bool
 is_short text = nat_lt (length text) 65536
@@ -46,9 +47,10 @@ pub record Named : Type 0 where
   pub kinds : ℕ
   pub flags : ℕ
   pub scenes : ℕ
+  pub actions : ℕ
 
 abbrev pub named_by : Declared → ℕ → Named
-named_by d objects = record { books = book_count d; objects = objects; kinds = length d.kinds; flags = length d.flags; scenes = length d.scenes }
+named_by d objects = record { books = book_count d; objects = objects; kinds = length d.kinds; flags = length d.flags; scenes = length d.scenes; actions = 16 + length d.actions }
 
 abbrev pub named_in : Tale → Named
 named_in t = named_by t.declared (length t.objects)
@@ -73,13 +75,20 @@ is_asked z (OfKind kind adjectives) = nat_lt kind z.kinds && (nat_le (length adj
 -- a rule of a book that there is, about what is there
 unfoldable pub is_of : Named → Rule → Bool
 is_of z rule =
-    nat_lt rule.book z.books && is_there 16 rule.action && is_asked z rule.noun && is_asked z rule.second && is_asked z rule.place && is_there z.scenes rule.scene
+    nat_lt rule.book z.books && is_there z.actions rule.action && is_asked z rule.noun && is_asked z rule.second && is_asked z rule.place && is_there z.scenes rule.scene
 
--- What may be said of a tale: a text of each description, and rules, with the sixty-one 2,000 at most.
+-- no second noun without a first
+abbrev pub has_first_noun : Needs → Bool
+has_first_noun needs = nat_le (noun_count needs.second) (noun_count needs.noun)
+
+-- What may be said of a tale: a text of each description, and rules, with the sixty-one 2,000 at most. Its actions are 200 at
+-- most with the sixteen.
 pub record AreOf (t : Tale) (texts : List Text) (rules : List Rule) : Type 0 where
   pub many : length texts ≡ codes_in t.objects
   pub few : length rules ≤ 1939
   pub named : list_all (is_of (named_in t)) rules ≡ true
+  pub few_actions : length t.declared.actions ≤ 184
+  pub first_nouns : list_all has_first_noun t.declared.actions ≡ true
 
 abbrev pub strings_in : Tale → List Origin → List (List ℕ)
 strings_in t origins = strings_of (worded t.objects) origins
@@ -114,6 +123,8 @@ AreNotHeld t texts rules Memory = Unit {0}
 abbrev pub NeverHeldAndNot : Type 0
 NeverHeldAndNot = (t : Tale) (texts : List Text) (rules : List Rule) (fault : TableFault) → AreHeld t texts rules → AreNotHeld t texts rules fault → fault ≡ Memory
 
--- texts of bytes alone, each at most 65,535, are said where there is no rule
+-- texts of bytes alone, each at most 65,535, are said where there is no rule, and the actions may be said
 abbrev pub PlainTextsAreHeld : Type 0
-PlainTextsAreHeld = (t : Tale) (bytes : List (List ℕ)) → IsHeld t → length bytes ≡ codes_in t.objects → list_all is_short bytes ≡ true → AreHeld t (map plain bytes) []
+PlainTextsAreHeld =
+    (t : Tale) (bytes : List (List ℕ)) → IsHeld t → length t.declared.actions ≤ 184 → list_all has_first_noun t.declared.actions ≡ true → length bytes ≡ codes_in t.objects → list_all is_short bytes ≡ true
+    → AreHeld t (map plain bytes) []

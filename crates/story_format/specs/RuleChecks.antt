@@ -16,16 +16,28 @@ use Rattle.story_format.specs.declared.rule_tables.Book.{Book}
 use Rattle.story_format.specs.declared.rule_tables.RuleTables.{RuleTables}
 use Rattle.story_format.specs.declared.rule_tables.SceneEntry.{SceneEntry}
 
--- ---- table 8: the sixteen actions
+-- ---- table 8: the sixteen actions, and behind them the author's
 
 abbrev pub is_same_action : ActionEntry → ActionEntry → Bool
 is_same_action a b = (a.nouns == b.nouns) && (a.noun == b.noun) && (a.second == b.second) && (a.marks == b.marks)
 
-unfoldable pub are_same_actions : List ActionEntry → List ActionEntry → Bool
-are_same_actions [] [] = true
-are_same_actions [] (b ∷ others) = false
-are_same_actions (a ∷ actions) [] = false
-are_same_actions (a ∷ actions) (b ∷ others) = is_same_action a b && are_same_actions actions others
+-- the first are these
+unfoldable pub begin_with_actions : List ActionEntry → List ActionEntry → Bool
+begin_with_actions actions [] = true
+begin_with_actions [] (b ∷ others) = false
+begin_with_actions (a ∷ actions) (b ∷ others) = is_same_action a b && begin_with_actions actions others
+
+-- of a noun that the action has, or of one that it hasn't
+abbrev pub is_right_need : Bool → ℕ → Bool
+is_right_need has need = if has then nat_le need 2 else (need == 255)
+
+-- two nouns at most, and no mark but those for light and out of world
+unfoldable pub is_right_action : ActionEntry → Bool
+is_right_action a = nat_le a.nouns 2 && is_right_need (nat_le 1 a.nouns) a.noun && is_right_need (nat_le 2 a.nouns) a.second && nat_le a.marks 3
+
+-- 200 at most
+unfoldable pub are_right_actions : List ActionEntry → Bool
+are_right_actions actions = nat_le (length actions) 200 && begin_with_actions actions (action_entries []) && list_all is_right_action actions
 
 -- ---- table 10: rules
 
@@ -100,5 +112,5 @@ are_right_scenes scenes = nat_le (length scenes) 50 && list_all is_right_scene s
 -- asked apart
 unfoldable pub are_right_rules : Counts → RuleTables → Bool
 are_right_rules z r =
-    are_right_scenes r.scenes && are_right_books (length r.scenes) (length r.rules) r.books && are_same_actions r.actions action_entries && (length r.grammar == 0)
+    are_right_scenes r.scenes && are_right_books (length r.scenes) (length r.rules) r.books && are_right_actions r.actions && (length r.grammar == 0)
     && (nat_le (length r.rules) 2000 && list_all (is_right_rule z) r.rules)

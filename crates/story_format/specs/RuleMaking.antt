@@ -1,5 +1,5 @@
--- The rule tables of a tale: the sixteen actions, the rules that every story has and behind them its own, with what they are
--- about and the numbers of their codes, its books, its scenes without what begins or ends them.
+-- The rule tables of a tale: the sixteen actions and behind them the author's, the rules that every story has and behind them
+-- its own, with what they are about and the numbers of their codes, its books, its scenes without what begins or ends them.
 use Rattle.std.specs.Prelude.{ℕ, ◌+◌, ◌*◌, Bool, List, [], ◌∷◌, ◌++◌, length, map, min, Option, None, Some, if◌then◌else◌}
 use Rattle.world_meaning.specs.declared.declared.Declared.{Declared}
 use Rattle.play_meaning.specs.Rules.{Anything, Aspect, Exactly, OfKind, Rule}
@@ -44,8 +44,9 @@ action_entry needs = record {
   marks = mark_if 1 needs.light + mark_if 2 needs.out_of_world;
 }
 
-unfoldable pub action_entries : List ActionEntry
-action_entries = map action_entry standard_needs
+-- table 8: the sixteen, and behind them the author's
+unfoldable pub action_entries : List Needs → List ActionEntry
+action_entries actions = map action_entry (standard_needs ++ actions)
 
 -- ---- rules
 
@@ -134,7 +135,7 @@ scene_entry recurs = record { recurring = mark_if 1 recurs; begins = 65535; ends
 -- tables 8 to 12 of what a source declares, of its books and of its rules, the first code of these having this number
 unfoldable pub rules_of : Declared → List Book → ℕ → List Rule → RuleTables
 rules_of d books next rules = record {
-  actions = action_entries;
+  actions = action_entries d.actions;
   grammar = [];
   rules = all_entries next rules;
   books = books;

@@ -1,5 +1,5 @@
-//! Table 8 of every story so far: the sixteen actions, by what each needs.
-ghost use Rattle.std.specs.Prelude.{◌≡◌, IfOk, map};
+//! Table 8 of every story: the sixteen actions, and behind them the author's, by what each needs.
+ghost use Rattle.std.specs.Prelude.{◌≡◌, ◌++◌, IfOk, OnOk, map};
 ghost use Rattle.play_meaning.specs.StandardActions.{standard_needs};
 ghost use Rattle.story_format.specs.RuleMaking.{action_entries, action_entry, mark_if, need_number, noun_count};
 ghost use Rattle.story_format.specs.declared.actions.TheConstants.{STANDARD_NEEDS};
@@ -102,17 +102,26 @@ fn action_entry(needs: &Needs) -> ActionEntry
     }
 }
 
-/// The entries of the sixteen actions.
-#[tactic(auto, unfolding(crate::specs::RuleMaking::action_entries, play_meaning::specs::StandardActions::standard_needs))]
-pub fn action_entries(alloc: Global) -> Result<Table<ActionEntry>, AllocError>
-    ensures { IfOk result (λ entries. entries ≡ action_entries) }
+/// Adds the entries of actions that need so much.
+fn add_entries(entries: &mut Vec<ActionEntry>, actions: &[Needs]) -> Result<(), AllocError>
+    ensures { OnOk result (entries.new.items ≡ entries.old.items ++ map action_entry actions.now) }
 {
-    let mut entries = Vec::new(alloc);
-    let mut rest = STANDARD_NEEDS.as_slice();
+    let mut rest = actions;
     while let [needs, after @ ..] = rest {
         entries.push(action_entry(needs))?;
         rest = after;
     }
+    Ok(())
+}
+
+/// The entries of the sixteen actions, and behind them those of the author's, which need so much.
+#[tactic(auto, unfolding(crate::specs::RuleMaking::action_entries, play_meaning::specs::StandardActions::standard_needs))]
+pub fn action_entries(alloc: Global, actions: &[Needs]) -> Result<Table<ActionEntry>, AllocError>
+    ensures { IfOk result (λ entries. entries ≡ action_entries actions.now) }
+{
+    let mut entries = Vec::new(alloc);
+    add_entries(&mut entries, &STANDARD_NEEDS)?;
+    add_entries(&mut entries, actions)?;
     Ok(Table::new(entries))
 }
 

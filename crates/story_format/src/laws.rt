@@ -53,12 +53,14 @@ pub fn tales_are_stories()
 {}
 
 /// They say of each object's name and ways, and of the start, what the tale says, of each object the text that describes
-/// it, of each rule what it asks and does, and of each rulebook in which order it asks its rules, as sentences list them.
+/// it, of each action what it asks for, of each rule what it asks and does, and of each rulebook in which order it asks its
+/// rules, as sentences list them.
 pub fn story_carries_tale()
     ensures { (tale : Tale) (texts : List Text) (listings : List ListingSentence) (rules : List Rule) → IsHeld tale → AreHeld tale texts rules → Carries (tables_of tale texts listings rules) tale texts listings rules }
 {}
 
-/// A story file says descriptions that say bytes alone, each at most 65,535, where there is no rule.
+/// A story file says descriptions that say bytes alone, each at most 65,535, where there is no rule, and 184 actions of the
+/// author's at most, none with a second noun alone.
 pub fn plain_texts_are_held()
     ensures { PlainTextsAreHeld }
 {}

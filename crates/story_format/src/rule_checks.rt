@@ -1,8 +1,7 @@
 //! What tables 8 to 12 of a story say, where there are so many of what they name.
 ghost use Rattle.std.specs.Prelude.{◌≡◌, IfOk, nat_le, nat_lt, true};
 ghost use Rattle.std.specs.List.{list_all};
-ghost use Rattle.story_format.specs.RuleChecks.{are_right_books, are_right_rules, are_right_scenes, are_same_actions, is_number_or_none, is_right_aspect, is_right_body, is_right_rule, is_right_scene, is_right_side, is_same_action, lists_what_is_there};
-ghost use Rattle.story_format.specs.RuleMaking.{action_entries};
+ghost use Rattle.story_format.specs.RuleChecks.{are_right_actions, are_right_books, are_right_rules, are_right_scenes, begin_with_actions, is_number_or_none, is_right_action, is_right_aspect, is_right_body, is_right_need, is_right_rule, is_right_scene, is_right_side, is_same_action, lists_what_is_there};
 
 use crate::actions::action_entries;
 use crate::place::NONE;
@@ -13,6 +12,9 @@ use std::alloc::{AllocError, Global};
 
 /// The number of a byte that stands for none.
 const NO_BYTE: u8 = 255;
+
+/// The most actions of a story.
+const MOST_ACTIONS: usize = 200;
 
 /// The most rules of a story.
 const MOST_RULES: usize = 2000;
@@ -38,20 +40,57 @@ fn is_same_action(one: &ActionEntry, other: &ActionEntry) -> bool
         && one.marks == other.marks
 }
 
-#[tactic(auto, unfolding(crate::specs::RuleChecks::are_same_actions))]
-fn are_same_actions(actions: &[ActionEntry], others: &[ActionEntry]) -> bool
-    ensures { result ≡ are_same_actions actions.now others.now }
+/// Whether the first actions are these.
+#[tactic(auto, unfolding(crate::specs::RuleChecks::begin_with_actions))]
+fn begin_with_actions(actions: &[ActionEntry], others: &[ActionEntry]) -> bool
+    ensures { result ≡ begin_with_actions actions.now others.now }
 {
     let mut actions = actions;
     let mut others = others;
-    while let [action, after @ ..] = actions {
-        match others {
-            [other, behind @ ..] if is_same_action(action, other) => others = behind,
+    while let [other, behind @ ..] = others {
+        match actions {
+            [action, after @ ..] if is_same_action(action, other) => actions = after,
             _ => return false,
         }
-        actions = after;
+        others = behind;
     }
-    others.is_empty()
+    true
+}
+
+/// Whether a number says what is needed of a noun that the action has, or that it hasn't it.
+fn is_right_need(has: bool, need: u8) -> bool
+    ensures { result ≡ is_right_need has need }
+{
+    if has { need <= 2 } else { need == NO_BYTE }
+}
+
+#[tactic(auto, unfolding(crate::specs::RuleChecks::is_right_action))]
+fn is_right_action(action: &ActionEntry) -> bool
+    ensures { result ≡ is_right_action action.now }
+{
+    action.nouns <= 2
+        && is_right_need(1 <= action.nouns, action.noun)
+        && is_right_need(2 <= action.nouns, action.second)
+        && action.marks <= 3
+}
+
+fn each_action_is_right(actions: &[ActionEntry]) -> bool
+    ensures { result ≡ list_all is_right_action actions.now }
+{
+    actions.iter().all(is_right_action)
+}
+
+/// Whether the sixteen actions stand first, and behind them 184 at most.
+#[tactic(auto, unfolding(crate::specs::RuleChecks::are_right_actions))]
+fn are_right_actions(alloc: Global, actions: &[ActionEntry]) -> Result<bool, AllocError>
+    ensures { IfOk result (λ right. right ≡ are_right_actions actions.now) }
+{
+    let standard = action_entries(alloc, &[])?;
+    Ok(
+        actions.len() <= MOST_ACTIONS
+            && begin_with_actions(actions, standard.as_slice())
+            && each_action_is_right(actions),
+    )
 }
 
 /// Whether a number is none, or that of one of so many.
@@ -172,8 +211,9 @@ fn are_right_scenes(scenes: &[SceneEntry]) -> bool
     scenes.len() <= MOST_SCENES && each_scene_is_right(scenes)
 }
 
-/// Whether tables 8 to 12 are those of a story: the sixteen actions, no grammar so far, rules that name what is there, books
-/// that list such, and scenes that nothing begins or ends. Whether a book's rules are its own is asked apart.
+/// Whether tables 8 to 12 are those of a story: the sixteen actions and behind them the author's, no grammar so far, rules
+/// that name what is there, books that list such, and scenes that nothing begins or ends. Whether a book's rules are its own
+/// is asked apart.
 #[tactic(auto, unfolding(crate::specs::RuleChecks::are_right_rules))]
 pub fn are_right_rules(
     alloc: Global,
@@ -182,7 +222,7 @@ pub fn are_right_rules(
 ) -> Result<bool, AllocError>
     ensures { IfOk result (λ right. right ≡ are_right_rules counts.now rules.now) }
 {
-    let actions = action_entries(alloc)?;
+    let actions = are_right_actions(alloc, rules.actions.as_slice())?;
     let scenes = rules.scenes.as_slice();
     Ok(
         are_right_scenes(scenes)
@@ -191,7 +231,7 @@ pub fn are_right_rules(
                 rules.rules.as_slice().len(),
                 rules.books.as_slice(),
             )
-            && are_same_actions(rules.actions.as_slice(), actions.as_slice())
+            && actions
             && rules.grammar.as_slice().is_empty()
             && rules.rules.as_slice().len() <= MOST_RULES
             && each_is_right(counts, rules.rules.as_slice()),

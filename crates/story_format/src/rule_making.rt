@@ -192,7 +192,7 @@ pub fn rules_of(
     ensures { IfOk result (λ made. made ≡ rules_of declared.now books first (map rule_meant rules.now)) }
 {
     Ok(RuleTables {
-        actions: action_entries(alloc)?,
+        actions: action_entries(alloc, declared.actions.as_slice())?,
         grammar: Table::new(Vec::new(alloc)),
         rules: all_entries(alloc, first, rules)?,
         books,
