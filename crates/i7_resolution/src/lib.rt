@@ -1,5 +1,5 @@
 //! What the rules of a source are, what the texts say that describe its objects, and where sentences list its rules, once
-//! its names are known, or why the source is refused for them.
+//! its names are known, or why the source is refused for them, for its actions or for its rulebooks' names.
 #![tactic(auto)]
 
 mod action_list;

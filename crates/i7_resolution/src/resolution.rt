@@ -38,7 +38,7 @@ pub enum Resolution {
     Refused(Fault),
 }
 
-/// Where a code comes among those that refuse a source for its rules, its texts and its listings.
+/// Where a code comes among those that refuse a source for its rules, texts and listings, and for its actions and rulebooks' names.
 fn turn_of(code: FaultCode) -> u8
     ensures { result ≡ turn_of code }
 {

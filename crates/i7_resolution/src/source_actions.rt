@@ -13,6 +13,9 @@ use std::alloc::{AllocError, Global};
 /// The most actions of the author's: with the sixteen standard ones they are 200.
 const MOST: usize = 184;
 
+/// How many actions rules know.
+const MOST_KNOWN: usize = 255;
+
 /// All actions, by number.
 #[tactic(auto, unfolding(crate::specs::SourceActions::actions_in))]
 pub fn actions_of(alloc: Global, declared: &[ActionAt<'_>]) -> Result<Vec<Action>, AllocError>
@@ -27,12 +30,13 @@ pub fn actions_of(alloc: Global, declared: &[ActionAt<'_>]) -> Result<Vec<Action
     Ok(actions)
 }
 
-/// Those that rules know.
+/// Those that rules know: a rule keeps an action's number in a byte.
+#[tactic(auto, using(std::proofs::lemmas::List::take_min))]
 pub fn known_actions(actions: &[Action]) -> &[Action]
     ensures known { result.now ≡ known_actions actions.now }
     ensures few { length result.now ≤ 255 }
 {
-    let (known, _) = actions.split_at(actions.len().min(255));
+    let (known, _) = actions.split_at(MOST_KNOWN.min(actions.len()));
     known
 }
 

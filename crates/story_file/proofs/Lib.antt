@@ -6,6 +6,7 @@ pub mod Held
 pub mod MadeDeclarations
 pub mod MadeObjects
 pub mod MadePlaces
+pub mod NounsAgree
 pub mod Outcomes
 pub mod Ranges
 pub mod Resolving

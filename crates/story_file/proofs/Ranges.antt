@@ -1,5 +1,5 @@
 -- The numbers of the sentences that a source says are in range, and its actions ask for no second noun without a first.
-use Rattle.std.proofs.Common.{◌≡◌, ℕ, zero, suc, Bool, true, false, ◌≤◌, ◌-ℤ◌, ℤ, pos, negsuc, List, [], ◌∷◌, Option, Some, None, min, refl, sym, subst, arith, inl, inr}
+use Rattle.std.proofs.Common.{◌≡◌, ℕ, zero, suc, Bool, true, false, ◌≤◌, ◌-ℤ◌, ℤ, pos, negsuc, List, [], ◌∷◌, Option, Some, None, min, refl, ap, sym, subst, arith, inl, inr}
 use Rattle.std.specs.Prelude.{if◌then◌else◌, map, nat_le}
 use Rattle.std.specs.List.{AllZip, cons_option, list_all}
 use Rattle.std.proofs.lemmas.Bool.{lt-ltb}
@@ -123,7 +123,7 @@ form_ranged form.ListedFirst (rule ∷ book ∷ []) = tt
 form_ranged form.ListedLast (rule ∷ book ∷ []) = tt
 form_ranged form.NotListed (rule ∷ []) = tt
 form_ranged (form.Action sort) (name ∷ []) = refl
-form_ranged (form.Action sort) (name ∷ noun ∷ []) = refl
+form_ranged (form.Action sort) (name ∷ noun ∷ []) = ap (nat_le 0) (asked_there noun)
 form_ranged (form.Action sort) (name ∷ noun ∷ second ∷ []) = (λ i. nat_le (asked_there second i) (asked_there noun i))
 form_ranged (form.ActionOnTwo sort) (name ∷ []) = refl
 form_ranged form.Rulebook (name ∷ []) = tt

@@ -1,10 +1,10 @@
 -- The rules of sentences that mean a tale are few, stand in its books, and ask for what is there.
-use Rattle.std.proofs.Common.{◌+◌, ◌≡◌, ◌∙◌, ap, refl, subst, sym, ℕ, zero, suc, ◌<◌, ◌≤◌, Bool, true, ◌&&◌, List, [], ◌∷◌, length, map, Some, arith, inl, inr}
+use Rattle.std.proofs.Common.{◌+◌, ◌≡◌, ◌∙◌, ap, refl, subst, sym, ℕ, zero, suc, ◌<◌, ◌≤◌, Bool, true, ◌&&◌, List, [], ◌∷◌, ◌++◌, length, map, Some, arith, inl, inr}
 use Rattle.std.specs.Prelude.{None, Option, nat_le, nat_lt, reverse, slice_get}
 use Rattle.std.specs.List.{AllZip, list_all}
 use Rattle.std.proofs.lemmas.Bool.{cases_lt, lt-ltb}
 use Rattle.std.proofs.lemmas.Grind.{reverse_onto}
-use Rattle.std.proofs.lemmas.List.{length-append, length-map, length-reverse, reverse-reverse}
+use Rattle.std.proofs.lemmas.List.{length-append, length-map, length-reverse, length-take, reverse-reverse}
 use Rattle.std.proofs.lemmas.List.Elements.{All-head, All-tail}
 use Rattle.std.proofs.lemmas.List.Folds.{list_all-append}
 use Rattle.world_meaning.proofs.Bools.{both, both_are}
@@ -136,7 +136,10 @@ sixteen = refl
 known_counted : (sentences : List Sentence) → length (actions_declared sentences) ≤ 184 → length (known_actions (actions_in sentences)) ≡ 16 + length (actions_declared sentences)
 unfolding actions_in
 known_counted sentences few =
-    omega (arith, few, sixteen, length-map (actions_declared sentences) action_of, length-append standard_actions (map action_of (actions_declared sentences)))
+    let declared = actions_declared sentences in
+    let all = standard_actions ++ map action_of declared in
+    let whole : length all ≡ 16 + length declared = omega (arith, sixteen, length-append standard_actions (map action_of declared), length-map declared action_of) in
+    length-take 255 all ∙ omega (arith, few, whole)
 
 module _ (k : Known) (d : Declared) (y : Counts) (there : AreThere y k.meanings k.plurals) (actions : length k.actions ≡ 16 + length d.actions) (books : length k.rulebooks ≡ d.rulebooks) (scenes : k.scenes ≡ length d.scenes)
     (kinds : length d.kinds ≡ y.kinds) (flags : length d.flags ≡ y.qualities) (happen : length d.scenes ≡ y.scenes) where

@@ -28,7 +28,7 @@ use Rattle.story_file.specs.LongStrings.{line_of_long_string}
 use Rattle.story_file.specs.Meanings.{AreMeant, AreRefused}
 
 -- the game of a tale whose descriptions say these texts, in the order of the objects that have one; no rule of the author's is
--- consulted so far, and each standard rule is, wherever sentences list it
+-- consulted so far and no action of theirs is tried, and each standard rule is consulted, wherever sentences list it
 abbrev pub game_meant : Tale → List Text → Game
 game_meant tale texts = game_of (script_of tale (text_of tale texts))
 

@@ -1,3 +1,4 @@
+pub mod ActionNumbers
 pub mod Compilations
 pub mod Lines
 pub mod LongStrings

@@ -67,14 +67,14 @@ pub record AreMeant (sentences : List Sentence) (tale : Tale) (texts : List Text
   pub rules_are : rules ≡ rules_told resolved
   pub listings_are : listings ≡ listings_told resolved
 
--- What rules, texts and sentences that list rules name, or rulebooks are named, how much they hold, or how the lines of rules stand,
--- refuses sentences that mean a tale.
+-- What rules, texts and sentences that list rules name, or how rulebooks and actions are named, how much there is of them, or how the
+-- lines of rules stand, refuses sentences that mean a tale.
 pub record AreUnresolved (sentences : List Sentence) (fault : Fault) : Type 0 where
   pub tale : Tale
   pub tale_is : tale_said sentences ≡ Ok tale
   pub refused : IsResolution (known_said sentences tale) sentences (Refused fault)
 
--- Sentences are refused for what they say of the world, or for their rules, texts and listings.
+-- Sentences are refused for what they say of the world, or for their rules, texts, listings and actions.
 pub data AreRefused (sentences : List Sentence) (fault : Fault) : Type 0 where
   unmeant : tale_said sentences ≡ Err fault → AreRefused sentences fault
   unresolved : AreUnresolved sentences fault → AreRefused sentences fault

@@ -6,6 +6,7 @@ ghost use Rattle.world_meaning.specs.declared.fault.Fault.{Fault};
 ghost use Rattle.world_meaning.specs.declared.fault.FaultCode.TheVariants.{Memory};
 ghost use Rattle.world_meaning.specs.declared.tale.Tale.{Tale};
 ghost use Rattle.rule_order.specs.declared.listing.ListingSentence.{ListingSentence};
+ghost use Rattle.story_file.specs.ActionNumbers.{NounsAgree, StandardNamesAgree};
 ghost use Rattle.story_file.specs.Compilations.{IsCompiled, IsRefused, Means};
 
 use i7_phrases::one_text_is_meant;
@@ -19,6 +20,13 @@ pub fn one_tale()
     one_text_is_meant();
     one_resolution();
 }
+
+/// Rules number the actions as play and table 8 do: each standard one by its name, and each, the author's too, by how many nouns
+/// it asks for.
+pub fn actions_are_numbered_alike()
+    ensures names { StandardNamesAgree }
+    ensures nouns { NounsAgree }
+{}
 
 /// No source has a story file and is refused, memory aside.
 pub fn never_compiled_and_refused()
