@@ -23,14 +23,14 @@ fn readable(name: Option<&[u8]>) -> &str {
 }
 
 /// The name of an author's rulebook.
-fn own_name(outline: &Outline, number: usize) -> &str {
-    let name = outline.rulebooks.as_slice().get(number);
+fn own_name<'a>(outline: Outline<'a>, number: usize) -> &'a str {
+    let name = outline.names.rulebooks.as_slice().get(number);
     readable(name.map(|name| name.as_slice()))
 }
 
 /// The name of a scene.
-fn scene_name(outline: &Outline, number: usize) -> &str {
-    let name = outline.scenes.get(number);
+fn scene_name<'a>(outline: Outline<'a>, number: usize) -> &'a str {
+    let name = outline.names.scenes.get(number);
     readable(name.map(|name| name.as_slice()))
 }
 
@@ -40,8 +40,8 @@ fn own_number(scenes: usize, number: usize) -> Option<usize> {
 }
 
 /// The name of a book behind the built-in ones.
-fn name_behind(alloc: Global, outline: &Outline, number: usize) -> Result<String, AllocError> {
-    let scenes = outline.scenes.len();
+fn name_behind(alloc: Global, outline: Outline<'_>, number: usize) -> Result<String, AllocError> {
+    let scenes = outline.names.scenes.len();
     if let Some(own) = own_number(scenes, number) {
         let name = own_name(outline, own);
         return format!(in alloc; "a {name} rule");
@@ -52,7 +52,7 @@ fn name_behind(alloc: Global, outline: &Outline, number: usize) -> Result<String
 }
 
 /// The name of the rulebook of this number.
-pub fn name_of(alloc: Global, outline: &Outline, number: usize) -> Result<String, AllocError> {
+pub fn name_of(alloc: Global, outline: Outline<'_>, number: usize) -> Result<String, AllocError> {
     match BUILT_IN.get(number) {
         Some(name) => format!(in alloc; "{name}"),
         None => name_behind(alloc, outline, number.saturating_sub(BUILT_IN.len())),

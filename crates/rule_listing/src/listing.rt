@@ -1,8 +1,9 @@
 //! The rulebooks of a source, rule by rule.
 use crate::book_names::name_of;
-use crate::outline::{Outline, outline_of};
+use crate::outline::{Outline, told_of};
+use crate::placing::listed_as;
 use i7_rules::{STANDARD_NAMES, SourceRule};
-use play_meaning::tree::{Aspect, Listing, RuleHead};
+use play_meaning::tree::{Aspect, RuleHead};
 use rule_order::{Heading, aspects_of, grade_of};
 use std::alloc::{AllocError, Global};
 use world_meaning::KindNo;
@@ -18,7 +19,12 @@ fn add_grade(
     name: &str,
     aspect: &Aspect,
 ) -> Result<(), AllocError> {
-    let grade = grade_of(kinds, aspect);
+    // a source has 100 kinds at most
+    let grade = if kinds.len() <= 255 {
+        grade_of(kinds, aspect)
+    } else {
+        0
+    };
     if grade == 0 {
         return Ok(());
     }
@@ -57,7 +63,7 @@ fn rule_name(rule: &SourceRule) -> &str {
 /// A rule of the author's, whose place is told so if a sentence lists it.
 fn own_told(
     alloc: Global,
-    outline: &Outline,
+    outline: Outline<'_>,
     rule: &SourceRule,
     listed: Option<&str>,
 ) -> Result<String, AllocError> {
@@ -78,25 +84,28 @@ fn standard_told(alloc: Global, name: &[u8], listed: Option<&str>) -> Result<Str
     format!(in alloc; "{name}, standard: {key}")
 }
 
-/// How a sentence lists the rule of this number, if one does.
-fn listed_at(outline: &Outline, number: usize) -> Option<&'static str> {
-    match outline.listings.get(number)? {
-        Listing::First(_) => Some("listed first"),
-        Listing::Last(_) => Some("listed last"),
-        Listing::InOrder | Listing::Unlisted => None,
+/// How a sentence lists the rule of this name, if one does.
+fn listed_at(outline: Outline<'_>, name: &[u8]) -> Option<&'static str> {
+    listed_as(outline.names.placings.as_slice(), name)
+}
+
+/// How a sentence lists a rule of the author's, if one does: one without a name none does.
+fn own_listed(outline: Outline<'_>, rule: &SourceRule) -> Option<&'static str> {
+    match &rule.name {
+        None => None,
+        Some(name) => listed_at(outline, name.as_slice()),
     }
 }
 
 /// The rule of this number: the standard rules come first.
-fn rule_told(alloc: Global, outline: &Outline, number: usize) -> Result<String, AllocError> {
-    let listed = listed_at(outline, number);
+fn rule_told(alloc: Global, outline: Outline<'_>, number: usize) -> Result<String, AllocError> {
     if let Some(name) = STANDARD_NAMES.get(number) {
-        return standard_told(alloc, name, listed);
+        return standard_told(alloc, name, listed_at(outline, name));
     }
     let own = number.saturating_sub(STANDARD_NAMES.len());
-    match outline.rules.as_slice().get(own) {
+    match outline.rules.get(own) {
         None => format!(in alloc; "?"),
-        Some(rule) => own_told(alloc, outline, rule, listed),
+        Some(rule) => own_told(alloc, outline, rule, own_listed(outline, rule)),
     }
 }
 
@@ -104,7 +113,7 @@ fn rule_told(alloc: Global, outline: &Outline, number: usize) -> Result<String, 
 fn add_book(
     alloc: Global,
     told: &mut String,
-    outline: &Outline,
+    outline: Outline<'_>,
     book: u16,
 ) -> Result<(), AllocError> {
     let listed = outline.story.rules_listed(book);
@@ -120,7 +129,7 @@ fn add_book(
 }
 
 /// The rulebooks that list rules, each with its rules in the order in which they are asked, a line each.
-fn books_told(alloc: Global, outline: &Outline) -> Result<String, AllocError> {
+pub fn books_told(alloc: Global, outline: Outline<'_>) -> Result<String, AllocError> {
     let mut told = String::new(alloc);
     for book in 0..MOST_BOOKS {
         add_book(alloc, &mut told, outline, book)?;
@@ -130,8 +139,8 @@ fn books_told(alloc: Global, outline: &Outline) -> Result<String, AllocError> {
 
 /// The rulebooks of a source, or why there are none.
 pub fn told(alloc: Global, source: &str) -> Result<String, AllocError> {
-    match outline_of(alloc, source) {
-        Ok(outline) => books_told(alloc, &outline),
+    match told_of(alloc, source) {
+        Ok(told) => Ok(told),
         Err(unlisted) => format!(in alloc; "{unlisted}\n"),
     }
 }

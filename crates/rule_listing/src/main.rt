@@ -5,6 +5,7 @@
 mod book_names;
 mod listing;
 mod outline;
+mod placing;
 mod unlisted;
 
 use listing::told;
