@@ -1,0 +1,114 @@
+//! What is listed of a source: its story, which holds the order, and its rules by their names and lines.
+use crate::listing::books_told;
+use crate::placing::{Placing, placings_of};
+use crate::unlisted::Unlisted;
+use i7_kinds::tale_of;
+use i7_lexer::lex;
+use i7_names::names_in;
+use i7_resolution::{Resolution, resolution_of};
+use i7_rules::SourceRule;
+use i7_sentences::{Assertion, Sentence, read};
+use object_words::Strings;
+use std::alloc::{AllocError, Global};
+use story_file::compile;
+use story_format::{Story, load};
+use world_meaning::{Tale, TextBytes};
+
+/// The names that the sentences of a source give.
+#[derive(Drop)]
+pub struct Names {
+    /// Those of the author's rulebooks, by number.
+    pub rulebooks: Strings,
+    /// Those of the scenes, by number, as their sentences write them.
+    pub scenes: Vec<TextBytes>,
+    /// Where sentences list rules, in their order.
+    pub placings: Vec<Placing>,
+}
+
+/// A source's story and rules.
+#[derive(Clone, Copy)]
+pub struct Outline<'a> {
+    pub tale: &'a Tale,
+    pub names: &'a Names,
+    /// The author's rules, in the order of their sentences.
+    pub rules: &'a [SourceRule],
+    pub story: &'a Story,
+}
+
+/// The story of a source.
+fn story_of(alloc: Global, source: &str) -> Result<Story, Unlisted> {
+    let bytes = compile(alloc, source.as_bytes())?;
+    Ok(load(alloc, bytes.as_slice())?)
+}
+
+/// The sentences of a source.
+fn sentences_of(alloc: Global, source: &str) -> Result<Vec<Sentence>, Unlisted> {
+    let lexed = lex(alloc, source.as_bytes())?;
+    Ok(read(alloc, &lexed)?)
+}
+
+/// The names of the scenes, by number, as their sentences write them.
+fn scenes_of(alloc: Global, sentences: &[Sentence]) -> Result<Vec<TextBytes>, AllocError> {
+    let mut scenes = Vec::new(alloc);
+    for sentence in sentences {
+        if let Assertion::Scene { name, .. } = &sentence.said {
+            scenes.push(TextBytes::copied(alloc, name.text.as_slice())?)?;
+        }
+    }
+    Ok(scenes)
+}
+
+/// The names of the author's rulebooks, by number.
+fn rulebooks_of(alloc: Global, sentences: &[Sentence]) -> Result<Strings, AllocError> {
+    let names = names_in(alloc, sentences)?;
+    Ok(names.rulebooks)
+}
+
+/// The names that sentences give.
+fn names_of(alloc: Global, sentences: &[Sentence]) -> Result<Names, AllocError> {
+    let rulebooks = rulebooks_of(alloc, sentences)?;
+    let scenes = scenes_of(alloc, sentences)?;
+    let placings = placings_of(alloc, sentences)?;
+    Ok(Names {
+        rulebooks,
+        scenes,
+        placings,
+    })
+}
+
+/// The rules of sentences that mean this tale.
+fn rules_of(
+    alloc: Global,
+    tale: &Tale,
+    sentences: &[Sentence],
+) -> Result<Vec<SourceRule>, Unlisted> {
+    let names = names_in(alloc, sentences)?;
+    if names.rulebooks.len() > 100 || names.scenes > 50 {
+        return Err(Unlisted::TooManyNames);
+    }
+    match resolution_of(alloc, &names, tale, sentences)? {
+        Resolution::Says(resolved) => Ok(resolved.rules),
+        Resolution::Refused(fault) => Err(Unlisted::Refused(fault)),
+    }
+}
+
+/// What is told of sentences that have this story.
+fn told_with(alloc: Global, sentences: &[Sentence], story: &Story) -> Result<String, Unlisted> {
+    let tale = tale_of(alloc, sentences)?;
+    let rules = rules_of(alloc, &tale, sentences)?;
+    let names = names_of(alloc, sentences)?;
+    let outline = Outline {
+        tale: &tale,
+        names: &names,
+        rules: rules.as_slice(),
+        story,
+    };
+    Ok(books_told(alloc, outline)?)
+}
+
+/// The rulebooks of a source, if it is accepted.
+pub fn told_of(alloc: Global, source: &str) -> Result<String, Unlisted> {
+    let story = story_of(alloc, source)?;
+    let sentences = sentences_of(alloc, source)?;
+    told_with(alloc, sentences.as_slice(), &story)
+}

@@ -1,0 +1,19 @@
+//! Why a source's rulebooks aren't listed.
+use std::alloc::AllocError;
+use story_format::LoadFault;
+use thiserror::Error;
+use world_meaning::Fault;
+
+/// Why a source's rulebooks aren't listed.
+#[derive(Debug, Drop, Error)]
+pub enum Unlisted {
+    /// The source is refused.
+    #[error("{0}")]
+    Refused(#[from] Fault),
+    #[error("the story isn't loaded: {0}")]
+    Unloaded(#[from] LoadFault),
+    #[error("out of memory")]
+    Memory(#[from(alloc)] AllocError),
+    #[error("more rulebooks or scenes than there may be")]
+    TooManyNames,
+}

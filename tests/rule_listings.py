@@ -1,0 +1,41 @@
+#!/usr/bin/env python3
+"""Compares the rulebooks that the program of `rule_listing` prints with what is told by hand. A row of tests/rule_listings/NAME.rows
+has sentences that are put behind the source NAME.i7, the name of a rulebook, and its rules, each with what puts it at its place
+(tests/row_files.py says how rows are written). Of a source that is refused the refusal stands in place of the name.
+
+Use: tests/rule_listings.py PROGRAM    (the program of `i7story`; that of `rule_listing` stands beside it)"""
+import pathlib
+import subprocess
+import sys
+import tempfile
+
+from row_files import report, rows_of
+
+program = pathlib.Path(sys.argv[1]).resolve().parents[2] / "rule_listing/out/rule_listing"
+folder = pathlib.Path(__file__).resolve().parent / "rule_listings"
+
+
+def printed(source):
+    """What is printed of a source: the rules of each rulebook by its name, or the only line."""
+    with tempfile.NamedTemporaryFile() as file:
+        file.write(source)
+        file.flush()
+        done = subprocess.run([program, file.name], capture_output=True, check=True, timeout=60)
+    books = {}
+    for line in done.stdout.splitlines():
+        if line.startswith(b"    "):
+            book.append(line.strip())
+        else:
+            book = books[line] = []
+    return books
+
+
+def answers():
+    for path in sorted(folder.glob("*.rows")):
+        source = path.with_suffix(".i7").read_bytes()
+        for place, (added, name, rules) in rows_of(path):
+            books = printed(source + added)
+            yield place, b"\n".join(books[name]) if name in books else b"not printed", rules
+
+
+report("rule listings", answers())
