@@ -17,7 +17,6 @@ const MOST: usize = 184;
 const MOST_KNOWN: usize = 255;
 
 /// All actions, by number.
-#[tactic(auto, unfolding(crate::specs::SourceActions::actions_in))]
 pub fn actions_of(alloc: Global, declared: &[ActionAt<'_>]) -> Result<Vec<Action>, AllocError>
     ensures { IfOk result (λ actions. actions.items ≡ actions_with (actions_lent declared.now)) }
 {
