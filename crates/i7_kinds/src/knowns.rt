@@ -101,10 +101,10 @@ fn deepened(scope: &Scope<'_>, knowns: &[Known], object: &[u8], kind: usize) -> 
 fn add_demand(scope: &Scope<'_>, knowns: &mut [Known], object: &[u8], kind: usize)
     ensures { knowns.new ≡ with_demand scope.now knowns.old object.now kind }
 {
-    let demanded = deepened(scope, knowns, object, kind);
     let number = scope.object(object);
-    let holds = known_at(knowns, number).holds;
-    keep(knowns, number, Known { demanded, holds });
+    let known = known_at(knowns, number);
+    let demanded = deepen(scope.parents(), known.demanded, kind);
+    keep(knowns, number, Known { demanded, ..known });
 }
 
 /// Demands a kind; one that isn't there says nothing.

@@ -10,6 +10,7 @@ ghost use Rattle.i7_kinds.specs.Places.{places_by};
 ghost use Rattle.i7_kinds.specs.StatedWays.{stated};
 ghost use Rattle.i7_kinds.specs.Suits.{first_room, with_player};
 ghost use Rattle.i7_kinds.specs.Tales.{entries_of, frame_refusal, judged, limit_refusal, made_of, no_room, objects_of, refusal_at, refusal_of, said_by, said_in, scope_of, tale_said};
+ghost use Rattle.i7_claims.specs.Claims.{claims_of};
 ghost use Rattle.i7_claims.specs.Views.{mentions_of};
 
 use crate::actions::{actions_said, with_actions};
@@ -29,10 +30,9 @@ use crate::suits::{first_room, put_player};
 use crate::values::{Bearer, values_by};
 use crate::ways::Ways;
 use i7_claims::{
-    Claim, Mention, NumberedSentence, Sort, claims_of, earlier, kind_names, names_as, names_of,
-    property_names, statements_in,
+    Claim, Claimed, Mention, NumberedSentence, Sort, earlier, kind_names, names_as, property_names,
+    statements_in,
 };
-use i7_sentences::Sentence;
 use object_words::Strings;
 use std::alloc::{AllocError, Global};
 use world_meaning::{Declared, Fault, FaultCode, Listed, Object, Place, Tale};
@@ -215,15 +215,15 @@ fn said_in(
     alloc: Global,
     kinds: &Strings,
     parents: &[Option<usize>],
-    claims: &[Claim],
-    sentences: &[Sentence],
+    claimed: &Claimed<'_>,
 ) -> Result<Result<Tale, Fault>, AllocError>
-    requires named { kinds.now ≡ kind_names claims.now }
-    requires above { parents.now ≡ parents_of kinds.now claims.now }
-    ensures { IfOk result (λ said. said ≡ said_in kinds.now parents.now claims.now sentences.now) }
+    requires named { kinds.now ≡ kind_names (claims_of claimed.now) }
+    requires above { parents.now ≡ parents_of kinds.now (claims_of claimed.now) }
+    ensures { IfOk result (λ said. said ≡ said_in kinds.now parents.now (claims_of claimed.now) claimed.now) }
 {
-    let names = names_of(alloc, sentences)?;
-    let statements = statements_in(alloc, &names, sentences)?;
+    let claims = claimed.claims();
+    let names = claimed.names();
+    let statements = statements_in(alloc, names, claimed.sentences())?;
     let properties = property_names(alloc, claims)?;
     let variables = names_as(alloc, Sort::Variable, claims)?;
     let givens = givens_of(alloc, &properties, kinds, claims)?;
@@ -236,38 +236,33 @@ fn said_in(
     Ok(said)
 }
 
-/// What the sentences with these claims mean: a tale or a refusal.
-fn said_by(
-    alloc: Global,
-    claims: &[Claim],
-    sentences: &[Sentence],
-) -> Result<Result<Tale, Fault>, AllocError>
-    ensures { IfOk result (λ said. said ≡ said_by claims.now sentences.now) }
+/// What the sentences with their claims mean, but for the actions that they declare.
+fn said_by(alloc: Global, claimed: &Claimed<'_>) -> Result<Result<Tale, Fault>, AllocError>
+    ensures { IfOk result (λ said. said ≡ said_by (claims_of claimed.now) claimed.now) }
 {
-    let kinds = kind_names(alloc, claims)?;
-    let parents = parents_of(alloc, &kinds, claims)?;
-    let said = said_in(alloc, &kinds, parents.as_slice(), claims, sentences)?;
+    let kinds = kind_names(alloc, claimed.claims())?;
+    let parents = parents_of(alloc, &kinds, claimed.claims())?;
+    let said = said_in(alloc, &kinds, parents.as_slice(), claimed)?;
     Ok(said)
 }
 
 /// What the sentences mean: a tale or a refusal.
-fn tale_said(alloc: Global, sentences: &[Sentence]) -> Result<Result<Tale, Fault>, AllocError>
-    ensures { IfOk result (λ said. said ≡ tale_said sentences.now) }
+fn tale_said(alloc: Global, claimed: &Claimed<'_>) -> Result<Result<Tale, Fault>, AllocError>
+    ensures { IfOk result (λ said. said ≡ tale_said claimed.now) }
 {
-    let claims = claims_of(alloc, sentences)?;
-    let said = said_by(alloc, claims.as_slice(), sentences)?;
-    let actions = actions_said(alloc, sentences)?;
+    let said = said_by(alloc, claimed)?;
+    let actions = actions_said(alloc, claimed.sentences())?;
     Ok(with_actions(actions, said))
 }
 
 /// The tale that the sentences mean, or the refusal that stands, each code being looked for in the
 /// whole source before the next, at the first sentence that shows it: C9, C7, C11, C8, C10, C12 of what is one too
 /// many, C13, then C12 of names and of texts that are too long. Memory is C14, at line 1.
-pub fn tale_of(alloc: Global, sentences: &[Sentence]) -> Result<Tale, Fault>
-    ensures told { IfOk result (λ tale. tale_said sentences.now ≡ Ok tale) }
-    ensures refused { IfErr result (λ fault. (tale_said sentences.now ≡ Err fault) ⊎ (fault ≡ out_of_memory)) }
+pub fn tale_of(alloc: Global, claimed: &Claimed<'_>) -> Result<Tale, Fault>
+    ensures told { IfOk result (λ tale. tale_said claimed.now ≡ Ok tale) }
+    ensures refused { IfErr result (λ fault. (tale_said claimed.now ≡ Err fault) ⊎ (fault ≡ out_of_memory)) }
 {
-    match tale_said(alloc, sentences) {
+    match tale_said(alloc, claimed) {
         Ok(said) => said,
         Err(_) => Err(Fault::OUT_OF_MEMORY),
     }

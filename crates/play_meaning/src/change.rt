@@ -35,6 +35,13 @@ pub enum Change {
     EndStory(TextBytes),
 }
 
+/// The change that does nothing in any world: the player is never taken away. It fills the places of a list that hold none.
+impl Default for Change {
+    fn default() -> Change {
+        Change::TakeOut(ObjNo::new(0))
+    }
+}
+
 /// Makes a change, for which it takes no memory; one that isn't allowed does nothing.
 pub fn make<G: GroundMut>(ground: &mut G, change: Change)
     ensures made { G.world ground.new ≡ made (G.fixed ground.old).setting (G.world ground.old) change }

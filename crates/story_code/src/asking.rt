@@ -125,7 +125,7 @@ fn is_so_held(relation: Rel, other: Rel) -> bool
 }
 
 /// Whether an object is held so by something; nothing holds nothing.
-fn is_held<G: Ground>(ground: &G, relation: Rel, holder: Option<ObjNo>, object: ObjNo) -> bool
+pub fn is_held<G: Ground>(ground: &G, relation: Rel, holder: Option<ObjNo>, object: ObjNo) -> bool
     ensures { result ≡ is_held (G.world ground.now) relation holder object }
 {
     let Some(holder) = holder else {
@@ -160,7 +160,7 @@ fn is_same(a: i32, b: i32) -> bool
 }
 
 /// Whether something holds something, at any depth.
-fn encloses<G: Ground>(ground: &G, holder: Option<ObjNo>, object: Option<ObjNo>) -> bool
+pub fn encloses<G: Ground>(ground: &G, holder: Option<ObjNo>, object: Option<ObjNo>) -> bool
     ensures { result ≡ of_both holder object (encloses (G.world ground.now)) }
 {
     match holder {
@@ -173,7 +173,7 @@ fn encloses<G: Ground>(ground: &G, holder: Option<ObjNo>, object: Option<ObjNo>)
 }
 
 /// Whether something is held so by something.
-fn is_some_held<G: Ground>(
+pub fn is_some_held<G: Ground>(
     ground: &G,
     relation: Rel,
     object: Option<ObjNo>,
@@ -211,7 +211,7 @@ fn is_way<G: Ground>(ground: &G, direction: ObjNo, room: ObjNo) -> bool
 }
 
 /// The room that lies in a direction from a room.
-fn room_beyond<G: Ground>(
+pub fn room_beyond<G: Ground>(
     ground: &G,
     direction: Option<ObjNo>,
     room: Option<ObjNo>,
@@ -228,7 +228,7 @@ fn room_beyond<G: Ground>(
 }
 
 /// The door on the way in a direction from a room.
-fn door_beyond<G: Ground>(
+pub fn door_beyond<G: Ground>(
     ground: &G,
     direction: Option<ObjNo>,
     room: Option<ObjNo>,

@@ -40,6 +40,7 @@ mod turning;
 mod verified;
 mod verifying;
 
+pub use asking::{door_beyond, encloses, holder_by, is_held, is_some_held, room_beyond};
 pub use body::step_plain;
 pub use decoding::{first, front};
 pub use describing::description;
@@ -50,6 +51,7 @@ pub use laws::{
     descriptions_say_their_texts, emitted_bytes_are_sound, emitted_codes_are_sound, one_code,
     rows_of_fitting, runs_begin_standing, verified_code_is_sound,
 };
+pub use naming::{say_listed, say_name};
 pub use plain::read_plain;
 pub use row::size;
 pub use short_laws::{rows_of_what_is_short, what_is_short_fits, what_words_mean_is_joined_so};

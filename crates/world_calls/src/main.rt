@@ -10,6 +10,7 @@ mod names;
 mod pair;
 mod reads;
 mod row;
+mod rules;
 mod words;
 
 use calls::{Answer, called};

@@ -3,6 +3,7 @@ use crate::answer::{chain_told, objects_told, truth_told};
 use crate::changes::{change_of, changed};
 use crate::pair::Pair;
 use crate::reads::read_told;
+use crate::rules::rule_told;
 use crate::words::Words;
 use play_meaning::make;
 use std::alloc::{AllocError, Global};
@@ -83,12 +84,16 @@ fn words_told(alloc: Global, world: &mut World, told: &str) -> Result<String, Al
     match words.word() {
         "make" => make_told(alloc, world, &mut words),
         "chain" => climb_told(alloc, world, &mut words),
+        "rule" => match rule_told(alloc, world, &mut words)? {
+            Some(told) => Ok(told),
+            None => unknown(alloc),
+        },
         call => world_told(alloc, world, call, &mut words),
     }
 }
 
 /// What a call answers. Beside those of the world there are `make` in front of a change, which makes it by the function of that
-/// name; `copy`, behind which the calls go to the copy; `other`, behind which they go to the world that isn't called; and
+/// name; `rule`, what the standard rule of a number answers of a noun and a second one, its changes being made; `copy`, behind which the calls go to the copy; `other`, behind which they go to the world that isn't called; and
 /// `agree`, whether the two worlds say the same of all objects.
 fn call_told(alloc: Global, pair: &mut Pair, call: &str) -> Result<String, AllocError> {
     match call {

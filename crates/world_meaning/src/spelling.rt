@@ -17,7 +17,5 @@ pub fn is_spelled(word: &[u8], spelling: &[u8]) -> bool
 pub fn lowered(alloc: Global, text: &[u8]) -> Result<Vec<u8>, AllocError>
     ensures { IfOk result (λ small. small.items ≡ lowered text.now) }
 {
-    text.iter()
-        .map(|byte| byte.to_ascii_lowercase())
-        .collect(alloc)
+    text.to_ascii_lowercase(alloc)
 }

@@ -4,15 +4,19 @@ use Rattle.std.specs.Prelude.{Option, Some, None, ◌&&◌, ◌==◌, filter, op
 use Rattle.std.specs.List.{range_with_len}
 use Rattle.world_meaning.proofs.Bools.{both_are}
 use Rattle.world_meaning.specs.declared.place.Place.{Place}
+use Rattle.world_meaning.specs.declared.place.Rel.{Rel}
 use Rattle.world_meaning.specs.declared.place.Rel.TheVariants.{In}
 use Rattle.object_tree.specs.Places.{children_of, holder_of, is_holder}
 use Rattle.play_meaning.specs.Deeds.{is_on_view, on_view}
-use Rattle.play_meaning.specs.Settings.{Setting, described_flag, direction_kind, room_kind, scenery_flag, thing_kind}
+use Rattle.play_meaning.specs.Settings.{Setting, described_flag, direction_kind, objects_of, room_kind, scenery_flag, thing_kind}
 use Rattle.play_meaning.specs.Trees.{First, NotSo, Quality}
 use Rattle.play_meaning.specs.Values.{beyond, is_among, is_held, is_place, relation_number}
 use Rattle.play_meaning.specs.Worlds.{World, location_of, place_of}
 use Rattle.world_store.specs.StorySettings.{setting_of}
 use Rattle.world_store.specs.StoryWorlds.{IsKept, StoryWorld}
+
+minus_none : (n : ℕ) → n - 0 ≡ n
+minus_none n = omega arith
 
 false_true : false ≡ true → ⊥
 false_true wrong = absurd cc
@@ -45,9 +49,6 @@ pub view_within : (s : Setting) (w : World) (here : ℕ) → length w.places ≡
 view_within s w here count is =
     filter_within (is_on_view s w) (λ o. is_holder here (holder_of w.places o)) (λ o view. viewed_in s w here o is view) (range_with_len 0 (length w.places - 0))
     ∙ ap (λ n. filter (is_on_view s w) (range_with_len 0 n)) (minus_none (length w.places) ∙ count)
-  where
-    minus_none : (n : ℕ) → n - 0 ≡ n
-    minus_none n = omega arith
 
 pub all_on_view : (inside s : StoryWorld) (here : ℕ) (things : List ℕ) → inside ≡ s → IsKept inside.tables inside.world → things ≡ children_of inside.world.places here
     → location_of s.world ≡ Some here → filter (is_on_view (setting_of s.tables) s.world) things ≡ on_view (setting_of s.tables) s.world
@@ -55,6 +56,27 @@ unfolding setting_of
 all_on_view inside s here things same kept are is =
     ap (filter (is_on_view (setting_of s.tables) s.world)) (are ∙ ap (λ (v : StoryWorld). children_of v.world.places here) same)
     ∙ view_within (setting_of s.tables) s.world here (subst (λ (v : StoryWorld). length v.world.places ≡ length v.tables.objects) same kept.objects) is
+
+-- what a holder holds so is among what it holds
+held_by : (w : World) (relation : Rel) (holder o : ℕ) → is_held w relation (Some holder) o ≡ true → is_holder holder (holder_of w.places o) ≡ true
+held_by w relation holder o held = of_place (place_of w o) held
+  where
+    of_place : (place : Option Place) → is_place relation holder place ≡ true → is_holder holder (option_map (λ p. p.holder) place) ≡ true
+    of_place None is = absurd cc
+    of_place (Some place) is = (both_are (relation_number place.relation == relation_number relation) (place.holder == holder) is).1
+
+held_within : (s : Setting) (w : World) (relation : Rel) (holder : ℕ) → length w.places ≡ s.count
+    → filter (is_held w relation (Some holder)) (children_of w.places holder) ≡ filter (is_held w relation (Some holder)) (objects_of s)
+held_within s w relation holder count =
+    filter_within (is_held w relation (Some holder)) (λ o. is_holder holder (holder_of w.places o)) (λ o held. held_by w relation holder o held) (range_with_len 0 (length w.places - 0))
+    ∙ ap (λ n. filter (is_held w relation (Some holder)) (range_with_len 0 n)) (minus_none (length w.places) ∙ count)
+
+pub all_held : (inside s : StoryWorld) (relation : Rel) (holder : ℕ) (things : List ℕ) → inside ≡ s → IsKept inside.tables inside.world → things ≡ children_of inside.world.places holder
+    → filter (is_held s.world relation (Some holder)) things ≡ filter (is_held s.world relation (Some holder)) (objects_of (setting_of s.tables))
+unfolding setting_of
+all_held inside s relation holder things same kept are =
+    ap (filter (is_held s.world relation (Some holder))) (are ∙ ap (λ (v : StoryWorld). children_of v.world.places holder) same)
+    ∙ held_within (setting_of s.tables) s.world relation holder (subst (λ (v : StoryWorld). length v.world.places ≡ length v.tables.objects) same kept.objects)
 
 -- ---- ways
 

@@ -2,6 +2,7 @@
 //! door on the way.
 ghost use Rattle.std.specs.Prelude.{◌≡◌, IfOk, Some, filter};
 ghost use Rattle.play_meaning.specs.Deeds.{is_on_view, on_view};
+ghost use Rattle.play_meaning.specs.Settings.{objects_of};
 ghost use Rattle.play_meaning.specs.Trees.{First};
 ghost use Rattle.play_meaning.specs.Values.{beyond, has_quality, is_held};
 ghost use Rattle.play_meaning.specs.Worlds.{location_of};
@@ -12,8 +13,9 @@ use crate::World;
 use crate::sight::is_in;
 use object_tree::Children;
 use std::alloc::{AllocError, Global};
+use story_code::is_held;
 use story_format::{door_in, way_in};
-use world_meaning::{KindNo, ObjNo};
+use world_meaning::{KindNo, ObjNo, Rel};
 
 /// The property that a thing is no part of what is seen at first.
 const SCENERY: u8 = 5;
@@ -68,6 +70,38 @@ impl World {
     {
         let things = self.tree.children(self.location());
         Ok(self.on_view_among(alloc, things)?)
+    }
+
+    /// Those of these things that a holder holds so.
+    fn held_among(
+        &self,
+        alloc: Global,
+        things: Children<'_>,
+        relation: Rel,
+        holder: ObjNo,
+    ) -> Result<Vec<ObjNo>, AllocError>
+        ensures { IfOk result (λ held. held.items ≡ filter (is_held self.now.world relation (Some holder)) things.entry) }
+    {
+        let mut held = Vec::new(alloc);
+        for thing in things {
+            if is_held(self, relation, Some(holder), thing) {
+                held.push(thing)?;
+            }
+        }
+        Ok(held)
+    }
+
+    /// What a holder holds so, directly, by rising number.
+    pub fn held(
+        &self,
+        alloc: Global,
+        relation: Rel,
+        holder: ObjNo,
+    ) -> Result<Vec<ObjNo>, AllocError>
+        ensures { IfOk result (λ held. held.items ≡ filter (is_held self.now.world relation (Some holder)) (objects_of (setting_of self.now.tables))) }
+    {
+        let things = self.tree.children(holder);
+        Ok(self.held_among(alloc, things, relation, holder)?)
     }
 
     /// The room beyond the way in a direction, by its number, from the player's room.

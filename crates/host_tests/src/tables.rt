@@ -1,0 +1,69 @@
+//! Tables of stored rules, told by hand.
+ghost use Rattle.std.specs.Prelude.{◌≡◌, ◌≤◌, IfOk, true};
+ghost use Rattle.standard_rules.specs.Answers.{HasEffect};
+ghost use Rattle.standard_rules.specs.Hosts.{are_there};
+
+use play_meaning::{ActNo, ActionNow};
+use sample_stories::FURNISHED;
+use standard_rules::{
+    HostAnswer, HostCall, HostFault, HostOutcome, HostRule, HostTable, rule_9, standard,
+};
+use std::alloc::{AllocError, Global};
+use std::rc::Rc;
+use std::test::Fail;
+use story_format::load;
+use world_meaning::ObjNo;
+use world_store::World;
+
+/// The stored rule of a number that answers as the standard one does.
+fn stored(alloc: Global, id: u8) -> Result<HostRule, AllocError>
+    requires low { 1 ≤ id }
+    requires high { id ≤ 61 }
+{
+    let call: HostCall = Box::new(
+        alloc,
+        move |alloc: Global, world: &World, now: &ActionNow| -> Result<HostAnswer, AllocError>
+            requires { (1 ≤ id) × (id ≤ 61) × (are_there world.now now.now ≡ true) }
+            ensures { IfOk result (λ answer. HasEffect id world.now now.now answer) }
+        { standard(alloc, id, world, now) },
+    )?;
+    Ok(HostRule::new(id, call))
+}
+
+/// A table of the first rules, so many.
+fn table_of(alloc: Global, count: u8) -> Result<HostTable, Fail>
+    requires { count ≤ 61 }
+{
+    let mut table = HostTable::new(alloc);
+    for number in 0..count {
+        let rule = stored(alloc, number + 1)?;
+        table.add(rule)?;
+    }
+    Ok(table)
+}
+
+#[test]
+fn rules_come_in_order(rt: HostRuntime) -> Result<(), Fail> {
+    let mut table = HostTable::new(rt.alloc());
+    let second = stored(rt.alloc(), 2)?;
+    assert_eq!(rt; table.add(second), Err(HostFault::OutOfOrder));
+    let first = stored(rt.alloc(), 1)?;
+    assert_eq!(rt; table.add(first), Ok(()));
+    let again = stored(rt.alloc(), 1)?;
+    assert_eq!(rt; table.add(again), Err(HostFault::OutOfOrder));
+    assert!(rt; !table.is_complete());
+    Ok(())
+}
+
+#[test]
+fn sixty_one_rules_are_all(rt: HostRuntime) -> Result<(), Fail> {
+    let sixty = table_of(rt.alloc(), 60)?;
+    assert!(rt; !sixty.is_complete());
+    let mut all = table_of(rt.alloc(), 61)?;
+    assert!(rt; all.is_complete());
+    let last = stored(rt.alloc(), 61)?;
+    assert_eq!(rt; all.add(last), Err(HostFault::Full));
+    let first = stored(rt.alloc(), 1)?;
+    assert_eq!(rt; all.add(first), Err(HostFault::Full));
+    Ok(())
+}

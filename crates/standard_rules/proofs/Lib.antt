@@ -1,0 +1,12 @@
+pub mod Shapes
+pub mod Lists
+pub mod Numbered
+pub mod LookingRules
+pub mod ExaminingRules
+pub mod TakingRules
+pub mod PuttingRules
+pub mod OpeningRules
+pub mod GoingRules
+pub mod WearingRules
+pub mod InventoryRules
+pub mod SwitchingRules

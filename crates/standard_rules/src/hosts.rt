@@ -1,0 +1,138 @@
+//! The stored rules: functions that are handed in, each of which does what the standard rule of its number does.
+ghost use Rattle.std.specs.Prelude.{◌≡◌, ◌+◌, ◌≤◌, ◌<◌, ◌==◌, ◌∷◌, ◌++◌, [], IfErr, IfOk, OnErr, OnOk, length, true};
+ghost use Rattle.std.specs.Result.{ForOk};
+ghost use Rattle.standard_rules.specs.Answers.{DoesRule, HasEffect};
+ghost use Rattle.standard_rules.specs.Hosts.{IsRefused, are_numbered, are_there};
+
+use crate::answer::HostAnswer;
+use crate::host_fault::HostFault;
+use play_meaning::ActionNow;
+use std::alloc::{AllocError, Global};
+use world_store::World;
+
+/// How many rules every story has.
+const RULES: usize = 61;
+
+/// A function that answers for a rule, in a world and an action.
+pub type HostCall = Box<dyn Fn(Global, &World, &ActionNow) -> Result<HostAnswer, AllocError>>;
+
+/// A function that may be called on every world and every action of its story, and answers want of memory or what has the effect
+/// of the standard rule of this number.
+#[derive(Drop)]
+pub struct HostRule {
+    id: u8,
+    call: HostCall,
+    ghost low: { 1 ≤ id },
+    ghost high: { id ≤ 61 },
+    ghost callable: { (a : _) (w : _) (n : _) → are_there w.now n.now ≡ true → HostCall.pre call a w n },
+    ghost stated: { (a : _) (w : _) (n : _) (r : _) → are_there w.now n.now ≡ true → HostCall.post call a w n r → ForOk r (λ answer. DoesRule id w.now n.now answer) },
+}
+
+impl HostRule {
+    /// The rule of a number, 1 to 61, that this function does.
+    pub fn new(id: u8, call: HostCall) -> HostRule
+        requires low { 1 ≤ id }
+        requires high { id ≤ 61 }
+        requires callable { (a : _) (w : _) (n : _) → are_there w.now n.now ≡ true → HostCall.pre call a w n }
+        requires stated { (a : _) (w : _) (n : _) (r : _) → are_there w.now n.now ≡ true → HostCall.post call a w n r → ForOk r (λ answer. DoesRule id w.now n.now answer) }
+        ensures { result.id ≡ id }
+    {
+        HostRule { id, call }
+    }
+
+    /// The rule's number.
+    pub fn id(&self) -> u8
+        ensures { result ≡ self.now.id }
+    {
+        self.id
+    }
+
+    /// What the function answers.
+    #[tactic(auto, unfolding(crate::specs::Answers::HasEffect))]
+    pub fn call(
+        &self,
+        alloc: Global,
+        world: &World,
+        now: &ActionNow,
+    ) -> Result<HostAnswer, AllocError>
+        requires { are_there world.now now.now ≡ true }
+        ensures { IfOk result (λ answer. HasEffect self.now.id world.now now.now answer) }
+    {
+        (self.call)(alloc, world, now)
+    }
+}
+
+/// The rules of a story's table, in the order of their numbers.
+#[derive(Drop)]
+pub struct HostTable {
+    rules: Vec<HostRule>,
+    ghost short: { length rules.items ≤ 61 },
+    ghost numbered: { are_numbered (λ r. r.id) 1 rules.items ≡ true },
+}
+
+impl HostTable {
+    ghost use Rattle.standard_rules.specs.HostTables.{rule_count};
+
+    /// A table without rules.
+    pub fn new(alloc: Global) -> HostTable
+        ensures { rule_count result ≡ 0 }
+    {
+        HostTable {
+            rules: Vec::new(alloc),
+        }
+    }
+
+    /// Takes a rule behind the others, if it has the next number.
+    ///
+    /// # Errors
+    ///
+    /// Full where all sixty-one are there, else out of order where the rule hasn't the next number, else want of memory; the
+    /// table stays as it was.
+    #[tactic(auto, using(crate::proofs::Numbered::numbered_on))]
+    pub fn add(&mut self, rule: HostRule) -> Result<(), HostFault>
+        ensures taken { OnOk result (self.new.rules.items ≡ self.old.rules.items ++ rule ∷ []) }
+        ensures fits { OnOk result ((rule_count self.old < 61) × (rule.id ≡ rule_count self.old + 1)) }
+        ensures refused { IfErr result (IsRefused (rule_count self.old) rule.id) }
+        ensures same { OnErr result (self.new.rules.items ≡ self.old.rules.items) }
+    {
+        let count = self.rules.len();
+        if count >= RULES {
+            return Err(HostFault::Full);
+        }
+        if usize::from(rule.id) != count + 1 {
+            return Err(HostFault::OutOfOrder);
+        }
+        if self.rules.reserve(1).is_err() {
+            return Err(HostFault::Memory);
+        }
+        self.rules.push_reserved(rule);
+        Ok(())
+    }
+
+    /// Whether all the rules are there.
+    pub fn is_complete(&self) -> bool
+        ensures { result ≡ (rule_count self.now == 61) }
+    {
+        self.rules.len() == RULES
+    }
+
+    /// What the stored function of a rule answers.
+    ///
+    /// # Errors
+    ///
+    /// Want of memory alone.
+    pub fn call(
+        &self,
+        alloc: Global,
+        id: u8,
+        world: &World,
+        now: &ActionNow,
+    ) -> Result<HostAnswer, AllocError>
+        requires low { 1 ≤ id }
+        requires there { id ≤ rule_count self.now }
+        requires numbers { are_there world.now now.now ≡ true }
+        ensures { IfOk result (λ answer. HasEffect id world.now now.now answer) }
+    {
+        Ok(self.rules[usize::from(id) - 1].call(alloc, world, now)?)
+    }
+}
