@@ -18,7 +18,7 @@ use Rattle.i7_claims.proofs.BookScans.{mention_has}
 use Rattle.i7_claims.proofs.Lowest.{lowest_is}
 use Rattle.i7_claims.proofs.NameScans.{never}
 
-or_either : (a b : Bool) → (a || b) ≡ true → (a ≡ true) ⊎ (b ≡ true)
+pub or_either : (a b : Bool) → (a || b) ≡ true → (a ≡ true) ⊎ (b ≡ true)
 or_either true b h = inl refl
 or_either false b h = inr h
 

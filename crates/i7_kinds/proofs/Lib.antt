@@ -16,3 +16,15 @@ pub mod Readiness
 pub mod FewWords
 pub mod LongNames
 pub mod Written
+pub mod NamesOnce
+pub mod KindPlaces
+pub mod UnderNames
+pub mod DemandsSummed
+pub mod FirstDemands
+pub mod ObjectsNamed
+pub mod KindsMeant
+pub mod KindsDeclared
+pub mod KindsOne
+pub mod SameStandings
+pub mod OrderOfSentences
+pub mod SameClaims
