@@ -57,7 +57,7 @@ none_found claims keys statements mentions none =
     }
 
 -- a tale that stands, and its objects
-unrefused_tale : (m : Made) (declared : Declared) (entries : List Entry) (actions : List Needs) (refusal : Option Fault) (tale : Tale) → with_actions actions (or_refused refusal (record { declared = declared; objects = objects_of m 0 entries })) ≡ Ok tale
+pub unrefused_tale : (m : Made) (declared : Declared) (entries : List Entry) (actions : List Needs) (refusal : Option Fault) (tale : Tale) → with_actions actions (or_refused refusal (record { declared = declared; objects = objects_of m 0 entries })) ≡ Ok tale
     → (refusal ≡ None) × (objects_of m 0 entries ≡ tale.objects)
 unrefused_tale m declared entries actions None tale means =
     let same : told_with actions (record { declared = declared; objects = objects_of m 0 entries }) ≡ tale = cc in
@@ -69,7 +69,7 @@ unrefused_tale m declared entries actions (Some fault) tale means = absurd cc
 abbrev pub key_at : NameAt → List ℕ
 key_at at = key_of at.name.text
 
-abbrev key_in : Entry → List ℕ
+abbrev pub key_in : Entry → List ℕ
 key_in e = key_of e.name
 
 -- the keys stand in the order of the mentions, each once
@@ -112,7 +112,7 @@ author_keys : (mentions : List NameAt) → map key_in (map author_entry mentions
 author_keys [] = refl
 author_keys (at ∷ mentions) = ap (λ (keys : List (List ℕ)). key_at at ∷ keys) (author_keys mentions)
 
-entry_keys : (mentions : List NameAt) → map key_in (entries_of mentions) ≡ built_in_keys ++ map key_at mentions
+pub entry_keys : (mentions : List NameAt) → map key_in (entries_of mentions) ≡ built_in_keys ++ map key_at mentions
 unfolding entries_of
 entry_keys mentions = ap (λ (keys : List (List ℕ)). built_in_keys ++ keys) (author_keys mentions)
 

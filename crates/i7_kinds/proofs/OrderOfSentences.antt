@@ -51,7 +51,7 @@ has_kind_too these those to from name kind (thing most none same) = thing (at_mo
 -- ---- two accepted sources
 
 the_other_way : (these those : List Sentence) → SayTheSame these those → SayTheSame those these
-the_other_way these those same said = ((same said).1, (same said).0)
+the_other_way these those same said is = ((same said is).1, (same said is).0)
 
 pub order_is_nothing : OrderIsNothingToKinds
 order_is_nothing these those tale other same means means_too i j object twin at at_too named =

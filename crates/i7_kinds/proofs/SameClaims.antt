@@ -19,7 +19,7 @@ use Rattle.i7_claims.specs.declared.claim.Claim.{Claim}
 use Rattle.i7_claims.specs.declared.claim.Fact.{Fact}
 use Rattle.i7_claims.specs.declared.claim.Standing.TheVariants as stands
 use Rattle.i7_claims.specs.declared.wording.What.{What}
-use Rattle.i7_kinds.specs.KindsMeant.{IsClaimed, IsSaid, SayTheSame}
+use Rattle.i7_kinds.specs.KindsMeant.{IsClaimed, IsSaid, SayTheSame, is_claiming}
 use Rattle.i7_kinds.proofs.SameStandings.{SameClaimed, none_twice_declared, same_standings}
 
 -- ---- the same facts, on other lines
@@ -133,6 +133,22 @@ same_said known said m n = same_declared said m n
 
 -- ---- what is claimed by what is said
 
+claiming_of : (known : Standings) (said : Assertion) (line : ℕ) (f : Fact) → IsClaimed (claims_said known said line) f → is_claiming said ≡ true
+claiming_of known asserts.Aside line f h = absurd h
+claiming_of known (asserts.Description text) line f h = absurd h
+claiming_of known (asserts.Rule rule) line f h = absurd h
+claiming_of known (asserts.Listing listing) line f h = absurd h
+claiming_of known (asserts.Action action) line f h = absurd h
+claiming_of known _ line f h = refl
+
+declaring : (said : Assertion) (line : ℕ) (f : Fact) → IsClaimed (declares_said said line) f → is_claiming said ≡ true
+declaring asserts.Aside line f h = absurd h
+declaring (asserts.Description text) line f h = absurd h
+declaring (asserts.Rule rule) line f h = absurd h
+declaring (asserts.Listing listing) line f h = absurd h
+declaring (asserts.Action action) line f h = absurd h
+declaring _ line f h = refl
+
 claimed_append : (xs ys : List Claim) (f : Fact) → IsClaimed (xs ++ ys) f → IsClaimed xs f ⊎ IsClaimed ys f
 claimed_append [] ys f h = inr h
 claimed_append (x ∷ xs) ys f (inl here) = inl (inl here)
@@ -147,7 +163,7 @@ claimed_back : (xs ys : List Claim) (f : Fact) → IsClaimed ys f → IsClaimed 
 claimed_back [] ys f h = h
 claimed_back (x ∷ xs) ys f h = inr (claimed_back xs ys f h)
 
-module _ (claims_by : Assertion → ℕ → List Claim) (lines : (said : Assertion) (m n : ℕ) → SameFacts (claims_by said m) (claims_by said n)) where
+module _ (claims_by : Assertion → ℕ → List Claim) (lines : (said : Assertion) (m n : ℕ) → SameFacts (claims_by said m) (claims_by said n)) (claiming : (said : Assertion) (line : ℕ) (f : Fact) → IsClaimed (claims_by said line) f → is_claiming said ≡ true) where
   abbrev claims_by_one : Sentence → List Claim
   claims_by_one sentence = claims_by sentence.said sentence.line
 
@@ -164,18 +180,18 @@ module _ (claims_by : Assertion → ℕ → List Claim) (lines : (said : Asserti
       claimed_front (claims_by_one sentence) (flat_map claims_by_one sentences) f (same_claimed (claims_by sentence.said line) (claims_by_one sentence) f (lines sentence.said line sentence.line) now)
   said_to (sentence ∷ sentences) said line f (inr later) h = claimed_back (claims_by_one sentence) (flat_map claims_by_one sentences) f (said_to sentences said line f later h)
 
-  claimed_too : (these those : List Sentence) → ((said : Assertion) → IsSaid these said → IsSaid those said) → SameClaimed (flat_map claims_by_one these) (flat_map claims_by_one those)
-  claimed_too these those to f h = let t = said_from these f h in said_to those t.0 t.1 f (to t.0 t.2) t.3
+  claimed_too : (these those : List Sentence) → ((said : Assertion) → is_claiming said ≡ true → IsSaid these said → IsSaid those said) → SameClaimed (flat_map claims_by_one these) (flat_map claims_by_one those)
+  claimed_too these those to f h = let t = said_from these f h in said_to those t.0 t.1 f (to t.0 (claiming t.0 t.1 f t.3) t.2) t.3
 
 -- ---- two accepted sources
 
 pub same_known : (these those : List Sentence) → SayTheSame these those → name_twice (claims_of these) ≡ None → name_twice (claims_of those) ≡ None → known_by these ≡ known_by those
 same_known these those same once once_too =
-    let to = claimed_too declares_said same_declared these those (λ said. (same said).0) in
-    let from = claimed_too declares_said same_declared those these (λ said. (same said).1) in
+    let to = claimed_too declares_said same_declared declaring these those (λ said is. (same said is).0) in
+    let from = claimed_too declares_said same_declared declaring those these (λ said is. (same said is).1) in
     same_standings _ _ to from built_in_standings (none_twice_declared these once) (none_twice_declared those once_too)
 
 pub claimed_in_both : (these those : List Sentence) → SayTheSame these those → name_twice (claims_of these) ≡ None → name_twice (claims_of those) ≡ None → SameClaimed (claims_of these) (claims_of those)
 claimed_in_both these those same once once_too f h =
-    let claimed = claimed_too (claims_said (known_by these)) (same_said (known_by these)) these those (λ said. (same said).0) f h in
+    let claimed = claimed_too (claims_said (known_by these)) (same_said (known_by these)) (claiming_of (known_by these)) these those (λ said is. (same said is).0) f h in
     subst (λ (known : Standings). IsClaimed (flat_map (λ (sentence : Sentence). claims_said known sentence.said sentence.line) those) f) (same_known these those same once once_too) claimed

@@ -1,5 +1,5 @@
 -- Which kind each object is meant to have, by what is claimed anywhere in a source, in names and in no order.
-use Rattle.std.specs.Prelude.{◌≡◌, ◌≢◌, ◌⊎◌, ℕ, List, [], ◌∷◌, codes, slice_get, Some, Ok}
+use Rattle.std.specs.Prelude.{◌≡◌, ◌≢◌, ◌⊎◌, ℕ, Bool, true, false, List, [], ◌∷◌, codes, slice_get, Some, Ok}
 use Rattle.world_meaning.specs.Directions.{direction_name}
 use Rattle.world_meaning.specs.Kinds.{built_in_parents}
 use Rattle.world_meaning.specs.declared.direction.Direction.{Direction}
@@ -7,6 +7,7 @@ use Rattle.world_meaning.specs.declared.place.Rel.TheVariants.{In}
 use Rattle.world_meaning.specs.declared.tale.Object.{Object}
 use Rattle.world_meaning.specs.declared.tale.Tale.{Tale}
 use Rattle.i7_sentences.specs.declared.sentence.Assertion.{Assertion}
+use Rattle.i7_sentences.specs.declared.sentence.Assertion.TheVariants as assertion
 use Rattle.i7_sentences.specs.declared.sentence.Sentence.{Sentence}
 use Rattle.i7_claims.specs.Claims.{claims_of}
 use Rattle.i7_claims.specs.KindNames.{kind_names}
@@ -88,14 +89,30 @@ KindsAreOne =
     (sentences : List Sentence) (tale : Tale) (name kind other : List ℕ) → tale_said sentences ≡ Ok tale
     → HasKind (claims_of sentences) name kind → HasKind (claims_of sentences) name other → kind ≡ other
 
+-- an assertion may claim something: no title and heading does, no text that stands alone, no rule, no listing of one and
+-- no action
+abbrev pub is_claiming : Assertion → Bool
+is_claiming assertion.Aside = false
+is_claiming (assertion.Description text) = false
+is_claiming (assertion.Rule rule) = false
+is_claiming (assertion.Listing listing) = false
+is_claiming (assertion.Action action) = false
+is_claiming _ = true
+
 -- a sentence asserts this
 abbrev pub IsSaid : List Sentence → Assertion → Type 0
 IsSaid [] said = ⊥
 IsSaid (sentence ∷ sentences) said = (sentence.said ≡ said) ⊎ IsSaid sentences said
 
--- two sources assert the same, in whatever order and on whatever lines
+-- two sources assert the same that claims anything, in whatever order and on whatever lines
 abbrev pub SayTheSame : List Sentence → List Sentence → Type 0
-SayTheSame these those = (said : Assertion) → (IsSaid these said → IsSaid those said) × (IsSaid those said → IsSaid these said)
+SayTheSame these those = (said : Assertion) → is_claiming said ≡ true → (IsSaid these said → IsSaid those said) × (IsSaid those said → IsSaid these said)
+
+-- each object of one of two accepted sources that assert the same has one of its name in the other
+abbrev pub OrderIsNothingToObjects : Type 0
+OrderIsNothingToObjects =
+    (these those : List Sentence) (tale other : Tale) → SayTheSame these those → tale_said these ≡ Ok tale → tale_said those ≡ Ok other
+    → (i : ℕ) (object : Object) → slice_get tale.objects i ≡ Some object → (j : ℕ) × (same : Object) × (slice_get other.objects j ≡ Some same) × (key_of object.name ≡ key_of same.name)
 
 -- objects of one name have kinds of one name in two accepted sources that assert the same
 abbrev pub OrderIsNothingToKinds : Type 0

@@ -1,5 +1,5 @@
 //! Laws: each object has the deepest kind that is demanded of it, and no order of the sentences changes it.
-ghost use Rattle.i7_kinds.specs.KindsMeant.{KindsAreMeant, KindsAreOne, OrderIsNothingToKinds};
+ghost use Rattle.i7_kinds.specs.KindsMeant.{KindsAreMeant, KindsAreOne, OrderIsNothingToKinds, OrderIsNothingToObjects};
 
 /// Each object of an accepted source has the deepest kind that is demanded of its name; where nothing deeper than a thing
 /// is, it is a container if something is in it, and else a thing.
@@ -10,6 +10,11 @@ pub fn kinds_are_the_deepest_demanded()
 /// No other kind is meant for a name.
 pub fn kinds_meant_are_one()
     ensures { KindsAreOne }
+{}
+
+/// Two accepted sources that assert the same, in whatever order, have objects of the same names.
+pub fn order_of_sentences_is_nothing_to_objects()
+    ensures { OrderIsNothingToObjects }
 {}
 
 /// Two accepted sources that assert the same, in whatever order, give objects of one name kinds of one name.
