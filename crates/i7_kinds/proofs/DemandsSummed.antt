@@ -1,6 +1,6 @@
 -- What is known of an object by all claims is the deepest of what is demanded of it, and whether something is in it.
-use Rattle.std.proofs.Common.{◌≡◌, ℕ, zero, suc, ◌<◌, Bool, true, false, List, [], ◌∷◌, length, Option, refl, sym, ap, ◌∙◌, subst, arith, inl, inr, ◌⊎◌, ⊎_elim, true≢false, get_or-set_same, get_or-set_other}
-use Rattle.std.specs.Prelude.{Some, None, Decides, bytes_eq, fold, slice_get, slice_set}
+use Rattle.std.proofs.Common.{◌≡◌, ℕ, zero, suc, ◌<◌, true, false, List, [], ◌∷◌, length, Option, refl, sym, ap, ◌∙◌, subst, arith, inl, inr, ◌⊎◌, ⊎_elim, true≢false, get_or-set_same, get_or-set_other}
+use Rattle.std.specs.Prelude.{Some, Decides, bytes_eq, fold, slice_get, slice_set}
 use Rattle.std.proofs.lemmas.Slice.Eq.{bytes_eq-Decides}
 use Rattle.world_meaning.proofs.Bools.{either}
 use Rattle.world_meaning.proofs.Climbs.{climbs_decide}
@@ -18,7 +18,6 @@ use Rattle.i7_kinds.specs.declared.knowns.Demanded.{Demanded}
 use Rattle.i7_kinds.specs.declared.knowns.Demanded.TheVariants.{Nothing, Deepest, Parted}
 use Rattle.i7_kinds.specs.declared.knowns.Known.{Known}
 use Rattle.i7_kinds.proofs.Fines.{fact_length}
-use Rattle.i7_kinds.proofs.NamesOnce.{at_number, is_there, one_value}
 use Rattle.i7_kinds.proofs.UnderKinds.{trans}
 
 -- ---- what some claim says

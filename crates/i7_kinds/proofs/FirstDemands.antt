@@ -1,5 +1,5 @@
 -- The player is known to be a person and the directions directions before any claim, by their names.
-use Rattle.std.proofs.Common.{◌≡◌, ℕ, zero, suc, ◌-◌, false, List, [], ◌∷◌, ◌++◌, Option, refl, sym, subst, inl, inr, ◌⊎◌}
+use Rattle.std.proofs.Common.{◌≡◌, ℕ, zero, suc, ◌-◌, false, List, ◌++◌, Option, refl, sym, subst, inl, inr, ◌⊎◌}
 use Rattle.std.specs.Prelude.{Some, None, codes, replicate, slice_get}
 use Rattle.world_meaning.specs.Directions.{direction_name, direction_number}
 use Rattle.world_meaning.specs.Kinds.{Under, itself}

@@ -1,9 +1,8 @@
 -- Where each kind is declared once, kinds and the kinds above them stand at the same places.
-use Rattle.std.proofs.Common.{◌≡◌, ℕ, zero, suc, Bool, true, false, List, [], ◌∷◌, ◌++◌, length, Option, refl, sym, ap, ◌∙◌, subst, arith, inl, inr, ◌⊎◌, ⊎_elim, append-nil, append_assoc}
-use Rattle.std.specs.Prelude.{Some, None, codes, flat_map, fold, map, slice_get}
+use Rattle.std.proofs.Common.{◌≡◌, ℕ, zero, suc, false, List, [], ◌∷◌, ◌++◌, length, Option, refl, sym, ap, ◌∙◌, subst, arith, inl, inr, ◌⊎◌, append-nil, append_assoc}
+use Rattle.std.specs.Prelude.{Some, codes, flat_map, fold, map, slice_get}
 use Rattle.world_meaning.specs.Kinds.{built_in_parents}
 use Rattle.world_meaning.specs.declared.kinds.TheConstants.{KINDS}
-use Rattle.object_words.specs.Mentions.{mention}
 use Rattle.i7_claims.specs.KindNames.{kind_names, with_kind, with_kind_of}
 use Rattle.i7_claims.specs.Numbers.{has_name, number_in}
 use Rattle.i7_claims.specs.Sorts.{built_in_kinds}
@@ -11,7 +10,7 @@ use Rattle.i7_claims.specs.declared.claim.Claim.{Claim}
 use Rattle.i7_claims.specs.declared.claim.Fact.{Fact}
 use Rattle.i7_claims.specs.declared.claim.Fact.TheVariants.{Lies}
 use Rattle.i7_claims.specs.declared.claim.Lying.{Lying}
-use Rattle.i7_kinds.specs.KindsMeant.{IsBuiltIn, IsClaimed}
+use Rattle.i7_kinds.specs.KindsMeant.{IsClaimed}
 use Rattle.i7_kinds.proofs.NamesOnce.{StandOnce, none_once, once_mention, once_mentions, same_some}
 use Rattle.i7_kinds.proofs.Rooted.{author_in, authors}
 

@@ -1,7 +1,7 @@
 -- Sentences that declare claim just that, and others claim of names only that they are objects'; so in a source where no
 -- name stands for two things each kind is declared once.
 use Rattle.std.proofs.Common.{◌≡◌, ℕ, ℤ, zero, suc, Bool, true, false, cond, ◌||◌, List, [], ◌∷◌, ◌++◌, map, Option, refl, sym, ap, ◌∙◌, subst, inl, inr, ◌⊎◌, ⊎_elim, true≢false}
-use Rattle.std.specs.Prelude.{Some, None, bytes_eq, codes, flat_map, fold, is_some, not, slice_get}
+use Rattle.std.specs.Prelude.{Some, None, bytes_eq, codes, flat_map, is_some, slice_get}
 use Rattle.std.proofs.lemmas.List.Folds.{list_any-append}
 use Rattle.std.proofs.lemmas.Slice.Eq.{bytes_eq-Decides}
 use Rattle.world_meaning.proofs.Bools.{either}
@@ -15,8 +15,8 @@ use Rattle.i7_sentences.specs.declared.sentence.Being.{Being}
 use Rattle.i7_sentences.specs.declared.sentence.Holder.{Holder}
 use Rattle.i7_sentences.specs.declared.sentence.Sentence.{Sentence}
 use Rattle.i7_claims.specs.Beings.{names_said}
-use Rattle.i7_claims.specs.Claims.{being_claims, claimed, claims_in, claims_of, claims_said, declares_said, demands, demands_said, door_claims, has, has_all, has_quality, holder_demands, holding_claims, kind_said, known_by, lies, named, number_claim, number_claims, numbers_said, placed, placings_said, qualities_said, room_claims, start_claim, usual_claims, usual_kind, usual_number, usual_quality, usually_claims, way_claims, what_claims, worn_claims}
-use Rattle.i7_claims.specs.NameScans.{Standings, built_in_standings, clashes, is_twice, name_twice, shows_twice, with_claim, with_fact, with_naming}
+use Rattle.i7_claims.specs.Claims.{being_claims, claims_in, claims_of, claims_said, declares_said, demands, demands_said, has_all, has_quality, holder_demands, kind_said, known_by, lies, named, number_claim, placed, placings_said, qualities_said, start_claim, usual_claims, usual_kind, usual_number, usual_quality, what_claims, worn_claims}
+use Rattle.i7_claims.specs.NameScans.{Standings, built_in_standings, clashes, name_twice, shows_twice, with_claim, with_fact}
 use Rattle.i7_claims.specs.Firsts.{first_of, given}
 use Rattle.i7_claims.specs.Numbers.{has_name, number_in}
 use Rattle.i7_claims.specs.KindNames.{with_kind}
@@ -27,9 +27,7 @@ use Rattle.i7_claims.specs.Statements.{key_of}
 use Rattle.i7_claims.specs.Wording.{usual_said, what_said}
 use Rattle.i7_claims.specs.declared.claim.Claim.{Claim}
 use Rattle.i7_claims.specs.declared.claim.Fact.{Fact}
-use Rattle.i7_claims.specs.declared.claim.Fact.TheVariants.{Stands, Lies, Rulebook, Between, CanBe, HasNumber, RoomUnlessDoor, Starts, Unread}
-use Rattle.i7_claims.specs.declared.claim.Naming.{Naming}
-use Rattle.i7_claims.specs.declared.claim.Quality.{Quality}
+use Rattle.i7_claims.specs.declared.claim.Fact.TheVariants.{Stands, Lies, Rulebook}
 use Rattle.i7_claims.specs.declared.claim.Standing.{Standing}
 use Rattle.i7_claims.specs.declared.claim.Standing.TheVariants as stands
 use Rattle.i7_claims.specs.declared.wording.What.{What}

@@ -1,11 +1,10 @@
 -- The kind that is known of an object in the end is the kind that is meant for its name, and no other is.
-use Rattle.std.proofs.Common.{◌≡◌, ◌≢◌, ℕ, zero, suc, ◌<◌, Bool, true, false, eqb, List, [], ◌∷◌, ◌++◌, length, Option, refl, sym, ap, ◌∙◌, subst, arith, inl, inr, ◌⊎◌, ⊎_elim, true≢false}
+use Rattle.std.proofs.Common.{◌≡◌, ℕ, ◌<◌, Bool, true, false, eqb, List, [], ◌∷◌, ◌++◌, length, Option, refl, sym, ap, ◌∙◌, subst, arith, inl, inr, ◌⊎◌, ⊎_elim, true≢false}
 use Rattle.std.specs.Prelude.{Some, None, Decides, codes, not, slice_get}
 use Rattle.std.proofs.lemmas.Bool.{eqb-true, eq-eqb}
 use Rattle.world_meaning.proofs.Bools.{either}
 use Rattle.world_meaning.specs.Directions.{direction_name, direction_number}
-use Rattle.world_meaning.specs.Kinds.{Under, itself as no_step, above as step, built_in_parents, room_kind}
-use Rattle.world_meaning.specs.declared.direction.Direction.{Direction}
+use Rattle.world_meaning.specs.Kinds.{Under, itself as no_step, above as step, built_in_parents}
 use Rattle.world_meaning.specs.declared.place.Rel.{Rel}
 use Rattle.world_meaning.specs.declared.place.Rel.TheVariants.{In}
 use Rattle.i7_claims.specs.KindNames.{kind_names}
@@ -16,12 +15,11 @@ use Rattle.i7_claims.specs.Statements.{built_in_keys}
 use Rattle.i7_claims.specs.declared.claim.Claim.{Claim}
 use Rattle.i7_claims.specs.declared.claim.Demand.{Demand}
 use Rattle.i7_claims.specs.declared.claim.Fact.{Fact}
-use Rattle.i7_claims.specs.declared.claim.Fact.TheVariants.{Demands, Lies, Placed, RoomUnlessDoor}
-use Rattle.i7_claims.specs.declared.claim.Placing.{Placing}
-use Rattle.i7_kinds.specs.Doors.{DemandsDoor, IsDoorDemanded, doors_of}
-use Rattle.i7_kinds.specs.KindClaims.{is_unknown, kind_cycle, parents_of, unknown_kind}
-use Rattle.i7_kinds.specs.KindsMeant.{HasKind, HoldsSomething, IsClaimed, IsDemanded, IsSaidDoor, IsThingAtMost, LiesUnder, by_claim, by_way, container, deepest, itself, of_direction, of_player, thing}
-use Rattle.i7_kinds.specs.Knowns.{Scope, door_kind, first_knowns, kind_by, kind_of, known_at, knowns_of, thing_or_container}
+use Rattle.i7_claims.specs.declared.claim.Fact.TheVariants.{Demands, Placed, RoomUnlessDoor}
+use Rattle.i7_kinds.specs.Doors.{DemandsDoor}
+use Rattle.i7_kinds.specs.KindClaims.{parents_of}
+use Rattle.i7_kinds.specs.KindsMeant.{HasKind, HoldsSomething, IsClaimed, IsDemanded, IsSaidDoor, IsThingAtMost, by_claim, by_way, container, deepest, of_direction, of_player, thing}
+use Rattle.i7_kinds.specs.Knowns.{door_kind, first_knowns, kind_by, kind_of, known_at, knowns_of, thing_or_container}
 use Rattle.i7_kinds.specs.Tales.{scope_of}
 use Rattle.i7_kinds.specs.declared.knowns.Demanded.{Demanded}
 use Rattle.i7_kinds.specs.declared.knowns.Demanded.TheVariants.{Nothing, Deepest, Parted}
@@ -31,11 +29,11 @@ use Rattle.i7_kinds.proofs.DoorScans.{doors_decide}
 use Rattle.i7_kinds.proofs.Fines.{IsFine, base}
 use Rattle.i7_kinds.proofs.FirstDemands.{IsFirst, direction_is_first, first_are_known, first_named, player_is_first}
 use Rattle.i7_kinds.proofs.KindPlaces.{AreNew}
-use Rattle.i7_kinds.proofs.NamesOnce.{StandOnce, at_number, is_there, number_is, number_past, one_value, same_some}
+use Rattle.i7_kinds.proofs.NamesOnce.{StandOnce, at_number, number_is, number_past, one_value}
 use Rattle.i7_kinds.proofs.ObjectsNamed.{NoneFound}
 use Rattle.i7_kinds.proofs.Readiness.{fine_of}
 use Rattle.i7_kinds.proofs.Rooted.{authors_behind}
-use Rattle.i7_kinds.proofs.UnderNames.{built_in_stands, kind_number, none_unknown, one_kind, to_numbers, under_named}
+use Rattle.i7_kinds.proofs.UnderNames.{built_in_stands, kind_number, none_unknown, to_numbers, under_named}
 
 known : (b : Bool) → not b ≡ false → b ≡ true
 known true h = refl

@@ -1,5 +1,5 @@
 -- In an accepted source each object has the kind that is meant for its name, and no other kind is meant.
-use Rattle.std.proofs.Common.{◌≡◌, ℕ, ◌+◌, List, [], ◌∷◌, length, map, refl, sym, ap, ◌∙◌}
+use Rattle.std.proofs.Common.{◌≡◌, ℕ, List, [], length, map, refl, sym, ap, ◌∙◌}
 use Rattle.std.specs.Prelude.{Some, codes, slice_get}
 use Rattle.i7_claims.specs.Claims.{claims_of}
 use Rattle.i7_claims.specs.KindNames.{kind_names}

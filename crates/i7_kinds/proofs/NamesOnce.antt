@@ -1,5 +1,5 @@
 -- Names that stand once in a list have their places as numbers.
-use Rattle.std.proofs.Common.{◌≡◌, ℕ, zero, suc, ◌<◌, Bool, true, false, cond, List, [], ◌∷◌, ◌++◌, length, Option, refl, sym, ap, ◌∙◌, subst, arith, inl, inr, ◌⊎◌, ⊎_elim, true≢false}
+use Rattle.std.proofs.Common.{◌≡◌, ℕ, zero, suc, ◌<◌, Bool, true, false, cond, List, [], ◌∷◌, ◌++◌, length, Option, refl, sym, ap, ◌∙◌, arith, inl, inr, ◌⊎◌, ⊎_elim, true≢false}
 use Rattle.std.specs.Prelude.{Some, None, bytes_eq, fold, slice_get}
 use Rattle.std.specs.List.{position_or_len}
 use Rattle.std.proofs.Math.Numerals.{one-add}

@@ -1,5 +1,5 @@
 -- The objects of a tale stand at the numbers of their names, with the kinds that are known of them.
-use Rattle.std.proofs.Common.{◌≡◌, ℕ, zero, suc, ◌+◌, Bool, true, false, List, [], ◌∷◌, ◌++◌, map, length, Option, refl, sym, ap, ◌∙◌, subst, arith, inl, inr, ◌⊎◌, append-nil, append_assoc, Ok}
+use Rattle.std.proofs.Common.{◌≡◌, ℕ, zero, suc, ◌+◌, List, [], ◌∷◌, ◌++◌, map, Option, refl, sym, ap, ◌∙◌, arith, inl, inr, append_assoc, Ok}
 use Rattle.std.specs.Prelude.{Some, None, fold, slice_get}
 use Rattle.std.proofs.lemmas.List.{map-append}
 use Rattle.world_meaning.proofs.Bools.{either}
@@ -11,15 +11,15 @@ use Rattle.world_meaning.specs.declared.tale.Object.{Object}
 use Rattle.world_meaning.specs.declared.tale.Tale.{Tale}
 use Rattle.i7_sentences.specs.declared.sentence.Sentence.{Sentence}
 use Rattle.i7_claims.specs.Claims.{claims_of}
-use Rattle.i7_claims.specs.NameScans.{book_twice, name_twice}
+use Rattle.i7_claims.specs.NameScans.{name_twice}
 use Rattle.i7_claims.specs.Scans.{earlier}
 use Rattle.i7_claims.specs.Statements.{NameAt, Named, built_in_keys, has_key, key_of, named_by, names_at, stated_by, with_name, with_names_of}
 use Rattle.i7_claims.specs.declared.claim.Claim.{Claim}
 use Rattle.i7_claims.specs.declared.statements.NumberedSentence.{NumberedSentence}
 use Rattle.i7_kinds.specs.Actions.{actions_said, told_with, with_actions}
-use Rattle.i7_kinds.specs.Demands.{descriptions_of, second_description, wrong_kind}
-use Rattle.i7_kinds.specs.KindClaims.{kind_cycle, kind_names, parents_of, unknown_kind}
-use Rattle.i7_kinds.specs.Knowns.{kind_of, kinds_of, known_at, knowns_of, off_path, unknown}
+use Rattle.i7_kinds.specs.Demands.{descriptions_of, wrong_kind}
+use Rattle.i7_kinds.specs.KindClaims.{kind_cycle, kind_names, unknown_kind}
+use Rattle.i7_kinds.specs.Knowns.{kind_of, kinds_of, known_at, knowns_of, off_path}
 use Rattle.i7_kinds.specs.Places.{holder_cycle}
 use Rattle.i7_kinds.specs.Suits.{first_room, unsuited}
 use Rattle.i7_kinds.specs.Tales.{Made, author_entry, entries_of, faults_of, frame_refusal, kind_at, limit_refusal, made_of, object_as, objects_of, or_refused, refusal_at, refusal_of, scope_of, tale_said}

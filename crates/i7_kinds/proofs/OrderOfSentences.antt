@@ -1,15 +1,12 @@
 -- No order of the sentences of an accepted source changes the kind of an object.
-use Rattle.std.proofs.Common.{◌≡◌, ℕ, List, [], ◌∷◌, ◌++◌, map, Option, refl, sym, ap, ◌∙◌, subst, inl, inr, ◌⊎◌, ⊎_elim}
-use Rattle.std.specs.Prelude.{Some, None, codes, slice_get}
-use Rattle.i7_sentences.specs.declared.sentence.Assertion.{Assertion}
+use Rattle.std.proofs.Common.{◌≡◌, ℕ, List, ap, ◌∙◌, subst, inl, inr}
+use Rattle.std.specs.Prelude.{Some, codes}
 use Rattle.i7_sentences.specs.declared.sentence.Sentence.{Sentence}
 use Rattle.i7_claims.specs.Claims.{claims_of}
-use Rattle.i7_claims.specs.KindNames.{kind_names}
 use Rattle.i7_claims.specs.Statements.{key_of, named_by}
 use Rattle.i7_claims.specs.declared.claim.Claim.{Claim}
-use Rattle.i7_claims.specs.declared.claim.Fact.{Fact}
-use Rattle.i7_claims.specs.declared.claim.Fact.TheVariants.{Demands, Lies, Placed, RoomUnlessDoor}
-use Rattle.i7_kinds.specs.KindsMeant.{HasKind, HoldsSomething, IsAbove, IsClaimed, IsDemanded, IsSaidDoor, IsThingAtMost, LiesUnder, OrderIsNothingToKinds, SayTheSame, above, by_claim, by_way, container, deepest, itself, of_direction, of_player, thing}
+use Rattle.i7_claims.specs.declared.claim.Fact.TheVariants.{Demands, Lies, RoomUnlessDoor}
+use Rattle.i7_kinds.specs.KindsMeant.{HasKind, HoldsSomething, IsAbove, IsDemanded, IsSaidDoor, IsThingAtMost, LiesUnder, OrderIsNothingToKinds, SayTheSame, above, by_claim, by_way, container, deepest, itself, of_direction, of_player, thing}
 use Rattle.i7_kinds.proofs.KindsDeclared.{kinds_new}
 use Rattle.i7_kinds.proofs.KindsOne.{kinds_meant, one_meant}
 use Rattle.i7_kinds.proofs.ObjectsNamed.{accepted}

@@ -1,6 +1,6 @@
 -- Sources that assert the same name the same objects.
-use Rattle.std.proofs.Common.{◌≡◌, ℕ, zero, suc, ◌+◌, Bool, true, false, ◌||◌, List, [], ◌∷◌, ◌++◌, map, Option, refl, sym, ap, ◌∙◌, subst, arith, inl, inr, ◌⊎◌, ⊎_elim}
-use Rattle.std.specs.Prelude.{Some, None, bytes_eq, fold, slice_get}
+use Rattle.std.proofs.Common.{◌≡◌, ℕ, zero, suc, ◌+◌, Bool, true, false, ◌||◌, List, [], ◌∷◌, ◌++◌, map, refl, sym, ap, ◌∙◌, subst, inl, inr, ◌⊎◌, ⊎_elim}
+use Rattle.std.specs.Prelude.{Some, bytes_eq, fold, slice_get}
 use Rattle.std.proofs.lemmas.List.Folds.{list_any-append}
 use Rattle.std.proofs.lemmas.Slice.Eq.{bytes_eq-Decides}
 use Rattle.world_meaning.proofs.Bools.{either}
@@ -19,7 +19,7 @@ use Rattle.i7_kinds.specs.Tales.{Made, entries_of, made_of, object_as, object_of
 use Rattle.i7_kinds.specs.declared.entries.Entry.{Entry}
 use Rattle.i7_kinds.proofs.DoorScans.{or_either, or_first, or_second}
 use Rattle.i7_kinds.proofs.NamesOnce.{at_number, is_there, same_some}
-use Rattle.i7_kinds.proofs.ObjectsNamed.{accepted, entry_keys, key_at, key_in, keyed, told_of, unrefused_tale}
+use Rattle.i7_kinds.proofs.ObjectsNamed.{entry_keys, key_at, key_in, keyed, told_of, unrefused_tale}
 
 -- ---- which names are mentioned
 

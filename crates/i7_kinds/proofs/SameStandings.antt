@@ -1,10 +1,10 @@
 -- What names stand for by the declarations of a source in which no name stands for two things is the same in whatever order.
-use Rattle.std.proofs.Common.{◌≡◌, ℕ, Bool, true, false, List, [], ◌∷◌, ◌++◌, Option, refl, sym, ap, ◌∙◌, subst, inl, inr, ◌⊎◌, ⊎_elim, true≢false}
+use Rattle.std.proofs.Common.{◌≡◌, ℕ, Bool, true, false, List, [], ◌∷◌, ◌++◌, Option, refl, sym, ap, ◌∙◌, subst, inl, inr, ◌⊎◌, ⊎_elim}
 use Rattle.std.specs.Prelude.{Some, None, bytes_eq, flat_map, fold, not, if◌then◌else◌}
 use Rattle.std.proofs.lemmas.Slice.Eq.{bytes_eq-Decides}
 use Rattle.world_meaning.proofs.Bools.{either}
 use Rattle.i7_sentences.specs.declared.sentence.Sentence.{Sentence}
-use Rattle.i7_claims.specs.Claims.{claims_in, claims_of, claims_said, declares_in, declares_said, known_by}
+use Rattle.i7_claims.specs.Claims.{claims_in, claims_of, declares_in, known_by}
 use Rattle.i7_claims.specs.Firsts.{first_of, given}
 use Rattle.i7_claims.specs.NameScans.{Standings, built_in_standings, clashes, is_twice, name_twice, shows_twice, with_claim, with_fact}
 use Rattle.i7_claims.specs.Scans.{lower, lowest}

@@ -1,10 +1,9 @@
 -- Kinds lie under each other by their names as they do by their numbers.
-use Rattle.std.proofs.Common.{◌≡◌, ℕ, Bool, true, false, List, [], ◌∷◌, ◌++◌, length, Option, refl, sym, ap, ◌∙◌, subst, inl, inr, ◌⊎◌, ⊎_elim, true≢false}
-use Rattle.std.specs.Prelude.{Some, None, codes, not, slice_get}
+use Rattle.std.proofs.Common.{◌≡◌, ℕ, Bool, true, false, List, [], ◌∷◌, ◌++◌, Option, refl, sym, ap, ◌∙◌, subst, inl, inr, ⊎_elim}
+use Rattle.std.specs.Prelude.{Some, None, not, slice_get}
 use Rattle.world_meaning.specs.Kinds.{Under, itself as no_step, above as step, built_in_parents}
 use Rattle.i7_claims.specs.KindNames.{kind_names}
 use Rattle.i7_claims.specs.Numbers.{has_name, number_in}
-use Rattle.i7_claims.specs.Scans.{lowest}
 use Rattle.i7_claims.specs.Sorts.{built_in_kinds}
 use Rattle.i7_claims.specs.declared.claim.Claim.{Claim}
 use Rattle.i7_claims.specs.declared.claim.Fact.{Fact}
@@ -12,10 +11,10 @@ use Rattle.i7_claims.specs.declared.claim.Fact.TheVariants.{Lies}
 use Rattle.i7_claims.specs.declared.claim.Lying.{Lying}
 use Rattle.i7_claims.proofs.Lowest.{none_shown}
 use Rattle.i7_kinds.specs.KindClaims.{is_unknown, kind_cycle, parents_of, same_names, shows_unknown, unknown_kind}
-use Rattle.i7_kinds.specs.KindsMeant.{IsAbove, IsBuiltIn, IsClaimed, LiesUnder, above, itself}
+use Rattle.i7_kinds.specs.KindsMeant.{IsAbove, IsClaimed, LiesUnder, above, itself}
 use Rattle.i7_kinds.proofs.KindPlaces.{AreNew, AtOnePlace, author_kinds, as_many, behind, claim_at, claimed_at, front_or_behind, in_table, kinds_behind, kinds_once}
-use Rattle.i7_kinds.proofs.NamesOnce.{at_number, get_front, is_there, number_is, one_value, same_some}
-use Rattle.i7_kinds.proofs.Rooted.{HasEnds, NoneAbove, authors, authors_behind, kinds_end}
+use Rattle.i7_kinds.proofs.NamesOnce.{at_number, get_front, number_is, one_value, same_some}
+use Rattle.i7_kinds.proofs.Rooted.{HasEnds, authors, authors_behind, kinds_end}
 use Rattle.i7_kinds.proofs.UnderKinds.{trans}
 
 -- ---- without a cycle two kinds that lie under each other are one
