@@ -1,5 +1,6 @@
 -- What is known of an object by all claims is the deepest of what is demanded of it, and whether something is in it.
-use Rattle.std.proofs.Common.{◌≡◌, ℕ, zero, suc, ◌<◌, true, false, List, [], ◌∷◌, length, Option, refl, sym, ap, ◌∙◌, subst, arith, inl, inr, ◌⊎◌, ⊎_elim, true≢false, get_or-set_same, get_or-set_other}
+use Rattle.std.proofs.Common.{◌≡◌, ℕ, zero, suc, ◌<◌, true, false, List, [], ◌∷◌, length, Option}
+use Rattle.std.proofs.Common.{refl, sym, ap, ◌∙◌, subst, arith, inl, inr, ◌⊎◌, ⊎_elim, true≢false, get_or-set_same, get_or-set_other}
 use Rattle.std.specs.Prelude.{Some, Decides, bytes_eq, fold, slice_get, slice_set}
 use Rattle.std.proofs.lemmas.Slice.Eq.{bytes_eq-Decides}
 use Rattle.world_meaning.proofs.Bools.{either}
@@ -130,7 +131,8 @@ module _ (s : Scope) (name : List ℕ) (o : ℕ) (once : (other : List ℕ) → 
       let e : known_at (slice_set knowns i known) o ≡ known = subst (λ (n : ℕ). known_at (slice_set knowns n known) o ≡ known) (sym here) (set_here knowns o known lt) in
       subst P (sym e) h
 
-  set_aside : (P : Known → Type 0) (knowns : List Known) (object : List ℕ) (known : Known) → bytes_eq object name ≡ false → P (known_at knowns o) → P (known_at (slice_set knowns (number_in s.objects object) known) o)
+  set_aside : (P : Known → Type 0) (knowns : List Known) (object : List ℕ) (known : Known) → bytes_eq object name ≡ false → P (known_at knowns o)
+      → P (known_at (slice_set knowns (number_in s.objects object) known) o)
   set_aside P knowns object known isnt h =
       subst P (sym (set_other knowns (number_in s.objects object) o known (λ same. other_name object name isnt (once object same)))) h
 
@@ -183,7 +185,8 @@ module _ (s : Scope) (name : List ℕ) (o : ℕ) (once : (other : List ℕ) → 
       let now = with_demand s knowns d.object k in
       elim (either (has_name s.kinds d.kind)) [
         | inl is ↦ let e : with_kind s knowns d ≡ now = rw is refl in so Q Holds (with_kind s knowns d) now e (nothing_held s.parents Q Holds ⊥ (known_at now o) (λ n. n)
-            (same_known s.parents (λ x. Is x ⊎ ((d.object ≡ name) × (x ≡ k))) Q Holds Holds (λ x r. ⊎_elim (λ old. inl old) (λ m. inr (m.0, is, m.1)) r) (λ x r. ⊎_elim (λ old. inl old) (λ m. inr (m.0, m.2)) r) (λ a. a) (λ a. a) (known_at now o)
+            (same_known s.parents (λ x. Is x ⊎ ((d.object ≡ name) × (x ≡ k))) Q Holds Holds (λ x r. ⊎_elim (λ old. inl old) (λ m. inr (m.0, is, m.1)) r)
+            (λ x r. ⊎_elim (λ old. inl old) (λ m. inr (m.0, m.2)) r) (λ a. a) (λ a. a) (known_at now o)
             (demand_known Is Holds knowns d.object k lt h)))
         | inr isnt ↦ let e : with_kind s knowns d ≡ knowns = rw isnt refl in so Q Holds (with_kind s knowns d) knowns e (nothing_held s.parents Q Holds ⊥ (known_at knowns o) (λ n. n)
             (nothing_more s.parents Is More Holds (known_at knowns o) (λ x m. true≢false (sym m.1 ∙ isnt)) h))
@@ -196,7 +199,8 @@ module _ (s : Scope) (name : List ℕ) (o : ℕ) (once : (other : List ℕ) → 
         | inl is ↦ let e : with_room s knowns object ≡ knowns = rw is refl in so Q Holds (with_room s knowns object) knowns e (nothing_held s.parents Q Holds ⊥ (known_at knowns o) (λ n. n)
             (nothing_more s.parents Is More Holds (known_at knowns o) (λ x m. true≢false (sym is ∙ m.1)) h))
         | inr isnt ↦ let e : with_room s knowns object ≡ now = rw isnt refl in so Q Holds (with_room s knowns object) now e (nothing_held s.parents Q Holds ⊥ (known_at now o) (λ n. n)
-            (same_known s.parents (λ x. Is x ⊎ ((object ≡ name) × (x ≡ room_kind))) Q Holds Holds (λ x r. ⊎_elim (λ old. inl old) (λ m. inr (m.0, isnt, m.1)) r) (λ x r. ⊎_elim (λ old. inl old) (λ m. inr (m.0, m.2)) r) (λ a. a) (λ a. a) (known_at now o)
+            (same_known s.parents (λ x. Is x ⊎ ((object ≡ name) × (x ≡ room_kind))) Q Holds Holds (λ x r. ⊎_elim (λ old. inl old) (λ m. inr (m.0, isnt, m.1)) r)
+            (λ x r. ⊎_elim (λ old. inl old) (λ m. inr (m.0, m.2)) r) (λ a. a) (λ a. a) (known_at now o)
             (demand_known Is Holds knowns object room_kind lt h)))
       ]
   fact_known Is Holds knowns (Placed p) lt h =
@@ -211,7 +215,8 @@ module _ (s : Scope) (name : List ℕ) (o : ℕ) (once : (other : List ℕ) → 
       nothing_held s.parents (λ x. Is x ⊎ ⊥) Holds ⊥ (known_at knowns o) (λ n. n) (nothing_more s.parents Is (λ x. ⊥) Holds (known_at knowns o) (λ x n. n) h)
   claims_known (c ∷ claims) Is Holds knowns lt h =
       let now = with_known s knowns c.fact in
-      let later = claims_known claims (λ x. Is x ⊎ DemandsKind s name x c.fact) (Holds ⊎ IsHeldIn name c.fact) now (omega (arith, lt, fact_length s c.fact knowns)) (fact_known Is Holds knowns c.fact lt h) in
+      let later = claims_known claims (λ x. Is x ⊎ DemandsKind s name x c.fact) (Holds ⊎ IsHeldIn name c.fact) now (omega (arith, lt, fact_length s c.fact knowns))
+      (fact_known Is Holds knowns c.fact lt h) in
       same_known s.parents _ _ _ _
       (λ x r. ⊎_elim (λ a. ⊎_elim (λ old. inl old) (λ here. inr (inl here)) a) (λ after. inr (inr after)) r)
       (λ x r. ⊎_elim (λ old. inl (inl old)) (λ a. ⊎_elim (λ here. inl (inr here)) (λ after. inr after) a) r)

@@ -60,7 +60,8 @@ abbrev pub AtOnePlace : List (List ℕ) → List (Option ℕ) → List ℕ → O
 AtOnePlace kinds parents kind parent = (i : ℕ) × (slice_get kinds i ≡ Some kind) × (slice_get parents i ≡ Some parent)
 
 -- lists of one length before them change nothing
-pub behind : (before kinds : List (List ℕ)) (above parents : List (Option ℕ)) (kind : List ℕ) (parent : Option ℕ) → length before ≡ length above → AtOnePlace kinds parents kind parent → AtOnePlace (before ++ kinds) (above ++ parents) kind parent
+pub behind : (before kinds : List (List ℕ)) (above parents : List (Option ℕ)) (kind : List ℕ) (parent : Option ℕ) → length before ≡ length above → AtOnePlace kinds parents kind parent
+    → AtOnePlace (before ++ kinds) (above ++ parents) kind parent
 behind [] kinds [] parents kind parent e at = at
 behind [] kinds (p ∷ above) parents kind parent e at = absurd (omega (arith, e))
 behind (k ∷ before) kinds [] parents kind parent e at = absurd (omega (arith, e))
@@ -68,10 +69,12 @@ behind (k ∷ before) kinds (p ∷ above) parents kind parent e at =
     let t = behind before kinds above parents kind parent (omega (arith, e)) at in
     (suc t.0, t.1, t.2)
 
-claimed_here : (N : List (List ℕ)) (f : Fact) (kinds : List (List ℕ)) (parents : List (Option ℕ)) (l : Lying) → Lies l ≡ f → AtOnePlace (kind_in f ++ kinds) (author_in N f ++ parents) l.kind (Some (number_in N l.parent))
+claimed_here : (N : List (List ℕ)) (f : Fact) (kinds : List (List ℕ)) (parents : List (Option ℕ)) (l : Lying) → Lies l ≡ f
+    → AtOnePlace (kind_in f ++ kinds) (author_in N f ++ parents) l.kind (Some (number_in N l.parent))
 claimed_here N f kinds parents l same = subst (λ (g : Fact). AtOnePlace (kind_in g ++ kinds) (author_in N g ++ parents) l.kind (Some (number_in N l.parent))) same (0, refl, refl)
 
-claimed_later : (N : List (List ℕ)) (f : Fact) (kinds : List (List ℕ)) (parents : List (Option ℕ)) (kind : List ℕ) (parent : Option ℕ) → AtOnePlace kinds parents kind parent → AtOnePlace (kind_in f ++ kinds) (author_in N f ++ parents) kind parent
+claimed_later : (N : List (List ℕ)) (f : Fact) (kinds : List (List ℕ)) (parents : List (Option ℕ)) (kind : List ℕ) (parent : Option ℕ) → AtOnePlace kinds parents kind parent
+    → AtOnePlace (kind_in f ++ kinds) (author_in N f ++ parents) kind parent
 claimed_later N (Lies l) kinds parents kind parent at = (suc at.0, at.1, at.2)
 claimed_later N _ kinds parents kind parent at = at
 
@@ -88,8 +91,10 @@ pub record ClaimedAt (N : List (List ℕ)) (claims : List Claim) (i : ℕ) (pare
   pub stands : slice_get (author_kinds claims) i ≡ Some said.kind
   pub under : parent ≡ Some (number_in N said.parent)
 
-claim_step : (N : List (List ℕ)) (c : Claim) (f : Fact) (claims : List Claim) (i : ℕ) (parent : Option ℕ) → c.fact ≡ f → ((j : ℕ) → slice_get (authors N claims) j ≡ Some parent → ClaimedAt N claims j parent)
-    → slice_get (author_in N f ++ authors N claims) i ≡ Some parent → (l : Lying) × IsClaimed (c ∷ claims) (Lies l) × (slice_get (kind_in f ++ author_kinds claims) i ≡ Some l.kind) × (parent ≡ Some (number_in N l.parent))
+claim_step : (N : List (List ℕ)) (c : Claim) (f : Fact) (claims : List Claim) (i : ℕ) (parent : Option ℕ) → c.fact ≡ f
+    → ((j : ℕ) → slice_get (authors N claims) j ≡ Some parent → ClaimedAt N claims j parent)
+    → slice_get (author_in N f ++ authors N claims) i ≡ Some parent
+    → (l : Lying) × IsClaimed (c ∷ claims) (Lies l) × (slice_get (kind_in f ++ author_kinds claims) i ≡ Some l.kind) × (parent ≡ Some (number_in N l.parent))
 claim_step N c (Lies l) claims zero parent same rest h = (l, inl same, refl, sym (same_some h))
 claim_step N c (Lies l) claims (suc i) parent same rest h = let t = rest i h in (t.said, inr t.claimed, t.stands, t.under)
 claim_step N c _ claims i parent same rest h = let t = rest i h in (t.said, inr t.claimed, t.stands, t.under)

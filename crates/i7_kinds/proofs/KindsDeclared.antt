@@ -15,7 +15,8 @@ use Rattle.i7_sentences.specs.declared.sentence.Being.{Being}
 use Rattle.i7_sentences.specs.declared.sentence.Holder.{Holder}
 use Rattle.i7_sentences.specs.declared.sentence.Sentence.{Sentence}
 use Rattle.i7_claims.specs.Beings.{names_said}
-use Rattle.i7_claims.specs.Claims.{being_claims, claims_in, claims_of, claims_said, declares_said, demands, demands_said, has_all, has_quality, holder_demands, kind_said, known_by, lies, named, number_claim, placed, placings_said, qualities_said, start_claim, usual_claims, usual_kind, usual_number, usual_quality, what_claims, worn_claims}
+use Rattle.i7_claims.specs.Claims.{being_claims, claims_in, claims_of, claims_said, declares_said, demands, demands_said, has_all, has_quality, holder_demands, kind_said, known_by}
+use Rattle.i7_claims.specs.Claims.{lies, named, number_claim, placed, placings_said, qualities_said, start_claim, usual_claims, usual_kind, usual_number, usual_quality, what_claims, worn_claims}
 use Rattle.i7_claims.specs.NameScans.{Standings, built_in_standings, clashes, name_twice, shows_twice, with_claim, with_fact}
 use Rattle.i7_claims.specs.Firsts.{first_of, given}
 use Rattle.i7_claims.specs.Numbers.{has_name, number_in}
@@ -103,7 +104,8 @@ plain_being known being line =
     let objects = map (named stands.Object line) (names_said being) in
     let what = what_claims (what_said known being.what) being.what being.subjects line in
     let places = placings_said being.place being.subjects line in
-    each_append IsPlain (objects ++ what) places (each_append IsPlain objects what (plain_objects (names_said being) line) (plain_what (what_said known being.what) being.what being.subjects line)) (plain_placings being.place being.subjects line)
+    each_append IsPlain (objects ++ what) places (each_append IsPlain objects what (plain_objects (names_said being) line)
+    (plain_what (what_said known being.what) being.what being.subjects line)) (plain_placings being.place being.subjects line)
 
 plain_usual : (kind : List ℕ) (what : Option What) (words : List ℕ) (line : ℕ) → ArePlain (usual_claims kind what words line)
 plain_usual kind None words line = (tt, tt)
@@ -192,15 +194,19 @@ or_none false = refl
 mention_is : (names : List (List ℕ)) (name other : List ℕ) → has_name names name ≡ false → has_name (mention names name) other ≡ true → (has_name names other ≡ true) ⊎ (other ≡ name)
 mention_is names name other new h =
     let there : has_name (names ++ name ∷ []) other ≡ true = rw new at h in
-    ⊎_elim (λ old. inl old) (λ is. inr ((bytes_eq-Decides other name).0 is)) (or_either (has_name names other) (bytes_eq other name) (sym (list_any-append (bytes_eq other) names (name ∷ []) ∙ ap (λ (b : Bool). has_name names other || b) (or_none (bytes_eq other name))) ∙ there))
+    ⊎_elim (λ old. inl old) (λ is. inr ((bytes_eq-Decides other name).0 is))
+    (or_either (has_name names other) (bytes_eq other name) (sym
+    (list_any-append (bytes_eq other) names (name ∷ []) ∙ ap (λ (b : Bool). has_name names other || b) (or_none (bytes_eq other name))) ∙ there))
 
 given_here : (a : Option Standing) (standing : Standing) (name other : List ℕ) → other ≡ name → is_some (first_of a (given bytes_eq name standing other)) ≡ true
 given_here (Some x) standing name other same = refl
 given_here None standing name other same = rw ((bytes_eq-Decides name other).1 (sym same)) refl
 
 -- a kind's sentence
-kind_step : (kind parent : Name) (line : ℕ) (rest : List Claim) (known : Standings) (names : List (List ℕ)) → AreNamed known names → lowest shows_twice with_claim known (declares_said (asserts.KindOfKind kind parent) line ++ rest) None ≡ None
-    → ((now : Standings) → AreNamed now (mention names (key_of kind.text)) → lowest shows_twice with_claim now rest None ≡ None → AreNew (mention names (key_of kind.text)) rest) → AreNew names (declares_said (asserts.KindOfKind kind parent) line ++ rest)
+kind_step : (kind parent : Name) (line : ℕ) (rest : List Claim) (known : Standings) (names : List (List ℕ)) → AreNamed known names
+    → lowest shows_twice with_claim known (declares_said (asserts.KindOfKind kind parent) line ++ rest) None ≡ None
+    → ((now : Standings) → AreNamed now (mention names (key_of kind.text)) → lowest shows_twice with_claim now rest None ≡ None → AreNew (mention names (key_of kind.text)) rest)
+    → AreNew names (declares_said (asserts.KindOfKind kind parent) line ++ rest)
 kind_step kind parent line rest known names all none later =
     let k = key_of kind.text in
     let one = named stands.Kind line kind in
@@ -209,26 +215,35 @@ kind_step kind parent line rest known names all none later =
     let t = none_shown shows_twice with_claim known one (two ∷ rest) none in
     let u = none_shown shows_twice with_claim now two rest t.1 in
     let new : has_name names k ≡ false = ⊎_elim (λ old. absurd (unnamed (known k) t.0 (all k old))) (λ isnt. isnt) (either (has_name names k)) in
-    let named_now : AreNamed now (mention names k) = λ name h. ⊎_elim (λ old. some_first (known name) _ (all name old)) (λ same. given_here (known name) stands.Kind k name same) (mention_is names k name new h) in
+    let named_now : AreNamed now (mention names k) = λ name h. ⊎_elim (λ old. some_first (known name) _ (all name old)) (λ same. given_here (known name) stands.Kind k name same)
+    (mention_is names k name new h) in
     (tt, (new, later now named_now u.1))
 
 abbrev Later : Standings → List Sentence → Type 0
-Later known0 sentences = (known : Standings) (names : List (List ℕ)) → AreNamed known names → lowest shows_twice with_claim known (flat_map (claims_in known0) sentences) None ≡ None → AreNew names (flat_map (claims_in known0) sentences)
+Later known0 sentences = (known : Standings) (names : List (List ℕ)) → AreNamed known names → lowest shows_twice with_claim known (flat_map (claims_in known0) sentences) None ≡ None
+    → AreNew names (flat_map (claims_in known0) sentences)
 
-declared_new : (said : Assertion) (line : ℕ) (rest : List Claim) (known : Standings) (names : List (List ℕ)) → AreNamed known names → lowest shows_twice with_claim known (declares_said said line ++ rest) None ≡ None
+declared_new : (said : Assertion) (line : ℕ) (rest : List Claim) (known : Standings) (names : List (List ℕ)) → AreNamed known names
+    → lowest shows_twice with_claim known (declares_said said line ++ rest) None ≡ None
     → ((now : Standings) (more : List (List ℕ)) → AreNamed now more → lowest shows_twice with_claim now rest None ≡ None → AreNew more rest) → AreNew names (declares_said said line ++ rest)
 declared_new (asserts.KindOfKind kind parent) line rest known names all none later = kind_step kind parent line rest known names all none (λ now h k. later now (mention names (key_of kind.text)) h k)
-declared_new (asserts.EitherOr kind first None) line rest known names all none later = no_kinds (declares_said (asserts.EitherOr kind first None) line) rest known names (tt, (tt, tt)) all none (λ now h k. later now names h k)
-declared_new (asserts.EitherOr kind first (Some second)) line rest known names all none later = no_kinds (declares_said (asserts.EitherOr kind first (Some second)) line) rest known names (tt, (tt, (tt, tt))) all none (λ now h k. later now names h k)
+declared_new (asserts.EitherOr kind first None) line rest known names all none later = no_kinds (declares_said (asserts.EitherOr kind first None) line) rest known names
+    (tt, (tt, tt)) all none (λ now h k. later now names h k)
+declared_new (asserts.EitherOr kind first (Some second)) line rest known names all none later = no_kinds (declares_said (asserts.EitherOr kind first (Some second)) line) rest known names
+    (tt, (tt, (tt, tt))) all none (λ now h k. later now names h k)
 declared_new (asserts.Rulebook name) line rest known names all none later = no_kinds (declares_said (asserts.Rulebook name) line) rest known names (tt, tt) all none (λ now h k. later now names h k)
-declared_new (asserts.Scene name recurs) line rest known names all none later = no_kinds (declares_said (asserts.Scene name recurs) line) rest known names (tt, tt) all none (λ now h k. later now names h k)
-declared_new (asserts.NumberProperty kind property) line rest known names all none later = no_kinds (declares_said (asserts.NumberProperty kind property) line) rest known names (tt, (tt, tt)) all none (λ now h k. later now names h k)
+declared_new (asserts.Scene name recurs) line rest known names all none later = no_kinds (declares_said (asserts.Scene name recurs) line) rest known names (tt, tt) all none
+    (λ now h k. later now names h k)
+declared_new (asserts.NumberProperty kind property) line rest known names all none later = no_kinds (declares_said (asserts.NumberProperty kind property) line) rest known names
+    (tt, (tt, tt)) all none (λ now h k. later now names h k)
 declared_new (asserts.Variable name) line rest known names all none later = no_kinds (declares_said (asserts.Variable name) line) rest known names (tt, tt) all none (λ now h k. later now names h k)
 declared_new _ line rest known names all none later = later known names all none
 
-sentence_new : (known0 : Standings) (said : Assertion) (line : ℕ) (rest : List Claim) (known : Standings) (names : List (List ℕ)) → DeclaresOrNot known0 said line → AreNamed known names → lowest shows_twice with_claim known (claims_said known0 said line ++ rest) None ≡ None
+sentence_new : (known0 : Standings) (said : Assertion) (line : ℕ) (rest : List Claim) (known : Standings) (names : List (List ℕ)) → DeclaresOrNot known0 said line → AreNamed known names
+    → lowest shows_twice with_claim known (claims_said known0 said line ++ rest) None ≡ None
     → ((now : Standings) (more : List (List ℕ)) → AreNamed now more → lowest shows_twice with_claim now rest None ≡ None → AreNew more rest) → AreNew names (claims_said known0 said line ++ rest)
-sentence_new known0 said line rest known names (inl plain) all none later = no_kinds (claims_said known0 said line) rest known names (plain_no_kinds (claims_said known0 said line) plain.1) all none (λ now h k. later now names h k)
+sentence_new known0 said line rest known names (inl plain) all none later = no_kinds (claims_said known0 said line) rest known names
+    (plain_no_kinds (claims_said known0 said line) plain.1) all none (λ now h k. later now names h k)
 sentence_new known0 said line rest known names (inr same) all none later =
     subst (λ (cs : List Claim). AreNew names (cs ++ rest)) (sym same)
     (declared_new said line rest known names all (subst (λ (cs : List Claim). lowest shows_twice with_claim known (cs ++ rest) None ≡ None) same none) later)
@@ -236,7 +251,8 @@ sentence_new known0 said line rest known names (inr same) all none later =
 all_new : (known0 : Standings) (sentences : List Sentence) → Later known0 sentences
 all_new known0 [] known names all none = tt
 all_new known0 (sentence ∷ sentences) known names all none =
-    sentence_new known0 sentence.said sentence.line (flat_map (claims_in known0) sentences) known names (declares_or_not known0 sentence.said sentence.line) all none (λ now more h k. all_new known0 sentences now more h k)
+    sentence_new known0 sentence.said sentence.line (flat_map (claims_in known0) sentences) known names (declares_or_not known0 sentence.said sentence.line) all none
+    (λ now more h k. all_new known0 sentences now more h k)
 
 -- ---- the built-in kinds have names
 

@@ -91,7 +91,8 @@ module _ (claims : List Claim) (keys : List (List ℕ)) (new : AreNew built_in_k
       let N = kind_names claims in
       let S = parents_of N claims in
       let d : Demand = record { object = name; kind = said.0 } in
-      let under : Under S (number_in N said.0) door_kind = subst (λ (n : ℕ). Under S (number_in N said.0) n) (numbered 3 (codes "door") refl) (to_numbers claims new found.known said.0 (codes "door") said.2) in
+      let under : Under S (number_in N said.0) door_kind = subst (λ (n : ℕ). Under S (number_in N said.0) n) (numbered 3 (codes "door") refl)
+      (to_numbers claims new found.known said.0 (codes "door") said.2) in
       let demands : DemandsDoor N S name (Demands d) = (refl, is_kind d said.1, under) in
       let t = shown_where claims (Demands d) said.1 in
       (doors_decide N S claims name).1
@@ -242,4 +243,5 @@ module _ (claims : List Claim) (keys : List (List ℕ)) (new : AreNew built_in_k
         let s = scope_of claims keys in
         let lt : o < length keys = is_within keys o name stands in
         kind_meant (known_at (knowns_of s claims) o) (base o) (length S) (fine_of claims keys found.known found.on_path o) thing_is_root
-        (claims_known s name o only_it (number_is keys once o name stands) claims (λ x. base o ≡ Some x) ⊥ (first_knowns (length keys)) (omega (arith, lt, counted)) (first_are_known S (length keys) o))
+        (claims_known s name o only_it (number_is keys once o name stands) claims (λ x. base o ≡ Some x) ⊥ (first_knowns (length keys)) (omega (arith, lt, counted))
+        (first_are_known S (length keys) o))

@@ -47,7 +47,8 @@ module _ (claims : List Claim) (keys : List (List ℕ)) (new : AreNew built_in_k
 
   pub one_meant : (name kind other : List ℕ) → HasKind claims name kind → HasKind claims name other → kind ≡ other
   one_meant name kind other (deepest d deeper all) (deepest e deepest_too every) =
-      one_kind claims new found.known found.ends (number_in (kind_names claims) kind) (number_in (kind_names claims) other) kind other (demanded_kind name kind d) (demanded_kind name other e) (all other e) (every kind d)
+      one_kind claims new found.known found.ends (number_in (kind_names claims) kind) (number_in (kind_names claims) other) kind other (demanded_kind name kind d)
+      (demanded_kind name other e) (all other e) (every kind d)
   one_meant name kind other (deepest d deeper all) (container most h same) = absurd (deeper (most kind d))
   one_meant name kind other (deepest d deeper all) (thing most none same) = absurd (deeper (most kind d))
   one_meant name kind other (container most h same) (deepest e deeper every) = absurd (deeper (most other e))

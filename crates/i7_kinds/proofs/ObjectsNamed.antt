@@ -22,7 +22,8 @@ use Rattle.i7_kinds.specs.KindClaims.{kind_cycle, kind_names, unknown_kind}
 use Rattle.i7_kinds.specs.Knowns.{kind_of, kinds_of, known_at, knowns_of, off_path}
 use Rattle.i7_kinds.specs.Places.{holder_cycle}
 use Rattle.i7_kinds.specs.Suits.{first_room, unsuited}
-use Rattle.i7_kinds.specs.Tales.{Made, author_entry, entries_of, faults_of, frame_refusal, kind_at, limit_refusal, made_of, object_as, objects_of, or_refused, refusal_at, refusal_of, scope_of, tale_said}
+use Rattle.i7_kinds.specs.Tales.{Made, author_entry, entries_of, faults_of, frame_refusal, kind_at, limit_refusal}
+use Rattle.i7_kinds.specs.Tales.{made_of, object_as, objects_of, or_refused, refusal_at, refusal_of, scope_of, tale_said}
 use Rattle.i7_kinds.specs.declared.entries.Entry.{Entry}
 use Rattle.i7_kinds.specs.declared.faults.Faults.{Faults}
 use Rattle.i7_kinds.specs.declared.knowns.Known.{Known}
@@ -41,7 +42,8 @@ none_twice : (faults : Faults) (mentions : List NameAt) (room : Option ℕ) → 
 unfolding frame_refusal
 none_twice faults mentions room none = unrefused Twice faults.twice (first_none_both (refusal_at Twice faults.twice) _ none).0
 
-none_found : (claims : List Claim) (keys : List (List ℕ)) (statements : List NumberedSentence) (mentions : List NameAt) → refusal_of (scope_of claims keys) (knowns_of (scope_of claims keys) claims) claims statements mentions ≡ None → NoneFound claims keys
+none_found : (claims : List Claim) (keys : List (List ℕ)) (statements : List NumberedSentence) (mentions : List NameAt)
+    → refusal_of (scope_of claims keys) (knowns_of (scope_of claims keys) claims) claims statements mentions ≡ None → NoneFound claims keys
 none_found claims keys statements mentions none =
     let s = scope_of claims keys in
     let knowns = knowns_of s claims in
@@ -57,7 +59,8 @@ none_found claims keys statements mentions none =
     }
 
 -- a tale that stands, and its objects
-pub unrefused_tale : (m : Made) (declared : Declared) (entries : List Entry) (actions : List Needs) (refusal : Option Fault) (tale : Tale) → with_actions actions (or_refused refusal (record { declared = declared; objects = objects_of m 0 entries })) ≡ Ok tale
+pub unrefused_tale : (m : Made) (declared : Declared) (entries : List Entry) (actions : List Needs) (refusal : Option Fault) (tale : Tale)
+    → with_actions actions (or_refused refusal (record { declared = declared; objects = objects_of m 0 entries })) ≡ Ok tale
     → (refusal ≡ None) × (objects_of m 0 entries ≡ tale.objects)
 unrefused_tale m declared entries actions None tale means =
     let same : told_with actions (record { declared = declared; objects = objects_of m 0 entries }) ≡ tale = cc in

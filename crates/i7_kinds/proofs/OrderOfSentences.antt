@@ -6,7 +6,8 @@ use Rattle.i7_claims.specs.Claims.{claims_of}
 use Rattle.i7_claims.specs.Statements.{key_of, named_by}
 use Rattle.i7_claims.specs.declared.claim.Claim.{Claim}
 use Rattle.i7_claims.specs.declared.claim.Fact.TheVariants.{Demands, Lies, RoomUnlessDoor}
-use Rattle.i7_kinds.specs.KindsMeant.{HasKind, HoldsSomething, IsAbove, IsDemanded, IsSaidDoor, IsThingAtMost, LiesUnder, OrderIsNothingToKinds, SayTheSame, above, by_claim, by_way, container, deepest, itself, of_direction, of_player, thing}
+use Rattle.i7_kinds.specs.KindsMeant.{HasKind, HoldsSomething, IsAbove, IsDemanded, IsSaidDoor, IsThingAtMost, LiesUnder, OrderIsNothingToKinds, SayTheSame}
+use Rattle.i7_kinds.specs.KindsMeant.{above, by_claim, by_way, container, deepest, itself, of_direction, of_player, thing}
 use Rattle.i7_kinds.proofs.KindsDeclared.{kinds_new}
 use Rattle.i7_kinds.proofs.KindsOne.{kinds_meant, one_meant}
 use Rattle.i7_kinds.proofs.ObjectsNamed.{accepted}
@@ -58,6 +59,7 @@ order_is_nothing these those tale other same means means_too i j object twin at 
     let from = claimed_in_both those these (the_other_way these those same) found_too.once found.once in
     let a = kinds_meant these tale i object means at in
     let b = kinds_meant those other j twin means_too at_too in
-    let has : HasKind (claims_of those) (key_of twin.name) a.0 = subst (λ (name : List ℕ). HasKind (claims_of those) name a.0) named (has_kind_too (claims_of these) (claims_of those) to from (key_of object.name) a.0 a.2) in
+    let has : HasKind (claims_of those) (key_of twin.name) a.0 = subst (λ (name : List ℕ). HasKind (claims_of those) name a.0) named
+    (has_kind_too (claims_of these) (claims_of those) to from (key_of object.name) a.0 a.2) in
     let one : b.0 ≡ a.0 = one_meant (claims_of those) (named_by those).keys (kinds_new those found_too.once) found_too (key_of twin.name) b.0 a.0 b.2 has in
     (a.0, a.1, b.1 ∙ ap (λ (kind : List ℕ). Some kind) one)

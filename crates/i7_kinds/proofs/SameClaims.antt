@@ -10,7 +10,8 @@ use Rattle.i7_sentences.specs.declared.sentence.Being.{Being}
 use Rattle.i7_sentences.specs.declared.sentence.Holder.{Holder}
 use Rattle.i7_sentences.specs.declared.sentence.Sentence.{Sentence}
 use Rattle.i7_claims.specs.Beings.{names_said}
-use Rattle.i7_claims.specs.Claims.{being_claims, claims_of, claims_said, declares_said, demands, demands_said, has_all, has_quality, holder_demands, kind_said, known_by, named, number_claim, placed, placings_said, qualities_said, start_claim, usual_claims, usual_kind, usual_number, usual_quality, what_claims, worn_claims}
+use Rattle.i7_claims.specs.Claims.{being_claims, claims_of, claims_said, declares_said, demands, demands_said, has_all, has_quality, holder_demands, kind_said, known_by}
+use Rattle.i7_claims.specs.Claims.{named, number_claim, placed, placings_said, qualities_said, start_claim, usual_claims, usual_kind, usual_number, usual_quality, what_claims, worn_claims}
 use Rattle.i7_claims.specs.NameScans.{Standings, built_in_standings, name_twice}
 use Rattle.i7_claims.specs.Standings.{is_number_name, is_variable_name}
 use Rattle.i7_claims.specs.Statements.{key_of}
@@ -57,7 +58,8 @@ same_demands (Some kind) subjects m n = same_map (demands kind m) (demands kind 
 same_what : (what : Option What) (words : List ℕ) (subjects : List Name) (m n : ℕ) → SameFacts (what_claims what words subjects m) (what_claims what words subjects n)
 same_what what words subjects m n =
     let qualities = qualities_said what in
-    same_append (demands_said (kind_said what words) subjects m) (demands_said (kind_said what words) subjects n) (flat_map (has_all qualities m) subjects) (flat_map (has_all qualities n) subjects) (same_demands (kind_said what words) subjects m n)
+    same_append (demands_said (kind_said what words) subjects m) (demands_said (kind_said what words) subjects n) (flat_map (has_all qualities m) subjects)
+    (flat_map (has_all qualities n) subjects) (same_demands (kind_said what words) subjects m n)
     (same_flat (has_all qualities m) (has_all qualities n) subjects (λ name. same_map (has_quality m name) (has_quality n name) qualities (λ quality. refl)))
 
 same_worn : (relation : Rel) (m n : ℕ) (name : Name) → SameFacts (worn_claims relation m name) (worn_claims relation n name)
@@ -77,7 +79,8 @@ same_holder Part name m n = (refl, tt)
 same_placings : (place : Option Holder) (subjects : List Name) (m n : ℕ) → SameFacts (placings_said place subjects m) (placings_said place subjects n)
 same_placings None subjects m n = tt
 same_placings (Some holder) subjects m n =
-    same_append (holder_demands holder.relation holder.name m) (holder_demands holder.relation holder.name n) (flat_map (placed holder m) subjects) (flat_map (placed holder n) subjects) (same_holder holder.relation holder.name m n)
+    same_append (holder_demands holder.relation holder.name m) (holder_demands holder.relation holder.name n) (flat_map (placed holder m) subjects) (flat_map (placed holder n) subjects)
+    (same_holder holder.relation holder.name m n)
     (same_flat (placed holder m) (placed holder n) subjects (λ name. (refl, (refl, same_worn holder.relation m n name))))
 
 same_objects : (names : List Name) (m n : ℕ) → SameFacts (map (named stands.Object m) names) (map (named stands.Object n) names)
@@ -124,7 +127,8 @@ same_said known (asserts.Door door first second) m n = (refl, (refl, (refl, (ref
 same_said known (asserts.DescriptionOf object text) m n = (refl, tt)
 same_said known (asserts.Are being) m n = same_being known being m n
 same_said known (asserts.Holds holder relation things) m n =
-    same_append (map (named stands.Object m) (holder ∷ things)) (map (named stands.Object n) (holder ∷ things)) _ _ (same_objects (holder ∷ things) m n) (same_placings (Some (record { relation = relation; name = holder })) things m n)
+    same_append (map (named stands.Object m) (holder ∷ things)) (map (named stands.Object n) (holder ∷ things)) _ _ (same_objects (holder ∷ things) m n)
+    (same_placings (Some (record { relation = relation; name = holder })) things m n)
 same_said known (asserts.Usually kind adjectives) m n = same_usual (usual_kind known kind) (usual_said known adjectives) adjectives m n
 same_said known (asserts.NumberOf property object number) m n = (refl, (same_number known property object number m n, tt))
 same_said known (asserts.UsuallyNumber property kind number) m n = (same_usual_number known property kind number m n, tt)
@@ -163,7 +167,8 @@ claimed_back : (xs ys : List Claim) (f : Fact) → IsClaimed ys f → IsClaimed 
 claimed_back [] ys f h = h
 claimed_back (x ∷ xs) ys f h = inr (claimed_back xs ys f h)
 
-module _ (claims_by : Assertion → ℕ → List Claim) (lines : (said : Assertion) (m n : ℕ) → SameFacts (claims_by said m) (claims_by said n)) (claiming : (said : Assertion) (line : ℕ) (f : Fact) → IsClaimed (claims_by said line) f → is_claiming said ≡ true) where
+module _ (claims_by : Assertion → ℕ → List Claim) (lines : (said : Assertion) (m n : ℕ) → SameFacts (claims_by said m) (claims_by said n))
+    (claiming : (said : Assertion) (line : ℕ) (f : Fact) → IsClaimed (claims_by said line) f → is_claiming said ≡ true) where
   abbrev claims_by_one : Sentence → List Claim
   claims_by_one sentence = claims_by sentence.said sentence.line
 
@@ -180,7 +185,8 @@ module _ (claims_by : Assertion → ℕ → List Claim) (lines : (said : Asserti
       claimed_front (claims_by_one sentence) (flat_map claims_by_one sentences) f (same_claimed (claims_by sentence.said line) (claims_by_one sentence) f (lines sentence.said line sentence.line) now)
   said_to (sentence ∷ sentences) said line f (inr later) h = claimed_back (claims_by_one sentence) (flat_map claims_by_one sentences) f (said_to sentences said line f later h)
 
-  claimed_too : (these those : List Sentence) → ((said : Assertion) → is_claiming said ≡ true → IsSaid these said → IsSaid those said) → SameClaimed (flat_map claims_by_one these) (flat_map claims_by_one those)
+  claimed_too : (these those : List Sentence) → ((said : Assertion) → is_claiming said ≡ true → IsSaid these said → IsSaid those said)
+      → SameClaimed (flat_map claims_by_one these) (flat_map claims_by_one those)
   claimed_too these those to f h = let t = said_from these f h in said_to those t.0 t.1 f (to t.0 (claiming t.0 t.1 f t.3) t.2) t.3
 
 -- ---- two accepted sources
@@ -191,7 +197,8 @@ same_known these those same once once_too =
     let from = claimed_too declares_said same_declared declaring those these (λ said is. (same said is).1) in
     same_standings _ _ to from built_in_standings (none_twice_declared these once) (none_twice_declared those once_too)
 
-pub claimed_in_both : (these those : List Sentence) → SayTheSame these those → name_twice (claims_of these) ≡ None → name_twice (claims_of those) ≡ None → SameClaimed (claims_of these) (claims_of those)
+pub claimed_in_both : (these those : List Sentence) → SayTheSame these those → name_twice (claims_of these) ≡ None → name_twice (claims_of those) ≡ None
+    → SameClaimed (claims_of these) (claims_of those)
 claimed_in_both these those same once once_too f h =
     let claimed = claimed_too (claims_said (known_by these)) (same_said (known_by these)) (claiming_of (known_by these)) these those (λ said is. (same said is).0) f h in
     subst (λ (known : Standings). IsClaimed (flat_map (λ (sentence : Sentence). claims_said known sentence.said sentence.line) those) f) (same_known these those same once once_too) claimed

@@ -51,12 +51,14 @@ key_more named at key =
           pushed ∙ list_any-append (bytes_eq key) named.keys (key_at at ∷ []) ∙ ap (λ (b : Bool). has_name named.keys key || b) (or_none (bytes_eq key (key_at at)))
     ]
 
-key_from_names : (names : List Name) (line : ℕ) (named : Named) (key : List ℕ) → has_name (fold with_name named (map (λ name. record { name = name; line = line }) names)).keys key ≡ true → (has_name named.keys key ≡ true) ⊎ IsKeyOf key names
+key_from_names : (names : List Name) (line : ℕ) (named : Named) (key : List ℕ) → has_name (fold with_name named (map (λ name. record { name = name; line = line }) names)).keys key ≡ true
+    → (has_name named.keys key ≡ true) ⊎ IsKeyOf key names
 key_from_names [] line named key h = inl h
 key_from_names (name ∷ names) line named key h =
     let at : NameAt = record { name = name; line = line } in
     ⊎_elim
-    (λ now. ⊎_elim (λ old. inl old) (λ here. inr (inl ((bytes_eq-Decides key (key_at at)).0 here))) (or_either (has_name named.keys key) (bytes_eq key (key_at at)) (sym (key_more named at key) ∙ now)))
+    (λ now. ⊎_elim (λ old. inl old) (λ here. inr (inl ((bytes_eq-Decides key (key_at at)).0 here)))
+    (or_either (has_name named.keys key) (bytes_eq key (key_at at)) (sym (key_more named at key) ∙ now)))
     (λ later. inr (inr later))
     (key_from_names names line (with_name named at) key h)
 
@@ -67,7 +69,8 @@ key_stays_names : (names : List NameAt) (named : Named) (key : List ℕ) → has
 key_stays_names [] named key h = h
 key_stays_names (at ∷ names) named key h = key_stays_names names (with_name named at) key (key_stays_name named at key h)
 
-key_of_names : (names : List Name) (line : ℕ) (named : Named) (key : List ℕ) → IsKeyOf key names → has_name (fold with_name named (map (λ name. record { name = name; line = line }) names)).keys key ≡ true
+key_of_names : (names : List Name) (line : ℕ) (named : Named) (key : List ℕ) → IsKeyOf key names
+    → has_name (fold with_name named (map (λ name. record { name = name; line = line }) names)).keys key ≡ true
 key_of_names [] line named key h = absurd h
 key_of_names (name ∷ names) line named key (inl here) =
     let at : NameAt = record { name = name; line = line } in
@@ -87,7 +90,8 @@ key_stays : (sentences : List Sentence) (named : Named) (key : List ℕ) → has
 key_stays [] named key h = h
 key_stays (sentence ∷ sentences) named key h = key_stays sentences (with_names_of named sentence) key (key_stays_names (names_at sentence) named key h)
 
-key_to : (sentences : List Sentence) (named : Named) (key : List ℕ) (said : Assertion) → IsSaid sentences said → IsKeyOf key (names_in said) → has_name (fold with_names_of named sentences).keys key ≡ true
+key_to : (sentences : List Sentence) (named : Named) (key : List ℕ) (said : Assertion) → IsSaid sentences said → IsKeyOf key (names_in said)
+    → has_name (fold with_names_of named sentences).keys key ≡ true
 key_to [] named key said is h = absurd is
 key_to (sentence ∷ sentences) named key said (inl here) h =
     key_stays sentences (with_names_of named sentence) key (key_of_names (names_in sentence.said) sentence.line named key (subst (λ (s : Assertion). IsKeyOf key (names_in s)) (sym here) h))
@@ -101,7 +105,8 @@ naming (asserts.Listing listing) key h = absurd h
 naming (asserts.Action action) key h = absurd h
 naming _ key h = refl
 
-same_keys : (these those : List Sentence) → ((said : Assertion) → is_claiming said ≡ true → IsSaid these said → IsSaid those said) → (key : List ℕ) → has_name (named_by these).keys key ≡ true → has_name (named_by those).keys key ≡ true
+same_keys : (these those : List Sentence) → ((said : Assertion) → is_claiming said ≡ true → IsSaid these said → IsSaid those said) → (key : List ℕ)
+    → has_name (named_by these).keys key ≡ true → has_name (named_by those).keys key ≡ true
 same_keys these those to key h =
     let start : Named = record { keys = built_in_keys; mentions = [] } in
     ⊎_elim (λ old. key_stays those start key old) (λ t. key_to those start key t.0 (to t.0 (naming t.0 key t.2) t.1) t.2) (key_from these start key h)
@@ -113,7 +118,8 @@ mapped_from f [] i y h = absurd cc
 mapped_from f (x ∷ xs) zero y h = (x, refl, same_some h)
 mapped_from f (x ∷ xs) (suc i) y h = mapped_from f xs i y h
 
-object_there : (m : Made) (entries : List Entry) (from o : ℕ) (e : Entry) → slice_get entries o ≡ Some e → (object : Object) × (slice_get (objects_of m from entries) o ≡ Some object) × (object.name ≡ e.name)
+object_there : (m : Made) (entries : List Entry) (from o : ℕ) (e : Entry) → slice_get entries o ≡ Some e
+    → (object : Object) × (slice_get (objects_of m from entries) o ≡ Some object) × (object.name ≡ e.name)
 unfolding object_as
 object_there m [] from o e h = absurd cc
 object_there m (entry ∷ entries) from zero e h = (object_of m from entry, refl, ap (λ (x : Entry). x.name) (same_some h))
@@ -129,7 +135,8 @@ same_objects these those tale other same means means_too i object at =
     let told = told_of these tale i object means at in
     let there : has_name named.keys key ≡ true = same_keys these those (λ said is. (same said is).0) key (is_there (named_by these).keys i key told.stands) in
     let j = number_in named.keys key in
-    let in_entries = mapped_from key_in (entries_of named.mentions) j key (ap (λ (keys : List (List ℕ)). slice_get keys j) (entry_keys named.mentions ∙ sym (keyed those).keys_are) ∙ at_number named.keys key there) in
+    let in_entries = mapped_from key_in (entries_of named.mentions) j key
+    (ap (λ (keys : List (List ℕ)). slice_get keys j) (entry_keys named.mentions ∙ sym (keyed those).keys_are) ∙ at_number named.keys key there) in
     let t = unrefused_tale m _ (entries_of named.mentions) (actions_said those) _ other means_too in
     let twin = object_there m (entries_of named.mentions) 0 j in_entries.0 in_entries.1 in
     (j, twin.0, ap (λ (objects : List Object). slice_get objects j) (sym t.1) ∙ twin.1, sym (ap key_of twin.2 ∙ in_entries.2))

@@ -39,7 +39,8 @@ clash_agrees all told s (inr only) h = ap (λ (found : Option Standing). clashes
 abbrev given_if : Bool → Standing → Option Standing
 given_if here s = if here then Some s else None
 
-agree_both : (all told : Option Standing) (here : Bool) (s : Standing) → Agree all told → (here ≡ true → clashes all s ≡ false) → Agree (first_of all (given_if here s)) (first_of told (given_if here s))
+agree_both : (all told : Option Standing) (here : Bool) (s : Standing) → Agree all told → (here ≡ true → clashes all s ≡ false)
+    → Agree (first_of all (given_if here s)) (first_of told (given_if here s))
 agree_both all told here s (inl same) h = inl (ap (λ (found : Option Standing). first_of found (given_if here s)) same)
 agree_both all told true s (inr only) h =
     let is : s ≡ stands.Object = object_only s (ap (λ (found : Option Standing). clashes found s) (sym only.0) ∙ h refl) in
@@ -72,19 +73,22 @@ NoneTwice known claims = lowest shows_twice with_claim known claims None ≡ Non
 passed : (told : Standings) (c : Claim) (claims : List Claim) → is_twice told c.fact ≡ false → NoneTwice (with_claim told c) claims → NoneTwice told (c ∷ claims)
 passed told c claims h none = ap (λ (b : Bool). lowest shows_twice with_claim (with_claim told c) claims (lower b c.line None)) h ∙ none
 
-plain_through : (some rest : List Claim) (known told : Standings) → EachFact IsPlain some → AgreeAt known told → NoneTwice known (some ++ rest) → (now : Standings) × AgreeAt now told × NoneTwice now rest
+plain_through : (some rest : List Claim) (known told : Standings) → EachFact IsPlain some → AgreeAt known told → NoneTwice known (some ++ rest)
+    → (now : Standings) × AgreeAt now told × NoneTwice now rest
 plain_through [] rest known told plain all none = (known, all, none)
 plain_through (c ∷ some) rest known told plain all none =
     plain_through some rest (with_claim known c) told plain.1 (step_plain known told c.fact plain.0 all) (none_shown shows_twice with_claim known c (some ++ rest) none).1
 
-both_through : (some rest later : List Claim) (known told : Standings) → AgreeAt known told → NoneTwice known (some ++ rest) → ((now then_told : Standings) → AgreeAt now then_told → NoneTwice now rest → NoneTwice then_told later) → NoneTwice told (some ++ later)
+both_through : (some rest later : List Claim) (known told : Standings) → AgreeAt known told → NoneTwice known (some ++ rest)
+    → ((now then_told : Standings) → AgreeAt now then_told → NoneTwice now rest → NoneTwice then_told later) → NoneTwice told (some ++ later)
 both_through [] rest later known told all none on = on known told all none
 both_through (c ∷ some) rest later known told all none on =
     let t = none_shown shows_twice with_claim known c (some ++ rest) none in
     let s = step_both known told c.fact all t.0 in
     passed told c (some ++ later) s.0 (both_through some rest later (with_claim known c) (with_claim told c) s.1 t.1 on)
 
-sentence_through : (known0 : Standings) (sentence : Sentence) (rest later : List Claim) (known told : Standings) → DeclaresOrNot known0 sentence.said sentence.line → AgreeAt known told → NoneTwice known (claims_in known0 sentence ++ rest)
+sentence_through : (known0 : Standings) (sentence : Sentence) (rest later : List Claim) (known told : Standings) → DeclaresOrNot known0 sentence.said sentence.line → AgreeAt known told
+    → NoneTwice known (claims_in known0 sentence ++ rest)
     → ((now then_told : Standings) → AgreeAt now then_told → NoneTwice now rest → NoneTwice then_told later) → NoneTwice told (declares_in sentence ++ later)
 sentence_through known0 sentence rest later known told (inl plain) all none on =
     let t = plain_through (claims_in known0 sentence) rest known told plain.1 all none in
@@ -92,7 +96,8 @@ sentence_through known0 sentence rest later known told (inl plain) all none on =
 sentence_through known0 sentence rest later known told (inr same) all none on =
     both_through (declares_in sentence) rest later known told all (subst (λ (cs : List Claim). NoneTwice known (cs ++ rest)) same none) on
 
-none_declared : (known0 : Standings) (sentences : List Sentence) (known told : Standings) → AgreeAt known told → NoneTwice known (flat_map (claims_in known0) sentences) → NoneTwice told (flat_map declares_in sentences)
+none_declared : (known0 : Standings) (sentences : List Sentence) (known told : Standings) → AgreeAt known told → NoneTwice known (flat_map (claims_in known0) sentences)
+    → NoneTwice told (flat_map declares_in sentences)
 none_declared known0 [] known told all none = refl
 none_declared known0 (sentence ∷ sentences) known told all none =
     sentence_through known0 sentence (flat_map (claims_in known0) sentences) (flat_map declares_in sentences) known told (declares_or_not known0 sentence.said sentence.line) all none
@@ -139,7 +144,8 @@ suited (c ∷ claims) known n none (inl here) =
 suited (c ∷ claims) known n none (inr later) = suited claims (with_claim known c) n (none_shown shows_twice with_claim known c claims none).1 later
 
 -- what stands was there before or is claimed
-given_from : (found : Option Standing) (key : List ℕ) (value : Standing) (name : List ℕ) (s : Standing) → first_of found (given bytes_eq key value name) ≡ Some s → (found ≡ Some s) ⊎ ((key ≡ name) × (value ≡ s))
+given_from : (found : Option Standing) (key : List ℕ) (value : Standing) (name : List ℕ) (s : Standing) → first_of found (given bytes_eq key value name) ≡ Some s
+    → (found ≡ Some s) ⊎ ((key ≡ name) × (value ≡ s))
 given_from (Some x) key value name s h = inl h
 given_from None key value name s h =
     elim (either (bytes_eq key name)) [
@@ -152,7 +158,8 @@ fact_from known (Stands n) name s h =
     ⊎_elim (λ old. inl old) (λ now. inr (λ i. Stands (record { name = now.0 i; standing = now.1 i }))) (given_from (known name) n.name n.standing name s h)
 fact_from known _ name s h = inl h
 
-from_claim : (claims : List Claim) (known : Standings) (name : List ℕ) (s : Standing) → fold with_claim known claims name ≡ Some s → (known name ≡ Some s) ⊎ IsClaimed claims (Stands (record { name = name; standing = s }))
+from_claim : (claims : List Claim) (known : Standings) (name : List ℕ) (s : Standing) → fold with_claim known claims name ≡ Some s
+    → (known name ≡ Some s) ⊎ IsClaimed claims (Stands (record { name = name; standing = s }))
 from_claim [] known name s h = inl h
 from_claim (c ∷ claims) known name s h =
     ⊎_elim (λ old. ⊎_elim (λ older. inl older) (λ here. inr (inl here)) (fact_from known c.fact name s old)) (λ later. inr (inr later)) (from_claim claims (with_claim known c) name s h)
@@ -176,9 +183,11 @@ SameClaimed these those = (f : Fact) → IsClaimed these f → IsClaimed those f
 
 module _ (these those : List Claim) (to : SameClaimed these those) (from : SameClaimed those these) (known : Standings) (none : NoneTwice known these) (none_too : NoneTwice known those) where
   -- what stands in one source stands in the other, and suits it
-  also : (some more : List Claim) (there : SameClaimed some more) (none_more : NoneTwice known more) (name : List ℕ) (s : Standing) → fold with_claim known some name ≡ Some s → Suited (fold with_claim known more name) s
+  also : (some more : List Claim) (there : SameClaimed some more) (none_more : NoneTwice known more) (name : List ℕ) (s : Standing) → fold with_claim known some name ≡ Some s
+      → Suited (fold with_claim known more name) s
   also some more there none_more name s h =
-      ⊎_elim (λ old. (s, stays more known name s old, inl refl)) (λ claimed. suited more known (record { name = name; standing = s }) none_more (there (Stands (record { name = name; standing = s })) claimed)) (from_claim some known name s h)
+      ⊎_elim (λ old. (s, stays more known name s old, inl refl))
+      (λ claimed. suited more known (record { name = name; standing = s }) none_more (there (Stands (record { name = name; standing = s })) claimed)) (from_claim some known name s h)
 
   same_found : (name : List ℕ) (a b : Option Standing) → fold with_claim known these name ≡ a → fold with_claim known those name ≡ b → a ≡ b
   same_found name None None h k = refl

@@ -80,7 +80,8 @@ module _ (claims : List Claim) (new : AreNew built_in_kinds claims) (unknown : u
       (subst (λ (S : List (Option ℕ)). AtOnePlace (built_in_kinds ++ author_kinds claims) S l.kind parent) (sym (authors_behind claims))
       (behind built_in_kinds (author_kinds claims) built_in_parents (authors N claims) l.kind parent as_many (claimed_at N claims l h)))
 
-  number_above : (kind parent : List ℕ) → IsAbove claims kind parent → slice_get (parents_of (kind_names claims) claims) (number_in (kind_names claims) kind) ≡ Some (Some (number_in (kind_names claims) parent))
+  number_above : (kind parent : List ℕ) → IsAbove claims kind parent
+      → slice_get (parents_of (kind_names claims) claims) (number_in (kind_names claims) kind) ≡ Some (Some (number_in (kind_names claims) parent))
   number_above kind parent (inl b) =
       let S = parents_of (kind_names claims) claims in
       ap (slice_get S) (kind_number b.row kind (built_in_stands b.row kind b.named))
@@ -104,7 +105,8 @@ module _ (claims : List Claim) (new : AreNew built_in_kinds claims) (unknown : u
       let t = in_table i p h in
       (t.0, t.1, inl (record { row = i; above = p; named = t.2; lies = h; parent_named = t.3 }), built_in_stands i t.0 t.2, built_in_stands p t.1 t.3)
 
-  named_by_claim : (i p j : ℕ) → slice_get (authors (kind_names claims) claims) j ≡ Some (Some p) → ((kind : List ℕ) → slice_get (author_kinds claims) j ≡ Some kind → slice_get (built_in_kinds ++ author_kinds claims) i ≡ Some kind) → NamedAbove i p
+  named_by_claim : (i p j : ℕ) → slice_get (authors (kind_names claims) claims) j ≡ Some (Some p)
+      → ((kind : List ℕ) → slice_get (author_kinds claims) j ≡ Some kind → slice_get (built_in_kinds ++ author_kinds claims) i ≡ Some kind) → NamedAbove i p
   named_by_claim i p j h beside =
       let N = kind_names claims in
       let t = claim_at N claims j (Some p) h in
@@ -124,7 +126,8 @@ module _ (claims : List Claim) (new : AreNew built_in_kinds claims) (unknown : u
       ⊎_elim (λ t. named_in_table i p t.0) (λ t. named_by_claim i p t.0 t.1 t.2)
       (front_or_behind built_in_kinds (author_kinds claims) built_in_parents (authors N claims) i (Some p) as_many g)
 
-  pub to_names : (x y : ℕ) (kind : List ℕ) → Under (parents_of (kind_names claims) claims) x y → slice_get (kind_names claims) x ≡ Some kind → (other : List ℕ) × (slice_get (kind_names claims) y ≡ Some other) × LiesUnder claims kind other
+  pub to_names : (x y : ℕ) (kind : List ℕ) → Under (parents_of (kind_names claims) claims) x y → slice_get (kind_names claims) x ≡ Some kind
+      → (other : List ℕ) × (slice_get (kind_names claims) y ≡ Some other) × LiesUnder claims kind other
   to_names x y kind no_step h = (kind, h, itself)
   to_names x y kind (step {parent = p} e u) h =
       let t = named_above x p e in
@@ -133,12 +136,14 @@ module _ (claims : List Claim) (new : AreNew built_in_kinds claims) (unknown : u
       (r.0, r.1, above (subst (λ (k : List ℕ). IsAbove claims k t.1) same t.2) r.2)
 
   -- of kinds that are there
-  pub under_named : (i j : ℕ) (a b : List ℕ) → slice_get (kind_names claims) i ≡ Some a → slice_get (kind_names claims) j ≡ Some b → Under (parents_of (kind_names claims) claims) i j → LiesUnder claims a b
+  pub under_named : (i j : ℕ) (a b : List ℕ) → slice_get (kind_names claims) i ≡ Some a → slice_get (kind_names claims) j ≡ Some b → Under (parents_of (kind_names claims) claims) i j
+      → LiesUnder claims a b
   under_named i j a b h k u =
       let t = to_names i j a u h in
       subst (λ (o : List ℕ). LiesUnder claims a o) (one_value (slice_get (kind_names claims) j) t.0 b t.1 k) t.2
 
-  pub one_kind : kind_cycle (kind_names claims) claims ≡ None → (i j : ℕ) (a b : List ℕ) → slice_get (kind_names claims) i ≡ Some a → slice_get (kind_names claims) j ≡ Some b → LiesUnder claims a b → LiesUnder claims b a → a ≡ b
+  pub one_kind : kind_cycle (kind_names claims) claims ≡ None → (i j : ℕ) (a b : List ℕ) → slice_get (kind_names claims) i ≡ Some a → slice_get (kind_names claims) j ≡ Some b
+      → LiesUnder claims a b → LiesUnder claims b a → a ≡ b
   one_kind cycle i j a b h k u v =
       let N = kind_names claims in
       let S = parents_of N claims in
