@@ -11,6 +11,7 @@ pub mod ObjectsNamed
 pub mod KindsMeant
 pub mod KindsDeclared
 pub mod KindsOne
+pub mod KindsStand
 pub mod SameStandings
 pub mod SameClaims
 pub mod SameObjects

@@ -58,13 +58,13 @@ none_found claims keys statements mentions none =
       on_path = (earlier_none (off_path s claims) (earlier (unsuited s knowns claims) (wrong_kind s.parents knowns statements)) parts.wrong).0;
     }
 
--- a tale that stands, and its objects
+-- a tale that stands, its objects and its kinds
 pub unrefused_tale : (m : Made) (declared : Declared) (entries : List Entry) (actions : List Needs) (refusal : Option Fault) (tale : Tale)
     → with_actions actions (or_refused refusal (record { declared = declared; objects = objects_of m 0 entries })) ≡ Ok tale
-    → (refusal ≡ None) × (objects_of m 0 entries ≡ tale.objects)
+    → (refusal ≡ None) × (objects_of m 0 entries ≡ tale.objects) × (declared.kinds ≡ tale.declared.kinds)
 unrefused_tale m declared entries actions None tale means =
     let same : told_with actions (record { declared = declared; objects = objects_of m 0 entries }) ≡ tale = cc in
-    (refl, ap (λ (t : Tale). t.objects) same)
+    (refl, ap (λ (t : Tale). t.objects) same, ap (λ (t : Tale). t.declared.kinds) same)
 unrefused_tale m declared entries actions (Some fault) tale means = absurd cc
 
 -- ---- the keys of the objects

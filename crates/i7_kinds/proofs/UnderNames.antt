@@ -60,7 +60,7 @@ none_unknown names (c ∷ claims) f none (inr later) = none_unknown names claims
 -- ---- in a source whose kinds are each declared once, and known
 
 module _ (claims : List Claim) (new : AreNew built_in_kinds claims) (unknown : unknown_kind (kind_names claims) claims ≡ None) where
-  kinds_are : kind_names claims ≡ built_in_kinds ++ author_kinds claims
+  pub kinds_are : kind_names claims ≡ built_in_kinds ++ author_kinds claims
   kinds_are = kinds_behind claims built_in_kinds new
 
   pub kind_number : (i : ℕ) (kind : List ℕ) → slice_get (kind_names claims) i ≡ Some kind → number_in (kind_names claims) kind ≡ i
@@ -72,7 +72,7 @@ module _ (claims : List Claim) (new : AreNew built_in_kinds claims) (unknown : u
   built_in_under : (i : ℕ) (parent : Option ℕ) → slice_get built_in_parents i ≡ Some parent → slice_get (parents_of (kind_names claims) claims) i ≡ Some parent
   built_in_under i parent h = subst (λ (S : List (Option ℕ)). slice_get S i ≡ Some parent) (sym (authors_behind claims)) (get_front built_in_parents (authors (kind_names claims) claims) i parent h)
 
-  stands_above : (l : Lying) → IsClaimed claims (Lies l) → AtOnePlace (kind_names claims) (parents_of (kind_names claims) claims) l.kind (Some (number_in (kind_names claims) l.parent))
+  pub stands_above : (l : Lying) → IsClaimed claims (Lies l) → AtOnePlace (kind_names claims) (parents_of (kind_names claims) claims) l.kind (Some (number_in (kind_names claims) l.parent))
   stands_above l h =
       let N = kind_names claims in
       let parent = Some (number_in N l.parent) in

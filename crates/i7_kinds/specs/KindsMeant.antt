@@ -1,7 +1,7 @@
 -- Which kind each object is meant to have, by what is claimed anywhere in a source, in names and in no order.
-use Rattle.std.specs.Prelude.{◌≡◌, ◌≢◌, ◌⊎◌, ℕ, Bool, true, false, List, [], ◌∷◌, codes, slice_get, Some, Ok}
+use Rattle.std.specs.Prelude.{◌≡◌, ◌≢◌, ◌⊎◌, ℕ, ◌<◌, Bool, true, false, List, [], ◌∷◌, length, codes, slice_get, Option, Some, Ok}
 use Rattle.world_meaning.specs.Directions.{direction_name}
-use Rattle.world_meaning.specs.Kinds.{built_in_parents}
+use Rattle.world_meaning.specs.Kinds.{Under, built_in_parents}
 use Rattle.world_meaning.specs.declared.direction.Direction.{Direction}
 use Rattle.world_meaning.specs.declared.place.Rel.TheVariants.{In}
 use Rattle.world_meaning.specs.declared.tale.Object.{Object}
@@ -11,6 +11,7 @@ use Rattle.i7_sentences.specs.declared.sentence.Assertion.TheVariants as asserti
 use Rattle.i7_sentences.specs.declared.sentence.Sentence.{Sentence}
 use Rattle.i7_claims.specs.Claims.{claims_of}
 use Rattle.i7_claims.specs.KindNames.{kind_names}
+use Rattle.i7_claims.specs.Numbers.{has_name}
 use Rattle.i7_claims.specs.Sorts.{built_in_kinds}
 use Rattle.i7_claims.specs.Statements.{key_of}
 use Rattle.i7_claims.specs.declared.claim.Claim.{Claim}
@@ -76,6 +77,24 @@ pub data HasKind (claims : List Claim) (name kind : List ℕ) : Type 0 where
 -- the name of a source's kind of this number
 abbrev pub IsKindNamed : List Sentence → ℕ → List ℕ → Type 0
 IsKindNamed sentences number name = slice_get (kind_names (claims_of sentences)) number ≡ Some name
+
+-- a kind is built in, or a claim declares it
+abbrev pub IsKind : List Claim → List ℕ → Type 0
+IsKind claims kind = (has_name built_in_kinds kind ≡ true) ⊎ ((parent : List ℕ) × IsClaimed claims (Lies (record { kind = kind; parent = parent })))
+
+-- These kinds, by number the kind above each, are those of a source, each of one number, and lie under each other as is claimed.
+pub record AreItsKinds (sentences : List Sentence) (kinds : List (Option ℕ)) : Type 0 where
+  pub named : (number : ℕ) → number < length kinds → (kind : List ℕ) × IsKindNamed sentences number kind
+  pub within : (number : ℕ) (kind : List ℕ) → IsKindNamed sentences number kind → number < length kinds
+  pub once : (number other : ℕ) (kind : List ℕ) → IsKindNamed sentences number kind → IsKindNamed sentences other kind → number ≡ other
+  pub kind : (number : ℕ) (kind : List ℕ) → IsKindNamed sentences number kind → IsKind (claims_of sentences) kind
+  pub numbered : (kind : List ℕ) → IsKind (claims_of sentences) kind → (number : ℕ) × IsKindNamed sentences number kind
+  pub lies : (number other : ℕ) (kind above : List ℕ) → IsKindNamed sentences number kind → IsKindNamed sentences other above
+      → (Under kinds number other → LiesUnder (claims_of sentences) kind above) × (LiesUnder (claims_of sentences) kind above → Under kinds number other)
+
+-- the kinds of the tale of an accepted source
+abbrev pub KindsLieAsClaimed : Type 0
+KindsLieAsClaimed = (sentences : List Sentence) (tale : Tale) → tale_said sentences ≡ Ok tale → AreItsKinds sentences tale.declared.kinds
 
 -- each object of an accepted source has the kind that is meant for its name
 abbrev pub KindsAreMeant : Type 0

@@ -34,7 +34,7 @@ pub use claim_laws::{
 };
 pub use i7_claims::{books_twice_are_found, names_too_many_are_found, names_twice_are_found};
 pub use kind_laws::{
-    kinds_are_the_deepest_demanded, kinds_meant_are_one, order_of_sentences_is_nothing_to_kinds,
-    order_of_sentences_is_nothing_to_objects,
+    kinds_are_the_deepest_demanded, kinds_lie_as_claimed, kinds_meant_are_one,
+    order_of_sentences_is_nothing_to_kinds, order_of_sentences_is_nothing_to_objects,
 };
 pub use tale::tale_of;
