@@ -150,7 +150,7 @@ knowns_fine s n claims kinds many h k = claims_fine s n many kinds claims (first
 
 -- ---- how many are known
 
-fact_length : (s : Scope) (f : Fact) (knowns : List Known) → length (with_known s knowns f) ≡ length knowns
+pub fact_length : (s : Scope) (f : Fact) (knowns : List Known) → length (with_known s knowns f) ≡ length knowns
 fact_length s (Demands d) knowns =
     elim (either (has_name s.kinds d.kind)) [
       | inl is ↦ rw is (set_length knowns (number_in s.objects d.object) _)

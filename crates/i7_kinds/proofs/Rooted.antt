@@ -50,10 +50,10 @@ trans S a b c (above {parent = p} h u) v = above h (trans S p b c u v)
 
 -- ---- without a cycle each way up ends
 
-abbrev NoneAbove : List (Option ℕ) → ℕ → Type 0
+abbrev pub NoneAbove : List (Option ℕ) → ℕ → Type 0
 NoneAbove S e = (q : ℕ) → slice_get S e ≡ Some (Some q) → ⊥
 
-abbrev HasEnds : List (Option ℕ) → Type 0
+abbrev pub HasEnds : List (Option ℕ) → Type 0
 HasEnds S = (x : ℕ) → (e : ℕ) × Under S x e × NoneAbove S e
 
 through : (S : List (Option ℕ)) (p x e f : ℕ) → Under S x e → e ≡ length S → Under S p f → Under (S ++ Some p ∷ []) x f
@@ -97,6 +97,9 @@ ends_built_in (suc (suc (suc (suc (suc (suc (suc zero))))))) = (0, above {parent
 ends_built_in (suc (suc (suc (suc (suc (suc (suc (suc zero)))))))) = (0, above {parent = 6} refl (above {parent = 0} refl itself), λ q h. absurd cc)
 ends_built_in (suc (suc (suc (suc (suc (suc (suc (suc (suc zero))))))))) = (0, above {parent = 6} refl (above {parent = 0} refl itself), λ q h. absurd cc)
 ends_built_in (suc (suc (suc (suc (suc (suc (suc (suc (suc (suc x)))))))))) = (suc (suc (suc (suc (suc (suc (suc (suc (suc (suc x))))))))), itself, λ q h. absurd cc)
+
+pub kinds_end : (claims : List Claim) → kind_cycle (kind_names claims) claims ≡ None → HasEnds (parents_of (kind_names claims) claims)
+kinds_end claims h = ends_claims (kind_names claims) claims built_in_parents ends_built_in h
 
 -- ---- the ends are roots
 

@@ -5,6 +5,7 @@ pub mod Described
 pub mod Doors
 pub mod Grants
 pub mod KindClaims
+pub mod KindsMeant
 pub mod Knowns
 pub mod LongNames
 pub mod Making

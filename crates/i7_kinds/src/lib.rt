@@ -11,6 +11,7 @@ mod doors;
 mod entries;
 mod faults;
 mod grants;
+mod kind_laws;
 mod kinds;
 mod knowns;
 mod lent_text;
@@ -32,4 +33,8 @@ pub use claim_laws::{
     second_places_are_found, unknown_kinds_are_found, values_twice_are_found,
 };
 pub use i7_claims::{books_twice_are_found, names_too_many_are_found, names_twice_are_found};
+pub use kind_laws::{
+    kinds_are_the_deepest_demanded, kinds_lie_as_claimed, kinds_meant_are_one,
+    order_of_sentences_is_nothing_to_kinds, order_of_sentences_is_nothing_to_objects,
+};
 pub use tale::tale_of;
