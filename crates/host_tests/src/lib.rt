@@ -2,4 +2,6 @@
 #![tactic(auto)]
 
 #[cfg(test)]
+mod ninth;
+#[cfg(test)]
 mod tables;

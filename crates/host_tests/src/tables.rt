@@ -1,21 +1,24 @@
 //! Tables of stored rules, told by hand.
-ghost use Rattle.std.specs.Prelude.{◌≡◌, ◌≤◌, IfOk, true};
+ghost use Rattle.std.specs.Prelude.{◌≡◌, ◌≤◌, IfOk, IsErr, true};
 ghost use Rattle.standard_rules.specs.Answers.{HasEffect};
 ghost use Rattle.standard_rules.specs.Hosts.{are_there};
 
 use play_meaning::{ActNo, ActionNow};
 use sample_stories::FURNISHED;
 use standard_rules::{
-    HostAnswer, HostCall, HostFault, HostOutcome, HostRule, HostTable, rule_9, standard,
+    HostAnswer, HostCall, HostFault, HostOutcome, HostRule, HostTable, standard,
 };
 use std::alloc::{AllocError, Global};
 use std::rc::Rc;
 use std::test::Fail;
 use story_format::load;
-use world_meaning::ObjNo;
 use world_store::World;
 
+/// What the first rule says in the hall.
+const HALL: &[u8] = b"hall\n";
+
 /// The stored rule of a number that answers as the standard one does.
+#[tactic(auto, unfolding(standard_rules::specs::Answers::HasEffect))]
 fn stored(alloc: Global, id: u8) -> Result<HostRule, AllocError>
     requires low { 1 ≤ id }
     requires high { id ≤ 61 }
@@ -25,7 +28,26 @@ fn stored(alloc: Global, id: u8) -> Result<HostRule, AllocError>
         move |alloc: Global, world: &World, now: &ActionNow| -> Result<HostAnswer, AllocError>
             requires { (1 ≤ id) × (id ≤ 61) × (are_there world.now now.now ≡ true) }
             ensures { IfOk result (λ answer. HasEffect id world.now now.now answer) }
-        { standard(alloc, id, world, now) },
+        {
+            standard(alloc, id, world, now)
+        },
+    )?;
+    Ok(HostRule::new(id, call))
+}
+
+/// The stored rule of a number that always answers want of memory.
+fn refused(alloc: Global, id: u8) -> Result<HostRule, AllocError>
+    requires low { 1 ≤ id }
+    requires high { id ≤ 61 }
+{
+    let call: HostCall = Box::new(
+        alloc,
+        |_alloc: Global, world: &World, now: &ActionNow| -> Result<HostAnswer, AllocError>
+            requires { are_there world.now now.now ≡ true }
+            ensures { IsErr result }
+        {
+            Err(AllocError)
+        },
     )?;
     Ok(HostRule::new(id, call))
 }
@@ -65,5 +87,39 @@ fn sixty_one_rules_are_all(rt: HostRuntime) -> Result<(), Fail> {
     assert_eq!(rt; all.add(last), Err(HostFault::Full));
     let first = stored(rt.alloc(), 1)?;
     assert_eq!(rt; all.add(first), Err(HostFault::Full));
+    Ok(())
+}
+
+/// The world with which the furnished story begins.
+fn begun(alloc: Global) -> Result<World, Fail> {
+    let story = Rc::new(alloc, load(alloc, FURNISHED)?)?;
+    Ok(World::start(alloc, &story)?)
+}
+
+/// No action, which every story has.
+#[tactic(auto, unfolding(standard_rules::specs::Hosts::are_there))]
+fn nothing(world: &World) -> ActionNow
+    ensures { are_there world.now result ≡ true }
+{
+    let _ = world;
+    ActionNow {
+        action: ActNo::NONE,
+        noun: None,
+        second: None,
+        silent: false,
+    }
+}
+
+#[test]
+fn the_stored_function_is_called(rt: HostRuntime) -> Result<(), Fail> {
+    let mut table = table_of(rt.alloc(), 1)?;
+    let without_memory = refused(rt.alloc(), 2)?;
+    table.add(without_memory)?;
+    let world = begun(rt.alloc())?;
+    let now = nothing(&world);
+    let heading = table.call(rt.alloc(), 1, &world, &now)?;
+    assert_eq!(rt; heading.text.as_slice(), HALL);
+    assert_eq!(rt; heading.outcome, HostOutcome::ByEnd);
+    assert!(rt; table.call(rt.alloc(), 2, &world, &now).is_err());
     Ok(())
 }

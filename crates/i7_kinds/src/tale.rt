@@ -10,8 +10,8 @@ ghost use Rattle.i7_kinds.specs.Places.{places_by};
 ghost use Rattle.i7_kinds.specs.StatedWays.{stated};
 ghost use Rattle.i7_kinds.specs.Suits.{first_room, with_player};
 ghost use Rattle.i7_kinds.specs.Tales.{entries_of, frame_refusal, judged, limit_refusal, made_of, no_room, objects_of, refusal_at, refusal_of, said_by, said_in, scope_of, tale_said};
-ghost use Rattle.i7_claims.specs.Claims.{claims_of};
-ghost use Rattle.i7_claims.specs.Views.{mentions_of};
+ghost use Rattle.i7_claims.specs.Statements.{named_by};
+ghost use Rattle.i7_claims.specs.Views.{mentions_of, names_of};
 
 use crate::actions::{actions_said, with_actions};
 use crate::author_kinds::{kind_nos, parents_of};
@@ -30,9 +30,10 @@ use crate::suits::{first_room, put_player};
 use crate::values::{Bearer, values_by};
 use crate::ways::Ways;
 use i7_claims::{
-    Claim, Claimed, Mention, NumberedSentence, Sort, earlier, kind_names, names_as, property_names,
-    statements_in,
+    Claim, Claimed, Mention, Names, NumberedSentence, Sort, earlier, kind_names, names_as,
+    property_names, statements_in,
 };
+use i7_sentences::Sentence;
 use object_words::Strings;
 use std::alloc::{AllocError, Global};
 use world_meaning::{Declared, Fault, FaultCode, Listed, Object, Place, Tale};
@@ -215,15 +216,16 @@ fn said_in(
     alloc: Global,
     kinds: &Strings,
     parents: &[Option<usize>],
-    claimed: &Claimed<'_>,
+    claims: &[Claim],
+    names: &Names<'_>,
+    sentences: &[Sentence],
 ) -> Result<Result<Tale, Fault>, AllocError>
-    requires named { kinds.now ≡ kind_names (claims_of claimed.now) }
-    requires above { parents.now ≡ parents_of kinds.now (claims_of claimed.now) }
-    ensures { IfOk result (λ said. said ≡ said_in kinds.now parents.now (claims_of claimed.now) claimed.now) }
+    requires named { kinds.now ≡ kind_names claims.now }
+    requires above { parents.now ≡ parents_of kinds.now claims.now }
+    requires objects { names_of names.now ≡ named_by sentences.now }
+    ensures { IfOk result (λ said. said ≡ said_in kinds.now parents.now claims.now sentences.now) }
 {
-    let claims = claimed.claims();
-    let names = claimed.names();
-    let statements = statements_in(alloc, names, claimed.sentences())?;
+    let statements = statements_in(alloc, names, sentences)?;
     let properties = property_names(alloc, claims)?;
     let variables = names_as(alloc, Sort::Variable, claims)?;
     let givens = givens_of(alloc, &properties, kinds, claims)?;
@@ -236,13 +238,19 @@ fn said_in(
     Ok(said)
 }
 
-/// What the sentences with their claims mean, but for the actions that they declare.
-fn said_by(alloc: Global, claimed: &Claimed<'_>) -> Result<Result<Tale, Fault>, AllocError>
-    ensures { IfOk result (λ said. said ≡ said_by (claims_of claimed.now) claimed.now) }
+/// What the sentences with these claims and these objects' names mean, but for the actions that they declare.
+fn said_by(
+    alloc: Global,
+    claims: &[Claim],
+    names: &Names<'_>,
+    sentences: &[Sentence],
+) -> Result<Result<Tale, Fault>, AllocError>
+    requires objects { names_of names.now ≡ named_by sentences.now }
+    ensures { IfOk result (λ said. said ≡ said_by claims.now sentences.now) }
 {
-    let kinds = kind_names(alloc, claimed.claims())?;
-    let parents = parents_of(alloc, &kinds, claimed.claims())?;
-    let said = said_in(alloc, &kinds, parents.as_slice(), claimed)?;
+    let kinds = kind_names(alloc, claims)?;
+    let parents = parents_of(alloc, &kinds, claims)?;
+    let said = said_in(alloc, &kinds, parents.as_slice(), claims, names, sentences)?;
     Ok(said)
 }
 
@@ -250,8 +258,9 @@ fn said_by(alloc: Global, claimed: &Claimed<'_>) -> Result<Result<Tale, Fault>, 
 fn tale_said(alloc: Global, claimed: &Claimed<'_>) -> Result<Result<Tale, Fault>, AllocError>
     ensures { IfOk result (λ said. said ≡ tale_said claimed.now) }
 {
-    let said = said_by(alloc, claimed)?;
-    let actions = actions_said(alloc, claimed.sentences())?;
+    let sentences = claimed.sentences();
+    let said = said_by(alloc, claimed.claims(), claimed.names(), sentences)?;
+    let actions = actions_said(alloc, sentences)?;
     Ok(with_actions(actions, said))
 }
 

@@ -1,0 +1,58 @@
+//! A function of the tests' own for a rule, which is taken as the standard one is.
+ghost use Rattle.std.specs.Prelude.{◌≡◌, IfOk, Some, codes, true};
+ghost use Rattle.play_meaning.specs.Seeing.{is_same};
+ghost use Rattle.standard_rules.specs.Answers.{HasEffect, answer_of, refused_if};
+ghost use Rattle.standard_rules.specs.Hosts.{are_there};
+ghost use Rattle.world_meaning.specs.Texts.{said};
+
+use play_meaning::ActionNow;
+use smallvec::SmallVec;
+use standard_rules::{HostAnswer, HostCall, HostOutcome, HostRule};
+use std::alloc::{AllocError, Global};
+use std::test::Fail;
+use world_meaning::TextBytes;
+use world_store::World;
+
+/// That the player, who is number 0, can't be taken.
+fn answered(alloc: Global, now: &ActionNow) -> Result<HostAnswer, AllocError>
+    ensures { IfOk result (λ answer. answer_of answer ≡ refused_if (is_same now.now.noun (Some 0)) (said (codes "You can't take yourself."))) }
+{
+    let mut text = Vec::new(alloc);
+    let mut outcome = HostOutcome::ByEnd;
+    if let Some(noun) = now.noun {
+        if noun.get() == 0 {
+            text.extend_from_slice(b"You can't take yourself.\n")?;
+            outcome = HostOutcome::Failure;
+        }
+    }
+    Ok(HostAnswer {
+        changes: SmallVec::new(alloc),
+        text: TextBytes::new(text),
+        tries: None,
+        outcome,
+    })
+}
+
+/// The answer as that of rule 9.
+#[tactic(auto, using(standard_rules::proofs::TakingRules::rule_9))]
+fn ninth(alloc: Global, world: &World, now: &ActionNow) -> Result<HostAnswer, AllocError>
+    ensures { IfOk result (λ answer. HasEffect 9 world.now now.now answer) }
+{
+    Ok(answered(alloc, now)?)
+}
+
+#[test]
+#[tactic(auto, unfolding(standard_rules::specs::Answers::HasEffect))]
+fn a_function_of_ones_own_is_taken(rt: HostRuntime) -> Result<(), Fail> {
+    let call: HostCall = Box::new(
+        rt.alloc(),
+        |alloc: Global, world: &World, now: &ActionNow| -> Result<HostAnswer, AllocError>
+            requires { are_there world.now now.now ≡ true }
+            ensures { IfOk result (λ answer. HasEffect 9 world.now now.now answer) }
+        {
+            ninth(alloc, world, now)
+        },
+    )?;
+    assert_eq!(rt; HostRule::new(9, call).id(), 9);
+    Ok(())
+}
