@@ -16,3 +16,12 @@ pub mod Readiness
 pub mod FewWords
 pub mod LongNames
 pub mod Written
+pub mod FirstShown
+pub mod Contrary
+pub mod LedElsewhere
+pub mod KindsDecided
+pub mod DescribedAgain
+pub mod WrongKinds
+pub mod LimitsShown
+pub mod OffPath
+pub mod WrittenAbout

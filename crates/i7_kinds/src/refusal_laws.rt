@@ -1,0 +1,77 @@
+//! Laws: the line of what is refused is that of the first statement, or the lowest line of a claim, that shows it.
+ghost use Rattle.std.specs.Prelude.{ℕ, ◌≤◌, List, Option, length};
+ghost use Rattle.i7_kinds.specs.Demands.{descriptions_of, line_at, line_of_statement, second_description, second_target, wrong_kind};
+ghost use Rattle.i7_kinds.specs.FirstShown.{IsFound};
+ghost use Rattle.i7_kinds.specs.Knowns.{Scope, off_path};
+ghost use Rattle.i7_kinds.specs.RefusalsShown.{DescribesAtLength, IsDescribedAgain, IsLedElsewhere, IsLongName, IsOffPath, IsOneTooMany, IsRefusedRoomless, IsRoomFound, IsUnsuited, IsWrong};
+ghost use Rattle.i7_kinds.specs.Suits.{first_room, unsuited};
+ghost use Rattle.i7_kinds.specs.Tales.{name_too_long, no_room, object_too_many, text_too_long};
+ghost use Rattle.i7_kinds.specs.WrittenAbout.{DescriptionsAreAbout};
+ghost use Rattle.i7_kinds.specs.declared.knowns.Known.{Known};
+ghost use Rattle.i7_claims.specs.Scans.{IsLowest, ShownBy};
+ghost use Rattle.i7_claims.specs.Statements.{NameAt, named_by};
+ghost use Rattle.i7_claims.specs.declared.claim.Claim.{Claim};
+ghost use Rattle.i7_claims.specs.declared.statements.NumberedSentence.{NumberedSentence};
+ghost use Rattle.i7_sentences.specs.declared.sentence.Sentence.{Sentence};
+
+/// An exit that a statement leads elsewhere than one before it is found at the first such statement.
+pub fn exits_elsewhere_are_found()
+    ensures { (statements : List NumberedSentence) → IsFound line_of_statement IsLedElsewhere statements (second_target statements) }
+{}
+
+/// A text that describes an object otherwise than one before it is found at the first such statement.
+pub fn descriptions_twice_are_found()
+    ensures { (parents : List (Option ℕ)) (knowns : List Known) (statements : List NumberedSentence) → IsFound line_of_statement (IsDescribedAgain parents knowns) statements (second_description (descriptions_of parents knowns statements)) }
+{}
+
+/// A text alone, a way or a door that the kinds don't allow is found at the first statement that states it.
+pub fn wrong_kinds_are_found()
+    ensures { (parents : List (Option ℕ)) (knowns : List Known) (statements : List NumberedSentence) → IsFound line_of_statement (λ before s. IsWrong parents knowns before s.said) statements (wrong_kind parents knowns statements) }
+{}
+
+/// A place or a property that the kinds don't allow is found at its lowest line.
+pub fn unsuited_claims_are_found()
+    ensures { (scope : Scope) (knowns : List Known) (claims : List Claim) → IsLowest (ShownBy (λ before c. IsUnsuited scope knowns c.fact) claims) (unsuited scope knowns claims) }
+{}
+
+/// A demand with which two kinds on no one path are demanded of an object is found at its lowest line, where the player and
+/// the directions are among the objects.
+pub fn demands_off_paths_are_found()
+    ensures { (scope : Scope) → 13 ≤ length scope.objects → (claims : List Claim) → IsLowest (ShownBy (IsOffPath scope) claims) (off_path scope claims) }
+{}
+
+/// The player and the directions are among the objects of any sentences.
+pub fn built_in_objects_are_named()
+    ensures { (sentences : List Sentence) → 13 ≤ length (named_by sentences).keys }
+{}
+
+/// The object that is one too many is found at the mention that makes it so.
+pub fn objects_too_many_are_found()
+    ensures { (mentions : List NameAt) → IsFound line_at IsOneTooMany mentions (object_too_many mentions) }
+{}
+
+/// An object's name of too many bytes or words is found at the first mention of one.
+pub fn long_names_are_found()
+    ensures { (mentions : List NameAt) → IsFound line_at (λ before at. IsLongName at.name.text) mentions (name_too_long mentions) }
+{}
+
+/// A description of too many bytes is found at the first statement that describes with one.
+pub fn long_descriptions_are_found()
+    ensures { (parents : List (Option ℕ)) (knowns : List Known) (statements : List NumberedSentence) → IsFound line_of_statement (DescribesAtLength parents knowns) statements (text_too_long (descriptions_of parents knowns statements)) }
+{}
+
+/// The room that is taken for the player's is the first of the author's objects that is a room.
+pub fn first_rooms_are_found()
+    ensures { (parents : List (Option ℕ)) (knowns : List Known) → IsRoomFound parents knowns (first_room parents knowns) }
+{}
+
+/// A source is refused for want of a room, at line 1, just where none of the author's objects is a room.
+pub fn roomless_sources_are_refused()
+    ensures { (parents : List (Option ℕ)) (knowns : List Known) → IsRefusedRoomless parents knowns (no_room (first_room parents knowns)) }
+{}
+
+/// One of the sentences that mean a tale describes the object with the description that the object has: it names the
+/// object, or is the text alone behind a sentence about the object, which is a room.
+pub fn descriptions_are_about_objects()
+    ensures { DescriptionsAreAbout }
+{}
