@@ -29,7 +29,7 @@ any_from test (y ∷ ys) x (inr later) h =
     ]
 
 -- what is found where something in front passes stands in front
-found_in : {T : Type 0} (test : T → Bool) (front back : List T) (x : T) → IsAmong x front → test x ≡ true → (y : T) × (find test (front ++ back) ≡ Some y) × (test y ≡ true) × IsAmong y front
+pub found_in : {T : Type 0} (test : T → Bool) (front back : List T) (x : T) → IsAmong x front → test x ≡ true → (y : T) × (find test (front ++ back) ≡ Some y) × (test y ≡ true) × IsAmong y front
 found_in test [] back x m h = elim m [ ]
 found_in test (y ∷ ys) back x (inl same) h = let is : test y ≡ true = ap test (sym same) ∙ h in (y, rw is refl, is, inl refl)
 found_in test (y ∷ ys) back x (inr later) h =

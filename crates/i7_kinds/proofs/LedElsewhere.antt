@@ -24,11 +24,11 @@ same_doors None (Some b) h = absurd cc
 same_doors (Some a) None h = absurd cc
 same_doors (Some a) (Some b) h = ap (λ (n : ℕ). Some n) (eqb-true a b h)
 
-same_door_itself : (a : Option ℕ) → is_same_door a a ≡ true
+pub same_door_itself : (a : Option ℕ) → is_same_door a a ≡ true
 same_door_itself None = refl
 same_door_itself (Some a) = eq-eqb a a refl
 
-same_targets : (a b : Target) → is_target a b ≡ true → a ≡ b
+pub same_targets : (a b : Target) → is_target a b ≡ true → a ≡ b
 same_targets a b h =
     let t = both_are (a.room == b.room) (is_same_door a.door b.door) h in
     λ i. record { room = eqb-true a.room b.room t.0 i; door = same_doors a.door b.door t.1 i }
@@ -44,7 +44,7 @@ same_rooms a b h =
 same_exits : (a b : Lead) → same_exit a b ≡ true → a.exit ≡ b.exit
 same_exits a b h = let t = same_rooms a b h in λ i. record { room = sym t.0 i; direction = sym t.1 i }
 
-exits_same : (a b : Lead) → a.exit ≡ b.exit → same_exit a b ≡ true
+pub exits_same : (a b : Lead) → a.exit ≡ b.exit → same_exit a b ≡ true
 exits_same a b h =
     both (b.exit.room == a.exit.room) (b.exit.direction == a.exit.direction)
     (eq-eqb b.exit.room a.exit.room (ap (λ (e : Exit). e.room) (sym h)))
@@ -61,7 +61,7 @@ keyed = record {
 
 -- ---- what a statement states
 
-stated_to : (lead : Lead) (said : Numbered) → IsAmong lead (stated_in said) → States lead said
+pub stated_to : (lead : Lead) (said : Numbered) → IsAmong lead (stated_in said) → States lead said
 stated_to lead numbered.Aside m = m
 stated_to lead (numbered.Description text) m = m
 stated_to lead (numbered.Describes o text) m = m
@@ -69,7 +69,7 @@ stated_to lead (numbered.Being o) m = m
 stated_to lead (numbered.Way way) m = ⊎_elim (λ here. here) (λ none. absurd none) m
 stated_to lead (numbered.Door d) m = ⊎_elim (λ here. inl here) (λ later. ⊎_elim (λ here. inr here) (λ none. absurd none) later) m
 
-stated_from : (lead : Lead) (said : Numbered) → States lead said → IsAmong lead (stated_in said)
+pub stated_from : (lead : Lead) (said : Numbered) → States lead said → IsAmong lead (stated_in said)
 stated_from lead numbered.Aside m = m
 stated_from lead (numbered.Description text) m = m
 stated_from lead (numbered.Describes o text) m = m
@@ -91,7 +91,7 @@ back_through d h =
     λ i. record { room = sym t.0 i; door = Some d.door }
 
 -- no statement leads one exit to two targets
-one_target : (said : Numbered) (x y : Lead) → States x said → States y said → same_exit x y ≡ true → target_led y ≡ target_led x
+pub one_target : (said : Numbered) (x y : Lead) → States x said → States y said → same_exit x y ≡ true → target_led y ≡ target_led x
 one_target numbered.Aside x y m k h = absurd m
 one_target (numbered.Description text) x y m k h = absurd m
 one_target (numbered.Describes o text) x y m k h = absurd m
@@ -122,7 +122,7 @@ told_all (s ∷ statements) = ap (λ (leads : List Lead). stated_in s.said ++ le
 abbrev Contrary : List NumberedSentence → NumberedSentence → Type 0
 Contrary before s = IsContrary same_exit target_led leads_to keyed line_of_statement tells goes_on tt before s
 
-elsewhere_first : (statements : List NumberedSentence) → IsFirst line_of_statement IsLedElsewhere statements (second_target statements)
+pub elsewhere_first : (statements : List NumberedSentence) → IsFirst line_of_statement IsLedElsewhere statements (second_target statements)
 elsewhere_first statements =
     let found : second_target statements ≡ option_map line_of_statement (first_passed (λ (state : Nothing) s. shows_elsewhere (all_told tells goes_on tt statements) s) goes_on tt statements) =
     ap (λ (found : Option NumberedSentence). option_map line_of_statement found) (found_passed (shows_elsewhere (stated_leads statements)) statements)

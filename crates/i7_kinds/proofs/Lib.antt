@@ -25,3 +25,7 @@ pub mod WrongKinds
 pub mod LimitsShown
 pub mod OffPath
 pub mod WrittenAbout
+pub mod LinesRise
+pub mod ExitsShown
+pub mod Judged
+pub mod TaleExits

@@ -139,10 +139,10 @@ described_shown parents knowns statements o text e =
 
 -- ---- the tale
 
-abbrev untold : List Claim → Made → List Entry → Tale
+abbrev pub untold : List Claim → Made → List Entry → Tale
 untold claims m entries = record { declared = declared_by claims; objects = objects_of m 0 entries }
 
-tale_is : (refusal : Option Fault) (actions : List Needs) (untold tale : Tale) → with_actions actions (or_refused refusal untold) ≡ Ok tale → (told_with actions untold ≡ tale) × (refusal ≡ None)
+pub tale_is : (refusal : Option Fault) (actions : List Needs) (untold tale : Tale) → with_actions actions (or_refused refusal untold) ≡ Ok tale → (told_with actions untold ≡ tale) × (refusal ≡ None)
 tale_is None actions untold tale e = (cc, refl)
 tale_is (Some fault) actions untold tale e = absurd cc
 

@@ -3,8 +3,10 @@ pub mod Bounds
 pub mod Demands
 pub mod Described
 pub mod Doors
+pub mod ExitsShown
 pub mod FirstShown
 pub mod Grants
+pub mod Judged
 pub mod KindClaims
 pub mod Knowns
 pub mod LongNames
@@ -13,6 +15,7 @@ pub mod Places
 pub mod RefusalsShown
 pub mod StatedWays
 pub mod Suits
+pub mod TaleExits
 pub mod Tales
 pub mod Values
 pub mod Views

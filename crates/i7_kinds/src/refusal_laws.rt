@@ -1,15 +1,21 @@
-//! Laws: the line of what is refused is that of the first statement, or the lowest line of a claim, that shows it.
-ghost use Rattle.std.specs.Prelude.{ℕ, ◌≤◌, List, Option, length};
-ghost use Rattle.i7_kinds.specs.Demands.{descriptions_of, line_at, line_of_statement, second_description, second_target, wrong_kind};
-ghost use Rattle.i7_kinds.specs.FirstShown.{IsFound};
+//! Laws: what sentences are refused for is shown by statements and claims, at the line at which it is refused; and what a tale has of
+//! its sentences where nothing is refused.
+ghost use Rattle.std.specs.Prelude.{◌≡◌, ℕ, ◌≤◌, List, Option, None, length};
+ghost use Rattle.i7_kinds.specs.Demands.{descriptions_of, line_at, line_of_statement, second_description, second_target, target_of, wrong_kind};
+ghost use Rattle.i7_kinds.specs.ExitsShown.{IsLed, IsWayOut};
+ghost use Rattle.i7_kinds.specs.FirstShown.{IsFound, LinesRise};
+ghost use Rattle.i7_kinds.specs.Judged.{AreJudged};
 ghost use Rattle.i7_kinds.specs.Knowns.{Scope, off_path};
-ghost use Rattle.i7_kinds.specs.RefusalsShown.{DescribesAtLength, IsDescribedAgain, IsLedElsewhere, IsLongName, IsOffPath, IsOneTooMany, IsRefusedRoomless, IsRoomFound, IsUnsuited, IsWrong};
+ghost use Rattle.i7_kinds.specs.RefusalsShown.{DescribesAtLength, IsDescribedAgain, IsLedElsewhere, IsLongName, IsOffPath, IsOneTooMany, IsRefusedRoomless, IsRoomFound, IsUnsuited, IsWrong, States};
 ghost use Rattle.i7_kinds.specs.Suits.{first_room, unsuited};
-ghost use Rattle.i7_kinds.specs.Tales.{name_too_long, no_room, object_too_many, text_too_long};
+ghost use Rattle.i7_kinds.specs.Tales.{name_too_long, no_room, object_too_many, tale_said, text_too_long};
+ghost use Rattle.i7_kinds.specs.TaleExits.{ExitsAreAsSaid};
 ghost use Rattle.i7_kinds.specs.WrittenAbout.{DescriptionsAreAbout};
 ghost use Rattle.i7_kinds.specs.declared.knowns.Known.{Known};
+ghost use Rattle.i7_kinds.specs.declared.ways.Exit.{Exit};
+ghost use Rattle.i7_kinds.specs.declared.ways.Target.{Target};
 ghost use Rattle.i7_claims.specs.Scans.{IsLowest, ShownBy};
-ghost use Rattle.i7_claims.specs.Statements.{NameAt, named_by};
+ghost use Rattle.i7_claims.specs.Statements.{NameAt, named_by, stated_by};
 ghost use Rattle.i7_claims.specs.declared.claim.Claim.{Claim};
 ghost use Rattle.i7_claims.specs.declared.statements.NumberedSentence.{NumberedSentence};
 ghost use Rattle.i7_sentences.specs.declared.sentence.Sentence.{Sentence};
@@ -74,4 +80,32 @@ pub fn roomless_sources_are_refused()
 /// object, or is the text alone behind a sentence about the object, which is a room.
 pub fn descriptions_are_about_objects()
     ensures { DescriptionsAreAbout }
+{}
+
+/// The exits of the rooms of a tale lead where any of its sentences says that states them; where none does, where the first
+/// leads that implies them; and else nowhere. Those of other objects lead nowhere.
+pub fn exits_lead_as_said()
+    ensures { ExitsAreAsSaid }
+{}
+
+/// An exit leads where the first statement says that states it; where none does, where the first leads that implies it; and
+/// else nowhere.
+pub fn exits_lead_where_stated()
+    ensures { (statements : List NumberedSentence) (room direction : ℕ) → IsWayOut statements (record { room = room; direction = direction }) (target_of statements room direction) }
+{}
+
+/// Where no exit is refused, all statements of one exit lead it to one target.
+pub fn stated_exits_agree()
+    ensures { (statements : List NumberedSentence) → second_target statements ≡ None → (exit : Exit) (a b : Target) → IsLed States statements exit a → IsLed States statements exit b → a ≡ b }
+{}
+
+/// Where the lines of sentences rise, so do those of what they state and of the mentions of their objects.
+pub fn lines_rise_with_those_of_sentences()
+    ensures { (sentences : List Sentence) → LinesRise (λ s. s.line) sentences → LinesRise line_of_statement (stated_by sentences) × LinesRise line_at (named_by sentences).mentions }
+{}
+
+/// Sentences that mean a tale show nothing that is refused; others are refused for the first that they show, at its lowest
+/// line, if their lines rise.
+pub fn sentences_are_judged()
+    ensures { (sentences : List Sentence) → AreJudged sentences (tale_said sentences) }
 {}
