@@ -142,13 +142,22 @@ module _ {T V : Type 0} (same : T → T → Bool) (value : T → V) (agrees : V 
         (λ before a after split passes.
         let state = fold next start before in
         let t = any_to (is_other all) (told state a) passes in
-        let parts : all ≡ all_told told next start before ++ (told state a ++ all_told told next (next state a) after) = ap (all_told told next start) split ∙ all_told_append told next start before (a ∷ after) in
+        let parts : all ≡ all_told told next start before ++ (told state a ++ all_told told next (next state a) after) = ap (all_told told next start) split
+        ∙ all_told_append told next start before (a ∷ after) in
         let other : is_other (all_told told next start before ++ (told state a ++ all_told told next (next state a) after)) t.0 ≡ true = subst (λ (xs : List T). is_other xs t.0 ≡ true) parts t.2 in
         let u = first_is_other (all_told told next start before) (told state a) (all_told told next (next state a) after) t.0 t.1 (λ y m key. within state a t.0 y t.1 m key) other in
         record { here = t.0; other = u.0; tells = t.1; told_before = told_before told next start before u.0 u.1; key = u.2; differ = u.3 })
         (λ before a after split contrary.
         ⊎_elim
         (λ here. inl (any_from (is_other all) (told (fold next start before) a) contrary.here contrary.tells here))
-        (λ earlier. inr (let s = contrary.told_before in record { before = s.before; item = s.item; after = s.after; split = s.split; here = any_from (is_other all) (told (fold next start s.before) s.item) contrary.other s.here earlier }))
+        (λ earlier.
+        let s = contrary.told_before in
+        inr (record {
+          before = s.before;
+          item = s.item;
+          after = s.after;
+          split = s.split;
+          here = any_from (is_other all) (told (fold next start s.before) s.item) contrary.other s.here earlier;
+        }))
         (one_is_other all contrary.here contrary.other contrary.key contrary.differ))
         (passed_first line_of (λ state a. list_any (is_other all) (told state a)) next start items)

@@ -1,5 +1,5 @@
--- The text that describes an object otherwise than the object's description is the first to do so than a text before it, and what texts
--- are tested for is shown by the statements that describe with them.
+-- The text that describes an object otherwise than its description is the first that does so than one before it, and what
+-- texts are tested for is shown by the statements that describe with them.
 use Rattle.std.proofs.Common.{◌≡◌, ℕ, Bool, true, List, [], ◌∷◌, ◌++◌, Option, refl, sym, ap, ◌∙◌, subst, inl, inr, ◌⊎◌, ⊎_elim}
 use Rattle.std.specs.Prelude.{◌==◌, Some, None, find, option_map, if◌then◌else◌}
 use Rattle.std.specs.List.{list_any}
@@ -36,7 +36,8 @@ keyed = record {
   with_itself = λ v. (bytes_eq-Decides v v).1 refl;
 }
 
-one_line : (test : Description → Bool) (s : NumberedSentence) (rest : List Description) (later : Option NumberedSentence) → option_map line_of_description (find test rest) ≡ option_map line_of_statement later → (ds : List Description) → (ds ≡ []) ⊎ ((d : Description) × (ds ≡ d ∷ []) × (d.line ≡ s.line))
+one_line : (test : Description → Bool) (s : NumberedSentence) (rest : List Description) (later : Option NumberedSentence)
+    → option_map line_of_description (find test rest) ≡ option_map line_of_statement later → (ds : List Description) → (ds ≡ []) ⊎ ((d : Description) × (ds ≡ d ∷ []) × (d.line ≡ s.line))
     → option_map line_of_description (find test (ds ++ rest)) ≡ option_map line_of_statement (if list_any test ds then Some s else later)
 one_line test s rest later same ds h =
     let Goal : List Description → Type 0 = λ ds. option_map line_of_description (find test (ds ++ rest)) ≡ option_map line_of_statement (if list_any test ds then Some s else later) in
@@ -53,7 +54,8 @@ module _ (parents : List (Option ℕ)) (knowns : List Known) where
   tells before s = described_by parents knowns before s
 
   -- a statement tells one description at most, at its line
-  one_at_most : (before : Option ℕ) (said : Numbered) (line : ℕ) → (told_in parents knowns before said line ≡ []) ⊎ ((d : Description) × (told_in parents knowns before said line ≡ d ∷ []) × (d.line ≡ line))
+  one_at_most : (before : Option ℕ) (said : Numbered) (line : ℕ)
+      → (told_in parents knowns before said line ≡ []) ⊎ ((d : Description) × (told_in parents knowns before said line ≡ d ∷ []) × (d.line ≡ line))
   one_at_most before numbered.Aside line = inl refl
   one_at_most None (numbered.Description text) line = inl refl
   one_at_most (Some o) (numbered.Description text) line =
@@ -72,7 +74,8 @@ module _ (parents : List (Option ℕ)) (knowns : List Known) where
 
   -- the line of the first description that passes a test is that of the first statement that tells one that does
   pub lines_same : (test : Description → Bool) (before : Option ℕ) (statements : List NumberedSentence)
-      → option_map line_of_description (find test (described_after parents knowns before statements)) ≡ option_map line_of_statement (first_passed (λ state s. list_any test (tells state s)) then_about before statements)
+      → option_map line_of_description (find test (described_after parents knowns before statements))
+      ≡ option_map line_of_statement (first_passed (λ state s. list_any test (tells state s)) then_about before statements)
   lines_same test before [] = refl
   lines_same test before (s ∷ statements) =
       one_line test s (described_after parents knowns (subject_of s.said) statements) (first_passed (λ state s. list_any test (tells state s)) then_about (subject_of s.said) statements)
@@ -91,14 +94,18 @@ module _ (parents : List (Option ℕ)) (knowns : List Known) where
             let t : IsAmong d (record { object = o; text = text; line = line } ∷ []) = rw is at m in
             ⊎_elim
             (λ same.
-            let object : o ≡ d.object = ap (λ (x : Description). x.object) (sym same) in
-            (ends_to before d.object (e ∙ ap (λ (n : ℕ). Some n) object), subst (λ (n : ℕ). IsRoom parents knowns n) object ((of_decides parents knowns room_kind o).0 is), ap (λ (x : Description). x.text) (sym same)))
+            let object : o ≡ d.object = ap (λ (x : Description). x.object) (sym same) in (
+              ends_to before d.object (e ∙ ap (λ (n : ℕ). Some n) object),
+              subst (λ (n : ℕ). IsRoom parents knowns n) object ((of_decides parents knowns room_kind o).0 is),
+              ap (λ (x : Description). x.text) (sym same),
+            ))
             (λ none. absurd none)
             t
         | inr isnt ↦ let t : IsAmong d [] = rw isnt at m in absurd t
       ]
 
-  pub describes_to : (before : List NumberedSentence) (d : Description) (said : Numbered) (line : ℕ) → IsAmong d (told_in parents knowns (about_last before) said line) → Describes parents knowns d.object d.text before said
+  pub describes_to : (before : List NumberedSentence) (d : Description) (said : Numbered) (line : ℕ) → IsAmong d (told_in parents knowns (about_last before) said line)
+      → Describes parents knowns d.object d.text before said
   describes_to before d numbered.Aside line m = absurd m
   describes_to before d (numbered.Description text) line m = alone_to before (about_last before) refl d text line m
   describes_to before d (numbered.Describes o text) line m =
@@ -110,7 +117,8 @@ module _ (parents : List (Option ℕ)) (knowns : List Known) where
   abbrev description : ℕ → List ℕ → ℕ → Description
   description o text line = record { object = o; text = text; line = line }
 
-  pub describes_from : (before : List NumberedSentence) (o : ℕ) (text : List ℕ) (said : Numbered) (line : ℕ) → Describes parents knowns o text before said → IsAmong (description o text line) (told_in parents knowns (about_last before) said line)
+  pub describes_from : (before : List NumberedSentence) (o : ℕ) (text : List ℕ) (said : Numbered) (line : ℕ) → Describes parents knowns o text before said
+      → IsAmong (description o text line) (told_in parents knowns (about_last before) said line)
   describes_from before o text numbered.Aside line h = absurd h
   describes_from before o text (numbered.Description other) line h =
       let is : is_room parents knowns o ≡ true = (of_decides parents knowns room_kind o).1 h.1 in
@@ -137,7 +145,8 @@ module _ (parents : List (Option ℕ)) (knowns : List Known) where
 
   again_first : (statements : List NumberedSentence) → IsFirst line_of_statement (IsDescribedAgain parents knowns) statements (second_description (descriptions_of parents knowns statements))
   again_first statements =
-      let found : second_description (descriptions_of parents knowns statements) ≡ option_map line_of_statement (first_passed (λ state s. list_any (is_second (all_told tells then_about None statements)) (tells state s)) then_about None statements) =
+      let found : second_description (descriptions_of parents knowns statements)
+      ≡ option_map line_of_statement (first_passed (λ state s. list_any (is_second (all_told tells then_about None statements)) (tells state s)) then_about None statements) =
       lines_same (is_second (descriptions_of parents knowns statements)) None statements
       ∙ ap (λ (ds : List Description). option_map line_of_statement (first_passed (λ state s. list_any (is_second ds) (tells state s)) then_about None statements)) (sym (told_all None statements)) in
       let contrary = contrary_first same_object text_of says keyed line_of_statement tells then_about one_text None statements in

@@ -94,9 +94,11 @@ is_exit_to room direction lead h =
 
 is_exit_from : (room direction : ℕ) (lead : Lead) → lead.exit ≡ record { room = room; direction = direction } → is_exit room direction lead ≡ true
 is_exit_from room direction lead e =
-    both (lead.exit.room == room) (lead.exit.direction == direction) (eq-eqb lead.exit.room room (ap (λ (x : Exit). x.room) e)) (eq-eqb lead.exit.direction direction (ap (λ (x : Exit). x.direction) e))
+    both (lead.exit.room == room) (lead.exit.direction == direction) (eq-eqb lead.exit.room room (ap (λ (x : Exit). x.room) e))
+    (eq-eqb lead.exit.direction direction (ap (λ (x : Exit). x.direction) e))
 
-module _ (Leads : Lead → Numbered → Type 0) (leads_in : Numbered → List Lead) (to : (lead : Lead) (said : Numbered) → IsAmong lead (leads_in said) → Leads lead said) (from : (lead : Lead) (said : Numbered) → Leads lead said → IsAmong lead (leads_in said)) (room direction : ℕ) where
+module _ (Leads : Lead → Numbered → Type 0) (leads_in : Numbered → List Lead) (to : (lead : Lead) (said : Numbered) → IsAmong lead (leads_in said) → Leads lead said)
+    (from : (lead : Lead) (said : Numbered) → Leads lead said → IsAmong lead (leads_in said)) (room direction : ℕ) where
   abbrev exit_here : Exit
   exit_here = record { room = room; direction = direction }
 
@@ -111,7 +113,11 @@ module _ (Leads : Lead → Numbered → Type 0) (leads_in : Numbered → List Le
   LedFirst statements (Some target) = IsLedFirst Leads statements exit_here target
 
   passes_if : (before : List NumberedSentence) (s : NumberedSentence) (target : Target) → Leads (record { exit = exit_here; target = target }) s.said → PassesHere before s
-  passes_if before s target leads = (record { exit = exit_here; target = target }, from (record { exit = exit_here; target = target }) s.said leads, is_exit_from room direction (record { exit = exit_here; target = target }) refl)
+  passes_if before s target leads = (
+    record { exit = exit_here; target = target },
+    from (record { exit = exit_here; target = target }) s.said leads,
+    is_exit_from room direction (record { exit = exit_here; target = target }) refl,
+  )
 
   unled_if : (statements : List NumberedSentence) → (IsShown PassesHere statements → ⊥) → IsUnled Leads statements exit_here
   unled_if statements none target led = none (shown_as _ PassesHere statements (λ before s leads. passes_if before s target leads) led)
@@ -177,7 +183,8 @@ led_again before s other earlier between exit a b split states stated differ = r
 }
 
 -- unless one of them is refused
-agree_or_again : (statements : List NumberedSentence) → (IsShown IsLedElsewhere statements → ⊥) → (exit : Exit) (a b : Target) → a ≢ b → IsLed States statements exit a → IsLed States statements exit b → ⊥
+agree_or_again : (statements : List NumberedSentence) → (IsShown IsLedElsewhere statements → ⊥) → (exit : Exit) (a b : Target) → a ≢ b → IsLed States statements exit a
+    → IsLed States statements exit b → ⊥
 agree_or_again statements none exit a b differ x y =
     ⊎_elim
     (λ t. none (record { before = x.before; item = x.item; after = x.after; split = x.split; here = led_again x.before x.item y.item y.before t.0 exit a b t.1 x.here y.here differ }))

@@ -44,7 +44,8 @@ module _ {A : Type 0} where
           (λ t. absurd (f.none_before (record { before = other.before; item = other.item; after = t.0; split = t.1; here = other.here })))
           (λ t. ⊎_elim
           (λ same. let e : line_of first.item ≡ line_of other.item = ap line_of same in omega arith)
-          (λ u. let le : line_of first.item ≤ line_of other.item = rise first.before u.0 other.after first.item other.item (first.split ∙ ap (λ (xs : List A). first.before ++ first.item ∷ xs) u.1) in omega arith)
+          (λ u. let le : line_of first.item ≤ line_of other.item = rise first.before u.0 other.after first.item other.item
+          (first.split ∙ ap (λ (xs : List A). first.before ++ first.item ∷ xs) u.1) in omega arith)
           t)
           (two_places first.before first.item first.after other.before other.item other.after (sym first.split ∙ other.split)),
     )
@@ -70,7 +71,8 @@ module _ {A : Type 0} where
               ⊎_elim
               (λ here. f.none_before (record { before = s.before; item = s.item; after = s.after; split = s.split; here = here }))
               (λ earlier. f.none_before (subst (λ (xs : List A). IsShown P xs) (sym s.split) (shown_on P s.before (s.item ∷ s.after) earlier)))
-              (from s.before s.item (s.after ++ first.item ∷ first.after) (first.split ∙ ap (λ (xs : List A). xs ++ first.item ∷ first.after) s.split ∙ append_assoc s.before (s.item ∷ s.after) (first.item ∷ first.after)) s.here);
+              (from s.before s.item (s.after ++ first.item ∷ first.after)
+              (first.split ∙ ap (λ (xs : List A). xs ++ first.item ∷ first.after) s.split ∙ append_assoc s.before (s.item ∷ s.after) (first.item ∷ first.after)) s.here);
           on = f.on;
         }
 

@@ -51,7 +51,8 @@ module _ (Rise : Type 0) where
   if_lowest Shown None h = h
   if_lowest Shown (Some l) h = λ rise. h
 
-  if_found : {A : Type 0} (line_of : A → ℕ) (Here : List A → A → Type 0) (items : List A) (found : Option ℕ) → (Rise → LinesRise line_of items) → IsFound line_of Here items found → LowestIf (IsShownAt line_of Here items) found
+  if_found : {A : Type 0} (line_of : A → ℕ) (Here : List A → A → Type 0) (items : List A) (found : Option ℕ) → (Rise → LinesRise line_of items) → IsFound line_of Here items found
+      → LowestIf (IsShownAt line_of Here items) found
   unfolding LowestIf
   if_found line_of Here items None rise h = λ line s. h.first s.0
   if_found line_of Here items (Some l) rise h = λ r. h.lowest (rise r)
@@ -121,7 +122,8 @@ module _ (sentences : List Sentence) (Rise : Type 0) where
       (λ more. let same : turn_of other ≡ turn_of r = omega (arith, le, more) in inl (same_turn other r same))
       (cases_lt (turn_of r) (turn_of other))
 
-  one_turn : (r : Refusal) (found : Option ℕ) (next : Option Fault) → LowestIf Rise (Shows sentences r) found → JudgedFrom (turn_of r + 1) next → JudgedFrom (turn_of r) (first_of (refusal_at (code_of r) found) next)
+  one_turn : (r : Refusal) (found : Option ℕ) (next : Option Fault) → LowestIf Rise (Shows sentences r) found → JudgedFrom (turn_of r + 1) next
+      → JudgedFrom (turn_of r) (first_of (refusal_at (code_of r) found) next)
   unfolding LowestIf JudgedFrom
   one_turn r (Some line) next h later = λ rise. let t = h rise in (r, omega arith, refl, t.0, t.1, λ other at le lt shown. absurd (omega (arith, le, lt)))
   one_turn r None None h later = λ other line le shown.
@@ -140,7 +142,8 @@ module _ (sentences : List Sentence) (Rise : Type 0) where
   unfolding JudgedFrom
   no_turn = λ r line le shown. absurd (omega (arith, le, turns_end r))
 
-  judged_as : (refusal : Option Fault) (actions : List Needs) (untold : Tale) → (LinesRise (λ (s : Sentence). s.line) sentences → Rise) → JudgedFrom 0 refusal → AreJudged sentences (with_actions actions (or_refused refusal untold))
+  judged_as : (refusal : Option Fault) (actions : List Needs) (untold : Tale) → (LinesRise (λ (s : Sentence). s.line) sentences → Rise) → JudgedFrom 0 refusal
+      → AreJudged sentences (with_actions actions (or_refused refusal untold))
   unfolding JudgedFrom
   judged_as None actions untold rises h = λ r line shown. h r line (omega arith) shown
   judged_as (Some f) actions untold rises h = λ rise.
@@ -149,7 +152,8 @@ module _ (sentences : List Sentence) (Rise : Type 0) where
 
 -- ---- the refusals of sentences
 
-one_chain : (a b c d e f g limit : Option Fault) → first_of (first_of a (first_of b (first_of c (first_of d (first_of e (first_of f g)))))) limit ≡ first_of a (first_of b (first_of c (first_of d (first_of e (first_of f (first_of g limit))))))
+one_chain : (a b c d e f g limit : Option Fault) → first_of (first_of a (first_of b (first_of c (first_of d (first_of e (first_of f g)))))) limit
+    ≡ first_of a (first_of b (first_of c (first_of d (first_of e (first_of f (first_of g limit))))))
 one_chain (Some x) b c d e f g limit = refl
 one_chain None (Some x) c d e f g limit = refl
 one_chain None None (Some x) d e f g limit = refl
@@ -165,10 +169,12 @@ module _ (sentences : List Sentence) where
   abbrev all_faults : Faults
   all_faults = faults_of (scope_said sentences) (knowns_said sentences) (claims_of sentences) (stated_by sentences)
 
-  statement_if : (Here : List NumberedSentence → NumberedSentence → Type 0) (found : Option ℕ) → IsFound line_of_statement Here (stated_by sentences) found → LowestIf Rise (IsShownAt line_of_statement Here (stated_by sentences)) found
+  statement_if : (Here : List NumberedSentence → NumberedSentence → Type 0) (found : Option ℕ) → IsFound line_of_statement Here (stated_by sentences) found
+      → LowestIf Rise (IsShownAt line_of_statement Here (stated_by sentences)) found
   statement_if Here found h = if_found Rise line_of_statement Here (stated_by sentences) found (λ rise. (statements_rise sentences rise).0) h
 
-  mention_if : (Here : List NameAt → NameAt → Type 0) (found : Option ℕ) → IsFound line_at Here (named_by sentences).mentions found → LowestIf Rise (IsShownAt line_at Here (named_by sentences).mentions) found
+  mention_if : (Here : List NameAt → NameAt → Type 0) (found : Option ℕ) → IsFound line_at Here (named_by sentences).mentions found
+      → LowestIf Rise (IsShownAt line_at Here (named_by sentences).mentions) found
   mention_if Here found h = if_found Rise line_at Here (named_by sentences).mentions found (λ rise. (statements_rise sentences rise).1) h
 
   twice_if : LowestIf Rise (Shows sentences said_twice) all_faults.twice
@@ -222,19 +228,21 @@ module _ (sentences : List Sentence) where
   roomless_if : LowestIf Rise (Shows sentences roomless) (no_room (first_room (parents_said sentences) (knowns_said sentences)))
   roomless_if = roomless_at _ (roomless_refused (parents_said sentences) (knowns_said sentences))
 
-  long_if : LowestIf Rise (Shows sentences too_long) (earlier (name_too_long (named_by sentences).mentions) (earlier (text_too_long (descriptions_of (parents_said sentences) (knowns_said sentences) (stated_by sentences))) (longer_name 65535 (claims_of sentences))))
+  abbrev all_too_long : Option ℕ
+  all_too_long = earlier (name_too_long (named_by sentences).mentions)
+      (earlier (text_too_long (descriptions_of (parents_said sentences) (knowns_said sentences) (stated_by sentences))) (longer_name 65535 (claims_of sentences)))
+
+  long_if : LowestIf Rise (Shows sentences too_long) all_too_long
   long_if =
       either_if Rise _ _ _ _ (mention_if _ _ (long_name_found (named_by sentences).mentions))
-      (either_if Rise _ _ _ _ (statement_if _ _ (long_text_found (parents_said sentences) (knowns_said sentences) (stated_by sentences))) (if_lowest Rise _ _ (longer_lowest 65535 (claims_of sentences))))
+      (either_if Rise _ _ _ _ (statement_if _ _ (long_text_found (parents_said sentences) (knowns_said sentences) (stated_by sentences)))
+      (if_lowest Rise _ _ (longer_lowest 65535 (claims_of sentences))))
 
   abbrev all_too_many : Option ℕ
   all_too_many = earlier (object_too_many (named_by sentences).mentions) all_faults.too_many
 
   abbrev none_room : Option ℕ
   none_room = no_room (first_room (parents_said sentences) (knowns_said sentences))
-
-  abbrev all_too_long : Option ℕ
-  all_too_long = earlier (name_too_long (named_by sentences).mentions) (earlier (text_too_long (descriptions_of (parents_said sentences) (knowns_said sentences) (stated_by sentences))) (longer_name 65535 (claims_of sentences)))
 
   abbrev the_refusal : Option Fault
   the_refusal = refusal_of (scope_said sentences) (knowns_said sentences) (claims_of sentences) (stated_by sentences) (named_by sentences).mentions
@@ -244,7 +252,8 @@ module _ (sentences : List Sentence) where
   judged_refusal =
       subst (λ (f : Option Fault). JudgedFrom sentences Rise 0 f)
       (sym (one_chain (refusal_at (code_of said_twice) all_faults.twice) (refusal_at (code_of names_nothing) all_faults.unknown) (refusal_at (code_of closes_cycle) all_faults.cycle)
-      (refusal_at (code_of wrong_kind) all_faults.wrong) (refusal_at (code_of stands_twice) all_faults.second) (refusal_at (code_of one_too_many) all_too_many) (refusal_at (code_of roomless) none_room)
+      (refusal_at (code_of wrong_kind) all_faults.wrong) (refusal_at (code_of stands_twice) all_faults.second) (refusal_at (code_of one_too_many) all_too_many)
+      (refusal_at (code_of roomless) none_room)
       (refusal_at (code_of too_long) all_too_long)))
       (one_turn sentences Rise said_twice _ _ twice_if
       (one_turn sentences Rise names_nothing _ _ unknown_if

@@ -1,4 +1,4 @@
--- What is one too many or too long is found at the first that shows it, and a source is refused for want of a room just where it has none.
+-- What is one too many or too long is found at the first that shows it, and sources without a room are refused.
 use Rattle.std.proofs.Common.{◌≡◌, ℕ, zero, suc, ◌+◌, ◌-◌, ◌≤◌, ◌<◌, true, false, List, [], ◌∷◌, ◌++◌, length, drop, Option, refl, sym, ap, ◌∙◌, subst, arith, length-append, inl, inr, ◌⊎◌, ⊎_elim, true≢false}
 use Rattle.std.specs.Prelude.{Some, None, Decides, option_map, slice_get}
 use Rattle.std.specs.List.{list_any}
@@ -28,7 +28,8 @@ module _ {A : Type 0} (line_of : A → ℕ) where
   Behind n before x = n ≤ length before
 
   -- the one at a place, or a list that ends before it
-  at_place : (xs : List A) (n : ℕ) → ((slice_get xs n ≡ None) × (length xs ≤ n)) ⊎ ((before : List A) × (x : A) × (after : List A) × (slice_get xs n ≡ Some x) × (xs ≡ before ++ x ∷ after) × (length before ≡ n))
+  at_place : (xs : List A) (n : ℕ) → ((slice_get xs n ≡ None) × (length xs ≤ n)) ⊎
+      ((before : List A) × (x : A) × (after : List A) × (slice_get xs n ≡ Some x) × (xs ≡ before ++ x ∷ after) × (length before ≡ n))
   at_place [] n = inl (refl, omega arith)
   at_place (x ∷ xs) zero = inr ([], x, xs, refl, refl, refl)
   at_place (x ∷ xs) (suc n) =
@@ -88,12 +89,15 @@ long_name_found mentions = found_of_first line_at HasLongName mentions (name_too
 module _ (parents : List (Option ℕ)) (knowns : List Known) where
   long_text_first : (statements : List NumberedSentence) → IsFirst line_of_statement (DescribesAtLength parents knowns) statements (text_too_long (descriptions_of parents knowns statements))
   long_text_first statements =
-      first_same line_of_statement (λ before s. list_any has_long_text (tells parents knowns (about_last before) s) ≡ true) (DescribesAtLength parents knowns) statements (text_too_long (descriptions_of parents knowns statements))
+      first_same line_of_statement (λ before s. list_any has_long_text (tells parents knowns (about_last before) s) ≡ true) (DescribesAtLength parents knowns) statements
+      (text_too_long (descriptions_of parents knowns statements))
       (λ before s after split h.
       let t = any_to has_long_text (tells parents knowns (about_last before) s) h in
       record { object = t.0.object; text = t.0.text; describes = describes_to parents knowns before t.0 s.said s.line t.1; long = (Decides-ltb 65535 (length t.0.text)).0 t.2 })
-      (λ before s after split d. inl (any_from has_long_text (tells parents knowns (about_last before) s) (record { object = d.object; text = d.text; line = s.line }) (describes_from parents knowns before d.object d.text s.said s.line d.describes) ((Decides-ltb 65535 (length d.text)).1 d.long)))
-      (subst (λ (line : Option ℕ). IsFirst line_of_statement (λ before s. list_any has_long_text (tells parents knowns (about_last before) s) ≡ true) statements line) (sym (lines_same parents knowns has_long_text None statements))
+      (λ before s after split d. inl (any_from has_long_text (tells parents knowns (about_last before) s) (record { object = d.object; text = d.text; line = s.line })
+      (describes_from parents knowns before d.object d.text s.said s.line d.describes) ((Decides-ltb 65535 (length d.text)).1 d.long)))
+      (subst (λ (line : Option ℕ). IsFirst line_of_statement (λ before s. list_any has_long_text (tells parents knowns (about_last before) s) ≡ true) statements line)
+      (sym (lines_same parents knowns has_long_text None statements))
       (passed_first line_of_statement (λ state s. list_any has_long_text (tells parents knowns state s)) then_about None statements))
 
   pub long_text_found : (statements : List NumberedSentence) → IsFound line_of_statement (DescribesAtLength parents knowns) statements (text_too_long (descriptions_of parents knowns statements))

@@ -49,7 +49,8 @@ module _ {A : Type 0} (line : A → ℕ) where
   rise_from least [] low r = tt
   rise_from least (x ∷ xs) low r = (
     low x xs refl,
-    rise_from (line x) xs (λ first more split. r [] [] more x first (ap (λ (ys : List A). x ∷ ys) split)) (λ before between after a b split. r (x ∷ before) between after a b (ap (λ (ys : List A). x ∷ ys) split)),
+    rise_from (line x) xs (λ first more split. r [] [] more x first (ap (λ (ys : List A). x ∷ ys) split))
+        (λ before between after a b split. r (x ∷ before) between after a b (ap (λ (ys : List A). x ∷ ys) split)),
   )
 
 -- ---- what sentences state and mention
@@ -61,7 +62,8 @@ stated_lines named (s ∷ sentences) = ap (λ (ns : List ℕ). s.line ∷ ns) (s
 abbrev all_mentions : List Sentence → List NameAt
 all_mentions sentences = flat_map names_at sentences
 
-named_lines : (least line : ℕ) (names : List Name) (lines : List ℕ) → least ≤ line → RiseFrom line lines → RiseFrom least (map line_at (map (λ name. record { name = name; line = line }) names) ++ lines)
+named_lines : (least line : ℕ) (names : List Name) (lines : List ℕ) → least ≤ line → RiseFrom line lines
+    → RiseFrom least (map line_at (map (λ name. record { name = name; line = line }) names) ++ lines)
 named_lines least line [] lines le r = lower least line lines le r
 named_lines least line (name ∷ names) lines le r = (le, named_lines line line names lines (omega arith) r)
 
@@ -78,7 +80,8 @@ name_step : (named : Named) (at : NameAt) (lines : List ℕ) → MentionsRise na
 name_step named at lines r =
     elim (either (has_key named.keys (key_of at.name.text))) [
       | inl is ↦ rw is (left_out 0 (map line_at named.mentions) (at.line ∷ []) lines r)
-      | inr isnt ↦ rw isnt (subst (λ (ns : List ℕ). RiseFrom 0 ns) (sym (ap (λ (ns : List ℕ). ns ++ lines) (map_append line_at named.mentions (at ∷ [])) ∙ append_assoc (map line_at named.mentions) (at.line ∷ []) lines)) r)
+      | inr isnt ↦ rw isnt (subst (λ (ns : List ℕ). RiseFrom 0 ns)
+          (sym (ap (λ (ns : List ℕ). ns ++ lines) (map_append line_at named.mentions (at ∷ [])) ∙ append_assoc (map line_at named.mentions) (at.line ∷ []) lines)) r)
     ]
 
 names_step : (ats : List NameAt) (named : Named) (lines : List ℕ) → MentionsRise named (map line_at ats ++ lines) → MentionsRise (fold with_name named ats) lines

@@ -49,8 +49,19 @@ module _ (parents : List (Option ℕ)) where
       elim (either (is_under parents d asked)) [
         | inl is ↦ rw is (inl h.0, λ kind s. ⊎_elim (λ p. h.1 kind p) (λ e. subst (λ (n : ℕ). Under parents d n) e ((climbs_decide parents d asked).0 is)) s)
         | inr isnt ↦ elim (either (is_under parents asked d)) [
-          | inl below ↦ rw (isnt, below) (inr refl, λ kind s. ⊎_elim (λ p. trans parents asked d kind ((climbs_decide parents asked d).0 below) (h.1 kind p)) (λ e. subst (λ (n : ℕ). Under parents asked n) e itself) s)
-          | inr above' ↦ rw (isnt, above') (d, asked, inl h.0, inr refl, λ s. ⊎_elim (λ u. true≢false (sym ((climbs_decide parents d asked).1 u) ∙ isnt)) (λ u. true≢false (sym ((climbs_decide parents asked d).1 u) ∙ above')) s)
+          | inl below ↦ rw (isnt, below) (
+            inr refl,
+            λ kind s. ⊎_elim (λ p. trans parents asked d kind ((climbs_decide parents asked d).0 below) (h.1 kind p))
+                (λ e. subst (λ (n : ℕ). Under parents asked n) e itself) s,
+          )
+          | inr above' ↦ rw (isnt, above') (
+            d,
+            asked,
+            inl h.0,
+            inr refl,
+            λ s. ⊎_elim (λ u. true≢false (sym ((climbs_decide parents d asked).1 u) ∙ isnt))
+                (λ u. true≢false (sym ((climbs_decide parents asked d).1 u) ∙ above')) s,
+          )
         ]
       ]
   stands_deeper P Parted asked h = (h.0, h.1, inl h.2, inl h.3, h.4)
@@ -137,7 +148,8 @@ module _ (s : Scope) where
       elim (either (n == o)) [
         | inl is ↦
             let here = stands_same s.parents (λ k. P k ⊎ (kind ≡ k)) (λ k. P k ⊎ ((o ≡ o) × (kind ≡ k)))
-            (λ k t. ⊎_elim (λ p. inl p) (λ e. inr (refl, e)) t) (λ k t. ⊎_elim (λ p. inl p) (λ e. inr e.1) t) (deepen s.parents (known_at knowns o).demanded kind) (stands_deeper s.parents P (known_at knowns o).demanded kind h) in
+            (λ k t. ⊎_elim (λ p. inl p) (λ e. inr (refl, e)) t) (λ k t. ⊎_elim (λ p. inl p) (λ e. inr e.1) t) (deepen s.parents (known_at knowns o).demanded kind)
+            (stands_deeper s.parents P (known_at knowns o).demanded kind h) in
             subst (λ (m : ℕ). StandsFor s.parents (λ k. P k ⊎ ((m ≡ o) × (kind ≡ k))) (known_at (set_demand knowns m kind) o).demanded) (sym (eqb-true n o is))
             (subst (λ (known : Known). StandsFor s.parents (λ k. P k ⊎ ((o ≡ o) × (kind ≡ k))) known.demanded) (sym (get_or-set_same knowns o _ unknown lt)) here)
         | inr isnt ↦
@@ -187,7 +199,8 @@ module _ (s : Scope) where
       ]
   fact_step P knowns (Placed p) o lt h =
       elim (either (is_in p.relation)) [
-        | inl is ↦ rw is (subst (λ (d : Demanded). StandsFor s.parents (λ k. P k ⊎ ⊥) d) (sym (held_same knowns (number_in s.objects p.holder) o lt)) (nothing_asked P (λ k. ⊥) (λ k none. none) (known_at knowns o).demanded h))
+        | inl is ↦ rw is (subst (λ (d : Demanded). StandsFor s.parents (λ k. P k ⊎ ⊥) d) (sym (held_same knowns (number_in s.objects p.holder) o lt))
+            (nothing_asked P (λ k. ⊥) (λ k none. none) (known_at knowns o).demanded h))
         | inr isnt ↦ rw isnt (nothing_asked P (λ k. ⊥) (λ k none. none) (known_at knowns o).demanded h)
       ]
   fact_step P knowns _ o lt h = nothing_asked P (λ k. ⊥) (λ k none. none) (known_at knowns o).demanded h
@@ -232,7 +245,8 @@ module _ (s : Scope) where
   stands_from before [] knowns o lt h = subst (λ (cs : List Claim). StandsFor s.parents (Asked cs o) (known_at knowns o).demanded) (sym (append-nil before)) h
   stands_from before (c ∷ cs) knowns o lt h =
       let next = with_known s knowns c.fact in
-      let step = stands_same s.parents (λ k. Asked before o k ⊎ DemandsKind s o k c.fact) (Asked (before ++ c ∷ []) o) (λ k t. more_from before c o k t) (λ k t. more_to before c o k t) (known_at next o).demanded
+      let step = stands_same s.parents (λ k. Asked before o k ⊎ DemandsKind s o k c.fact) (Asked (before ++ c ∷ []) o) (λ k t. more_from before c o k t) (λ k t. more_to before c o k t)
+      (known_at next o).demanded
       (fact_step (Asked before o) knowns c.fact o lt h) in
       subst (λ (all : List Claim). StandsFor s.parents (Asked all o) (known_at (fold (with_known_of s) next cs) o).demanded) (append_assoc before (c ∷ []) cs)
       (stands_from (before ++ c ∷ []) cs next o (omega (arith, lt, length_step knowns c.fact)) step)
@@ -260,10 +274,12 @@ module _ (s : Scope) where
         absurd (true≢false (sym none)))
         (cases_lt o (length s.objects))
 
-    off_to : (before : List Claim) (c : Claim) (o kind : ℕ) → ((k : ℕ) → kind ≡ k → DemandsKind s o k c.fact) → is_parted (deepen s.parents (known_at (known before) o).demanded kind) ≡ true → IsOffPath s before c
+    off_to : (before : List Claim) (c : Claim) (o kind : ℕ) → ((k : ℕ) → kind ≡ k → DemandsKind s o k c.fact) → is_parted (deepen s.parents (known_at (known before) o).demanded kind) ≡ true
+        → IsOffPath s before c
     off_to before c o kind demands is =
         let there = there_if before o kind is in
-        let t = parted_pair s.parents (λ k. Asked before o k ⊎ (kind ≡ k)) (deepen s.parents (known_at (known before) o).demanded kind) (stands_deeper s.parents (Asked before o) (known_at (known before) o).demanded kind (stands before o there)) is in
+        let t = parted_pair s.parents (λ k. Asked before o k ⊎ (kind ≡ k)) (deepen s.parents (known_at (known before) o).demanded kind)
+        (stands_deeper s.parents (Asked before o) (known_at (known before) o).demanded kind (stands before o there)) is in
         record {
           object = o;
           there = there;
@@ -276,7 +292,8 @@ module _ (s : Scope) where
           apart = t.4;
         }
 
-    off_from : (before : List Claim) (c : Claim) (h : IsOffPath s before c) → ((k : ℕ) → DemandsKind s h.object k c.fact → h.kind ≡ k) → is_parted (deepen s.parents (known_at (known before) h.object).demanded h.kind) ≡ true
+    off_from : (before : List Claim) (c : Claim) (h : IsOffPath s before c) → ((k : ℕ) → DemandsKind s h.object k c.fact → h.kind ≡ k)
+        → is_parted (deepen s.parents (known_at (known before) h.object).demanded h.kind) ≡ true
     off_from before c h one =
         let o = h.object in
         let asked : (k : ℕ) → Asked (before ++ c ∷ []) o k → Asked before o k ⊎ (h.kind ≡ k) = λ k d. ⊎_elim (λ p. inl p) (λ q. inr (one k q)) (more_to before c o k d) in

@@ -75,7 +75,8 @@ one_first statements exit a b p q =
 
 -- ---- the ways out of an object
 
-room_ways : (statements : List NumberedSentence) (o : ℕ) (d : Direction) → slice_get (exits_of statements o).ways (direction_number d - 1) ≡ Some (way_to (target_of statements o (direction_number d)))
+room_ways : (statements : List NumberedSentence) (o : ℕ) (d : Direction)
+    → slice_get (exits_of statements o).ways (direction_number d - 1) ≡ Some (way_to (target_of statements o (direction_number d)))
 unfolding exits_of
 room_ways statements o direction.North = refl
 room_ways statements o direction.Northeast = refl
@@ -104,7 +105,8 @@ no_ways direction.Down = refl
 no_ways direction.Inside = refl
 no_ways direction.Outside = refl
 
-led_as_said : (statements : List NumberedSentence) → (IsShown IsLedElsewhere statements → ⊥) → (exit : Exit) (found : Option Target) → IsWayOut statements exit found → LeadsAsSaid statements exit (Some (way_to found))
+led_as_said : (statements : List NumberedSentence) → (IsShown IsLedElsewhere statements → ⊥) → (exit : Exit) (found : Option Target) → IsWayOut statements exit found
+    → LeadsAsSaid statements exit (Some (way_to found))
 led_as_said statements none exit None h = record {
   stated = λ target led. absurd (h.0 target led);
   implied = λ unled target led. absurd (h.1 target led.first);
@@ -121,7 +123,8 @@ led_as_said statements none exit (Some t) (inr h) = record {
   nowhere = λ unstated unimplied. absurd (unimplied t h.1.first);
 }
 
-object_made : (m : Made) (entries : List Entry) (from o at : ℕ) (object : Object) → at ≡ from + o → slice_get (objects_of m from entries) o ≡ Some object → (entry : Entry) × (object_of m at entry ≡ object)
+object_made : (m : Made) (entries : List Entry) (from o at : ℕ) (object : Object) → at ≡ from + o → slice_get (objects_of m from entries) o ≡ Some object
+    → (entry : Entry) × (object_of m at entry ≡ object)
 object_made m [] from o at object same e = absurd cc
 object_made m (entry ∷ entries) from zero at object same e =
     let here : at ≡ from = omega (arith, same) in
@@ -140,7 +143,8 @@ kind_of_made m o entry = refl
 same_object : (found : Option Object) (a b : Object) → found ≡ Some a → found ≡ Some b → a ≡ b
 same_object found a b h k = cc
 
-module _ (parents : List (Option ℕ)) (sentences : List Sentence) (none : IsShown IsLedElsewhere (stated_by sentences) → ⊥) (tale : Tale) (kinds_are : tale.declared.kinds ≡ parents) (o : ℕ) (object : Object) (at : object_at tale o ≡ Some object) (exits_are : object.exits ≡ exits_by parents (stated_by sentences) object.kind o) where
+module _ (parents : List (Option ℕ)) (sentences : List Sentence) (none : IsShown IsLedElsewhere (stated_by sentences) → ⊥) (tale : Tale)
+    (kinds_are : tale.declared.kinds ≡ parents) (o : ℕ) (object : Object) (at : object_at tale o ≡ Some object) (exits_are : object.exits ≡ exits_by parents (stated_by sentences) object.kind o) where
   ways_are : (exits : Exits) → object.exits ≡ exits → (d : Direction) → way_out_of object d ≡ slice_get exits.ways (direction_number d - 1)
   ways_are exits e d = ap (λ (x : Exits). slice_get x.ways (direction_number d - 1)) e
 
@@ -157,7 +161,8 @@ module _ (parents : List (Option ℕ)) (sentences : List Sentence) (none : IsSho
             record {
               room = λ r d. subst (λ (w : Option Way). LeadsAsSaid (stated_by sentences) (record { room = o; direction = direction_number d }) w)
                   (sym (ways_are (exits_of (stated_by sentences) o) ways d ∙ room_ways (stated_by sentences) o d))
-                  (led_as_said (stated_by sentences) none (record { room = o; direction = direction_number d }) (target_of (stated_by sentences) o (direction_number d)) (way_out (stated_by sentences) o (direction_number d)));
+                  (led_as_said (stated_by sentences) none (record { room = o; direction = direction_number d }) (target_of (stated_by sentences) o (direction_number d))
+                  (way_out (stated_by sentences) o (direction_number d)));
               other = λ isnt. absurd (isnt (object, at, subst (λ (ps : List (Option ℕ)). Under ps object.kind room_kind) (sym kinds_are) ((climbs_decide parents object.kind room_kind).0 is)));
             }
         | inr isnt ↦
@@ -174,7 +179,8 @@ exits_as_said sentences tale o object means at =
     let knowns = knowns_said sentences in
     let named = named_by sentences in
     let m : Made = made_of s knowns (claims_of sentences) (stated_by sentences) in
-    let t = tale_is (refusal_of s knowns (claims_of sentences) (stated_by sentences) named.mentions) (actions_said sentences) (untold (claims_of sentences) m (entries_of named.mentions)) tale means in
+    let t = tale_is (refusal_of s knowns (claims_of sentences) (stated_by sentences) named.mentions) (actions_said sentences)
+    (untold (claims_of sentences) m (entries_of named.mentions)) tale means in
     let none : (r : Refusal) (line : ℕ) → Shows sentences r line → ⊥ = subst (λ (said : Result Tale Fault). AreJudged sentences said) means (judged sentences) in
     let made = object_made m (entries_of named.mentions) 0 o o object (omega arith) (ap (λ (x : Tale). object_at x o) t.0 ∙ at) in
     let kind : object.kind ≡ kind_at m.kinds o = ap (λ (x : Object). x.kind) (sym made.1) ∙ kind_of_made m o made.0 in

@@ -57,7 +57,8 @@ one_name named o [] e = absurd cc
 one_name named o (name ∷ []) e = (name, refl, cc)
 one_name named o (name ∷ other ∷ names) e = absurd cc
 
-holding_about : (named : Named) (o : ℕ) (relation : Rel) (holder : Name) (things : List Name) → subject_of (numbered_holding named relation holder things) ≡ Some o → IsHoldingAbout named o relation holder things
+holding_about : (named : Named) (o : ℕ) (relation : Rel) (holder : Name) (things : List Name) → subject_of (numbered_holding named relation holder things) ≡ Some o
+    → IsHoldingAbout named o relation holder things
 holding_about named o In holder things e = one_name named o things e
 holding_about named o On holder things e = one_name named o things e
 holding_about named o Carried holder things e = cc
@@ -71,7 +72,8 @@ is_about named o (asserts.Door door first second) e = cc
 is_about named o (asserts.Holds holder relation things) e = holding_about named o relation holder things e
 is_about named o _ e = absurd cc
 
-last_about : (named : Named) (o : ℕ) (sentences : List Sentence) (statements : List NumberedSentence) → map (statement_in named) sentences ≡ statements → EndsAbout statements o → LastIsAbout named o sentences
+last_about : (named : Named) (o : ℕ) (sentences : List Sentence) (statements : List NumberedSentence) → map (statement_in named) sentences ≡ statements → EndsAbout statements o
+    → LastIsAbout named o sentences
 last_about named o sentences statements e ends =
     let t = map_split (statement_in named) sentences ends.earlier ends.last [] (e ∙ ends.parts) in
     record {
@@ -87,21 +89,24 @@ module _ (parents : List (Option ℕ)) (knowns : List Known) (named : Named) (ta
   none_of_subject before (name ∷ []) h = absurd h
   none_of_subject before (name ∷ other ∷ names) h = absurd h
 
-  none_of_holding : {X : Type 0} (before : List NumberedSentence) (relation : Rel) (holder : Name) (names : List Name) → Describes parents knowns o text before (numbered_holding named relation holder names) → X
+  none_of_holding : {X : Type 0} (before : List NumberedSentence) (relation : Rel) (holder : Name) (names : List Name)
+      → Describes parents knowns o text before (numbered_holding named relation holder names) → X
   none_of_holding before In holder names h = none_of_subject before names h
   none_of_holding before On holder names h = none_of_subject before names h
   none_of_holding before Carried holder names h = absurd h
   none_of_holding before Worn holder names h = absurd h
   none_of_holding before Part holder names h = none_of_subject before names h
 
-  describes_object : (sentences : List Sentence) (before : List NumberedSentence) → map (statement_in named) sentences ≡ before → (said : Assertion) → Describes parents knowns o text before (numbered_in named said) → DescribesObject named tale o text sentences said
+  describes_object : (sentences : List Sentence) (before : List NumberedSentence) → map (statement_in named) sentences ≡ before → (said : Assertion)
+      → Describes parents knowns o text before (numbered_in named said) → DescribesObject named tale o text sentences said
   describes_object sentences before e (asserts.Description other) h = (last_about named o sentences before e h.0, room h.1, h.2)
   describes_object sentences before e (asserts.DescriptionOf object other) h = h
   describes_object sentences before e (asserts.Are being) h = none_of_subject before being.subjects h
   describes_object sentences before e (asserts.Holds holder relation things) h = none_of_holding before relation holder things h
   describes_object sentences before e _ h = absurd h
 
-  described_in : (sentences : List Sentence) → IsShown (λ before s. Describes parents knowns o text before s.said) (map (statement_in named) sentences) → IsShown (λ before s. DescribesObject named tale o text before s.said) sentences
+  described_in : (sentences : List Sentence) → IsShown (λ before s. Describes parents knowns o text before s.said) (map (statement_in named) sentences)
+      → IsShown (λ before s. DescribesObject named tale o text before s.said) sentences
   described_in sentences shown =
       let t = map_split (statement_in named) sentences shown.before shown.item shown.after shown.split in
       record {
@@ -126,7 +131,8 @@ text_found : (found : Option Description) (text : List ℕ) → option_map (λ d
 text_found None text e = absurd cc
 text_found (Some d) text e = (d, refl, cc)
 
-pub described_shown : (parents : List (Option ℕ)) (knowns : List Known) (statements : List NumberedSentence) (o : ℕ) (text : List ℕ) → description_of (descriptions_of parents knowns statements) o ≡ Some text
+pub described_shown : (parents : List (Option ℕ)) (knowns : List Known) (statements : List NumberedSentence) (o : ℕ) (text : List ℕ)
+    → description_of (descriptions_of parents knowns statements) o ≡ Some text
     → IsShown (λ before s. Describes parents knowns o text before s.said) statements
 described_shown parents knowns statements o text e =
     let t = text_found (find (λ d. d.object == o) (descriptions_of parents knowns statements)) text e in
@@ -134,7 +140,8 @@ described_shown parents knowns statements o text e =
     let object : t.0.object ≡ o = eqb-true t.0.object o u.1 in
     let among : IsAmong t.0 _ = subst (λ (ds : List Description). IsAmong t.0 ds) (sym (told_all parents knowns None statements)) u.0 in
     shown_as _ _ statements
-    (λ before s m. subst (λ (n : ℕ). Describes parents knowns n text before s.said) object (subst (λ (x : List ℕ). Describes parents knowns t.0.object x before s.said) t.2 (describes_to parents knowns before t.0 s.said s.line m)))
+    (λ before s m. subst (λ (n : ℕ). Describes parents knowns n text before s.said) object
+    (subst (λ (x : List ℕ). Describes parents knowns t.0.object x before s.said) t.2 (describes_to parents knowns before t.0 s.said s.line m)))
     (told_before (tells parents knowns) then_about None statements t.0 among)
 
 -- ---- the tale

@@ -51,12 +51,14 @@ module _ (parents : List (Option ℕ)) (knowns : List Known) where
   door_decides o = of_decides parents knowns door_kind o
 
   no_room_decides : (o : ℕ) → Decides (is_no_room parents knowns o) (IsNoRoom parents knowns o)
-  no_room_decides o = Decides-and (not (is_parted_at knowns o)) (not (is_room parents knowns o)) (Decides-not (is_parted_at knowns o) (apart_decides knowns o)) (Decides-not (is_room parents knowns o) (room_decides o))
+  no_room_decides o = Decides-and (not (is_parted_at knowns o)) (not (is_room parents knowns o)) (Decides-not (is_parted_at knowns o) (apart_decides knowns o))
+      (Decides-not (is_room parents knowns o) (room_decides o))
 
   one_object : (a b : ℕ) → Some a ≡ Some b → a ≡ b
   one_object a b h = cc
 
-  alone_decides : (before : List NumberedSentence) (state : Option ℕ) → about_last before ≡ state → Decides (is_wrong_subject parents knowns state) ((o : ℕ) → EndsAbout before o → IsNoRoom parents knowns o)
+  alone_decides : (before : List NumberedSentence) (state : Option ℕ) → about_last before ≡ state
+      → Decides (is_wrong_subject parents knowns state) ((o : ℕ) → EndsAbout before o → IsNoRoom parents knowns o)
   alone_decides before None e = (
     λ is o ends. let some : Some o ≡ None = sym (ends_from before o ends) ∙ e in absurd cc,
     λ h. refl,
@@ -89,7 +91,8 @@ module _ (parents : List (Option ℕ)) (knowns : List Known) where
       (Decides-or (not (is_door parents knowns d.door)) (not (is_room parents knowns first && is_room parents knowns second)) (Decides-not (is_door parents knowns d.door) (door_decides d.door))
       (either_not (is_room parents knowns first) (is_room parents knowns second) (room_decides first) (room_decides second))))
 
-  wrong_passed : (before : Option ℕ) (statements : List NumberedSentence) → wrong_after parents knowns before statements ≡ option_map line_of_statement (first_passed (λ state s. is_wrong parents knowns state s.said) then_about before statements)
+  wrong_passed : (before : Option ℕ) (statements : List NumberedSentence)
+      → wrong_after parents knowns before statements ≡ option_map line_of_statement (first_passed (λ state s. is_wrong parents knowns state s.said) then_about before statements)
   wrong_passed before [] = refl
   wrong_passed before (s ∷ statements) =
       elim (either (is_wrong parents knowns before s.said)) [
@@ -168,7 +171,8 @@ unsuited_decides s knowns (Placed p) =
     (neither (is_parted_at knowns thing) (is_parted_at knowns place.holder) (apart_decides knowns thing) (apart_decides knowns place.holder))
     (Decides-not (suits (kinds_known s.parents knowns) thing place) (suits_decide s.parents knowns thing place))
 unsuited_decides s knowns (Has h) = lacking_decides s knowns (number_in s.objects h.object) (number_in s.properties h.property)
-unsuited_decides s knowns (Usually u) = Decides-not (can_be s (number_in s.kinds u.kind) (number_in s.properties u.property)) (property_decides s (number_in s.kinds u.kind) (number_in s.properties u.property))
+unsuited_decides s knowns (Usually u) = Decides-not (can_be s (number_in s.kinds u.kind) (number_in s.properties u.property))
+    (property_decides s (number_in s.kinds u.kind) (number_in s.properties u.property))
 unsuited_decides s knowns _ = never (λ h. h)
 
 same_fold : (claims : List Claim) (knowns : List Known) → fold same_knowns knowns claims ≡ knowns
@@ -176,4 +180,5 @@ same_fold [] knowns = refl
 same_fold (c ∷ cs) knowns = same_fold cs knowns
 
 pub unsuited_lowest : (s : Scope) (knowns : List Known) (claims : List Claim) → IsLowest (ShownBy (λ before c. IsUnsuited s knowns c.fact) claims) (unsuited s knowns claims)
-unsuited_lowest s knowns claims = lowest_is (λ before c. IsUnsuited s knowns c.fact) (shows_unsuited s) same_knowns knowns claims (λ before c after split. subst (λ (known : List Known). Decides (is_unsuited s known c.fact) (IsUnsuited s knowns c.fact)) (sym (same_fold before knowns)) (unsuited_decides s knowns c.fact))
+unsuited_lowest s knowns claims = lowest_is (λ before c. IsUnsuited s knowns c.fact) (shows_unsuited s) same_knowns knowns claims
+    (λ before c after split. subst (λ (known : List Known). Decides (is_unsuited s known c.fact) (IsUnsuited s knowns c.fact)) (sym (same_fold before knowns)) (unsuited_decides s knowns c.fact))
