@@ -19,7 +19,7 @@ use Rattle.i7_claims.proofs.SortScans.{too_many_lowest}
 use Rattle.i7_kinds.specs.Actions.{actions_said, with_actions}
 use Rattle.i7_kinds.specs.Demands.{descriptions_of, line_at, line_of_statement}
 use Rattle.i7_kinds.specs.FirstShown.{IsFound, IsShownAt, LinesRise}
-use Rattle.i7_kinds.specs.Judged.{AreJudged, Refusal, said_twice, names_nothing, closes_cycle, wrong_kind, stands_twice, one_too_many, roomless, too_long, Shows, code_of, knowns_said, parents_said, scope_said, turn_of}
+use Rattle.i7_kinds.specs.Judged.{AreJudged, IsRefusedFor, Refusal, said_twice, names_nothing, closes_cycle, wrong_kind, stands_twice, one_too_many, roomless, too_long, Shows, code_of, knowns_said, parents_said, scope_said, turn_of}
 use Rattle.i7_kinds.specs.LongNames.{longer_name}
 use Rattle.i7_kinds.specs.RefusalsShown.{IsRefusedRoomless}
 use Rattle.i7_kinds.specs.Suits.{first_room}
@@ -41,36 +41,34 @@ use Rattle.i7_kinds.proofs.WrongKinds.{unsuited_lowest, wrong_found}
 -- ---- lowest lines, where lines rise
 
 module _ (Rise : Type 0) where
-  -- no line shows it, or this is the lowest that does, if lines rise
+  -- no line shows it, or this one does, and no lower one if lines rise
   LowestIf : (ℕ → Type 0) → Option ℕ → Type 0
   LowestIf Shown None = (line : ℕ) → Shown line → ⊥
-  LowestIf Shown (Some l) = Rise → Shown l × ((line : ℕ) → Shown line → l ≤ line)
+  LowestIf Shown (Some l) = Shown l × (Rise → (line : ℕ) → Shown line → l ≤ line)
 
   if_lowest : (Shown : ℕ → Type 0) (found : Option ℕ) → IsLowest Shown found → LowestIf Shown found
   unfolding LowestIf
   if_lowest Shown None h = h
-  if_lowest Shown (Some l) h = λ rise. h
+  if_lowest Shown (Some l) h = (h.0, λ rise. h.1)
 
   if_found : {A : Type 0} (line_of : A → ℕ) (Here : List A → A → Type 0) (items : List A) (found : Option ℕ) → (Rise → LinesRise line_of items) → IsFound line_of Here items found
       → LowestIf (IsShownAt line_of Here items) found
   unfolding LowestIf
   if_found line_of Here items None rise h = λ line s. h.first s.0
-  if_found line_of Here items (Some l) rise h = λ r. h.lowest (rise r)
+  if_found line_of Here items (Some l) rise h = ((h.first.first, h.first.on), λ r. (h.lowest (rise r)).1)
 
   either_if : (P Q : ℕ → Type 0) (a b : Option ℕ) → LowestIf P a → LowestIf Q b → LowestIf (λ line. P line ⊎ Q line) (earlier a b)
   unfolding LowestIf
   either_if P Q None None p q = λ line s. ⊎_elim (p line) (q line) s
-  either_if P Q None (Some l) p q = λ rise. let t = q rise in (inr t.0, λ line s. ⊎_elim (λ x. absurd (p line x)) (t.1 line) s)
-  either_if P Q (Some l) None p q = λ rise. let t = p rise in (inl t.0, λ line s. ⊎_elim (t.1 line) (λ x. absurd (q line x)) s)
-  either_if P Q (Some k) (Some l) p q = λ rise.
-      let t = p rise in
-      let u = q rise in (
-        ⊎_elim
-            (λ lt. let e : min k l ≡ k = omega (arith, lt) in inl (subst P (sym e) t.0))
-            (λ le. let e : min k l ≡ l = omega (arith, le) in inr (subst Q (sym e) u.0))
-            (cases_lt k l),
-        λ line s. ⊎_elim (λ x. let le : k ≤ line = t.1 line x in omega (arith, le)) (λ x. let le : l ≤ line = u.1 line x in omega (arith, le)) s,
-      )
+  either_if P Q None (Some l) p q = (inr q.0, λ rise line s. ⊎_elim (λ x. absurd (p line x)) (q.1 rise line) s)
+  either_if P Q (Some l) None p q = (inl p.0, λ rise line s. ⊎_elim (p.1 rise line) (λ x. absurd (q line x)) s)
+  either_if P Q (Some k) (Some l) p q = (
+    ⊎_elim
+        (λ lt. let e : min k l ≡ k = omega (arith, lt) in inl (subst P (sym e) p.0))
+        (λ le. let e : min k l ≡ l = omega (arith, le) in inr (subst Q (sym e) q.0))
+        (cases_lt k l),
+    λ rise line s. ⊎_elim (λ x. let le : k ≤ line = p.1 rise line x in omega (arith, le)) (λ x. let le : l ≤ line = q.1 rise line x in omega (arith, le)) s,
+  )
 
 -- ---- one refusal after the other
 
@@ -112,7 +110,7 @@ module _ (sentences : List Sentence) (Rise : Type 0) where
   -- what refuses sentences that show nothing that is looked for before this turn
   JudgedFrom : ℕ → Option Fault → Type 0
   JudgedFrom turn None = (r : Refusal) (line : ℕ) → turn ≤ turn_of r → Shows sentences r line → ⊥
-  JudgedFrom turn (Some f) = Rise → (r : Refusal) × (turn ≤ turn_of r) × (f.code ≡ code_of r) × Shows sentences r f.line × ((line : ℕ) → Shows sentences r line → f.line ≤ line)
+  JudgedFrom turn (Some f) = (r : Refusal) × (turn ≤ turn_of r) × (f.code ≡ code_of r) × Shows sentences r f.line × (Rise → (line : ℕ) → Shows sentences r line → f.line ≤ line)
       × ((other : Refusal) (line : ℕ) → turn ≤ turn_of other → turn_of other < turn_of r → Shows sentences other line → ⊥)
 
   this_or_later : (r other : Refusal) → turn_of r ≤ turn_of other → (other ≡ r) ⊎ (turn_of r + 1 ≤ turn_of other)
@@ -125,18 +123,17 @@ module _ (sentences : List Sentence) (Rise : Type 0) where
   one_turn : (r : Refusal) (found : Option ℕ) (next : Option Fault) → LowestIf Rise (Shows sentences r) found → JudgedFrom (turn_of r + 1) next
       → JudgedFrom (turn_of r) (first_of (refusal_at (code_of r) found) next)
   unfolding LowestIf JudgedFrom
-  one_turn r (Some line) next h later = λ rise. let t = h rise in (r, omega arith, refl, t.0, t.1, λ other at le lt shown. absurd (omega (arith, le, lt)))
+  one_turn r (Some line) next h later = (r, omega arith, refl, h.0, h.1, λ other at le lt shown. absurd (omega (arith, le, lt)))
   one_turn r None None h later = λ other line le shown.
       ⊎_elim (λ same. h line (subst (λ (x : Refusal). Shows sentences x line) same shown)) (λ more. later other line more shown) (this_or_later r other le)
-  one_turn r None (Some f) h later = λ rise.
-      let t = later rise in (
-        t.0,
-        omega (arith, t.1),
-        t.2,
-        t.3,
-        t.4,
-        λ other line le lt shown. ⊎_elim (λ same. h line (subst (λ (x : Refusal). Shows sentences x line) same shown)) (λ more. t.5 other line more lt shown) (this_or_later r other le),
-      )
+  one_turn r None (Some f) h later = (
+    later.0,
+    omega (arith, later.1),
+    later.2,
+    later.3,
+    later.4,
+    λ other line le lt shown. ⊎_elim (λ same. h line (subst (λ (x : Refusal). Shows sentences x line) same shown)) (λ more. later.5 other line more lt shown) (this_or_later r other le),
+  )
 
   no_turn : JudgedFrom 8 None
   unfolding JudgedFrom
@@ -146,9 +143,13 @@ module _ (sentences : List Sentence) (Rise : Type 0) where
       → AreJudged sentences (with_actions actions (or_refused refusal untold))
   unfolding JudgedFrom
   judged_as None actions untold rises h = λ r line shown. h r line (omega arith) shown
-  judged_as (Some f) actions untold rises h = λ rise.
-      let t = h (rises rise) in
-      record { refusal = t.0; code = t.2; shown = t.3; lowest = t.4; none_before = λ earlier line lt shown. t.5 earlier line (omega arith) lt shown }
+  judged_as (Some f) actions untold rises h = record {
+    refusal = h.0;
+    code = h.2;
+    shown = h.3;
+    lowest = λ rise. h.4 (rises rise);
+    none_before = λ earlier line lt shown. h.5 earlier line (omega arith) lt shown;
+  }
 
 -- ---- the refusals of sentences
 
@@ -223,7 +224,7 @@ module _ (sentences : List Sentence) where
   roomless_at : (found : Option ℕ) → IsRefusedRoomless (parents_said sentences) (knowns_said sentences) found → LowestIf Rise (Shows sentences roomless) found
   unfolding LowestIf
   roomless_at None h = λ line shown. h shown.0
-  roomless_at (Some l) h = λ rise. (h, λ line shown. omega (arith, h.1, shown.1))
+  roomless_at (Some l) h = (h, λ rise line shown. omega (arith, h.1, shown.1))
 
   roomless_if : LowestIf Rise (Shows sentences roomless) (no_room (first_room (parents_said sentences) (knowns_said sentences)))
   roomless_if = roomless_at _ (roomless_refused (parents_said sentences) (knowns_said sentences))
@@ -267,3 +268,24 @@ module _ (sentences : List Sentence) where
 
   pub judged : AreJudged sentences (tale_said sentences)
   judged = judged_as sentences Rise the_refusal (actions_said sentences) _ (λ rise. rise) judged_refusal
+
+-- ---- no two refusals
+
+same_fault : (a b : Fault) → a.code ≡ b.code → a.line ≡ b.line → a ≡ b
+same_fault a b p q = λ i. record { code = p i; line = q i }
+
+-- sentences whose lines rise are refused in one way alone
+pub one_refusal : (sentences : List Sentence) → LinesRise (λ (s : Sentence). s.line) sentences → (a b : Fault) → IsRefusedFor sentences a → IsRefusedFor sentences b → a ≡ b
+one_refusal sentences rise a b p q =
+    ⊎_elim
+    (λ lt. absurd (q.none_before p.refusal a.line lt p.shown))
+    (λ le. ⊎_elim
+    (λ lt. absurd (p.none_before q.refusal b.line lt q.shown))
+    (λ more.
+    let turns : turn_of p.refusal ≡ turn_of q.refusal = omega (arith, le, more) in
+    let same : p.refusal ≡ q.refusal = same_turn p.refusal q.refusal turns in
+    let one : a.line ≤ b.line = p.lowest rise b.line (subst (λ (r : Refusal). Shows sentences r b.line) (sym same) q.shown) in
+    let other : b.line ≤ a.line = q.lowest rise a.line (subst (λ (r : Refusal). Shows sentences r a.line) same p.shown) in
+    same_fault a b (p.code ∙ ap code_of same ∙ sym q.code) (omega arith))
+    (cases_lt (turn_of q.refusal) (turn_of p.refusal)))
+    (cases_lt (turn_of p.refusal) (turn_of q.refusal))

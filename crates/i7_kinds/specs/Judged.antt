@@ -126,16 +126,15 @@ Shows sentences too_long line =
 
 -- ---- what sentences are refused for
 
--- what is shown at the fault's line and at no lower one, where nothing is shown that is looked for before it
+-- what they show at the fault's line, and where their lines rise at no lower one; nothing that is looked for before it
 pub record IsRefusedFor (sentences : List Sentence) (fault : Fault) : Type 0 where
   pub refusal : Refusal
   pub code : fault.code ≡ code_of refusal
   pub shown : Shows sentences refusal fault.line
-  pub lowest : (line : ℕ) → Shows sentences refusal line → fault.line ≤ line
+  pub lowest : LinesRise (λ s. s.line) sentences → (line : ℕ) → Shows sentences refusal line → fault.line ≤ line
   pub none_before : (earlier : Refusal) (line : ℕ) → turn_of earlier < turn_of refusal → Shows sentences earlier line → ⊥
 
--- sentences that mean a tale show nothing that is refused; others are refused for the first that they show, at its lowest
--- line, if their lines rise
+-- sentences that mean a tale show nothing that is refused, and others are refused for the first that they show
 abbrev pub AreJudged : List Sentence → Result Tale Fault → Type 0
 AreJudged sentences (Ok tale) = (refusal : Refusal) (line : ℕ) → Shows sentences refusal line → ⊥
-AreJudged sentences (Err fault) = LinesRise (λ s. s.line) sentences → IsRefusedFor sentences fault
+AreJudged sentences (Err fault) = IsRefusedFor sentences fault

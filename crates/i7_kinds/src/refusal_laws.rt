@@ -1,10 +1,9 @@
-//! Laws: what sentences are refused for is shown by statements and claims, at the line at which it is refused; and what a tale has of
-//! its sentences where nothing is refused.
+//! Laws: sentences are refused for what statements and claims show, at its line, and exits and descriptions are as they say.
 ghost use Rattle.std.specs.Prelude.{◌≡◌, ℕ, ◌≤◌, List, Option, None, length};
 ghost use Rattle.i7_kinds.specs.Demands.{descriptions_of, line_at, line_of_statement, second_description, second_target, target_of, wrong_kind};
 ghost use Rattle.i7_kinds.specs.ExitsShown.{IsLed, IsWayOut};
 ghost use Rattle.i7_kinds.specs.FirstShown.{IsFound, LinesRise};
-ghost use Rattle.i7_kinds.specs.Judged.{AreJudged};
+ghost use Rattle.i7_kinds.specs.Judged.{AreJudged, IsRefusedFor};
 ghost use Rattle.i7_kinds.specs.Knowns.{Scope, off_path};
 ghost use Rattle.i7_kinds.specs.RefusalsShown.{DescribesAtLength, IsDescribedAgain, IsLedElsewhere, IsLongName, IsOffPath, IsOneTooMany, IsRefusedRoomless, IsRoomFound, IsUnsuited, IsWrong, States};
 ghost use Rattle.i7_kinds.specs.Suits.{first_room, unsuited};
@@ -18,6 +17,7 @@ ghost use Rattle.i7_claims.specs.Scans.{IsLowest, ShownBy};
 ghost use Rattle.i7_claims.specs.Statements.{NameAt, named_by, stated_by};
 ghost use Rattle.i7_claims.specs.declared.claim.Claim.{Claim};
 ghost use Rattle.i7_claims.specs.declared.statements.NumberedSentence.{NumberedSentence};
+ghost use Rattle.world_meaning.specs.declared.fault.Fault.{Fault};
 ghost use Rattle.i7_sentences.specs.declared.sentence.Sentence.{Sentence};
 
 /// An exit that a statement leads elsewhere than one before it is found at the first such statement.
@@ -27,12 +27,14 @@ pub fn exits_elsewhere_are_found()
 
 /// A text that describes an object otherwise than one before it is found at the first such statement.
 pub fn descriptions_twice_are_found()
-    ensures { (parents : List (Option ℕ)) (knowns : List Known) (statements : List NumberedSentence) → IsFound line_of_statement (IsDescribedAgain parents knowns) statements (second_description (descriptions_of parents knowns statements)) }
+    ensures { (parents : List (Option ℕ)) (knowns : List Known) (statements : List NumberedSentence)
+        → IsFound line_of_statement (IsDescribedAgain parents knowns) statements (second_description (descriptions_of parents knowns statements)) }
 {}
 
 /// A text alone, a way or a door that the kinds don't allow is found at the first statement that states it.
 pub fn wrong_kinds_are_found()
-    ensures { (parents : List (Option ℕ)) (knowns : List Known) (statements : List NumberedSentence) → IsFound line_of_statement (λ before s. IsWrong parents knowns before s.said) statements (wrong_kind parents knowns statements) }
+    ensures { (parents : List (Option ℕ)) (knowns : List Known) (statements : List NumberedSentence)
+        → IsFound line_of_statement (λ before s. IsWrong parents knowns before s.said) statements (wrong_kind parents knowns statements) }
 {}
 
 /// A place or a property that the kinds don't allow is found at its lowest line.
@@ -63,7 +65,8 @@ pub fn long_names_are_found()
 
 /// A description of too many bytes is found at the first statement that describes with one.
 pub fn long_descriptions_are_found()
-    ensures { (parents : List (Option ℕ)) (knowns : List Known) (statements : List NumberedSentence) → IsFound line_of_statement (DescribesAtLength parents knowns) statements (text_too_long (descriptions_of parents knowns statements)) }
+    ensures { (parents : List (Option ℕ)) (knowns : List Known) (statements : List NumberedSentence)
+        → IsFound line_of_statement (DescribesAtLength parents knowns) statements (text_too_long (descriptions_of parents knowns statements)) }
 {}
 
 /// The room that is taken for the player's is the first of the author's objects that is a room.
@@ -104,8 +107,13 @@ pub fn lines_rise_with_those_of_sentences()
     ensures { (sentences : List Sentence) → LinesRise (λ s. s.line) sentences → LinesRise line_of_statement (stated_by sentences) × LinesRise line_at (named_by sentences).mentions }
 {}
 
-/// Sentences that mean a tale show nothing that is refused; others are refused for the first that they show, at its lowest
-/// line, if their lines rise.
+/// Sentences that mean a tale show nothing that is refused; others are refused for the first sort of it that they show, at a
+/// line that shows it, and at the lowest where their lines rise.
 pub fn sentences_are_judged()
     ensures { (sentences : List Sentence) → AreJudged sentences (tale_said sentences) }
+{}
+
+/// Sentences whose lines rise are refused in one way alone.
+pub fn one_fault_is_refused()
+    ensures { (sentences : List Sentence) → LinesRise (λ s. s.line) sentences → (a b : Fault) → IsRefusedFor sentences a → IsRefusedFor sentences b → a ≡ b }
 {}
