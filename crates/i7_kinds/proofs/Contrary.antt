@@ -63,7 +63,7 @@ module _ {S A T : Type 0} (told : S → A → List T) (next : S → A → S) whe
   all_told state [] = []
   all_told state (a ∷ more) = told state a ++ all_told (next state a) more
 
-  all_told_append : (state : S) (before rest : List A) → all_told state (before ++ rest) ≡ all_told state before ++ all_told (fold next state before) rest
+  pub all_told_append : (state : S) (before rest : List A) → all_told state (before ++ rest) ≡ all_told state before ++ all_told (fold next state before) rest
   all_told_append state [] rest = refl
   all_told_append state (a ∷ more) rest =
       ap (λ (ts : List T). told state a ++ ts) (all_told_append (next state a) more rest)

@@ -21,14 +21,17 @@ module _ {A : Type 0} where
 
   -- two items of one list: the second stands before the first, is it, or stands behind it
   pub two_places : (b : List A) (x : A) (a d : List A) (y : A) (c : List A) → b ++ x ∷ a ≡ d ++ y ∷ c
-      → ((between : List A) × (b ≡ d ++ y ∷ between)) ⊎ ((x ≡ y) ⊎ ((between : List A) × (a ≡ between ++ y ∷ c)))
+      → ((between : List A) × (b ≡ d ++ y ∷ between)) ⊎ ((x ≡ y) ⊎ ((between : List A) × (a ≡ between ++ y ∷ c) × (d ≡ b ++ x ∷ between)))
   two_places [] x a [] y c e = inr (inl cc)
-  two_places [] x a (z ∷ zs) y c e = inr (inr (zs, cc))
+  two_places [] x a (z ∷ zs) y c e = let same : z ≡ x = cc in inr (inr (zs, cc, ap (λ (w : A). w ∷ zs) same))
   two_places (z ∷ zs) x a [] y c e = let same : z ≡ y = cc in inl (zs, ap (λ (w : A). w ∷ zs) same)
   two_places (z ∷ zs) x a (w ∷ ws) y c e =
       let rest : zs ++ x ∷ a ≡ ws ++ y ∷ c = cc in
       let same : z ≡ w = cc in
-      ⊎_elim (λ t. let more : zs ≡ ws ++ y ∷ t.0 = t.1 in inl (t.0, cc)) (λ t. inr t) (two_places zs x a ws y c rest)
+      ⊎_elim
+      (λ t. inl (t.0, λ i. same i ∷ t.1 i))
+      (λ t. inr (⊎_elim (λ here. inl here) (λ u. inr (u.0, u.1, λ i. sym same i ∷ u.2 i)) t))
+      (two_places zs x a ws y c rest)
 
   module _ (line_of : A → ℕ) where
     lowest_of_first : (Here : List A → A → Type 0) (items : List A) (found : Option ℕ) → LinesRise line_of items → IsFirst line_of Here items found → IsLowest (IsShownAt line_of Here items) found

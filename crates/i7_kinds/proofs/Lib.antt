@@ -29,3 +29,4 @@ pub mod LinesRise
 pub mod ExitsShown
 pub mod Judged
 pub mod TaleExits
+pub mod DescriptionsSaid

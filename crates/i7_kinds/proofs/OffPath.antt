@@ -96,7 +96,7 @@ get_same n i x =
 directions : List Known
 directions = replicate 12 (known_as direction_kind)
 
-first_length : (count : ℕ) → 13 ≤ count → length (first_knowns count) ≡ count
+pub first_length : (count : ℕ) → 13 ≤ count → length (first_knowns count) ≡ count
 first_length count h =
     omega (arith, h, length-append (replicate 12 (known_as direction_kind)) (replicate (count - 13) unknown), length-replicate 12 (known_as direction_kind), length-replicate (count - 13) unknown)
 
@@ -251,7 +251,7 @@ module _ (s : Scope) where
       subst (λ (all : List Claim). StandsFor s.parents (Asked all o) (known_at (fold (with_known_of s) next cs) o).demanded) (append_assoc before (c ∷ []) cs)
       (stands_from (before ++ c ∷ []) cs next o (omega (arith, lt, length_step knowns c.fact)) step)
 
-  length_from : (claims : List Claim) (knowns : List Known) → length (fold (with_known_of s) knowns claims) ≡ length knowns
+  pub length_from : (claims : List Claim) (knowns : List Known) → length (fold (with_known_of s) knowns claims) ≡ length knowns
   length_from [] knowns = refl
   length_from (c ∷ cs) knowns = length_from cs (with_known s knowns c.fact) ∙ length_step knowns c.fact
 

@@ -1,5 +1,5 @@
 -- The exits of the objects of a tale are as the sentences say that mean the tale.
-use Rattle.std.proofs.Common.{◌≡◌, ℕ, ◌+◌, ◌-◌, zero, suc, List, [], ◌∷◌, ◌++◌, Option, refl, sym, ap, ◌∙◌, subst, length, length-append, arith, inl, inr, ⊎_elim, true≢false}
+use Rattle.std.proofs.Common.{◌≡◌, ℕ, ◌+◌, ◌-◌, zero, suc, List, [], ◌∷◌, Option, refl, sym, ap, ◌∙◌, subst, arith, inl, inr, ⊎_elim, true≢false}
 use Rattle.std.specs.Prelude.{Some, None, Result, slice_get}
 use Rattle.world_meaning.proofs.Bools.{either}
 use Rattle.world_meaning.proofs.Climbs.{climbs_decide}
@@ -35,7 +35,7 @@ use Rattle.i7_kinds.specs.declared.ways.Target.{Target}
 use Rattle.i7_kinds.proofs.ExitsShown.{agree, way_out}
 use Rattle.i7_kinds.proofs.FirstShown.{two_places}
 use Rattle.i7_kinds.proofs.Judged.{judged}
-use Rattle.i7_kinds.proofs.WrittenAbout.{tale_is, untold}
+use Rattle.i7_kinds.proofs.WrittenAbout.{kind_made, tale_is, untold}
 
 -- ---- the first that implies an exit
 
@@ -51,27 +51,13 @@ one_first : (statements : List NumberedSentence) (exit : Exit) (a b : Target) �
 one_first statements exit a b p q =
     let x = p.first in
     let y = q.first in
+    let one : x.item ≡ y.item → a ≡ b = λ same.
+    ap target_led (one_implied y.item.said (record { exit = exit; target = a }) (record { exit = exit; target = b })
+    (subst (λ (s : NumberedSentence). Implies (record { exit = exit; target = a }) s.said) same x.here) y.here) in
     ⊎_elim
     (λ t. absurd (p.none_before b (record { before = y.before; item = y.item; after = t.0; split = t.1; here = y.here })))
-    (λ u. ⊎_elim
-    (λ same. ap target_led (one_implied y.item.said (record { exit = exit; target = a }) (record { exit = exit; target = b })
-    (subst (λ (s : NumberedSentence). Implies (record { exit = exit; target = a }) s.said) same x.here) y.here))
-    (λ t. ⊎_elim
-    (λ v. absurd (q.none_before a (record { before = x.before; item = x.item; after = v.0; split = v.1; here = x.here })))
-    (λ w. ⊎_elim
-    (λ same. ap target_led (one_implied x.item.said (record { exit = exit; target = a }) (record { exit = exit; target = b })
-    x.here (subst (λ (s : NumberedSentence). Implies (record { exit = exit; target = b }) s.said) same y.here)))
-    (λ v. absurd (both_later x.before x.item x.after y.before y.item y.after t.0 v.0 t.1 v.1))
-    w)
-    (two_places y.before y.item y.after x.before x.item x.after (sym y.split ∙ x.split)))
-    u)
+    (λ u. ⊎_elim one (λ t. absurd (q.none_before a (record { before = x.before; item = x.item; after = t.0; split = t.2; here = x.here }))) u)
     (two_places x.before x.item x.after y.before y.item y.after (sym x.split ∙ y.split))
-  where
-    both_later : (xb : List NumberedSentence) (x : NumberedSentence) (xa yb : List NumberedSentence) (y : NumberedSentence) (ya m n : List NumberedSentence) → xa ≡ m ++ y ∷ ya → ya ≡ n ++ x ∷ xa → ⊥
-    both_later xb x xa yb y ya m n e f =
-        let k = ap length e ∙ length-append m (y ∷ ya) in
-        let l = ap length f ∙ length-append n (x ∷ xa) in
-        absurd (omega (arith, k, l))
 
 -- ---- the ways out of an object
 
@@ -123,7 +109,7 @@ led_as_said statements none exit (Some t) (inr h) = record {
   nowhere = λ unstated unimplied. absurd (unimplied t h.1.first);
 }
 
-object_made : (m : Made) (entries : List Entry) (from o at : ℕ) (object : Object) → at ≡ from + o → slice_get (objects_of m from entries) o ≡ Some object
+pub object_made : (m : Made) (entries : List Entry) (from o at : ℕ) (object : Object) → at ≡ from + o → slice_get (objects_of m from entries) o ≡ Some object
     → (entry : Entry) × (object_of m at entry ≡ object)
 object_made m [] from o at object same e = absurd cc
 object_made m (entry ∷ entries) from zero at object same e =
@@ -136,11 +122,7 @@ exits_made : (m : Made) (o : ℕ) (entry : Entry) → (object_of m o entry).exit
 unfolding object_as
 exits_made m o entry = refl
 
-kind_of_made : (m : Made) (o : ℕ) (entry : Entry) → (object_of m o entry).kind ≡ kind_at m.kinds o
-unfolding object_as
-kind_of_made m o entry = refl
-
-same_object : (found : Option Object) (a b : Object) → found ≡ Some a → found ≡ Some b → a ≡ b
+pub same_object : (found : Option Object) (a b : Object) → found ≡ Some a → found ≡ Some b → a ≡ b
 same_object found a b h k = cc
 
 module _ (parents : List (Option ℕ)) (sentences : List Sentence) (none : IsShown IsLedElsewhere (stated_by sentences) → ⊥) (tale : Tale)
@@ -183,7 +165,7 @@ exits_as_said sentences tale o object means at =
     (untold (claims_of sentences) m (entries_of named.mentions)) tale means in
     let none : (r : Refusal) (line : ℕ) → Shows sentences r line → ⊥ = subst (λ (said : Result Tale Fault). AreJudged sentences said) means (judged sentences) in
     let made = object_made m (entries_of named.mentions) 0 o o object (omega arith) (ap (λ (x : Tale). object_at x o) t.0 ∙ at) in
-    let kind : object.kind ≡ kind_at m.kinds o = ap (λ (x : Object). x.kind) (sym made.1) ∙ kind_of_made m o made.0 in
+    let kind : object.kind ≡ kind_at m.kinds o = ap (λ (x : Object). x.kind) (sym made.1) ∙ kind_made m o made.0 in
     let exits : object.exits ≡ exits_by s.parents (stated_by sentences) object.kind o =
     ap (λ (x : Object). x.exits) (sym made.1) ∙ exits_made m o made.0 ∙ ap (λ (k : ℕ). exits_by s.parents (stated_by sentences) k o) (sym kind) in
     has_exits s.parents sentences (λ shown. none stands_twice (line_of_statement shown.item) (inl (shown, refl))) tale (ap (λ (x : Tale). x.declared.kinds) (sym t.0)) o object at exits

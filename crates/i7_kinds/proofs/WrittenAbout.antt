@@ -163,12 +163,12 @@ made_at m (entry ∷ entries) from zero at text same e =
     (entry, ap (λ (n : ℕ). Some (object_of m n entry)) (sym here), ap (λ (n : ℕ). description_of m.descriptions n) here ∙ e)
 made_at m (entry ∷ entries) from (suc o) at text same e = made_at m entries (from + 1) o at text (omega (arith, same)) e
 
-kind_there : (knowns : List Known) (o : ℕ) (known : Known) → slice_get knowns o ≡ Some known → kind_at (kinds_of knowns) o ≡ kind_of known
+pub kind_there : (knowns : List Known) (o : ℕ) (known : Known) → slice_get knowns o ≡ Some known → kind_at (kinds_of knowns) o ≡ kind_of known
 kind_there [] o known e = absurd cc
 kind_there (k ∷ knowns) zero known e = let same : k ≡ known = cc in ap kind_of same
 kind_there (k ∷ knowns) (suc o) known e = kind_there knowns o known e
 
-kind_made : (m : Made) (o : ℕ) (entry : Entry) → (object_of m o entry).kind ≡ kind_at m.kinds o
+pub kind_made : (m : Made) (o : ℕ) (entry : Entry) → (object_of m o entry).kind ≡ kind_at m.kinds o
 unfolding object_as
 kind_made m o entry = refl
 

@@ -55,3 +55,9 @@ abbrev pub DescriptionsAreAbout : Type 0
 DescriptionsAreAbout =
     (sentences : List Sentence) (tale : Tale) (o : ℕ) (text : List ℕ) → tale_said sentences ≡ Ok tale → description_of tale o ≡ Some text
     → IsShown (λ before s. DescribesObject (named_by sentences) tale o text before s.said) sentences
+
+-- and an object of a tale has no other description than that with which any of the sentences describes it
+abbrev pub DescriptionsAreThoseSaid : Type 0
+DescriptionsAreThoseSaid =
+    (sentences : List Sentence) (tale : Tale) (o : ℕ) (object : Object) (text : List ℕ) → tale_said sentences ≡ Ok tale → object_at tale o ≡ Some object
+    → IsShown (λ before s. DescribesObject (named_by sentences) tale o text before s.said) sentences → object.description ≡ Some text

@@ -9,7 +9,7 @@ ghost use Rattle.i7_kinds.specs.RefusalsShown.{DescribesAtLength, IsDescribedAga
 ghost use Rattle.i7_kinds.specs.Suits.{first_room, unsuited};
 ghost use Rattle.i7_kinds.specs.Tales.{name_too_long, no_room, object_too_many, tale_said, text_too_long};
 ghost use Rattle.i7_kinds.specs.TaleExits.{ExitsAreAsSaid};
-ghost use Rattle.i7_kinds.specs.WrittenAbout.{DescriptionsAreAbout};
+ghost use Rattle.i7_kinds.specs.WrittenAbout.{DescriptionsAreAbout, DescriptionsAreThoseSaid};
 ghost use Rattle.i7_kinds.specs.declared.knowns.Known.{Known};
 ghost use Rattle.i7_kinds.specs.declared.ways.Exit.{Exit};
 ghost use Rattle.i7_kinds.specs.declared.ways.Target.{Target};
@@ -83,6 +83,11 @@ pub fn roomless_sources_are_refused()
 /// object, or is the text alone behind a sentence about the object, which is a room.
 pub fn descriptions_are_about_objects()
     ensures { DescriptionsAreAbout }
+{}
+
+/// An object of a tale has the description with which any of the sentences that mean the tale describes it.
+pub fn descriptions_are_those_said()
+    ensures { DescriptionsAreThoseSaid }
 {}
 
 /// The exits of the rooms of a tale lead where any of its sentences says that states them; where none does, where the first
