@@ -1,6 +1,6 @@
 -- An object of a tale has the description with which any sentence describes it.
-use Rattle.std.proofs.Common.{◌≡◌, ◌≢◌, ℕ, ◌+◌, ◌<◌, zero, suc, Bool, true, List, [], ◌∷◌, ◌++◌, length, Option, refl, sym, ap, ◌∙◌, subst, append-nil, length-append, arith, inl, inr, ⊎_elim, true≢false}
-use Rattle.std.specs.Prelude.{◌==◌, Some, None, Result, bytes_eq, find, fold, map, option_map, slice_get}
+use Rattle.std.proofs.Common.{◌≡◌, ◌≢◌, ℕ, ◌+◌, ◌<◌, zero, suc, Bool, true, List, [], ◌∷◌, ◌++◌, length, Option, refl, sym, ap, ◌∙◌, subst, append-nil, arith, inl, inr, ⊎_elim, true≢false}
+use Rattle.std.specs.Prelude.{◌==◌, Some, None, Result, bytes_eq, find, map, option_map, slice_get}
 use Rattle.std.proofs.lemmas.Bool.{eq-eqb}
 use Rattle.std.proofs.lemmas.Slice.Eq.{bytes_eq-Decides}
 use Rattle.world_meaning.proofs.Bools.{either}
@@ -16,7 +16,7 @@ use Rattle.i7_sentences.specs.declared.sentence.Assertion.{Assertion}
 use Rattle.i7_sentences.specs.declared.sentence.Assertion.TheVariants as asserts
 use Rattle.i7_sentences.specs.declared.sentence.Sentence.{Sentence}
 use Rattle.i7_claims.specs.Claims.{claims_of}
-use Rattle.i7_claims.specs.Statements.{NameAt, Named, built_in_keys, has_key, key_of, named_by, names_at, numbered_holding, numbered_in, numbered_subject, stated_by, statement_in, with_name, with_names_of}
+use Rattle.i7_claims.specs.Statements.{NameAt, Named, named_by, numbered_holding, numbered_in, numbered_subject, stated_by, statement_in}
 use Rattle.i7_claims.specs.declared.statements.Numbered.{Numbered}
 use Rattle.i7_claims.specs.declared.statements.Numbered.TheVariants as numbered
 use Rattle.i7_claims.specs.declared.statements.NumberedSentence.{NumberedSentence}
@@ -31,6 +31,7 @@ use Rattle.i7_kinds.specs.WrittenAbout.{DescribesObject, DescriptionsAreThoseSai
 use Rattle.i7_kinds.specs.declared.descriptions.Description.{Description}
 use Rattle.i7_kinds.specs.declared.entries.Entry.{Entry}
 use Rattle.i7_kinds.specs.declared.knowns.Known.{Known}
+use Rattle.i7_kinds.proofs.Bounds.{counted-source}
 use Rattle.i7_kinds.proofs.Contrary.{IsAmong, all_told, all_told_append, found_in}
 use Rattle.i7_kinds.proofs.DescribedAgain.{describes_from, tells, told_all}
 use Rattle.i7_kinds.proofs.FirstShown.{two_places}
@@ -181,24 +182,6 @@ module _ (parents : List (Option ℕ)) (knowns : List Known) (named : Named) (ta
 
 -- ---- how many objects there are
 
-abbrev IsCounted : Named → Type 0
-IsCounted named = length named.keys ≡ 13 + length named.mentions
-
-count_one : (named : Named) (at : NameAt) → IsCounted named → IsCounted (with_name named at)
-count_one named at h =
-    elim (either (has_key named.keys (key_of at.name.text))) [
-      | inl is ↦ rw is h
-      | inr isnt ↦ rw isnt (omega (arith, h, length-append named.keys (key_of at.name.text ∷ []), length-append named.mentions (at ∷ [])))
-    ]
-
-count_more : (ats : List NameAt) (named : Named) → IsCounted named → IsCounted (fold with_name named ats)
-count_more [] named h = h
-count_more (at ∷ ats) named h = count_more ats (with_name named at) (count_one named at h)
-
-count_all : (sentences : List Sentence) (named : Named) → IsCounted named → IsCounted (fold with_names_of named sentences)
-count_all [] named h = h
-count_all (s ∷ sentences) named h = count_all sentences (with_names_of named s) (count_more (names_at s) named h)
-
 mapped_length : {A B : Type 0} (f : A → B) (xs : List A) → length (map f xs) ≡ length xs
 mapped_length f [] = refl
 mapped_length f (x ∷ xs) = ap suc (mapped_length f xs)
@@ -236,7 +219,7 @@ said_so sentences tale o object text means at shown =
     let there : slice_get (objects_of m 0 (entries_of named.mentions)) o ≡ Some object = ap (λ (x : Tale). object_at x o) t.0 ∙ at in
     let made = object_made m (entries_of named.mentions) 0 o o object (omega arith) there in
     let within : o < length (entries_of named.mentions) = object_within m (entries_of named.mentions) 0 o object there in
-    let counted : length named.keys ≡ 13 + length named.mentions = count_all sentences (record { keys = built_in_keys; mentions = [] }) refl in
+    let counted : length named.keys ≡ 13 + length named.mentions = counted-source sentences in
     let known = get_there knowns o (omega (
       arith,
       within,

@@ -30,3 +30,4 @@ pub mod ExitsShown
 pub mod Judged
 pub mod TaleExits
 pub mod DescriptionsSaid
+pub mod PropertiesKept

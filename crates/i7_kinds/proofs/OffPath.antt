@@ -13,7 +13,7 @@ use Rattle.i7_claims.proofs.NameScans.{never}
 use Rattle.i7_claims.proofs.SortScans.{not_false, not_true}
 use Rattle.i7_claims.specs.Numbers.{has_name, number_in}
 use Rattle.i7_claims.specs.Scans.{IsLowest, ShownBy}
-use Rattle.i7_claims.specs.Statements.{NameAt, Named, built_in_keys, has_key, key_of, named_by, names_at, with_name, with_names_of}
+use Rattle.i7_claims.specs.Statements.{named_by}
 use Rattle.i7_claims.specs.declared.claim.Claim.{Claim}
 use Rattle.i7_claims.specs.declared.claim.Fact.{Fact}
 use Rattle.i7_claims.specs.declared.claim.Fact.TheVariants.{Demands, Placed, RoomUnlessDoor}
@@ -24,6 +24,7 @@ use Rattle.i7_kinds.specs.RefusalsShown.{AreOnOnePath, DemandsKind, IsDemanded, 
 use Rattle.i7_kinds.specs.declared.knowns.Demanded.{Demanded}
 use Rattle.i7_kinds.specs.declared.knowns.Demanded.TheVariants.{Nothing, Deepest, Parted}
 use Rattle.i7_kinds.specs.declared.knowns.Known.{Known}
+use Rattle.i7_kinds.proofs.Bounds.{counted-source}
 use Rattle.i7_kinds.proofs.FirstShown.{shown_on, two_places}
 use Rattle.i7_kinds.proofs.UnderKinds.{comparable, trans}
 
@@ -336,24 +337,6 @@ module _ (s : Scope) where
 
 -- ---- the objects of sentences
 
-abbrev keys_in : Named → ℕ
-keys_in named = length named.keys
-
-one_name_more : (named : Named) (at : NameAt) → keys_in named ≤ keys_in (with_name named at)
-one_name_more named at =
-    elim (either (has_key named.keys (key_of at.name.text))) [
-      | inl is ↦ rw is (omega arith)
-      | inr isnt ↦ rw isnt (omega (arith, length-append named.keys (key_of at.name.text ∷ [])))
-    ]
-
-names_more : (ats : List NameAt) (named : Named) → keys_in named ≤ keys_in (fold with_name named ats)
-names_more [] named = omega arith
-names_more (at ∷ ats) named = omega (arith, one_name_more named at, names_more ats (with_name named at))
-
-sentences_more : (sentences : List Sentence) (named : Named) → keys_in named ≤ keys_in (fold with_names_of named sentences)
-sentences_more [] named = omega arith
-sentences_more (sentence ∷ sentences) named = omega (arith, names_more (names_at sentence) named, sentences_more sentences (with_names_of named sentence))
-
 -- the player and the directions are named before any sentence
 pub built_in_named : (sentences : List Sentence) → 13 ≤ length (named_by sentences).keys
-built_in_named sentences = sentences_more sentences (record { keys = built_in_keys; mentions = [] })
+built_in_named sentences = omega (arith, counted-source sentences)

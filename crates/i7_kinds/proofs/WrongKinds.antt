@@ -149,7 +149,7 @@ any_decides test P each xs = (
   λ a. list_any-from_Any test xs (a.0, a.1, a.2, a.3, (each a.1).1 a.4),
 )
 
-property_decides : (s : Scope) (kind property : ℕ) → Decides (can_be s kind property) (HasProperty s kind property)
+pub property_decides : (s : Scope) (kind property : ℕ) → Decides (can_be s kind property) (HasProperty s kind property)
 property_decides s kind property =
     Decides-or _ _
     (any_decides (λ base. is_under s.parents kind base) (λ base. Under s.parents kind base) (λ base. climbs_decide s.parents kind base) (kinds_in (slice_get built_in_bases property)))

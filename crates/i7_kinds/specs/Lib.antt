@@ -12,6 +12,7 @@ pub mod Knowns
 pub mod LongNames
 pub mod Making
 pub mod Places
+pub mod PropertiesKept
 pub mod RefusalsShown
 pub mod StatedWays
 pub mod Suits

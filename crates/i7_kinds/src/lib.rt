@@ -38,7 +38,8 @@ pub use refusal_laws::{
     descriptions_are_those_said, descriptions_twice_are_found, exits_elsewhere_are_found,
     exits_lead_as_said, exits_lead_where_stated, first_rooms_are_found,
     lines_rise_with_those_of_sentences, long_descriptions_are_found, long_names_are_found,
-    objects_too_many_are_found, one_fault_is_refused, roomless_sources_are_refused,
-    sentences_are_judged, stated_exits_agree, unsuited_claims_are_found, wrong_kinds_are_found,
+    objects_too_many_are_found, one_fault_is_refused, properties_said_are_kept,
+    roomless_sources_are_refused, sentences_are_judged, stated_exits_agree,
+    unsuited_claims_are_found, wrong_kinds_are_found,
 };
 pub use tale::tale_of;

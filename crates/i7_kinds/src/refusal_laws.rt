@@ -5,6 +5,7 @@ ghost use Rattle.i7_kinds.specs.ExitsShown.{IsLed, IsWayOut};
 ghost use Rattle.i7_kinds.specs.FirstShown.{IsFound, LinesRise};
 ghost use Rattle.i7_kinds.specs.Judged.{AreJudged, IsRefusedFor};
 ghost use Rattle.i7_kinds.specs.Knowns.{Scope, off_path};
+ghost use Rattle.i7_kinds.specs.PropertiesKept.{PropertiesAreKept};
 ghost use Rattle.i7_kinds.specs.RefusalsShown.{DescribesAtLength, IsDescribedAgain, IsLedElsewhere, IsLongName, IsOffPath, IsOneTooMany, IsRefusedRoomless, IsRoomFound, IsUnsuited, IsWrong, States};
 ghost use Rattle.i7_kinds.specs.Suits.{first_room, unsuited};
 ghost use Rattle.i7_kinds.specs.Tales.{name_too_long, no_room, object_too_many, tale_said, text_too_long};
@@ -121,4 +122,9 @@ pub fn sentences_are_judged()
 /// Sentences whose lines rise are refused in one way alone.
 pub fn one_fault_is_refused()
     ensures { (sentences : List Sentence) → LinesRise (λ s. s.line) sentences → (a b : Fault) → IsRefusedFor sentences a → IsRefusedFor sentences b → a ≡ b }
+{}
+
+/// The objects of a kind of a tale have a property just where C8 lets it be said of them.
+pub fn properties_said_are_kept()
+    ensures { PropertiesAreKept }
 {}
