@@ -21,6 +21,7 @@ mod numbers;
 mod objects;
 mod places;
 mod properties;
+mod refusal_laws;
 mod scope;
 mod suits;
 mod tale;
@@ -36,5 +37,14 @@ pub use i7_claims::{books_twice_are_found, names_too_many_are_found, names_twice
 pub use kind_laws::{
     kinds_are_the_deepest_demanded, kinds_lie_as_claimed, kinds_meant_are_one,
     order_of_sentences_is_nothing_to_kinds, order_of_sentences_is_nothing_to_objects,
+};
+pub use refusal_laws::{
+    built_in_objects_are_named, demands_off_paths_are_found, descriptions_are_about_objects,
+    descriptions_are_those_said, descriptions_twice_are_found, exits_elsewhere_are_found,
+    exits_lead_as_said, exits_lead_where_stated, first_rooms_are_found,
+    lines_rise_with_those_of_sentences, long_descriptions_are_found, long_names_are_found,
+    objects_too_many_are_found, one_fault_is_refused, properties_said_are_kept,
+    roomless_sources_are_refused, sentences_are_judged, stated_exits_agree,
+    unsuited_claims_are_found, wrong_kinds_are_found,
 };
 pub use tale::tale_of;

@@ -1,0 +1,15 @@
+-- Of which kinds sentences may say a property, and which kinds of a tale have it: the same.
+use Rattle.std.specs.Prelude.{◌≡◌, ℕ, ◌++◌, List, Decides, slice_get, Some, Ok}
+use Rattle.world_meaning.specs.Declarations.{is_had}
+use Rattle.world_meaning.specs.declared.declared.Granted.{Granted}
+use Rattle.world_meaning.specs.declared.tale.Tale.{Tale}
+use Rattle.i7_sentences.specs.declared.sentence.Sentence.{Sentence}
+use Rattle.i7_kinds.specs.Judged.{scope_said}
+use Rattle.i7_kinds.specs.RefusalsShown.{HasProperty}
+use Rattle.i7_kinds.specs.Tales.{tale_said}
+
+-- the objects of a kind of a tale have a property, the either-or ones counted first, just where it may be said of them
+abbrev pub PropertiesAreKept : Type 0
+PropertiesAreKept =
+    (sentences : List Sentence) (tale : Tale) (property : ℕ) (granted : Granted) (kind : ℕ) → tale_said sentences ≡ Ok tale
+    → slice_get (tale.declared.flags ++ tale.declared.numbers) property ≡ Some granted → Decides (is_had tale.declared.kinds kind granted) (HasProperty (scope_said sentences) kind property)
