@@ -17,3 +17,4 @@ pub mod LawLemmas
 mod FoldingLaws
 mod Lines
 mod Totality
+mod RisingLines

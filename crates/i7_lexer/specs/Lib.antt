@@ -11,3 +11,4 @@ pub mod Readings
 pub mod Texts
 pub mod Packing
 pub mod Tokens
+pub mod Rising

@@ -7,6 +7,7 @@ ghost use Rattle.i7_lexer.specs.Texts.{IsFolded, folded};
 ghost use Rattle.i7_lexer.specs.declared.lexeme.Lexeme.{Lexeme};
 ghost use Rattle.i7_lexer.specs.Readings.{HasTokens};
 ghost use Rattle.i7_lexer.specs.Refusals.{IsRefused};
+ghost use Rattle.i7_lexer.specs.Rising.{LinesRise};
 ghost use Rattle.i7_lexer.specs.declared.token.Token.{Token};
 ghost use Rattle.world_meaning.specs.declared.fault.Fault.{Fault};
 ghost use Rattle.world_meaning.specs.declared.fault.FaultCode.TheVariants.{Memory};
@@ -20,6 +21,11 @@ pub fn one_reading()
 pub fn lines_are_counted()
     ensures { (lexemes : List Lexeme) (front rest : List ℕ) → IsCut lexemes (front ++ rest) rest
         → (after_all at_front lexemes).line ≡ 1 + newlines front }
+{}
+
+/// The lines of the tokens of a source rise: none is lower than that of a token before.
+pub fn token_lines_rise()
+    ensures { (source : List ℕ) (tokens : List Token) → HasTokens source tokens → LinesRise (λ t. t.line) tokens }
 {}
 
 /// A text is read as its bytes and its runs of white space say, and in no other way.

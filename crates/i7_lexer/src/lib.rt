@@ -24,7 +24,10 @@ mod text;
 mod token;
 
 pub use byte_class::is_letter;
-pub use laws::{lines_are_counted, one_reading, one_refusal, spelled_or_refused, texts_are_folded};
+pub use laws::{
+    lines_are_counted, one_reading, one_refusal, spelled_or_refused, texts_are_folded,
+    token_lines_rise,
+};
 pub use lexed::Lexed;
 pub use lexer::lex;
 pub use packed::PackedToken;

@@ -23,3 +23,4 @@ pub mod Telling
 pub mod Understanding
 pub mod Verdicts
 pub mod WordColumns
+pub mod RisingLines

@@ -1,5 +1,6 @@
 //! Laws of the definitions that the reader is proved against.
 ghost use Rattle.std.specs.Prelude.{◌≡◌, ◌≢◌, ◌⊎◌, Bool, List, None, Some};
+ghost use Rattle.i7_lexer.specs.Rising.{LinesRise};
 ghost use Rattle.i7_lexer.specs.declared.token.Token.{Token};
 ghost use Rattle.i7_sentences.specs.Cuts.{Piece, cut};
 ghost use Rattle.i7_sentences.specs.Forms.{IsReading, IsUnread, Variant, all_forms};
@@ -62,4 +63,9 @@ pub fn spelled_or_refused()
 /// is a sentence or has a reserved word in a name, but for a text that may not describe.
 pub fn forms_that_fit_speak()
     ensures { (part : Piece) (variant : Variant) (letters : List (List Token)) → IsReading all_forms part.tokens variant letters → IsSpeaking variant part }
+{}
+
+/// The lines of sentences rise where those of their tokens do.
+pub fn sentence_lines_rise()
+    ensures { (tokens : List Token) (sentences : List Sentence) → LinesRise (λ t. t.line) tokens → HasSentences tokens sentences → LinesRise (λ s. s.line) sentences }
 {}

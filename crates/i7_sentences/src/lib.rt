@@ -67,7 +67,8 @@ pub use form::{FORMS, Form, Piece};
 pub use keyword::{ARTICLES, KEYWORDS, Keyword, RESERVED};
 pub use laws::{
     cut_is_exact, forms_that_fit_speak, found_is_read, heads_are_parted_at_the_first,
-    one_list_of_sentences, one_reading, one_refusal, read_or_unread, spelled_or_refused,
+    one_list_of_sentences, one_reading, one_refusal, read_or_unread, sentence_lines_rise,
+    spelled_or_refused,
 };
 pub use low::lower_of;
 pub use name::{Name, NameArticle};
