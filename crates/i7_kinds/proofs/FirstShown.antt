@@ -2,7 +2,8 @@
 use Rattle.std.proofs.Common.{◌≡◌, ℕ, ◌≤◌, Bool, true, false, List, [], ◌∷◌, ◌++◌, Option, refl, sym, ap, ◌∙◌, subst, append_assoc, arith, inl, inr, ◌⊎◌, ⊎_elim, true≢false}
 use Rattle.std.specs.Prelude.{Some, None, find, fold, option_map, if◌then◌else◌}
 use Rattle.world_meaning.proofs.Bools.{either}
-use Rattle.i7_kinds.specs.FirstShown.{IsFirst, IsFound, IsShown, IsShownAt, LinesRise}
+use Rattle.i7_kinds.specs.FirstShown.{IsFirst, IsFound, IsShown, IsShownAt}
+use Rattle.i7_lexer.specs.Rising.{LinesRise}
 use Rattle.i7_claims.specs.Scans.{IsLowest}
 
 module _ {A : Type 0} where

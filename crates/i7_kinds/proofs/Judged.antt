@@ -18,7 +18,8 @@ use Rattle.i7_claims.proofs.NameScans.{name_lowest}
 use Rattle.i7_claims.proofs.SortScans.{too_many_lowest}
 use Rattle.i7_kinds.specs.Actions.{actions_said, with_actions}
 use Rattle.i7_kinds.specs.Demands.{descriptions_of, line_at, line_of_statement}
-use Rattle.i7_kinds.specs.FirstShown.{IsFound, IsShownAt, LinesRise}
+use Rattle.i7_kinds.specs.FirstShown.{IsFound, IsShownAt}
+use Rattle.i7_lexer.specs.Rising.{LinesRise}
 use Rattle.i7_kinds.specs.Judged.{AreJudged, IsRefusedFor, Refusal, said_twice, names_nothing, closes_cycle, wrong_kind, stands_twice, one_too_many, roomless, too_long, Shows, code_of, knowns_said, parents_said, scope_said, turn_of}
 use Rattle.i7_kinds.specs.LongNames.{longer_name}
 use Rattle.i7_kinds.specs.RefusalsShown.{IsRefusedRoomless}

@@ -1,5 +1,6 @@
 -- Which item of a list is the first that shows something together with those before it, and which line is the lowest.
-use Rattle.std.specs.Prelude.{◌≡◌, ℕ, ◌≤◌, List, ◌∷◌, ◌++◌, Option, Some, None}
+use Rattle.std.specs.Prelude.{◌≡◌, ℕ, List, ◌∷◌, ◌++◌, Option, Some, None}
+use Rattle.i7_lexer.specs.Rising.{LinesRise}
 use Rattle.i7_claims.specs.Scans.{IsLowest}
 
 -- one of these items shows it, by what stands before the item
@@ -24,10 +25,6 @@ IsFirst line_of Here items (Some line) = IsFirstLine line_of Here items line
 -- an item on this line shows it
 abbrev pub IsShownAt : {A : Type 0} → (A → ℕ) → (List A → A → Type 0) → List A → ℕ → Type 0
 IsShownAt line_of Here items line = (shown : IsShown Here items) × (line ≡ line_of shown.item)
-
--- no item is on a lower line than one before it
-abbrev pub LinesRise : {A : Type 0} → (A → ℕ) → List A → Type 0
-LinesRise {A} line_of items = (before between after : List A) (a b : A) → items ≡ before ++ a ∷ (between ++ b ∷ after) → line_of a ≤ line_of b
 
 -- the line is that of the first item that shows it, and the lowest at which one does where lines rise
 pub record IsFound {A : Type 0} (line_of : A → ℕ) (Here : List A → A → Type 0) (items : List A) (line : Option ℕ) : Type 0 where

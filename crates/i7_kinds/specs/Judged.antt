@@ -15,7 +15,8 @@ use Rattle.i7_claims.specs.declared.sorts.Sort.TheVariants as sort
 use Rattle.i7_claims.specs.declared.statements.NumberedSentence.{NumberedSentence}
 use Rattle.i7_kinds.specs.Demands.{line_at, line_of_statement}
 use Rattle.i7_kinds.specs.Doors.{IsToldAgain}
-use Rattle.i7_kinds.specs.FirstShown.{IsShownAt, LinesRise}
+use Rattle.i7_kinds.specs.FirstShown.{IsShownAt}
+use Rattle.i7_lexer.specs.Rising.{LinesRise}
 use Rattle.i7_kinds.specs.KindClaims.{IsCycle, IsKindTooMany, IsUnknown}
 use Rattle.i7_kinds.specs.Knowns.{Scope, knowns_of}
 use Rattle.i7_kinds.specs.LongNames.{IsLonger}

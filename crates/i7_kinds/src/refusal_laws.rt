@@ -2,7 +2,8 @@
 ghost use Rattle.std.specs.Prelude.{◌≡◌, ℕ, ◌≤◌, List, Option, None, length};
 ghost use Rattle.i7_kinds.specs.Demands.{descriptions_of, line_at, line_of_statement, second_description, second_target, target_of, wrong_kind};
 ghost use Rattle.i7_kinds.specs.ExitsShown.{IsLed, IsWayOut};
-ghost use Rattle.i7_kinds.specs.FirstShown.{IsFound, LinesRise};
+ghost use Rattle.i7_kinds.specs.FirstShown.{IsFound};
+ghost use Rattle.i7_lexer.specs.Rising.{LinesRise};
 ghost use Rattle.i7_kinds.specs.Judged.{AreJudged, IsRefusedFor};
 ghost use Rattle.i7_kinds.specs.Knowns.{Scope, off_path};
 ghost use Rattle.i7_kinds.specs.PropertiesKept.{PropertiesAreKept};

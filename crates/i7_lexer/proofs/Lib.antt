@@ -17,4 +17,5 @@ pub mod LawLemmas
 mod FoldingLaws
 mod Lines
 mod Totality
+pub mod Rising
 mod RisingLines
