@@ -112,7 +112,9 @@ fn nothing(world: &World) -> ActionNow
 
 #[test]
 fn the_stored_function_is_called(rt: HostRuntime) -> Result<(), Fail> {
-    let mut table = table_of(rt.alloc(), 1)?;
+    let mut table = HostTable::new(rt.alloc());
+    let first = stored(rt.alloc(), 1)?;
+    table.add(first)?;
     let without_memory = refused(rt.alloc(), 2)?;
     table.add(without_memory)?;
     let world = begun(rt.alloc())?;

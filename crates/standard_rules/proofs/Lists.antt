@@ -1,5 +1,5 @@
 -- What is told of together: objects that pass one test and another.
-use Rattle.std.proofs.Common.{◌≡◌, ◌∙◌, ap, refl, sym, ℕ, Bool, true, false, List, [], ◌∷◌, Option, None, Some, inl, inr}
+use Rattle.std.proofs.Common.{◌≡◌, ◌∙◌, ap, refl, sym, ℕ, Bool, false, List, [], ◌∷◌, Option, None, Some, inl, inr}
 use Rattle.std.specs.Prelude.{◌&&◌, filter}
 use Rattle.std.specs.List.{list_any}
 use Rattle.world_meaning.proofs.Bools.{either}

@@ -1,11 +1,11 @@
 -- What rules' bodies of each shape do, told as answers.
 use Rattle.std.proofs.Common.{◌≡◌, ◌++◌, ap, sym, subst, ℕ, Bool, true, false, List, [], ◌∷◌, length, Option, None, Some, refl, Ok, Err, codes, arith}
-use Rattle.std.specs.Prelude.{◌&&◌, if◌then◌else◌, int_le, not, pos}
+use Rattle.std.specs.Prelude.{◌&&◌, int_le, not, pos}
 use Rattle.std.proofs.lemmas.Bool.{le-leb}
 use Rattle.std.proofs.lemmas.List.{append-nil}
 use Rattle.play_meaning.specs.Attempts.{Attempt, next}
 use Rattle.play_meaning.specs.Doing.{Inner, do_body, do_phrase}
-use Rattle.play_meaning.specs.Effects.{Answer, ByItself, HasEffectOf, changing, effect, ended, saying, silence, trying}
+use Rattle.play_meaning.specs.Effects.{Answer, ByItself, HasEffectOf, effect, ended, saying, trying}
 use Rattle.play_meaning.specs.Progress.{Progress, goes_on, say, then_do}
 use Rattle.play_meaning.specs.Saying.{Telling, chosen, description_in, listed, name_in, said_in, then_said}
 use Rattle.play_meaning.specs.Scripts.{scope_of}
@@ -13,7 +13,7 @@ use Rattle.play_meaning.specs.StandardRules.{at_least_one, only, refuse, with_li
 use Rattle.play_meaning.specs.Seeing.{has_light}
 use Rattle.play_meaning.specs.Trees.{And, Body, Bytes, Condition, Description, DescriptionOf, End, If, InDarkness, Name, Not, NowHeld, NowIs, Object, Say, Silence, Text, Try}
 use Rattle.play_meaning.specs.declared.naming.Naming.{Naming}
-use Rattle.play_meaning.specs.declared.naming.Naming.TheVariants.{CapitalDefinite, Definite, Indefinite}
+use Rattle.play_meaning.specs.declared.naming.Naming.TheVariants.{Definite, Indefinite}
 use Rattle.play_meaning.specs.Truth.{joined, truth_in}
 use Rattle.play_meaning.specs.Values.{number_in, object_in, those}
 use Rattle.play_meaning.specs.Worlds.{World}

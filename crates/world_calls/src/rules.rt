@@ -17,7 +17,7 @@ fn asked(words: &mut Words<'_>) -> Option<(u8, ActionNow)> {
         second: words.object(),
         silent: false,
     };
-    if words.are_read() && 1 <= id && id <= RULES {
+    if words.are_read() {
         Some((id, now))
     } else {
         None
@@ -92,6 +92,9 @@ pub fn rule_told(
     let Some((id, now)) = asked(words) else {
         return Ok(None);
     };
+    if id < 1 || id > RULES {
+        return Ok(None);
+    }
     let answer = standard(alloc, id, world, &now)?;
     let line = told(alloc, &answer)?;
     for change in answer.changes {
