@@ -5,13 +5,16 @@ ghost use Rattle.standard_rules.specs.Answers.{HasEffect, answer_of, refused_if}
 ghost use Rattle.standard_rules.specs.Hosts.{are_there};
 ghost use Rattle.world_meaning.specs.Texts.{said};
 
-use play_meaning::ActionNow;
+use play_meaning::{ActNo, ActionNow};
 use smallvec::SmallVec;
 use standard_rules::{HostAnswer, HostCall, HostOutcome, HostRule};
 use std::alloc::{AllocError, Global};
 use std::test::Fail;
-use world_meaning::TextBytes;
+use world_meaning::{ObjNo, TextBytes};
 use world_store::World;
+
+/// What the rule says.
+const REFUSAL: &[u8] = b"You can't take yourself.\n";
 
 /// That the player, who is number 0, can't be taken.
 fn answered(alloc: Global, now: &ActionNow) -> Result<HostAnswer, AllocError>
@@ -49,10 +52,29 @@ fn a_function_of_ones_own_is_taken(rt: HostRuntime) -> Result<(), Fail> {
         |alloc: Global, world: &World, now: &ActionNow| -> Result<HostAnswer, AllocError>
             requires { are_there world.now now.now ≡ true }
             ensures { IfOk result (λ answer. HasEffect 9 world.now now.now answer) }
-        {
-            ninth(alloc, world, now)
-        },
+        { ninth(alloc, world, now) },
     )?;
     assert_eq!(rt; HostRule::new(9, call).id(), 9);
+    Ok(())
+}
+
+/// The action of no number on a noun.
+fn on(noun: u16) -> ActionNow {
+    ActionNow {
+        action: ActNo::NONE,
+        noun: Some(ObjNo::new(noun)),
+        second: None,
+        silent: false,
+    }
+}
+
+#[test]
+fn it_refuses_the_player_alone(rt: HostRuntime) -> Result<(), Fail> {
+    let of_player = answered(rt.alloc(), &on(0))?;
+    assert_eq!(rt; of_player.text.as_slice(), REFUSAL);
+    assert_eq!(rt; of_player.outcome, HostOutcome::Failure);
+    let of_another = answered(rt.alloc(), &on(17))?;
+    assert!(rt; of_another.text.as_slice().is_empty());
+    assert_eq!(rt; of_another.outcome, HostOutcome::ByEnd);
     Ok(())
 }

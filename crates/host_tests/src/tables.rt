@@ -5,9 +5,7 @@ ghost use Rattle.standard_rules.specs.Hosts.{are_there};
 
 use play_meaning::{ActNo, ActionNow};
 use sample_stories::FURNISHED;
-use standard_rules::{
-    HostAnswer, HostCall, HostFault, HostOutcome, HostRule, HostTable, standard,
-};
+use standard_rules::{HostAnswer, HostCall, HostFault, HostOutcome, HostRule, HostTable, standard};
 use std::alloc::{AllocError, Global};
 use std::rc::Rc;
 use std::test::Fail;
@@ -28,9 +26,7 @@ fn stored(alloc: Global, id: u8) -> Result<HostRule, AllocError>
         move |alloc: Global, world: &World, now: &ActionNow| -> Result<HostAnswer, AllocError>
             requires { (1 ≤ id) × (id ≤ 61) × (are_there world.now now.now ≡ true) }
             ensures { IfOk result (λ answer. HasEffect id world.now now.now answer) }
-        {
-            standard(alloc, id, world, now)
-        },
+        { standard(alloc, id, world, now) },
     )?;
     Ok(HostRule::new(id, call))
 }
@@ -45,9 +41,7 @@ fn refused(alloc: Global, id: u8) -> Result<HostRule, AllocError>
         |_alloc: Global, world: &World, now: &ActionNow| -> Result<HostAnswer, AllocError>
             requires { are_there world.now now.now ≡ true }
             ensures { IsErr result }
-        {
-            Err(AllocError)
-        },
+        { Err(AllocError) },
     )?;
     Ok(HostRule::new(id, call))
 }

@@ -5,13 +5,13 @@ use Rattle.standard_rules.specs.declared.host_fault.HostFault.{HostFault}
 use Rattle.standard_rules.specs.declared.host_fault.HostFault.TheVariants.{Full, Memory, OutOfOrder}
 use Rattle.world_store.specs.StoryWorlds.{StoryWorld}
 
-abbrev pub is_object : StoryWorld → Option ℕ → Bool
-is_object s None = true
-is_object s (Some o) = nat_lt o (length s.tables.objects)
+abbrev pub has_object : StoryWorld → Option ℕ → Bool
+has_object s None = true
+has_object s (Some o) = nat_lt o (length s.tables.objects)
 
 -- the story has the action and its nouns, or there are none of them
 unfoldable pub are_there : StoryWorld → ActionNow → Bool
-are_there s now = (nat_lt now.action (length s.tables.rules.actions) || (now.action == 255)) && is_object s now.noun && is_object s now.second
+are_there s now = (nat_lt now.action (length s.tables.rules.actions) || (now.action == 255)) && has_object s now.noun && has_object s now.second
 
 -- the rules have the numbers from this one on, in order
 abbrev pub are_numbered : {R : Type 0} → (R → ℕ) → ℕ → List R → Bool

@@ -1,4 +1,4 @@
-//! What the standard rules ask of the nouns of an action: of nothing, nothing is so.
+//! What the standard rules ask of objects: of nothing, nothing is so but that it is the same as nothing.
 ghost use Rattle.std.specs.Prelude.{◌≡◌, [], Some};
 ghost use Rattle.std.specs.List.{list_any};
 ghost use Rattle.play_meaning.specs.Scripts.{scope_of};

@@ -18,7 +18,7 @@ use std::alloc::{AllocError, Global};
 use world_meaning::{KindNo, ObjNo, Rel};
 use world_store::World;
 
-/// Whether the noun is described.
+/// The noun, if it has a description.
 fn described_noun(world: &World, now: &ActionNow) -> Option<ObjNo>
     ensures { MatchOption result (of_some now.now.noun (setting_of world.now.tables).has_description ≡ false) (λ noun. (now.now.noun ≡ Some noun) × ((setting_of world.now.tables).has_description noun ≡ true)) }
 {

@@ -1,5 +1,5 @@
 //! The stored rules: functions that are handed in, each of which does what the standard rule of its number does.
-ghost use Rattle.std.specs.Prelude.{◌≡◌, ◌+◌, ◌≤◌, ◌<◌, ◌==◌, ◌∷◌, ◌++◌, [], IfErr, IfOk, OnErr, OnOk, length, true};
+ghost use Rattle.std.specs.Prelude.{◌≡◌, ◌+◌, ◌≤◌, ◌<◌, ◌==◌, ◌∷◌, ◌++◌, [], IfErr, IfOk, OnErr, OnOk, Some, length, slice_get, ◌-◌, true};
 ghost use Rattle.std.specs.Result.{ForOk};
 ghost use Rattle.standard_rules.specs.Answers.{DoesRule, HasEffect};
 ghost use Rattle.standard_rules.specs.Hosts.{IsRefused, are_numbered, are_there};
@@ -35,7 +35,8 @@ impl HostRule {
         requires high { id ≤ 61 }
         requires callable { (a : _) (w : _) (n : _) → are_there w.now n.now ≡ true → HostCall.pre call a w n }
         requires stated { (a : _) (w : _) (n : _) (r : _) → are_there w.now n.now ≡ true → HostCall.post call a w n r → ForOk r (λ answer. DoesRule id w.now n.now answer) }
-        ensures { result.id ≡ id }
+        ensures id { result.id ≡ id }
+        ensures call { result.call ≡ call }
     {
         HostRule { id, call }
     }
@@ -56,7 +57,8 @@ impl HostRule {
         now: &ActionNow,
     ) -> Result<HostAnswer, AllocError>
         requires { are_there world.now now.now ≡ true }
-        ensures { IfOk result (λ answer. HasEffect self.now.id world.now now.now answer) }
+        ensures effect { IfOk result (λ answer. HasEffect self.now.id world.now now.now answer) }
+        ensures stored { HostCall.post self.now.call alloc world.entry now.entry result }
     {
         (self.call)(alloc, world, now)
     }
@@ -131,8 +133,9 @@ impl HostTable {
         requires low { 1 ≤ id }
         requires there { id ≤ rule_count self.now }
         requires numbers { are_there world.now now.now ≡ true }
-        ensures { IfOk result (λ answer. HasEffect id world.now now.now answer) }
+        ensures effect { IfOk result (λ answer. HasEffect id world.now now.now answer) }
+        ensures stored { (r : _) → slice_get self.now.rules.items (id - 1) ≡ Some r → HostCall.post r.call alloc world.entry now.entry result }
     {
-        Ok(self.rules[usize::from(id) - 1].call(alloc, world, now)?)
+        self.rules[usize::from(id) - 1].call(alloc, world, now)
     }
 }

@@ -1,5 +1,5 @@
-//! The sixty-one rules that every story has (the Standard Rules), each a function of a world and an action: what it answers does
-//! just what the rule's own sentence means.
+//! The sixty-one rules that every story has (the Standard Rules), each a function of a world and an action: what it
+//! answers does just what the rule's body means, in actions too that the rule isn't about.
 #![tactic(auto)]
 
 mod answer;

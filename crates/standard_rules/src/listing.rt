@@ -1,4 +1,4 @@
-//! The things that are told of together: those that an object holds, those of them that are seen.
+//! The things of which a rule tells together: those that the player holds, and those held by the noun that are seen.
 ghost use Rattle.std.specs.Prelude.{◌≡◌, [], ◌∷◌, IfOk, Some, filter};
 ghost use Rattle.play_meaning.specs.Seeing.{has_light};
 ghost use Rattle.play_meaning.specs.Settings.{thing_kind};
@@ -53,7 +53,7 @@ fn seen_among(alloc: Global, world: &World, objects: &[ObjNo]) -> Result<Vec<Obj
     Ok(seen)
 }
 
-/// The things that the player carries or wears, by rising number.
+/// The things that the player holds in this relation, by rising number.
 #[tactic(auto, using(crate::proofs::Lists::things_held))]
 pub fn things_held(
     alloc: Global,
@@ -67,7 +67,7 @@ pub fn things_held(
     Ok(things_among(alloc, world, held.as_slice())?)
 }
 
-/// The things that are seen in or on the noun, by rising number.
+/// The things that are seen and that the noun holds in this relation, by rising number.
 #[tactic(auto, using(crate::proofs::Lists::things_seen, crate::proofs::Lists::none_seen))]
 pub fn things_seen(
     alloc: Global,

@@ -1,4 +1,4 @@
-//! The numbers of the player, of looking, and of the properties of which the standard rules speak.
+//! The player, the action of looking round, and the numbers of properties that the standard rules ask of or change.
 ghost use Rattle.std.specs.Prelude.{◌≡◌};
 ghost use Rattle.play_meaning.specs.Turns.{look_round};
 
