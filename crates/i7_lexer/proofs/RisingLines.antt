@@ -1,5 +1,5 @@
 -- The lines of a source's tokens rise.
-use Rattle.std.proofs.Common.{◌≡◌, ℕ, zero, suc, ◌≤◌, List, [], ◌∷◌, ◌++◌, refl, sym, ap, subst, arith}
+use Rattle.std.proofs.Common.{ℕ, zero, suc, List, [], ◌∷◌, sym, subst, arith}
 use Rattle.std.specs.Prelude.{map}
 use Rattle.i7_lexer.specs.Cuts.{IsPlaced}
 use Rattle.i7_lexer.specs.Places.{after, at_front, placed_from}
