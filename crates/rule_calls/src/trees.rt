@@ -8,12 +8,10 @@ use i7_resolution::{Resolution, resolution_of};
 use i7_rules::SourceRule;
 use std::alloc::{AllocError, Global};
 
-/// The rules of a source.
-fn rules_of(alloc: Global, source: &str) -> Result<Vec<SourceRule>, Unplayed> {
-    let sentences = sentences_in(alloc, source)?;
-    let claimed = Claimed::new(alloc, sentences.as_slice())?;
-    let tale = tale_of(alloc, &claimed)?;
-    let names = names_in(alloc, &claimed)?;
+/// The rules of sentences, by what these claim.
+fn rules_by(alloc: Global, claimed: &Claimed<'_>) -> Result<Vec<SourceRule>, Unplayed> {
+    let tale = tale_of(alloc, claimed)?;
+    let names = names_in(alloc, claimed)?;
     if names.rulebooks.len() > 100 || names.scenes > 50 {
         return Err(Unplayed::TooManyNames);
     }
@@ -21,6 +19,13 @@ fn rules_of(alloc: Global, source: &str) -> Result<Vec<SourceRule>, Unplayed> {
         Resolution::Says(resolved) => Ok(resolved.rules),
         Resolution::Refused(fault) => Err(Unplayed::Refused(fault)),
     }
+}
+
+/// The rules of a source.
+fn rules_of(alloc: Global, source: &str) -> Result<Vec<SourceRule>, Unplayed> {
+    let sentences = sentences_in(alloc, source)?;
+    let claimed = Claimed::new(alloc, sentences.as_slice())?;
+    rules_by(alloc, &claimed)
 }
 
 /// The body of a source's one rule, phrase by phrase, or why it has none.

@@ -93,12 +93,11 @@ fn rules_of(
     }
 }
 
-/// What is told of sentences that have this story.
-fn told_with(alloc: Global, sentences: &[Sentence], story: &Story) -> Result<String, Unlisted> {
-    let claimed = Claimed::new(alloc, sentences)?;
-    let tale = tale_of(alloc, &claimed)?;
-    let rules = rules_of(alloc, &tale, &claimed)?;
-    let names = names_of(alloc, &claimed)?;
+/// What is told of sentences that have this story, by what they claim.
+fn told_by(alloc: Global, claimed: &Claimed<'_>, story: &Story) -> Result<String, Unlisted> {
+    let tale = tale_of(alloc, claimed)?;
+    let rules = rules_of(alloc, &tale, claimed)?;
+    let names = names_of(alloc, claimed)?;
     let outline = Outline {
         tale: &tale,
         names: &names,
@@ -106,6 +105,12 @@ fn told_with(alloc: Global, sentences: &[Sentence], story: &Story) -> Result<Str
         story,
     };
     Ok(books_told(alloc, outline)?)
+}
+
+/// What is told of sentences that have this story.
+fn told_with(alloc: Global, sentences: &[Sentence], story: &Story) -> Result<String, Unlisted> {
+    let claimed = Claimed::new(alloc, sentences)?;
+    told_by(alloc, &claimed, story)
 }
 
 /// The rulebooks of a source, if it is accepted.
