@@ -1,5 +1,5 @@
 -- What a rule that is computed answers: changes, a text, an action to try and how the rule ends; and when that is the effect
--- of a standard rule, which is what the rule's own sentence does.
+-- of a standard rule, which is what the body of the rule's own sentence does.
 use Rattle.std.specs.Prelude.{◌≡◌, ℕ, ◌-◌, List, [], ◌∷◌, Option, None, Some, Ok, Err, fold, slice_get}
 use Rattle.world_meaning.specs.declared.session.Abandon.TheVariants.{NumberOutOfRange}
 use Rattle.play_meaning.specs.Attempts.{Attempt, next}
