@@ -18,7 +18,7 @@ import subprocess
 import sys
 import tempfile
 
-from plain_stories import NONE16, opening, tables
+from plain_stories import NONE16, opening_and_look, tables
 from row_files import report, rows_of
 from rule_sources import tables_of
 
@@ -67,7 +67,7 @@ def wanted_cases():
 
 def played(scratch, source):
     """Whether the story of a source has the tables that it must have, and what it says at first and to `look`, with what a plain
-    reader says."""
+    reader says, as far as that tells what rules do."""
     path, story = scratch / "s.i7", scratch / "story"
     path.write_bytes(source.encode())
     subprocess.run([program, "compile", path, story], check=True, timeout=10)
@@ -76,8 +76,9 @@ def played(scratch, source):
     objects = [t["strings"][o["name"]].decode().lower() for o in t["objects"]]
     asked = tables_of(source, sum(o["code"] != NONE16 for o in t["objects"]), objects)
     done = subprocess.run([program, "play", story], input=b"look\n", capture_output=True, timeout=10)
-    said = opening(data)
-    return ({name: t[name] for name in asked}, done.returncode, done.stdout, done.stderr), (asked, 0, said + said, b"")
+    front = b"".join(part + b"\n>" for part in opening_and_look(data) if part is not None)
+    found = done.stdout if len(done.stdout) < len(front) else done.stdout[: len(front)]
+    return ({name: t[name] for name in asked}, done.returncode, found, done.stderr), (asked, 0, front, b"")
 
 
 def answers():

@@ -1,6 +1,7 @@
 #!/usr/bin/env python3
 """Damaged story files: each cut, each flipped bit and many random changes of a story are judged by a plain reader of the format
-(tests/plain_stories.py), and the program must say the same: the fault, or what the story tells at first. Of many more, among them
+(tests/plain_stories.py), and the program must say the same: the fault, or what the story tells at first, as far as its rules of
+looking tell it; of a story with other rules there, that it plays. Of many more, among them
 each cut and each flipped bit of a story with rules, books and scenes and of the stories of some sources of tests/bodies, the
 program of `story_calls` must say it, and tell the same to `look`.
 
@@ -12,7 +13,7 @@ import subprocess
 import sys
 import tempfile
 
-from plain_stories import Fault, opening
+from plain_stories import Fault, opening_and_look
 from written_stories import crowded, furnished, ruled
 
 program = pathlib.Path(sys.argv[1]).resolve()
@@ -95,9 +96,9 @@ def compiled(path, story):
 
 
 def judged(story):
-    """What a plain reader says of a story: the fault, or what it tells at first."""
+    """What a plain reader says of a story: the fault, or what it tells at first and to `look`, None where it can't say that."""
     try:
-        return opening(story)
+        return opening_and_look(story)
     except Fault as fault:
         return str(fault)
 
@@ -112,11 +113,13 @@ def by_program(path, stories):
     """Each story with what the program says of it, and what is wanted."""
     for name, data in stories:
         path.write_bytes(data)
-        wanted = judged(data)
-        if isinstance(wanted, bytes):
-            yield name, played(path), (0, wanted, b""), "played"
+        wanted, told = judged(data), played(path)
+        if isinstance(wanted, str):
+            yield name, told, (2, b"", f"{path}: {wanted}\n".encode()), wanted
+        elif wanted[0] is None:
+            yield name, (told[0], told[2]), (0, b""), "untold"
         else:
-            yield name, played(path), (2, b"", f"{path}: {wanted}\n".encode()), wanted
+            yield name, told, (0, wanted[0] + b"\n>", b""), "played"
 
 
 def by_calls(path, stories):
@@ -126,20 +129,23 @@ def by_calls(path, stories):
     run = subprocess.run([calls, path], capture_output=True, check=True, timeout=300)
     for (name, data), told in zip(stories, run.stdout.decode().split("\n")[:-1], strict=True):
         wanted = judged(data)
-        if isinstance(wanted, bytes):
-            # the prompt is the player's
-            said = wanted.removesuffix(b"\n>").hex()
-            yield name, told, f"{said}\t{said}", "played"
-        else:
+        if isinstance(wanted, str):
             yield name, told, wanted, wanted
+        elif None in wanted:
+            said = [None if known is None else part for known, part in zip(wanted, told.split("\t"), strict=True)]
+            yield name, said, [None if known is None else known.hex() for known in wanted], "untold"
+        else:
+            yield name, told, "\t".join(said.hex() for said in wanted), "played"
 
 
 def failures(answers):
-    """How many answers there are, and how many aren't what is wanted; each fault must be among them."""
-    count = failed = 0
+    """How many answers there are, how many aren't what is wanted, and of how many stories not all that they say is; each fault must be
+    among them."""
+    count = failed = untold = 0
     missing = {"played", *FAULTS}
     for name, told, wanted, sort in answers:
         count += 1
+        untold += sort == "untold"
         missing.discard(sort)
         if told != wanted:
             failed += 1
@@ -147,7 +153,7 @@ def failures(answers):
     for sort in missing:
         failed += 1
         print(f"damaged stories: none is {sort}")
-    return count, failed
+    return count, failed, untold
 
 
 def main():
@@ -155,10 +161,10 @@ def main():
         path = pathlib.Path(scratch) / "story"
         story = compiled(source, path)
         others = list(some_bodies(pathlib.Path(scratch)))
-        count, failed = failures(by_program(path, damaged(story)))
-        print(f"damaged stories: {count - failed} passed, {failed} failed")
-        more, failed_more = failures(by_calls(path, damaged_more(story, others)))
-        print(f"damaged stories: of {more} calls {more - failed_more} passed, {failed_more} failed")
+        count, failed, untold = failures(by_program(path, damaged(story)))
+        print(f"damaged stories: {count - failed} passed, {failed} failed; of {untold} not all that they say")
+        more, failed_more, untold = failures(by_calls(path, damaged_more(story, others)))
+        print(f"damaged stories: of {more} calls {more - failed_more} passed, {failed_more} failed; of {untold} not all that they say")
     sys.exit(failed + failed_more != 0)
 
 

@@ -125,9 +125,14 @@ HALL = bytes.fromhex("22 0020 37")
 ROOM = bytes.fromhex("11 00 13 01 3b")
 ANYTHING = (0,)
 NO_BOOKS = [[] for _ in range(8)]
-def save(name, rules, codes, strings=(), **others):
+def in_every_turn(listed):
+    return NO_BOOKS[:6] + [listed] + NO_BOOKS[7:]
+def save(name, rules, codes, strings=(), said=b"", **others):
     """Saves the story of two rooms with these rules, with codes behind that of the Hall, with strings behind its own, and perhaps
-    with other tables."""
+    with other tables. One that is played lists the rules in the every turn rules, and no rule of looking: this is said of a turn."""
+    if name.startswith("plays_"):
+        others.setdefault("books", in_every_turn(list(range(len(rules)))))
+        open(name + ".want", "wb").write(b"\n>" + said + b"\n>")
     texts = table(u(2, len(text)) + text for text in [*STRINGS, *strings])
     told = rules_written({**tables(data), "rules": rules, "books": NO_BOOKS, **others})
     open(name + ".story", "wb").write(data[:6] + texts + WORLD + told + table(u(2, len(code)) + code for code in [HALL, *codes]))
@@ -144,19 +149,19 @@ def loop(place, test):
     return bytes.fromhex("34 00 35 00") + u(2, test) + u(2, place + 11) + b"\x33" + u(2, place + 2)
 def count(place, test):
     return bytes.fromhex("20 00") + u(2, test) + b"\x24"
-save("plays_long_bodies", FOUR, [bytes.fromhex("22 0020") * 21844 + b"\x37" * 3] * 4)
+save("plays_long_bodies", FOUR, [bytes.fromhex("22 0020") * 21844 + b"\x37" * 3] * 4, said=STRINGS[0x20] * 21844 * 4 + b"\n")
 save("plays_choices", FOUR, [bytes.fromhex("19 32 fffc") * 16383 + b"\x37"] * 4)
 bodies, tests = named_in_turn(loop, 11, 5)
-save("plays_loops", FOUR, bodies + [ROOM] * tests)
+save("plays_loops", FOUR, bodies + [ROOM] * tests, said=b"[The turn was abandoned: too much work.]\n")
 bodies, tests = named_in_turn(count, 5, 5)
-save("plays_tests", FOUR, bodies + [ROOM] * tests)
+save("plays_tests", FOUR, bodies + [ROOM] * tests, said=b"2" * tests + b"\n")
 save("L6_tests_out_of_turn", FOUR, bodies[::-1] + [ROOM] * tests)
 save("L6_same_tests", FOUR, bodies[:1] * 4 + [ROOM] * tests)
 save("L6_test_left_out", FOUR, bodies + [ROOM] * (tests - 1))
 bodies, tests = bodies[:2], tests // 2
 deep = [bytes.fromhex("20 01") + u(2, 3 + tests + number) + bytes.fromhex("01 00000000 08 3b") for number in range(tests)]
-save("plays_tests_in_tests", FOUR[:2], named_in_turn(count, 5, 3)[0][:2] + deep + [ROOM] * tests)
-save("plays_strings", FOUR[:3], [b"".join(b"\x22" + u(2, 33 + body * 21833 + n) for n in range(21833)) + b"\x37" for body in range(3)], [b"%d" % n for n in range(65499)])
+save("plays_tests_in_tests", FOUR[:2], named_in_turn(count, 5, 3)[0][:2] + deep + [ROOM] * tests, books=NO_BOOKS)
+save("plays_strings", FOUR[:3], [b"".join(b"\x22" + u(2, 33 + body * 21833 + n) for n in range(21833)) + b"\x37" for body in range(3)], [b"%d" % n for n in range(65499)], said=b"".join(b"%d" % n for n in range(65499)) + b"\n")
 save("plays_bodies_of_a_byte", [does(code) for code in range(1, 2001)], [b"\x37"] * 2000)
 save("L6_codes_of_a_byte", [], [b"\x37"] * 65534)
 save("L6_more_codes_of_a_byte", [does(code) for code in range(1, 2001)], [b"\x37"] * 65534)
@@ -178,9 +183,7 @@ save("L7_long_books", [does(1)], [b"\x37"], books=[[0] * LONGEST] * 8)
 def standard(book):
     """A rule of this book that does what the first standard rule does."""
     return (book, NONE8, ANYTHING, ANYTHING, ANYTHING, NONE8, NONE16, (1, 1))
-def in_every_turn(listed):
-    return NO_BOOKS[:6] + [listed] + NO_BOOKS[7:]
-save("plays_full_book", [standard(6)] * 2000, [], books=in_every_turn(list(range(1999, -1, -1))))
+save("plays_full_book", [standard(6)] * 2000, [], books=in_every_turn(list(range(1999, -1, -1))), said=b"Hall\n" * 2000)
 save("L7_last_again", [standard(6)] * 2000, [], books=in_every_turn([*range(2000), 1999]))
 save("L7_last_of_another", [standard(6)] * 1999 + [standard(7)], [], books=in_every_turn(list(range(2000))))
 save("L5_listed_behind", [standard(6)] * 2000, [], books=in_every_turn(list(range(2001))))
@@ -235,10 +238,10 @@ for source in *.i7; do
   fi
 done
 for story in *.story; do
-  timeout 1 "$program" play "$story" >out 2>err </dev/null
+  echo look | timeout 1 "$program" play "$story" >out 2>err
   status=$?
   case $story in
-    plays_*) [ $status = 0 ] && [ ! -s err ] && grep -q "A bare hall" out ;;
+    plays_*) [ $status = 0 ] && [ ! -s err ] && cmp -s out "${story%.story}.want" ;;
     *) [ $status = 2 ] && [ ! -s out ] && grep -qE "^$story: ${story%%_*} [A-Za-z]+\$" err ;;
   esac
   if [ $? = 0 ]; then

@@ -26,56 +26,74 @@ import pathlib
 import sys
 row, scratch = map(pathlib.Path, sys.argv[1:])
 dark = "Darkness\nIt is pitch dark, and you can't see a thing.\n"
-platform = "Platform\nThe platform lies dry and still. The next train is 5 minutes late. A signal box stands to the east.\n"
+platform = "Platform\nThe platform lies dry and still. The next train is LATE minutes late. A signal box stands to the east.\n"
 box = "Box\nLevers fill the wall, and a lamp glows among them.\nYou can see a lamp and a shelf here.\n"
 grotto = "Grotto\nWater drips from the roof.\nYou can see a brass lamp, a chest and some moss here.\n"
 mouth = "Cave Mouth\nDaylight ends here. The cave goes on to the north.\n"
 hall = "Hall\nA gate leads north, a hatch down.\n"
 garden = "Garden\nRoses climb the wall. The gate is to the south.\nYou can see a rose here.\n"
-start, looks, ways, closed = {
+bell = "A bell rings down the line.\nYou put the whistle straight.\n"
+# How play begins, the start room, what each room looks like, the ways, the closed doors, and what is said in a room behind each turn.
+begins, start, looks, ways, closed, behind = {
     "two_rooms": (
+        "",
         "Hall",
         {"Hall": "Hall\nA bare hall.\n", "Garden": "Garden\n"},
         {("Hall", "n"): "Garden", ("Garden", "s"): "Hall"},
         {},
+        {},
     ),
     "doors_between_rooms": (
+        "",
         "Hall",
         {"Hall": hall, "Garden": garden},
         {("Hall", "n"): "Garden", ("Garden", "s"): "Hall"},
         {("Hall", "d"): "The old hatch is closed.\n"},
+        {},
     ),
     "lamp_in_a_dark_room": (
+        "",
         "Mouth",
         {"Mouth": mouth, "Cave": dark, "Grotto": grotto},
         {("Mouth", "n"): "Cave", ("Cave", "e"): "Grotto", ("Cave", "s"): "Mouth", ("Grotto", "w"): "Cave"},
         {},
+        {},
     ),
     "rules_and_scenes": (
+        "The last train but one has left.\n",
         "Platform",
         {"Platform": platform, "Box": box},
         {("Platform", "e"): "Box", ("Box", "w"): "Platform"},
         {},
+        {"Box": bell},
     ),
 }[row.name]
 commands = (row / "commands").read_text().split()
 turns = [place for place, command in enumerate(commands) if command != "undo"]
 
 
+def looked(room, late):
+    return looks[room].replace("LATE", str(late))
+
+
 def transcript(refused):
-    room, kept, text = start, [], looks[start]
+    room, late, kept = start, 5, []
+    text = begins + looked(room, late)
     for place, command in enumerate(commands):
         text += f"\n>{command}\n"
         if command == "undo":
             text += "Previous turn undone.\n" if kept else "You can't undo any further.\n"
-            room = kept.pop() if kept else room
+            room, late = kept.pop() if kept else (room, late)
         elif place == refused:
             text += "[The turn was abandoned: out of memory.]\n"
         else:
-            kept.append(room)
+            kept.append((room, late))
             beyond = room if command == "look" else ways.get((room, command))
-            text += looks[beyond] if beyond else closed.get((room, command), "You can't go that way.\n")
+            text += looked(beyond, late) if beyond else closed.get((room, command), "You can't go that way.\n")
             room = beyond or room
+            if room in behind:
+                text += behind[room]
+                late -= 1
     return text + "\n>"
 
 

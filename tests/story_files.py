@@ -13,7 +13,7 @@ import subprocess
 import sys
 import tempfile
 
-from plain_stories import ACTIONS, NONE8, NONE16, STANDARD_RULES, Fault, has, opening, tables
+from plain_stories import ACTIONS, NONE8, NONE16, STANDARD_RULES, Fault, has, opening_and_look, tables
 from row_files import digits_of, report, rows_of
 from rule_sources import STANDARD_NAMES, tables_of
 
@@ -64,7 +64,7 @@ def played(scratch, story):
 def read_plainly(story):
     """What a plain reader says of a story."""
     try:
-        opening(story)
+        opening_and_look(story)
     except Fault as fault:
         return str(fault).encode()
     return b"plays"

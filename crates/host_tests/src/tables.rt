@@ -1,12 +1,12 @@
 //! Tables of stored rules, told by hand.
-ghost use Rattle.std.specs.Prelude.{◌≡◌, ◌≤◌, IfOk, IsErr, true};
-ghost use Rattle.standard_rules.specs.Answers.{HasEffect};
+ghost use Rattle.std.specs.Prelude.{◌≡◌, true};
 ghost use Rattle.standard_rules.specs.Hosts.{are_there};
 
+use crate::stored::{refused, stored, table_of};
 use play_meaning::{ActNo, ActionNow};
 use sample_stories::FURNISHED;
-use standard_rules::{HostAnswer, HostCall, HostFault, HostOutcome, HostRule, HostTable, standard};
-use std::alloc::{AllocError, Global};
+use standard_rules::{HostFault, HostOutcome, HostTable};
+use std::alloc::Global;
 use std::rc::Rc;
 use std::test::Fail;
 use story_format::load;
@@ -14,49 +14,6 @@ use world_store::World;
 
 /// What the first rule says in the hall.
 const HALL: &[u8] = b"hall\n";
-
-/// The stored rule of a number that answers as the standard one does.
-#[tactic(auto, unfolding(standard_rules::specs::Answers::HasEffect))]
-fn stored(alloc: Global, id: u8) -> Result<HostRule, AllocError>
-    requires low { 1 ≤ id }
-    requires high { id ≤ 61 }
-{
-    let call: HostCall = Box::new(
-        alloc,
-        move |alloc: Global, world: &World, now: &ActionNow| -> Result<HostAnswer, AllocError>
-            requires { (1 ≤ id) × (id ≤ 61) × (are_there world.now now.now ≡ true) }
-            ensures { IfOk result (λ answer. HasEffect id world.now now.now answer) }
-        { standard(alloc, id, world, now) },
-    )?;
-    Ok(HostRule::new(id, call))
-}
-
-/// The stored rule of a number that always answers want of memory.
-fn refused(alloc: Global, id: u8) -> Result<HostRule, AllocError>
-    requires low { 1 ≤ id }
-    requires high { id ≤ 61 }
-{
-    let call: HostCall = Box::new(
-        alloc,
-        |_alloc: Global, world: &World, now: &ActionNow| -> Result<HostAnswer, AllocError>
-            requires { are_there world.now now.now ≡ true }
-            ensures { IsErr result }
-        { Err(AllocError) },
-    )?;
-    Ok(HostRule::new(id, call))
-}
-
-/// A table of the first rules, so many.
-fn table_of(alloc: Global, count: u8) -> Result<HostTable, Fail>
-    requires { count ≤ 61 }
-{
-    let mut table = HostTable::new(alloc);
-    for number in 0..count {
-        let rule = stored(alloc, number + 1)?;
-        table.add(rule)?;
-    }
-    Ok(table)
-}
 
 #[test]
 fn rules_come_in_order(rt: HostRuntime) -> Result<(), Fail> {

@@ -5,6 +5,7 @@
 mod built_in;
 mod claim;
 mod claim_laws;
+mod claimed;
 mod claiming;
 mod demanding;
 mod kinds;
@@ -26,9 +27,9 @@ pub use claim::{
     Claim, Demand, Fact, Grant, Having, Lying, Naming, Placing, Standing, Start, Usual, Value,
 };
 pub use claim_laws::{books_twice_are_found, names_too_many_are_found, names_twice_are_found};
-pub use claiming::claims_of;
+pub use claimed::Claimed;
 pub use kinds::kind_names;
-pub use names::{FIRST_OF_AUTHOR, Mention, Names, names_of, number_in};
+pub use names::{FIRST_OF_AUTHOR, Mention, Names, number_in};
 pub use plurals::plural_of;
 pub use scans::{earlier, lower};
 pub use sorts::{Sort, built_in_kinds, names_as, property_names, too_many_as};

@@ -10,7 +10,8 @@ ghost use Rattle.i7_kinds.specs.Places.{places_by};
 ghost use Rattle.i7_kinds.specs.StatedWays.{stated};
 ghost use Rattle.i7_kinds.specs.Suits.{first_room, with_player};
 ghost use Rattle.i7_kinds.specs.Tales.{entries_of, frame_refusal, judged, limit_refusal, made_of, no_room, objects_of, refusal_at, refusal_of, said_by, said_in, scope_of, tale_said};
-ghost use Rattle.i7_claims.specs.Views.{mentions_of};
+ghost use Rattle.i7_claims.specs.Statements.{named_by};
+ghost use Rattle.i7_claims.specs.Views.{mentions_of, names_of};
 
 use crate::actions::{actions_said, with_actions};
 use crate::author_kinds::{kind_nos, parents_of};
@@ -29,7 +30,7 @@ use crate::suits::{first_room, put_player};
 use crate::values::{Bearer, values_by};
 use crate::ways::Ways;
 use i7_claims::{
-    Claim, Mention, NumberedSentence, Sort, claims_of, earlier, kind_names, names_as, names_of,
+    Claim, Claimed, Mention, Names, NumberedSentence, Sort, earlier, kind_names, names_as,
     property_names, statements_in,
 };
 use i7_sentences::Sentence;
@@ -216,14 +217,15 @@ fn said_in(
     kinds: &Strings,
     parents: &[Option<usize>],
     claims: &[Claim],
+    names: &Names<'_>,
     sentences: &[Sentence],
 ) -> Result<Result<Tale, Fault>, AllocError>
     requires named { kinds.now ≡ kind_names claims.now }
     requires above { parents.now ≡ parents_of kinds.now claims.now }
+    requires objects { names_of names.now ≡ named_by sentences.now }
     ensures { IfOk result (λ said. said ≡ said_in kinds.now parents.now claims.now sentences.now) }
 {
-    let names = names_of(alloc, sentences)?;
-    let statements = statements_in(alloc, &names, sentences)?;
+    let statements = statements_in(alloc, names, sentences)?;
     let properties = property_names(alloc, claims)?;
     let variables = names_as(alloc, Sort::Variable, claims)?;
     let givens = givens_of(alloc, &properties, kinds, claims)?;
@@ -236,26 +238,28 @@ fn said_in(
     Ok(said)
 }
 
-/// What the sentences with these claims mean: a tale or a refusal.
+/// What the sentences with these claims and these objects' names mean, but for the actions that they declare.
 fn said_by(
     alloc: Global,
     claims: &[Claim],
+    names: &Names<'_>,
     sentences: &[Sentence],
 ) -> Result<Result<Tale, Fault>, AllocError>
+    requires objects { names_of names.now ≡ named_by sentences.now }
     ensures { IfOk result (λ said. said ≡ said_by claims.now sentences.now) }
 {
     let kinds = kind_names(alloc, claims)?;
     let parents = parents_of(alloc, &kinds, claims)?;
-    let said = said_in(alloc, &kinds, parents.as_slice(), claims, sentences)?;
+    let said = said_in(alloc, &kinds, parents.as_slice(), claims, names, sentences)?;
     Ok(said)
 }
 
 /// What the sentences mean: a tale or a refusal.
-fn tale_said(alloc: Global, sentences: &[Sentence]) -> Result<Result<Tale, Fault>, AllocError>
-    ensures { IfOk result (λ said. said ≡ tale_said sentences.now) }
+fn tale_said(alloc: Global, claimed: &Claimed<'_>) -> Result<Result<Tale, Fault>, AllocError>
+    ensures { IfOk result (λ said. said ≡ tale_said claimed.now) }
 {
-    let claims = claims_of(alloc, sentences)?;
-    let said = said_by(alloc, claims.as_slice(), sentences)?;
+    let sentences = claimed.sentences();
+    let said = said_by(alloc, claimed.claims(), claimed.names(), sentences)?;
     let actions = actions_said(alloc, sentences)?;
     Ok(with_actions(actions, said))
 }
@@ -263,11 +267,11 @@ fn tale_said(alloc: Global, sentences: &[Sentence]) -> Result<Result<Tale, Fault
 /// The tale that the sentences mean, or the refusal that stands, each code being looked for in the
 /// whole source before the next, at the first sentence that shows it: C9, C7, C11, C8, C10, C12 of what is one too
 /// many, C13, then C12 of names and of texts that are too long. Memory is C14, at line 1.
-pub fn tale_of(alloc: Global, sentences: &[Sentence]) -> Result<Tale, Fault>
-    ensures told { IfOk result (λ tale. tale_said sentences.now ≡ Ok tale) }
-    ensures refused { IfErr result (λ fault. (tale_said sentences.now ≡ Err fault) ⊎ (fault ≡ out_of_memory)) }
+pub fn tale_of(alloc: Global, claimed: &Claimed<'_>) -> Result<Tale, Fault>
+    ensures told { IfOk result (λ tale. tale_said claimed.now ≡ Ok tale) }
+    ensures refused { IfErr result (λ fault. (tale_said claimed.now ≡ Err fault) ⊎ (fault ≡ out_of_memory)) }
 {
-    match tale_said(alloc, sentences) {
+    match tale_said(alloc, claimed) {
         Ok(said) => said,
         Err(_) => Err(Fault::OUT_OF_MEMORY),
     }

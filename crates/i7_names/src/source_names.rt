@@ -6,9 +6,8 @@ ghost use Rattle.i7_names.specs.SourceNames.{known_by, known_in, names_in, ruleb
 use crate::naming::named_in;
 use crate::numbering::{Numbering, numbering_of};
 use crate::plural_names::add_plurals;
-use i7_claims::{Claim, Sort, claims_of, names_as, names_of};
+use i7_claims::{Claim, Claimed, Sort, names_as};
 use i7_conditions::Names;
-use i7_sentences::Sentence;
 use object_words::Strings;
 use std::alloc::{AllocError, Global};
 
@@ -61,15 +60,13 @@ fn scenes_by(alloc: Global, claims: &[Claim]) -> Result<usize, AllocError>
 /// What the names of a source stand for: what is claimed of each first, with its number among those of its sort. The
 /// objects are the player, the twelve directions and the author's by first mention; kinds and either-or properties are
 /// numbered behind the built-in ones, number properties, variables and scenes from 0.
-pub fn names_in(alloc: Global, sentences: &[Sentence]) -> Result<SourceNames, AllocError>
-    ensures names { IfOk result (λ source. known_of source.names ≡ names_in sentences.now) }
-    ensures rulebooks { IfOk result (λ source. source.rulebooks ≡ rulebooks_in sentences.now) }
-    ensures scenes { IfOk result (λ source. source.scenes ≡ scene_count sentences.now) }
+pub fn names_in(alloc: Global, claimed: &Claimed<'_>) -> Result<SourceNames, AllocError>
+    ensures names { IfOk result (λ source. known_of source.names ≡ names_in claimed.now) }
+    ensures rulebooks { IfOk result (λ source. source.rulebooks ≡ rulebooks_in claimed.now) }
+    ensures scenes { IfOk result (λ source. source.scenes ≡ scene_count claimed.now) }
 {
-    let objects = names_of(alloc, sentences)?;
-    let claims = claims_of(alloc, sentences)?;
-    let claims = claims.as_slice();
-    let names = known_by(alloc, objects.keys(), claims)?;
+    let claims = claimed.claims();
+    let names = known_by(alloc, claimed.names().keys(), claims)?;
     let rulebooks = rulebooks_by(alloc, claims)?;
     let scenes = scenes_by(alloc, claims)?;
     Ok(SourceNames {

@@ -1,13 +1,11 @@
 //! A door between two rooms, closed and open, from both sides.
-use sample_stories::{FURNISHED, GATE};
-use std::alloc::Global;
+use crate::fakes::session_of;
 use std::test::Fail;
-use story_file::load;
 use story_player::Session;
 use world_meaning::ReplyKind;
 
 /// What is seen in the hall.
-const HALL: &[u8] = b"hall\nYou can see a chest, a jar and a table here.\n";
+const HALL: &[u8] = b"hall\nYou can see a chest and a table here.\n";
 
 /// What is told of the dark cave.
 const CAVE: &[u8] = b"Darkness\nIt is pitch dark, and you can't see a thing.\n";
@@ -15,20 +13,15 @@ const CAVE: &[u8] = b"Darkness\nIt is pitch dark, and you can't see a thing.\n";
 /// What is told of the gate where it is closed.
 const CLOSED: &[u8] = b"The gate is closed.\n";
 
-/// The story at its beginning, its gate closed.
-fn closed(alloc: Global) -> Result<Session, Fail> {
-    let story = load(alloc, FURNISHED)?;
-    Ok(Session::start(alloc, story)?)
-}
+/// A lighted hall and a dark cave, with a closed gate between them.
+const CLOSED_GATE: &[u8] = b"The hall is a room. The cave is a dark room.\n\n\
+    The gate is a closed openable door. The gate is north of the hall and south of the cave.\n\n\
+    The chest is in the hall. The table is a supporter in the hall.\n";
 
-/// The story at its beginning, its gate open.
-fn open(alloc: Global) -> Result<Session, Fail> {
-    let mut bytes = Vec::from_slice(alloc, &FURNISHED[..GATE])?;
-    bytes.extend_from_slice(&[3, 0, 1, 8])?;
-    bytes.extend_from_slice(&FURNISHED[GATE + 3..])?;
-    let story = load(alloc, bytes.as_slice())?;
-    Ok(Session::start(alloc, story)?)
-}
+/// The same, and the gate is open.
+const OPEN_GATE: &[u8] = b"The hall is a room. The cave is a dark room.\n\n\
+    The gate is an open openable door. The gate is north of the hall and south of the cave.\n\n\
+    The chest is in the hall. The table is a supporter in the hall.\n";
 
 /// Whether the session answers the line so, in a turn that leaves the player in the room of this number.
 fn is_turn(session: &mut Session, line: &[u8], text: &[u8], room: u16) -> bool {
@@ -39,7 +32,7 @@ fn is_turn(session: &mut Session, line: &[u8], text: &[u8], room: u16) -> bool {
 
 #[test]
 fn a_closed_door_stops_the_player(rt: HostRuntime) -> Result<(), Fail> {
-    let mut session = closed(rt.alloc())?;
+    let mut session = session_of(rt.alloc(), CLOSED_GATE)?;
     assert_eq!(rt; session.opening(), HALL);
     assert!(rt; is_turn(&mut session, b"n", CLOSED, 13));
     assert!(rt; is_turn(&mut session, b"go the north", CLOSED, 13));
@@ -50,7 +43,7 @@ fn a_closed_door_stops_the_player(rt: HostRuntime) -> Result<(), Fail> {
 
 #[test]
 fn an_open_door_leads_through_both_ways(rt: HostRuntime) -> Result<(), Fail> {
-    let mut session = open(rt.alloc())?;
+    let mut session = session_of(rt.alloc(), OPEN_GATE)?;
     assert!(rt; is_turn(&mut session, b"n", CAVE, 14));
     assert!(rt; is_turn(&mut session, b"n", b"You can't go that way.\n", 14));
     assert!(rt; is_turn(&mut session, b"s", HALL, 13));

@@ -1,4 +1,5 @@
-//! The two-room story, and readers and writers that fail where they are told.
+//! Stories at their beginning, and readers and writers that fail where they are told.
+use crate::stored::standard_table;
 use sample_stories::TWO_ROOMS;
 use std::alloc::Global;
 use std::io::{self, Error, ErrorKind, Read, Write};
@@ -6,11 +7,16 @@ use std::test::Fail;
 use story_file::{compile, load};
 use story_player::Session;
 
+/// The story of a source at its beginning.
+pub fn session_of(alloc: Global, source: &[u8]) -> Result<Session, Fail> {
+    let bytes = compile(alloc, source)?;
+    let story = load(alloc, bytes.as_slice())?;
+    Ok(Session::start(alloc, story, standard_table(alloc)?)?)
+}
+
 /// The two-room story at its beginning.
 pub fn two_rooms(alloc: Global) -> Result<Session, Fail> {
-    let bytes = compile(alloc, TWO_ROOMS)?;
-    let story = load(alloc, bytes.as_slice())?;
-    Ok(Session::start(alloc, story)?)
+    session_of(alloc, TWO_ROOMS)
 }
 
 /// Gives its bytes, at most so many at a call, and then ends or fails.

@@ -1,5 +1,6 @@
 //! Sessions over streams that fail, that never end or that move a byte at a time.
 use crate::fakes::{Commands, Repeated, Transcript, WhenFull, two_rooms};
+use crate::stored::standard_table;
 use sample_stories::TWO_ROOMS;
 use source_player::run_source;
 use std::alloc::Global;
@@ -134,7 +135,14 @@ fn the_size_of_the_pieces_is_no_matter(rt: HostRuntime) -> Result<(), Fail> {
             room: usize::MAX,
             when_full: WhenFull::Fails,
         });
-        let ending = run_source(alloc, TWO_ROOMS, &mut commands, &mut transcript, true)?;
+        let ending = run_source(
+            alloc,
+            TWO_ROOMS,
+            standard_table(alloc)?,
+            &mut commands,
+            &mut transcript,
+            true,
+        )?;
         assert_eq!(rt; ending, Ending::EndOfInput);
         assert_eq!(rt; taken.as_slice(), whole.as_slice());
     }

@@ -5,3 +5,5 @@
 mod plays;
 #[cfg(test)]
 mod reports;
+#[cfg(test)]
+mod stored;

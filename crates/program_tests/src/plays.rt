@@ -1,4 +1,5 @@
 //! Whole plays: of a source and of a story file, and what is played at a limit and one past it.
+use crate::stored::standard_table;
 use sample_stories::TWO_ROOMS;
 use source_player::{SourceRunFault, play_bytes, run_story};
 use std::alloc::{AllocError, Global};
@@ -10,11 +11,11 @@ use world_meaning::{Ending, Fault, FaultCode};
 #[test]
 fn a_source_is_played_over_bytes(rt: HostRuntime) -> Result<(), Fail> {
     let alloc = rt.alloc();
-    let play = play_bytes(alloc, TWO_ROOMS, b"n\nq\nx\n", true)?;
+    let play = play_bytes(alloc, TWO_ROOMS, standard_table(alloc)?, b"n\nq\nx\n", true)?;
     assert_eq!(rt; play.ending, Ending::Quit);
     let transcript = b"Hall\nA bare hall.\n\n>n\nGarden\n\n>q\n";
     assert_eq!(rt; play.transcript.as_slice(), transcript.as_slice());
-    let refused = play_bytes(alloc, b"Hello.", b"", false);
+    let refused = play_bytes(alloc, b"Hello.", standard_table(alloc)?, b"", false);
     let fault = Fault {
         code: FaultCode::NotUnderstood,
         line: 1,
@@ -32,6 +33,7 @@ fn a_story_file_is_played(rt: HostRuntime) -> Result<(), Fail> {
     let ending = run_story(
         alloc,
         story.as_slice(),
+        standard_table(alloc)?,
         &mut commands,
         &mut transcript,
         false,
@@ -41,9 +43,56 @@ fn a_story_file_is_played(rt: HostRuntime) -> Result<(), Fail> {
     assert_eq!(rt; transcript.into_inner().as_slice(), written.as_slice());
     let mut nothing = Watched::new(b"".as_slice());
     let mut unwritten = Watched::new(Vec::new(alloc));
-    let fault = run_story(alloc, b"I7S", &mut nothing, &mut unwritten, false).err();
+    let fault = run_story(
+        alloc,
+        b"I7S",
+        standard_table(alloc)?,
+        &mut nothing,
+        &mut unwritten,
+        false,
+    )
+    .err();
     assert_eq!(rt; fault, Some(SourceRunFault::Story(LoadFault::BadMagic)));
     assert!(rt; unwritten.into_inner().is_empty());
+    Ok(())
+}
+
+/// A story that says so many bytes in each turn, and ends saying so many more, if any.
+fn talkative(alloc: Global, said: usize, ending: usize) -> Result<Vec<u8>, AllocError> {
+    let mut source = Vec::new(alloc);
+    source.extend_from_slice(b"The Hall is a room.\n\nEvery turn:\n\tsay \"")?;
+    for _ in 0..said {
+        source.push(b'a')?;
+    }
+    source.push(b'"')?;
+    if ending > 0 {
+        source.extend_from_slice(b";\n\tend the story saying \"")?;
+        for _ in 0..ending {
+            source.push(b'b')?;
+        }
+        source.push(b'"')?;
+    }
+    source.push(b'.')?;
+    Ok(source)
+}
+
+#[test]
+fn long_texts_of_rules_are_said_up_to_their_limit(rt: HostRuntime) -> Result<(), Fail> {
+    let alloc = rt.alloc();
+    // the opening and a prompt are seven bytes, the room's name five; behind the text stands a break, and then a prompt, or
+    // the closing line, which is ten bytes longer than what it says
+    for (said, ending, whole, ends) in [
+        (33_000usize, 0usize, 33_015usize, Ending::EndOfInput),
+        (65_535, 0, 65_550, Ending::EndOfInput),
+        (1, 40_000, 40_024, Ending::Story),
+        (65_535, 65_535, 131_093, Ending::Story),
+    ] {
+        let source = talkative(alloc, said, ending)?;
+        let hosts = standard_table(alloc)?;
+        let play = play_bytes(alloc, source.as_slice(), hosts, b"look\n", false)?;
+        assert_eq!(rt; play.transcript.as_slice().len(), whole, "{said} {ending}");
+        assert_eq!(rt; play.ending, ends);
+    }
     Ok(())
 }
 
@@ -64,7 +113,7 @@ fn source_of(alloc: Global, name: usize, text: usize) -> Result<Vec<u8>, AllocEr
 /// How many bytes the opening of such a source has, or its refusal.
 fn opening_of(alloc: Global, name: usize, text: usize) -> Result<Result<usize, Fault>, Fail> {
     let source = source_of(alloc, name, text)?;
-    match play_bytes(alloc, source.as_slice(), b"", false) {
+    match play_bytes(alloc, source.as_slice(), standard_table(alloc)?, b"", false) {
         Ok(play) => Ok(Ok(play.transcript.as_slice().len())),
         Err(SourceRunFault::Source(fault)) => Ok(Err(fault)),
         Err(fault) => Err(Fail::from(fault)),

@@ -1,10 +1,11 @@
 //! The program's lines and statuses for what goes wrong.
-use source_player::{ProgramFault, report};
+use source_player::{ProgramFault, report, tell};
+use standard_rules::HostFault;
 use std::str;
 use std::test::Fail;
 use story_file::LoadFault;
-use story_player::RunFault;
-use world_meaning::{Fault, FaultCode};
+use story_player::{RunFault, StartFault};
+use world_meaning::{Abandon, Fault, FaultCode};
 
 /// A refusal at this line.
 fn refusal(code: FaultCode, line: u32) -> Fault {
@@ -62,6 +63,9 @@ fn faults_have_a_line_and_a_status(rt: HostRuntime) -> Result<(), Fail> {
         let mut written = Vec::new(alloc);
         assert_eq!(rt; report(fault, &mut written), *status, "{line}");
         assert_eq!(rt; str::from_utf8(written.as_slice())?, *line);
+        let mut told = Vec::new(alloc);
+        assert!(rt; tell(fault, &mut told).is_ok(), "{line}");
+        assert_eq!(rt; told.as_slice(), written.as_slice());
     }
     Ok(())
 }
@@ -110,6 +114,45 @@ fn each_code_is_told_by_its_number_and_its_name(rt: HostRuntime) -> Result<(), F
         assert_eq!(rt; report(&ProgramFault::Story("x", *fault), &mut written), 2);
         let line = format!(in alloc; "x: {name}\n")?;
         assert_eq!(rt; written.as_slice(), line.as_bytes());
+    }
+    Ok(())
+}
+
+#[test]
+fn what_no_line_of_the_program_tells_has_its_name(rt: HostRuntime) -> Result<(), Fail> {
+    let alloc = rt.alloc();
+    let memory = refusal(FaultCode::Memory, 7);
+    let named = [
+        (format!(in alloc; "{memory}")?, "7: C14 Memory"),
+        (format!(in alloc; "{}", LoadFault::Memory)?, "L8 Memory"),
+        (
+            format!(in alloc; "{}", Abandon::NestedTooDeep)?,
+            "N1 NestedTooDeep",
+        ),
+        (format!(in alloc; "{}", Abandon::Memory)?, "N2 Memory"),
+        (
+            format!(in alloc; "{}", Abandon::TooMuchWork)?,
+            "N3 TooMuchWork",
+        ),
+        (
+            format!(in alloc; "{}", Abandon::NumberOutOfRange)?,
+            "N4 NumberOutOfRange",
+        ),
+        (
+            format!(in alloc; "{}", HostFault::OutOfOrder)?,
+            "H1 OutOfOrder",
+        ),
+        (format!(in alloc; "{}", HostFault::Full)?, "H2 Full"),
+        (format!(in alloc; "{}", HostFault::Memory)?, "H3 Memory"),
+        (
+            format!(in alloc; "{}", StartFault::IncompleteHosts)?,
+            "S1 IncompleteHosts",
+        ),
+        (format!(in alloc; "{}", StartFault::Memory)?, "S2 Memory"),
+        (format!(in alloc; "{}", RunFault::Write)?, "V2 Write"),
+    ];
+    for (told, name) in &named {
+        assert_eq!(rt; told.as_str(), *name);
     }
     Ok(())
 }

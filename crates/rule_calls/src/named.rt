@@ -2,6 +2,7 @@
 //! stands for and of which kind it is the plural; `rulebook tidy`, its number; `counts`, how many rulebooks and scenes there are,
 //! and whether a name holds an operator.
 use crate::reading::sentences_in;
+use i7_claims::Claimed;
 use i7_conditions::Names;
 use i7_names::{SourceNames, names_in};
 use i7_sentences::Sentence;
@@ -39,7 +40,8 @@ fn answer(alloc: Global, names: &SourceNames, asked: &str) -> Result<String, All
 
 /// What is asked of the names of sentences.
 fn asked_of(alloc: Global, sentences: &[Sentence], asked: &str) -> Result<String, AllocError> {
-    let names = names_in(alloc, sentences)?;
+    let claimed = Claimed::new(alloc, sentences)?;
+    let names = names_in(alloc, &claimed)?;
     answer(alloc, &names, asked)
 }
 

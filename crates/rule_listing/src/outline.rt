@@ -2,6 +2,7 @@
 use crate::listing::books_told;
 use crate::placing::{Placing, placings_of};
 use crate::unlisted::Unlisted;
+use i7_claims::Claimed;
 use i7_kinds::tale_of;
 use i7_lexer::lex;
 use i7_names::names_in;
@@ -59,16 +60,16 @@ fn scenes_of(alloc: Global, sentences: &[Sentence]) -> Result<Vec<TextBytes>, Al
 }
 
 /// The names of the author's rulebooks, by number.
-fn rulebooks_of(alloc: Global, sentences: &[Sentence]) -> Result<Strings, AllocError> {
-    let names = names_in(alloc, sentences)?;
+fn rulebooks_of(alloc: Global, claimed: &Claimed<'_>) -> Result<Strings, AllocError> {
+    let names = names_in(alloc, claimed)?;
     Ok(names.rulebooks)
 }
 
 /// The names that sentences give.
-fn names_of(alloc: Global, sentences: &[Sentence]) -> Result<Names, AllocError> {
-    let rulebooks = rulebooks_of(alloc, sentences)?;
-    let scenes = scenes_of(alloc, sentences)?;
-    let placings = placings_of(alloc, sentences)?;
+fn names_of(alloc: Global, claimed: &Claimed<'_>) -> Result<Names, AllocError> {
+    let rulebooks = rulebooks_of(alloc, claimed)?;
+    let scenes = scenes_of(alloc, claimed.sentences())?;
+    let placings = placings_of(alloc, claimed.sentences())?;
     Ok(Names {
         rulebooks,
         scenes,
@@ -80,23 +81,23 @@ fn names_of(alloc: Global, sentences: &[Sentence]) -> Result<Names, AllocError> 
 fn rules_of(
     alloc: Global,
     tale: &Tale,
-    sentences: &[Sentence],
+    claimed: &Claimed<'_>,
 ) -> Result<Vec<SourceRule>, Unlisted> {
-    let names = names_in(alloc, sentences)?;
+    let names = names_in(alloc, claimed)?;
     if names.rulebooks.len() > 100 || names.scenes > 50 {
         return Err(Unlisted::TooManyNames);
     }
-    match resolution_of(alloc, &names, tale, sentences)? {
+    match resolution_of(alloc, &names, tale, claimed.sentences())? {
         Resolution::Says(resolved) => Ok(resolved.rules),
         Resolution::Refused(fault) => Err(Unlisted::Refused(fault)),
     }
 }
 
-/// What is told of sentences that have this story.
-fn told_with(alloc: Global, sentences: &[Sentence], story: &Story) -> Result<String, Unlisted> {
-    let tale = tale_of(alloc, sentences)?;
-    let rules = rules_of(alloc, &tale, sentences)?;
-    let names = names_of(alloc, sentences)?;
+/// What is told of sentences that have this story, by what they claim.
+fn told_by(alloc: Global, claimed: &Claimed<'_>, story: &Story) -> Result<String, Unlisted> {
+    let tale = tale_of(alloc, claimed)?;
+    let rules = rules_of(alloc, &tale, claimed)?;
+    let names = names_of(alloc, claimed)?;
     let outline = Outline {
         tale: &tale,
         names: &names,
@@ -104,6 +105,12 @@ fn told_with(alloc: Global, sentences: &[Sentence], story: &Story) -> Result<Str
         story,
     };
     Ok(books_told(alloc, outline)?)
+}
+
+/// What is told of sentences that have this story.
+fn told_with(alloc: Global, sentences: &[Sentence], story: &Story) -> Result<String, Unlisted> {
+    let claimed = Claimed::new(alloc, sentences)?;
+    told_by(alloc, &claimed, story)
 }
 
 /// The rulebooks of a source, if it is accepted.

@@ -81,6 +81,3 @@ pub const FURNISHED: &[u8] = &[
     // table 13
     0x00, 0x00,
 ];
-
-/// Where the true properties of the gate stand: their count, that it can be opened, that it is described.
-pub const GATE: usize = 664;

@@ -3,7 +3,7 @@
 
 mod furnished;
 
-pub use furnished::{FURNISHED, GATE};
+pub use furnished::FURNISHED;
 
 /// A Hall with a description, and a Garden north of it.
 pub const TWO_ROOMS: &[u8] =

@@ -14,11 +14,11 @@ use Rattle.story_format.specs.Spells.{Spells}
 use Rattle.story_format.specs.declared.tables.Tables.{Tables}
 use Rattle.story_format.specs.declared.fault.LoadFault.TheVariants as load
 use Rattle.story_file.specs.Compilations.{IsRefused, Means, game_meant}
+use Rattle.story_player.specs.Begun.{IsUnbegun}
 use Rattle.story_player.specs.Breaks.{Blames}
 use Rattle.story_player.specs.Runs.{BrokeOff, Played, Streams, streams_of, most_input}
-use Rattle.world_store.specs.StoryGames.{game_of_story}
+use Rattle.action_stages.specs.StoryPlay.{game_in_play}
 use Rattle.story_player.specs.declared.fault.RunFault.{RunFault}
-use Rattle.story_player.specs.declared.session.StartFault.TheVariants as start
 use Rattle.source_player.specs.declared.source_run.SourceRunFault.{SourceRunFault}
 use Rattle.source_player.specs.declared.source_run.SourceRunFault.TheVariants.{Source, Story, Start, Run}
 
@@ -38,15 +38,15 @@ pub record BrokeOffGame (fault : RunFault) (g : Game) (echo : Bool) (before afte
 pub record PlayedStory (bytes : List ℕ) (echo : Bool) (before after : Streams) (ending : Ending) : Type 0 where
   pub story : Tables
   pub spells : Spells bytes story
-  pub played : PlayedGame (game_of_story story) echo before after ending
+  pub played : PlayedGame (game_in_play story) echo before after ending
 
 pub record BrokeOffStory (fault : RunFault) (bytes : List ℕ) (echo : Bool) (before after : Streams) : Type 0 where
   pub story : Tables
   pub spells : Spells bytes story
-  pub broke : BrokeOffGame fault (game_of_story story) echo before after
+  pub broke : BrokeOffGame fault (game_in_play story) echo before after
 
--- The headline: a source of which there is a story file was played, in the game of the tale that its sentences mean and of what
--- its descriptions say; no rule of the author's is consulted so far, and each standard rule is, wherever sentences list it.
+-- The headline: a source of which there is a story file was played, in the game of the tale that its sentences mean, of what its
+-- descriptions say, and of its rules, each consulted in its place.
 pub record PlayedSource (source : List ℕ) (echo : Bool) (before after : Streams) (ending : Ending) : Type 0 where
   pub tale : Tale
   pub texts : List Text
@@ -54,7 +54,7 @@ pub record PlayedSource (source : List ℕ) (echo : Bool) (before after : Stream
   pub listings : List ListingSentence
   pub means : Means source tale texts rules listings
   pub held : AreHeld tale texts rules
-  pub played : PlayedGame (game_meant tale texts) echo before after ending
+  pub played : PlayedGame (game_meant tale texts listings rules) echo before after ending
 
 pub record BrokeOffSource (fault : RunFault) (source : List ℕ) (echo : Bool) (before after : Streams) : Type 0 where
   pub tale : Tale
@@ -63,7 +63,7 @@ pub record BrokeOffSource (fault : RunFault) (source : List ℕ) (echo : Bool) (
   pub listings : List ListingSentence
   pub means : Means source tale texts rules listings
   pub held : AreHeld tale texts rules
-  pub broke : BrokeOffGame fault (game_meant tale texts) echo before after
+  pub broke : BrokeOffGame fault (game_meant tale texts listings rules) echo before after
 
 -- whether play had begun
 abbrev pub is_of_run : SourceRunFault → Bool
@@ -93,21 +93,21 @@ pub record IsMeant (source : List ℕ) : Type 0 where
   pub means : Means source tale texts rules listings
   pub held : AreHeld tale texts rules
 
--- Why bytes aren't played to their end as a story: they are none, memory is refused where the story that they are begins,
--- or the run broke off.
-abbrev pub LeavesStory : SourceRunFault → List ℕ → Bool → Streams → Streams → Type 0
-LeavesStory (Source fault) bytes echo before after = ⊥
-LeavesStory (Story fault) bytes echo before after = IsNoStory fault bytes
-LeavesStory (Start fault) bytes echo before after = (fault ≡ start.Memory) × IsSpelled bytes
-LeavesStory (Run fault) bytes echo before after = BrokeOffStory fault bytes echo before after
+-- Why bytes aren't played to their end as a story, where there are so many stored rules: they are none, the story that they are
+-- isn't begun, for want of stored rules or of memory, or the run broke off.
+abbrev pub LeavesStory : SourceRunFault → ℕ → List ℕ → Bool → Streams → Streams → Type 0
+LeavesStory (Source fault) stored bytes echo before after = ⊥
+LeavesStory (Story fault) stored bytes echo before after = IsNoStory fault bytes
+LeavesStory (Start fault) stored bytes echo before after = IsUnbegun fault stored × IsSpelled bytes
+LeavesStory (Run fault) stored bytes echo before after = (stored ≡ 61) × BrokeOffStory fault bytes echo before after
 
 -- Why a source isn't played to its end: a refusal of it stands, it means a tale and memory is refused where its story is
--- loaded or begins (what was compiled is a story), or the run broke off.
-abbrev pub LeavesSource : SourceRunFault → List ℕ → Bool → Streams → Streams → Type 0
-LeavesSource (Source fault) source echo before after = IsRefused source fault
-LeavesSource (Story fault) source echo before after = (fault ≡ load.Memory) × IsMeant source
-LeavesSource (Start fault) source echo before after = (fault ≡ start.Memory) × IsMeant source
-LeavesSource (Run fault) source echo before after = BrokeOffSource fault source echo before after
+-- loaded (what was compiled is a story), or it isn't begun, or the run broke off.
+abbrev pub LeavesSource : SourceRunFault → ℕ → List ℕ → Bool → Streams → Streams → Type 0
+LeavesSource (Source fault) stored source echo before after = IsRefused source fault
+LeavesSource (Story fault) stored source echo before after = (fault ≡ load.Memory) × IsMeant source
+LeavesSource (Start fault) stored source echo before after = IsUnbegun fault stored × IsMeant source
+LeavesSource (Run fault) stored source echo before after = (stored ≡ 61) × BrokeOffSource fault source echo before after
 
 -- A source was played over bytes of commands: the transcript is the play of all of them.
 pub record PlayedBytes (source commands : List ℕ) (echo : Bool) (transcript : List ℕ) (ending : Ending) : Type 0 where
@@ -118,11 +118,11 @@ pub record PlayedBytes (source commands : List ℕ) (echo : Bool) (transcript : 
   pub means : Means source tale texts rules listings
   pub held : AreHeld tale texts rules
   pub last : State
-  pub play : IsPlay (game_meant tale texts) echo (opened (game_meant tale texts)).state commands transcript last
+  pub play : IsPlay (game_meant tale texts listings rules) echo (opened (game_meant tale texts listings rules)).state commands transcript last
   pub ended : last.ending ≡ Some ending
 
--- Why a source isn't played over bytes of commands: what playing it leaves, where the commands are read
--- into a transcript that is empty at first.
-pub record IsUnplayed (fault : SourceRunFault) (source commands : List ℕ) (echo : Bool) : Type 0 where
+-- Why a source isn't played over bytes of commands, where there are so many stored rules: what playing it leaves, where the
+-- commands are read into a transcript that is empty at first.
+pub record IsUnplayed (fault : SourceRunFault) (stored : ℕ) (source commands : List ℕ) (echo : Bool) : Type 0 where
   pub after : Streams
-  pub left : LeavesSource fault source echo (streams_of (Some commands) (Some [])) after
+  pub left : LeavesSource fault stored source echo (streams_of (Some commands) (Some [])) after

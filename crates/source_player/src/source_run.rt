@@ -1,11 +1,11 @@
 //! Playing a story file, and playing a source: compiled, loaded, started and run.
-ghost use Rattle.std.specs.Prelude.{◌≡◌, false, IfErr, IfOk, OnErr, OnOk};
+ghost use Rattle.std.specs.Prelude.{◌≡◌, false, IfErr, IfOk, OnOk};
+ghost use Rattle.standard_rules.specs.HostTables.{rule_count};
 ghost use Rattle.source_player.specs.SourceRuns.{FaultsWith, IsUnplayed, LeavesSource, LeavesStory, PlayedBytes, PlayedSource, PlayedStory, is_of_run};
-ghost use Rattle.story_format.specs.Refusals.{IsRefused};
-ghost use Rattle.story_format.specs.Spells.{Spells};
 ghost use Rattle.story_player.specs.Runs.{streams};
-ghost use Rattle.story_player.specs.Watches.{watched_failed, watched_inner};
+ghost use Rattle.story_player.specs.Watches.{watched_failed};
 
+use standard_rules::HostTable;
 use std::alloc::Global;
 use std::io::{Read, Write};
 use story_file::{LoadFault, compile, load};
@@ -26,11 +26,12 @@ pub enum SourceRunFault {
     Run(RunFault),
 }
 
-/// Loads the story, begins it and plays it over the reader and the writer, each command being echoed if
-/// asked. Answers the first fault of these, else how the session ended.
+/// Loads the story, begins it with these stored rules and plays it over the reader and the writer, each command being echoed
+/// if asked. Answers the first fault of these, else how the session ended.
 pub fn run_story<R: Read, W: Write>(
     alloc: Global,
     bytes: &[u8],
+    hosts: HostTable,
     reader: &mut Watched<R>,
     writer: &mut Watched<W>,
     echo: bool,
@@ -44,8 +45,11 @@ pub fn run_story<R: Read, W: Write>(
         (streams R.remaining W.contents reader.new writer.new)
         ) }
 
+    // It is played with a whole table of stored rules.
+    ensures whole { OnOk result (rule_count hosts ≡ 61) }
+
     // A fault says why not, and a fault in front of the run leaves reader and writer as they were.
-    ensures left { IfErr result (λ fault. LeavesStory fault bytes.now echo
+    ensures left { IfErr result (λ fault. LeavesStory fault (rule_count hosts) bytes.now echo
         (streams R.remaining W.contents reader.old writer.old)
         (streams R.remaining W.contents reader.new writer.new)
         ) }
@@ -59,7 +63,7 @@ pub fn run_story<R: Read, W: Write>(
         Ok(story) => story,
         Err(fault) => return Err(SourceRunFault::Story(fault)),
     };
-    let mut session = match Session::start(alloc, story) {
+    let mut session = match Session::start(alloc, story, hosts) {
         Ok(session) => session,
         Err(fault) => return Err(SourceRunFault::Start(fault)),
     };
@@ -69,11 +73,12 @@ pub fn run_story<R: Read, W: Write>(
     }
 }
 
-/// Compiles the source and plays the story over the reader and the writer, each command being echoed if
-/// asked. Answers the first fault of these, else how the session ended.
+/// Compiles the source and plays the story over the reader and the writer, with these stored rules, each command being echoed
+/// if asked. Answers the first fault of these, else how the session ended.
 pub fn run_source<R: Read, W: Write>(
     alloc: Global,
     source: &[u8],
+    hosts: HostTable,
     reader: &mut Watched<R>,
     writer: &mut Watched<W>,
     echo: bool,
@@ -88,8 +93,11 @@ pub fn run_source<R: Read, W: Write>(
         (streams R.remaining W.contents reader.new writer.new)
         ) }
 
+    // It is played with a whole table of stored rules.
+    ensures whole { OnOk result (rule_count hosts ≡ 61) }
+
     // A fault says why not, and a fault in front of the run leaves reader and writer as they were.
-    ensures left { IfErr result (λ fault. LeavesSource fault source.now echo
+    ensures left { IfErr result (λ fault. LeavesSource fault (rule_count hosts) source.now echo
         (streams R.remaining W.contents reader.old writer.old)
         (streams R.remaining W.contents reader.new writer.new)
         ) }
@@ -103,7 +111,7 @@ pub fn run_source<R: Read, W: Write>(
         Ok(bytes) => bytes,
         Err(fault) => return Err(SourceRunFault::Source(fault)),
     };
-    run_story(alloc, bytes.as_slice(), reader, writer, echo)
+    run_story(alloc, bytes.as_slice(), hosts, reader, writer, echo)
 }
 
 /// What a source that was played over bytes of commands gives: the bytes of its transcript, and how the
@@ -114,22 +122,26 @@ pub struct Play {
     pub ending: Ending,
 }
 
-/// Compiles the source and plays the story over the commands, each being echoed if asked.
+/// Compiles the source and plays the story over the commands, with these stored rules, each command being echoed if asked.
 pub fn play_bytes(
     alloc: Global,
     source: &[u8],
+    hosts: HostTable,
     commands: &[u8],
     echo: bool,
 ) -> Result<Play, SourceRunFault>
     // The transcript is the play of the commands, in the game of the tale that the source's sentences mean.
     ensures played { IfOk result (λ play. PlayedBytes source.now commands.now echo play.transcript play.ending) }
 
+    // It is played with a whole table of stored rules.
+    ensures whole { OnOk result (rule_count hosts ≡ 61) }
+
     // A fault says why not: a refusal of the source, memory, a limit, or what stopped the run.
-    ensures refused { IfErr result (λ fault. IsUnplayed fault source.now commands.now echo) }
+    ensures refused { IfErr result (λ fault. IsUnplayed fault (rule_count hosts) source.now commands.now echo) }
 {
     let mut reader = Watched::new(commands);
     let mut writer = Watched::new(Vec::new(alloc));
-    let ending = run_source(alloc, source, &mut reader, &mut writer, echo)?;
+    let ending = run_source(alloc, source, hosts, &mut reader, &mut writer, echo)?;
     Ok(Play {
         transcript: TextBytes::new(writer.into_inner()),
         ending,

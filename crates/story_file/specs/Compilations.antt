@@ -6,7 +6,6 @@ use Rattle.world_meaning.specs.Faults.{out_of_memory}
 use Rattle.world_meaning.specs.declared.tale.Object.{Object}
 use Rattle.world_meaning.specs.declared.tale.Tale.{Tale}
 use Rattle.play_meaning.specs.Games.{Game}
-use Rattle.play_meaning.specs.PlainTales.{script_of}
 use Rattle.play_meaning.specs.Scripts.{game_of}
 use Rattle.play_meaning.specs.Rules.{Rule}
 use Rattle.play_meaning.specs.Trees.{Text}
@@ -20,17 +19,18 @@ use Rattle.code_table.specs.declared.fault.TableFault.{TableFault}
 use Rattle.code_table.specs.declared.fault.TableFault.TheVariants.{LongRule, LongText, TooMany, Memory}
 use Rattle.story_format.specs.Carrying.{Carries}
 use Rattle.story_format.specs.Holding.{AreHeld, AreNotHeld}
-use Rattle.story_format.specs.Making.{tables_of, text_of}
+use Rattle.story_format.specs.Making.{tables_of}
 use Rattle.story_format.specs.Spells.{Spells}
+use Rattle.story_format.specs.TaleScripts.{whole_script}
 use Rattle.story_format.specs.declared.tables.Tables.{Tables}
 use Rattle.story_file.specs.Lines.{line_of_description, line_of_rule}
 use Rattle.story_file.specs.LongStrings.{line_of_long_string}
 use Rattle.story_file.specs.Meanings.{AreMeant, AreRefused}
 
--- the game of a tale whose descriptions say these texts, in the order of the objects that have one; no rule of the author's is
--- consulted so far and no action of theirs is tried, and each standard rule is consulted, wherever sentences list it
-abbrev pub game_meant : Tale → List Text → Game
-game_meant tale texts = game_of (script_of tale (text_of tale texts))
+-- the game of a tale whose descriptions say these texts, in the order of the objects that have one, and whose rules are these, listed
+-- as these sentences say: with the rules that every story has
+abbrev pub game_meant : Tale → List Text → List ListingSentence → List Rule → Game
+game_meant tale texts listings rules = game_of (whole_script tale texts listings rules)
 
 -- A source says these sentences: they are spelled by the tokens that it spells.
 pub record Says (source : List ℕ) (sentences : List Sentence) : Type 0 where

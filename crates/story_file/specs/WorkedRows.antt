@@ -30,10 +30,11 @@ two_rooms =
 abbrev pub two_rooms_texts : List Text
 two_rooms_texts = plain_text (codes "A bare hall.") ∷ []
 
--- what is written while a tale whose descriptions say these texts is played over these lines, each being echoed
+-- what is written while a tale whose descriptions say these texts, and that has no rules of its own, is played over these lines, each
+-- being echoed
 abbrev pub transcript_by : Result Tale Fault → List Text → List (List ℕ) → List ℕ
 transcript_by (Err fault) texts lines = []
-transcript_by (Ok tale) texts lines = transcript (game_meant tale texts) true [] lines
+transcript_by (Ok tale) texts lines = transcript (game_meant tale texts [] []) true [] lines
 
 abbrev pub two_rooms_shown : List (List ℕ)
 two_rooms_shown =

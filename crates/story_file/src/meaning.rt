@@ -9,6 +9,7 @@ ghost use Rattle.story_file.specs.Texts.{AreReadable, texts_kept};
 
 use crate::rules::rules_of;
 use crate::texts::texts_of;
+use i7_claims::Claimed;
 use i7_kinds::tale_of;
 use i7_names::{SourceNames, names_in};
 use i7_resolution::{Resolution, Resolved, resolution_of};
@@ -39,15 +40,15 @@ struct Kept {
 /// What the names of sentences stand for that mean this tale, and what is resolved of them.
 fn resolution_said(
     alloc: Global,
-    sentences: &[Sentence],
+    claimed: &Claimed<'_>,
     tale: &Tale,
 ) -> Result<(SourceNames, Resolution), AllocError>
-    requires meant { tale_said sentences.now ≡ Said tale.now }
-    ensures names { IfOk result (λ found. known_in found.0 tale.now sentences.now ≡ known_said sentences.now tale.now) }
-    ensures told { IfOk result (λ found. IsResolution (known_said sentences.now tale.now) sentences.now found.1) }
+    requires meant { tale_said claimed.now ≡ Said tale.now }
+    ensures names { IfOk result (λ found. known_in found.0 tale.now claimed.now ≡ known_said claimed.now tale.now) }
+    ensures told { IfOk result (λ found. IsResolution (known_said claimed.now tale.now) claimed.now found.1) }
 {
-    let names = names_in(alloc, sentences)?;
-    let told = resolution_of(alloc, &names, tale, sentences)?;
+    let names = names_in(alloc, claimed)?;
+    let told = resolution_of(alloc, &names, tale, claimed.sentences())?;
     Ok((names, told))
 }
 
@@ -73,12 +74,12 @@ fn kept_of(
 }
 
 /// What is kept beside a tale that the sentences mean, or why they are refused.
-fn meant_of(alloc: Global, sentences: &[Sentence], tale: &Tale) -> Result<Kept, Fault>
-    requires { tale_said sentences.now ≡ Said tale.now }
-    ensures meant { IfOk result (λ kept. AreMeant sentences.now tale.now (texts_kept kept.texts.items) (rules_kept kept.rules.items) kept.listings.items) }
-    ensures refused { IfErr result (λ fault. AreRefused sentences.now fault ⊎ (fault ≡ out_of_memory)) }
+fn meant_of(alloc: Global, claimed: &Claimed<'_>, tale: &Tale) -> Result<Kept, Fault>
+    requires { tale_said claimed.now ≡ Said tale.now }
+    ensures meant { IfOk result (λ kept. AreMeant claimed.now tale.now (texts_kept kept.texts.items) (rules_kept kept.rules.items) kept.listings.items) }
+    ensures refused { IfErr result (λ fault. AreRefused claimed.now fault ⊎ (fault ≡ out_of_memory)) }
 {
-    let Ok((names, told)) = resolution_said(alloc, sentences, tale) else {
+    let Ok((names, told)) = resolution_said(alloc, claimed, tale) else {
         return Err(Fault::OUT_OF_MEMORY);
     };
     match told {
@@ -90,17 +91,28 @@ fn meant_of(alloc: Global, sentences: &[Sentence], tale: &Tale) -> Result<Kept, 
     }
 }
 
-/// The tale that sentences mean, what its descriptions say, its rules, and where they list rules, or why they are refused.
-pub fn tale_meant(alloc: Global, sentences: &[Sentence]) -> Result<Meant, Fault>
-    ensures meant { IfOk result (λ meant. AreMeant sentences.now meant.tale (texts_kept meant.texts.items) (rules_kept meant.rules.items) meant.listings.items) }
-    ensures refused { IfErr result (λ fault. AreRefused sentences.now fault ⊎ (fault ≡ out_of_memory)) }
+/// The tale that sentences mean, with what is kept beside it, or why they are refused, by what they claim.
+fn meant_by(alloc: Global, claimed: &Claimed<'_>) -> Result<Meant, Fault>
+    ensures meant { IfOk result (λ meant. AreMeant claimed.now meant.tale (texts_kept meant.texts.items) (rules_kept meant.rules.items) meant.listings.items) }
+    ensures refused { IfErr result (λ fault. AreRefused claimed.now fault ⊎ (fault ≡ out_of_memory)) }
 {
-    let tale = tale_of(alloc, sentences)?;
-    let kept = meant_of(alloc, sentences, &tale)?;
+    let tale = tale_of(alloc, claimed)?;
+    let kept = meant_of(alloc, claimed, &tale)?;
     Ok(Meant {
         tale,
         texts: kept.texts,
         rules: kept.rules,
         listings: kept.listings,
     })
+}
+
+/// The tale that sentences mean, what its descriptions say, its rules, and where they list rules, or why they are refused.
+pub fn tale_meant(alloc: Global, sentences: &[Sentence]) -> Result<Meant, Fault>
+    ensures meant { IfOk result (λ meant. AreMeant sentences.now meant.tale (texts_kept meant.texts.items) (rules_kept meant.rules.items) meant.listings.items) }
+    ensures refused { IfErr result (λ fault. AreRefused sentences.now fault ⊎ (fault ≡ out_of_memory)) }
+{
+    match Claimed::new(alloc, sentences) {
+        Ok(claimed) => Ok(meant_by(alloc, &claimed)?),
+        Err(_) => Err(Fault::OUT_OF_MEMORY),
+    }
 }

@@ -37,3 +37,4 @@ pub mod ToldCodes
 pub mod ToldRules
 pub mod ToldStories
 pub mod CodedTables
+pub mod RightRules

@@ -30,3 +30,4 @@ pub mod Mentioning
 pub mod WordedViews
 pub mod Holding
 pub mod Carrying
+pub mod TaleScripts

@@ -22,6 +22,7 @@ mod number;
 mod once;
 mod ordering;
 mod place;
+mod play_facts;
 mod row;
 mod rule_checks;
 mod rule_codes;
@@ -50,5 +51,7 @@ pub use laws::{
     tales_are_stories, told_alike_are_one,
 };
 pub use loading::load;
+pub use rule_entry::{Aspect, KindAspect, PropertySide, RuleBody, RuleEntry};
+pub use rule_tables::ActionEntry;
 pub use story::Story;
 pub use writing::write;

@@ -4,7 +4,7 @@ use Rattle.std.specs.Prelude.{None, slice_get}
 use Rattle.std.proofs.lemmas.Option.{same_Some}
 use Rattle.story_format.specs.declared.tables.Tables.{Tables}
 use Rattle.world_store.specs.StoryWorlds.{StoryWorld}
-use Rattle.story_player.specs.KeptWorlds.{AreGoing, AreOf}
+use Rattle.story_player.specs.KeptWorlds.{AreOf}
 
 taken_at : (n i : ℕ) (worlds : List StoryWorld) (w : StoryWorld) → slice_get (take n worlds) i ≡ Some w → slice_get worlds i ≡ Some w
 taken_at zero i worlds w is = absurd cc
@@ -20,21 +20,11 @@ in_front_of : (t : Tables) (before : StoryWorld) (worlds : List StoryWorld) → 
 in_front_of t before worlds same are zero w is = ap (λ (v : StoryWorld). v.tables) (sym (same_Some before w is)) ∙ same
 in_front_of t before worlds same are (suc i) w is = are i w is
 
-in_front_going : (before : StoryWorld) (worlds : List StoryWorld) → before.world.ended ≡ None → AreGoing worlds → AreGoing (before ∷ worlds)
-in_front_going before worlds going are zero w is = ap (λ (v : StoryWorld). v.world.ended) (sym (same_Some before w is)) ∙ going
-in_front_going before worlds going are (suc i) w is = are i w is
-
 pub pushed_of : (t : Tables) (n : ℕ) (before : StoryWorld) (worlds now : List StoryWorld) → now ≡ take n (before ∷ worlds) → before.tables ≡ t → AreOf t worlds → AreOf t now
 pushed_of t n before worlds now pushed same are i w is = in_front_of t before worlds same are i w (taken_at n i (before ∷ worlds) w (ap (λ ws. slice_get ws i) (sym pushed) ∙ is))
 
-pub pushed_going : (n : ℕ) (before : StoryWorld) (worlds now : List StoryWorld) → now ≡ take n (before ∷ worlds) → before.world.ended ≡ None → AreGoing worlds → AreGoing now
-pushed_going n before worlds now pushed going are i w is = in_front_going before worlds going are i w (taken_at n i (before ∷ worlds) w (ap (λ ws. slice_get ws i) (sym pushed) ∙ is))
-
 pub popped_of : (t : Tables) (worlds now : List StoryWorld) → now ≡ drop 1 worlds → AreOf t worlds → AreOf t now
 popped_of t worlds now popped are i w is = are (suc i) w (dropped_at i worlds w (ap (λ ws. slice_get ws i) (sym popped) ∙ is))
-
-pub popped_going : (worlds now : List StoryWorld) → now ≡ drop 1 worlds → AreGoing worlds → AreGoing now
-popped_going worlds now popped are i w is = are (suc i) w (dropped_at i worlds w (ap (λ ws. slice_get ws i) (sym popped) ∙ is))
 
 pub none_kept : (worlds : List StoryWorld) (i : ℕ) (w : StoryWorld) → worlds ≡ [] → slice_get worlds i ≡ Some w → ⊥
 none_kept worlds i w none is = let wrong : None ≡ Some w = ap (λ ws. slice_get ws i) (sym none) ∙ is in absurd cc

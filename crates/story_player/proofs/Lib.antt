@@ -8,6 +8,8 @@ pub mod Transcripts
 pub mod TypedLines
 pub mod Words
 pub mod Writes
-pub mod Turning
+pub mod Completing
+pub mod Parts
 pub mod Keepings
 pub mod Objects
+pub mod Answering

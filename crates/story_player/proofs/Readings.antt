@@ -12,10 +12,11 @@ use Rattle.play_meaning.specs.PlainReading.{direction_for, is_direction_for, is_
 use Rattle.play_meaning.specs.Seeing.{is_visible}
 use Rattle.play_meaning.specs.Sessions.{State}
 use Rattle.play_meaning.specs.Settings.{Setting, direction_kind, objects_of}
-use Rattle.play_meaning.specs.PlainStories.{game_of_plain}
+use Rattle.play_meaning.specs.CodedStories.{game_of_codes}
 use Rattle.story_format.specs.declared.tables.Tables.{Tables}
 use Rattle.story_format.specs.Facts.{words_of as words_told}
-use Rattle.world_store.specs.StoryGames.{game_of_story, means_in, plain_story}
+use Rattle.action_stages.specs.StoryPlay.{coded_story, game_in_play}
+use Rattle.world_store.specs.StoryGames.{means_in}
 use Rattle.world_store.specs.StorySettings.{setting_of}
 use Rattle.world_meaning.proofs.Bools.{both_are, either}
 use Rattle.world_meaning.specs.Reading.{Means, direction_meant, go_reading, going, is_blank, is_go, is_look, is_quit, is_undo, look_reading, noun_of, reading_of, verb_reading, words_of, words_reading}
@@ -82,8 +83,8 @@ pub record ReadsPlainly (g : Game) : Type 0 where
   pub means : Means
   pub reads : (question : Option Question) (sees : ℕ → Bool) (line : List ℕ) → g.reads question sees line ≡ meant (reading_of means line)
 
-pub reads_so : (t : Tables) → ReadsPlainly (game_of_story t)
-unfolding game_of_plain plain_story reads_plainly
+pub reads_so : (t : Tables) → ReadsPlainly (game_in_play t)
+unfolding game_of_codes coded_story reads_plainly
 reads_so t = record { means = means_in t; reads = λ question sees line. refl }
 
 reads_too_long : (g : Game) (plain : ReadsPlainly g) (s : State) (line : List ℕ) → 255 < length line → has_word line ≡ true → Says too_long_text ≡ line_reading g s line
@@ -105,8 +106,8 @@ reading_typed g plain s Blanks front kept is =
     ] refl
 
 -- what the player makes of a line is what the story's game reads in it
-pub reads_told : (t : Tables) (s : State) (line : Told) → meant (plain_told (means_in t) line) ≡ told_reading (game_of_story t) s line
-unfolding game_of_plain plain_story reads_plainly
+pub reads_told : (t : Tables) (s : State) (line : Told) → meant (plain_told (means_in t) line) ≡ told_reading (game_in_play t) s line
+unfolding game_of_codes coded_story reads_plainly
 reads_told t s (Line bytes) = refl
 reads_told t s (Long true) = refl
 reads_told t s (Long false) = refl

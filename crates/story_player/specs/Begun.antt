@@ -1,13 +1,20 @@
--- A story behind its opening.
-use Rattle.std.specs.Prelude.{◌≡◌, ℕ, List, [], None}
+-- A story behind its opening, and why none is begun.
+use Rattle.std.specs.Prelude.{◌≡◌, ◌≢◌, ℕ, List, [], None}
+use Rattle.action_stages.specs.StoryPlay.{game_in_play}
 use Rattle.play_meaning.specs.Sessions.{opened}
 use Rattle.story_format.specs.declared.tables.Tables.{Tables}
-use Rattle.world_store.specs.StoryGames.{game_of_story}
+use Rattle.story_player.specs.Turns.{ending_told}
+use Rattle.story_player.specs.declared.fault.StartFault.{StartFault}
+use Rattle.story_player.specs.declared.fault.StartFault.TheVariants.{IncompleteHosts, Memory}
 use Rattle.world_store.specs.StoryWorlds.{StoryWorld}
 
 -- its world, and what was said
 pub record IsBegun (t : Tables) (now : StoryWorld) (opening : List ℕ) : Type 0 where
   pub tables : now.tables ≡ t
-  pub going : now.world.ended ≡ None
-  pub text : opening ≡ (opened (game_of_story t)).text
-  pub state : record { world = now.world; kept = []; question = None; ending = None } ≡ (opened (game_of_story t)).state
+  pub text : opening ≡ (opened (game_in_play t)).text
+  pub state : record { world = now.world; kept = []; question = None; ending = ending_told now.world.ended } ≡ (opened (game_in_play t)).state
+
+-- of so many stored rules not all are there, else memory lacked
+abbrev pub IsUnbegun : StartFault → ℕ → Type 0
+IsUnbegun IncompleteHosts count = count ≢ 61
+IsUnbegun Memory count = count ≡ 61

@@ -7,19 +7,19 @@ use Rattle.world_meaning.specs.declared.session.Abandon.TheVariants.{Memory, Nes
 use Rattle.world_meaning.specs.declared.session.ReplyKind.{ReplyKind}
 use Rattle.world_meaning.specs.declared.session.ReplyKind.TheVariants.{Kept, Free, Abandoned, Ended, Over}
 use Rattle.story_format.specs.declared.tables.Tables.{Tables}
-use Rattle.world_store.specs.StoryGames.{game_of_story}
+use Rattle.action_stages.specs.StoryPlay.{game_in_play}
 use Rattle.story_player.specs.Spoken.{Spoken}
 use Rattle.story_player.specs.declared.session.Session.{Session}
 
 -- the story that is played, by its tables
-abbrev pub story_of : Session → Tables
+abbrev pub story_of : {X : _} {F : _} {g : _} → Session X F g → Tables
 story_of session = session.world.tables
 
-abbrev pub game_of : Session → Game
-game_of session = game_of_story (story_of session)
+abbrev pub game_of : {X : _} {F : _} {g : _} → Session X F g → Game
+game_of session = game_in_play (story_of session)
 
 -- no line of this language leaves a question open
-abbrev pub state_of : Session → State
+abbrev pub state_of : {X : _} {F : _} {g : _} → Session X F g → State
 state_of session = record { world = session.world.world; kept = map (λ before. before.world) session.kept.items; question = None; ending = session.ending }
 
 -- a reply, and the state in which a session is behind it

@@ -1,9 +1,18 @@
-//! Why a run breaks off.
+//! Why no session begins, and why a run breaks off.
 ghost use Rattle.std.specs.Prelude.{◌≡◌, Some};
 ghost use Rattle.story_player.specs.FaultTexts.{run_text};
 
-use std::error::Error;
-use std::fmt;
+use std::{error, fmt};
+use thiserror::Error;
+
+/// Why no session begins: rules are missing from the table of stored ones, or memory lacked.
+#[derive(Clone, Copy, Debug, Drop, PartialEq, Eq, Error)]
+pub enum StartFault {
+    #[error("S1 IncompleteHosts")]
+    IncompleteHosts,
+    #[error("S2 Memory")]
+    Memory,
+}
 
 /// Why playing breaks off.
 #[derive(Clone, Copy, Debug, Drop, PartialEq, Eq)]
@@ -37,4 +46,4 @@ impl fmt::Display for RunFault {
     }
 }
 
-impl Error for RunFault {}
+impl error::Error for RunFault {}

@@ -9,13 +9,14 @@ mod reply;
 mod session;
 mod telling;
 mod texts;
+mod trial;
 mod turns;
 mod typed;
 mod watched;
 
-pub use fault::RunFault;
+pub use fault::{RunFault, StartFault};
 pub use playing::run;
 pub use reading::read_line;
 pub use reply::Reply;
-pub use session::{Session, StartFault};
+pub use session::Session;
 pub use watched::Watched;

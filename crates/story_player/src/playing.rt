@@ -1,12 +1,12 @@
 //! Playing a session over a reader and a writer.
-ghost use Rattle.std.specs.Prelude.{◌≡◌, ◌++◌, ◌∷◌, [], ℕ, List, Bool, false, true, None, Ok, Some, IfErr, IfOk, OnErr, OnOk};
+ghost use Rattle.std.specs.Prelude.{◌≡◌, ◌++◌, ◌∷◌, [], false, true, None, Ok, Some, IfErr, IfOk, OnErr, OnOk};
 ghost use Rattle.std.specs.Io.KnownBytes.{Appends, Consumes, IsAtEnd};
 ghost use Rattle.play_meaning.specs.Sessions.{answer_to, opened};
 ghost use Rattle.world_meaning.specs.Texts.{prompt};
 ghost use Rattle.play_meaning.specs.Transcripts.{while_going};
 ghost use Rattle.story_player.specs.Breaks.{Blames};
 ghost use Rattle.story_player.specs.Runs.{BrokeOff, Played, most_input, streams};
-ghost use Rattle.story_player.specs.Sessions.{state_of, game_of};
+ghost use Rattle.story_player.specs.Sessions.{game_of, state_of, story_of};
 ghost use Rattle.story_player.specs.Steps.{Answered, AnsweredLast, BrokeAnswer, BrokeLast, BrokeTyping, IsTyping, PlayedLast, PlayedLine, ReadsByte, WroteFront, shown, typed_part};
 ghost use Rattle.story_player.specs.Typed.{flushed, nothing_typed, typed_reading, typed_with};
 ghost use Rattle.story_player.specs.Watches.{watched_failed, watched_inner};
@@ -179,6 +179,7 @@ fn answer<W: Write>(
     ensures stands { OnOk result (watched_failed writer.new ≡ false) }
     ensures broke { IfErr result (λ fault. (fault ≡ RunFault.Write) × (watched_failed writer.new ≡ true)) }
     ensures game { game_of session.new ≡ game_of session.old }
+    ensures story { story_of session.new ≡ story_of session.old }
     ensures answered { OnOk result (Answered
         (λ refused. typed_part (game_of session.old) echo refused (state_of session.old) line.now)
         (λ refused. (answer_to (game_of session.old) refused (state_of session.old) (typed_reading (game_of session.old) (state_of session.old) line.now)).state)
@@ -219,6 +220,7 @@ fn answer_last<W: Write>(
     ensures stands { OnOk result (watched_failed writer.new ≡ false) }
     ensures broke { IfErr result (λ fault. (fault ≡ RunFault.Write) × (watched_failed writer.new ≡ true)) }
     ensures game { game_of session.new ≡ game_of session.old }
+    ensures story { story_of session.new ≡ story_of session.old }
     ensures answered { OnOk result (AnsweredLast (game_of session.old) echo (state_of session.old) line.now
         (W.contents (watched_inner writer.old)) (W.contents (watched_inner writer.new)) (state_of session.new)) }
     ensures front { OnErr result (BrokeLast (game_of session.old) echo (state_of session.old) line.now
@@ -245,6 +247,7 @@ fn play_line<R: Read, W: Write>(
     ensures stand { OnOk result ((watched_failed reader.new ≡ false) × (watched_failed writer.new ≡ false)) }
     ensures broke { IfErr result (λ fault. Blames fault (watched_failed reader.new) (watched_failed writer.new)) }
     ensures game { game_of session.new ≡ game_of session.old }
+    ensures story { story_of session.new ≡ story_of session.old }
     ensures whole { result ≡ Ok LineEnd.Break → PlayedLine (game_of session.old) echo left.old left.new
         (streams R.remaining W.contents reader.old writer.old)
         (streams R.remaining W.contents reader.new writer.new)
@@ -301,6 +304,7 @@ pub fn run<R: Read, W: Write>(
     ensures stand { OnOk result ((watched_failed reader.new ≡ false) × (watched_failed writer.new ≡ false)) }
     ensures broke { IfErr result (λ fault. Blames fault (watched_failed reader.new) (watched_failed writer.new)) }
     ensures game { game_of session.new ≡ game_of session.old }
+    ensures story { story_of session.new ≡ story_of session.old }
 {
     let mut left = MOST_INPUT;
     write_whole(writer, session.opening())?;

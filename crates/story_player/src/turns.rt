@@ -1,135 +1,173 @@
-//! Turns: what looking and going do to the world, and what they say.
-ghost use Rattle.std.specs.Prelude.{◌≡◌, false, Some, MatchOption, MatchResult};
-ghost use Rattle.play_meaning.specs.Attempts.{next};
-ghost use Rattle.play_meaning.specs.Deeds.{arrive, go, is_closed, look, visit};
-ghost use Rattle.play_meaning.specs.Progress.{fresh};
-ghost use Rattle.play_meaning.specs.Turns.{count_turn};
-ghost use Rattle.world_store.specs.StoryGames.{plain_story};
-ghost use Rattle.world_store.specs.StorySettings.{setting_of};
-ghost use Rattle.world_store.specs.StoryWorlds.{in_world};
-ghost use Rattle.story_player.specs.Turns.{Breaks, ComesTo, Completes, IsClosedOn, deed, door_from};
+//! Turns and the opening over a stage: their parts in order, each of which is skipped once the story has ended.
+ghost use Rattle.std.specs.Prelude.{◌≡◌, [], ◌∷◌, Ok};
+ghost use Rattle.play_meaning.specs.Consulting.{every_turn_book};
+ghost use Rattle.play_meaning.specs.Turns.{count_turn, follow, look_round, no_action, opening, parts, perform, turn, unless_over};
+ghost use Rattle.action_stages.specs.Answering.{Answers, Comes};
+ghost use Rattle.action_stages.specs.Stages.{progress_of, story_of, tables_of};
+ghost use Rattle.action_stages.specs.StoryPlay.{game_in_play};
+ghost use Rattle.story_player.specs.Turns.{done_in};
 
-use crate::telling::{closed_text, completed, fixed_text, look_text};
-use crate::texts;
+use action_stages::{Stage, consult, count_turn, perform};
+use play_meaning::{ActNo, ActionNow};
 use std::alloc::Global;
-use world_meaning::{Abandon, Action, ObjNo, Rel, TextBytes};
-use world_store::World;
+use world_meaning::Abandon;
+use world_store::worlds_are_whole;
 
-/// The property that a door is open.
-const OPEN: u8 = 0;
+/// How many levels actions and rulebooks may be nested below a line's own.
+const LEVELS: u8 = 16;
 
-/// The property that the player has looked round in a room.
-const VISITED: u8 = 10;
+/// The rulebook of every turn.
+const EVERY_TURN: u16 = 6;
 
-/// The highest turn count.
-const MOST_TURNS: u32 = 2_147_483_647;
+/// The rulebook of when play begins.
+const PLAY_BEGINS: u16 = 7;
 
-/// A lit room is visited by one who looks round in it.
-fn visit(world: &mut World)
-    ensures { world.new ≡ in_world world.old (visit (setting_of world.old.tables) world.old.world) }
+/// The number of looking among the standard actions.
+const LOOKING: u8 = 0;
+
+/// No action.
+fn no_action() -> ActionNow
+    ensures { result ≡ no_action }
 {
-    if world.lit_here() {
-        let room = world.location();
-        let _ = world.set_flag(room, VISITED, true);
+    ActionNow {
+        action: ActNo::NONE,
+        noun: None,
+        second: None,
+        silent: false,
     }
 }
 
-/// Looks round.
-fn look(alloc: Global, world: &mut World) -> Result<Vec<u8>, Abandon>
-    ensures told { MatchResult result
-        (λ text. ComesTo (look (plain_story world.old.tables) (fresh world.old.world)) world.new.world text.items)
-        (Breaks (look (plain_story world.old.tables) (fresh world.old.world))) }
-    ensures story { world.new.tables ≡ world.old.tables }
+/// The action of looking round.
+pub(crate) fn look_round() -> ActionNow
+    ensures { result ≡ look_round }
 {
-    let text = look_text(alloc, world)?;
-    visit(world);
-    Ok(text)
+    ActionNow {
+        action: ActNo::new(LOOKING),
+        noun: None,
+        second: None,
+        silent: false,
+    }
 }
 
-/// Whether a door is closed.
-fn is_closed(world: &World, door: ObjNo) -> bool
-    ensures { result ≡ is_closed (setting_of world.now.tables) world.now.world (Some door) }
+/// Performs an action.
+#[tactic(auto, using(crate::proofs::Parts::performed_so, crate::proofs::Parts::performed_not))]
+fn act(alloc: Global, stage: &mut Stage<'_>, now: ActionNow) -> Result<(), Abandon>
+    requires told { tables_of stage.old ≡ story_of stage.old }
+    ensures answer { Answers result (λ done. progress_of stage.new) (perform (game_in_play (story_of stage.old)) now (progress_of stage.old)) }
+    ensures story { story_of stage.new ≡ story_of stage.old }
+    ensures tables { tables_of stage.new ≡ story_of stage.old }
 {
-    world.has_flag(door, OPEN) && !world.flag(door, OPEN)
+    perform(alloc, stage, now, LEVELS)?;
+    Ok(())
 }
 
-/// The closed door on the way in a direction, if there is one.
-fn closed_door(world: &World, direction: ObjNo) -> Option<ObjNo>
-    ensures { MatchOption result
-        (is_closed (setting_of world.now.tables) world.now.world (door_from (setting_of world.now.tables) world.now.world direction) ≡ false)
-        (λ door. IsClosedOn (setting_of world.now.tables) world.now.world direction door) }
+/// Follows a rulebook outside an action.
+#[tactic(auto, using(crate::proofs::Parts::followed_so, crate::proofs::Parts::followed_not))]
+fn follow(alloc: Global, stage: &mut Stage<'_>, book: u16) -> Result<(), Abandon>
+    requires told { tables_of stage.old ≡ story_of stage.old }
+    ensures answer { Answers result (λ done. progress_of stage.new) (follow (game_in_play (story_of stage.old)) book (progress_of stage.old)) }
+    ensures story { story_of stage.new ≡ story_of stage.old }
+    ensures tables { tables_of stage.new ≡ story_of stage.old }
 {
-    let door = world.door_on_way(direction)?;
-    if is_closed(world, door) {
-        Some(door)
+    consult(alloc, stage, book, &no_action(), LEVELS)?;
+    Ok(())
+}
+
+/// Performs an action, unless the story has ended.
+fn act_unless_over(alloc: Global, stage: &mut Stage<'_>, now: ActionNow) -> Result<(), Abandon>
+    requires told { tables_of stage.old ≡ story_of stage.old }
+    ensures answer { Answers result (λ done. progress_of stage.new) (unless_over (progress_of stage.old).world.ended (perform (game_in_play (story_of stage.old)) now) (progress_of stage.old)) }
+    ensures story { story_of stage.new ≡ story_of stage.old }
+    ensures tables { tables_of stage.new ≡ story_of stage.old }
+{
+    match stage.world().ended() {
+        Some(_) => Ok(()),
+        None => Ok(act(alloc, stage, now)?),
+    }
+}
+
+/// Follows a rulebook, unless the story has ended.
+fn follow_unless_over(alloc: Global, stage: &mut Stage<'_>, book: u16) -> Result<(), Abandon>
+    requires told { tables_of stage.old ≡ story_of stage.old }
+    ensures answer { Answers result (λ done. progress_of stage.new) (unless_over (progress_of stage.old).world.ended (follow (game_in_play (story_of stage.old)) book) (progress_of stage.old)) }
+    ensures story { story_of stage.new ≡ story_of stage.old }
+    ensures tables { tables_of stage.new ≡ story_of stage.old }
+{
+    match stage.world().ended() {
+        Some(_) => Ok(()),
+        None => Ok(follow(alloc, stage, book)?),
+    }
+}
+
+/// Counts the turn, if there is a number for it, unless the story has ended.
+fn count_unless_over(stage: &mut Stage<'_>) -> Result<(), Abandon>
+    requires told { tables_of stage.old ≡ story_of stage.old }
+    ensures answer { Comes result (λ done. progress_of stage.new) (unless_over (progress_of stage.old).world.ended count_turn (progress_of stage.old)) }
+    ensures story { story_of stage.new ≡ story_of stage.old }
+    ensures tables { tables_of stage.new ≡ story_of stage.old }
+{
+    match stage.world().ended() {
+        Some(_) => Ok(()),
+        None => Ok(count_turn(stage)?),
+    }
+}
+
+/// The parts of a turn behind its action: the every turn rules, and the count.
+#[tactic(auto, using(crate::proofs::Parts::two_parts, crate::proofs::Parts::first_breaks, crate::proofs::Parts::second_breaks))]
+fn behind_action(alloc: Global, stage: &mut Stage<'_>) -> Result<(), Abandon>
+    requires told { tables_of stage.old ≡ story_of stage.old }
+    ensures answer { Answers result (λ done. progress_of stage.new) (parts (follow (game_in_play (story_of stage.old)) every_turn_book ∷ count_turn ∷ []) (progress_of stage.old)) }
+    ensures story { story_of stage.new ≡ story_of stage.old }
+    ensures tables { tables_of stage.new ≡ story_of stage.old }
+{
+    follow_unless_over(alloc, stage, EVERY_TURN)?;
+    count_unless_over(stage)?;
+    Ok(())
+}
+
+/// A turn: the action, the every turn rules, the count (*Writing with Inform*, chapter 9).
+#[tactic(auto, using(crate::proofs::Parts::turn_comes, crate::proofs::Parts::turn_stops, crate::proofs::Parts::turn_stops_behind))]
+fn turn(alloc: Global, stage: &mut Stage<'_>, now: ActionNow) -> Result<(), Abandon>
+    requires told { tables_of stage.old ≡ story_of stage.old }
+    ensures answer { Answers result (λ done. progress_of stage.new) (turn (game_in_play (story_of stage.old)) now (progress_of stage.old)) }
+    ensures story { story_of stage.new ≡ story_of stage.old }
+    ensures tables { tables_of stage.new ≡ story_of stage.old }
+{
+    worlds_are_whole(stage.world());
+    act_unless_over(alloc, stage, now)?;
+    behind_action(alloc, stage)?;
+    Ok(())
+}
+
+/// The opening: the rules of when play begins, and looking.
+#[tactic(auto, using(crate::proofs::Parts::opening_comes, crate::proofs::Parts::opening_stops, crate::proofs::Parts::opening_stops_behind))]
+pub(crate) fn opening(alloc: Global, stage: &mut Stage<'_>) -> Result<(), Abandon>
+    requires told { tables_of stage.old ≡ story_of stage.old }
+    ensures answer { Answers result (λ done. progress_of stage.new) (opening (game_in_play (story_of stage.old)) (progress_of stage.old)) }
+    ensures story { story_of stage.new ≡ story_of stage.old }
+    ensures tables { tables_of stage.new ≡ story_of stage.old }
+{
+    worlds_are_whole(stage.world());
+    follow_unless_over(alloc, stage, PLAY_BEGINS)?;
+    act_unless_over(alloc, stage, look_round())?;
+    Ok(())
+}
+
+/// Does an action: one out of world by itself, another in a turn.
+pub(crate) fn done(
+    alloc: Global,
+    stage: &mut Stage<'_>,
+    now: ActionNow,
+    apart: bool,
+) -> Result<(), Abandon>
+    requires told { tables_of stage.old ≡ story_of stage.old }
+    ensures answer { Answers result (λ done. progress_of stage.new) (done_in apart (game_in_play (story_of stage.old)) now (progress_of stage.old)) }
+    ensures story { story_of stage.new ≡ story_of stage.old }
+    ensures tables { tables_of stage.new ≡ story_of stage.old }
+{
+    if apart {
+        Ok(act(alloc, stage, now)?)
     } else {
-        None
+        Ok(turn(alloc, stage, now)?)
     }
-}
-
-/// The player comes to a room and looks round.
-fn arrive(alloc: Global, world: &mut World, room: ObjNo) -> Result<Vec<u8>, Abandon>
-    ensures told { MatchResult result
-        (λ text. ComesTo (arrive (plain_story world.old.tables) (fresh world.old.world) (Some room)) world.new.world text.items)
-        (Breaks (arrive (plain_story world.old.tables) (fresh world.old.world) (Some room))) }
-    ensures story { world.new.tables ≡ world.old.tables }
-{
-    let _ = world.put(ObjNo::new(0), Rel::In, room);
-    look(alloc, world)
-}
-
-/// Goes in a direction: to the room beyond, unless a door on the way is closed or there is no way.
-fn go(alloc: Global, world: &mut World, direction: ObjNo) -> Result<Vec<u8>, Abandon>
-    ensures told { MatchResult result
-        (λ text. ComesTo (go (plain_story world.old.tables) direction (fresh world.old.world)) world.new.world text.items)
-        (Breaks (go (plain_story world.old.tables) direction (fresh world.old.world))) }
-    ensures story { world.new.tables ≡ world.old.tables }
-{
-    if let Some(door) = closed_door(world, direction) {
-        return closed_text(alloc, world.story(), door);
-    }
-    match world.way(direction) {
-        None => fixed_text(alloc, texts::NO_WAY),
-        Some(room) => arrive(alloc, world, room),
-    }
-}
-
-/// Does what the player means to do.
-#[tactic(auto, unfolding(world_store::specs::StoryGames::plain_story))]
-fn deed(alloc: Global, world: &mut World, action: Action) -> Result<Vec<u8>, Abandon>
-    ensures told { MatchResult result
-        (λ text. ComesTo (deed (plain_story world.old.tables) world.old.world action) world.new.world text.items)
-        (Breaks (deed (plain_story world.old.tables) world.old.world action)) }
-    ensures story { world.new.tables ≡ world.old.tables }
-{
-    match action {
-        Action::Looking => look(alloc, world),
-        Action::Going(direction) => go(alloc, world, direction),
-    }
-}
-
-/// Does what the player means to do; its text is complete. Where play is abandoned the world may be any of the story.
-pub(crate) fn done(alloc: Global, world: &mut World, action: Action) -> Result<TextBytes, Abandon>
-    ensures told { MatchResult result
-        (λ text. Completes (deed (plain_story world.old.tables) world.old.world action) world.new.world text)
-        (Breaks (deed (plain_story world.old.tables) world.old.world action)) }
-    ensures story { world.new.tables ≡ world.old.tables }
-{
-    let text = deed(alloc, world, action)?;
-    Ok(completed(text)?)
-}
-
-/// Does what the player means to do, and counts the turn, if there is a number for it.
-pub(crate) fn turn(alloc: Global, world: &mut World, action: Action) -> Result<TextBytes, Abandon>
-    ensures told { MatchResult result
-        (λ text. Completes (next (deed (plain_story world.old.tables) world.old.world action) count_turn) world.new.world text)
-        (Breaks (next (deed (plain_story world.old.tables) world.old.world action) count_turn)) }
-    ensures story { world.new.tables ≡ world.old.tables }
-{
-    let text = done(alloc, world, action)?;
-    if world.turns() >= MOST_TURNS {
-        return Err(Abandon::NumberOutOfRange);
-    }
-    world.next_turn();
-    Ok(text)
 }

@@ -11,12 +11,19 @@ mod pair;
 mod reads;
 mod row;
 mod rules;
+mod stages;
 mod words;
 
+ghost use Rattle.std.specs.Prelude.{◌≡◌, ◌≤◌, IfOk, true};
+ghost use Rattle.standard_rules.specs.Answers.{HasEffect};
+ghost use Rattle.standard_rules.specs.Hosts.{are_there};
+
 use calls::{Answer, called};
+use play_meaning::ActionNow;
 use row::row_told;
 use sample_stories::FURNISHED;
-use std::alloc::Global;
+use standard_rules::{HostAnswer, HostCall, HostRule, HostTable, standard};
+use std::alloc::{AllocError, Global};
 use std::io::{Stdout, Write};
 use std::process::ExitCode;
 use std::rc::Rc;
@@ -65,18 +72,24 @@ fn tell_calls(rt: &HostRuntime, story: &Rc<Story>, world: &World, calls: &[Strin
 }
 
 /// Prints what the calls of a row answer.
-fn tell_row(alloc: Global, out: &mut Stdout, story: &Rc<Story>, row: &str) -> bool {
-    match row_told(alloc, story, row) {
+fn tell_row(
+    alloc: Global,
+    out: &mut Stdout,
+    story: &Rc<Story>,
+    table: &HostTable,
+    row: &str,
+) -> bool {
+    match row_told(alloc, story, table, row) {
         Ok(told) => writeln!(out, "{told}").is_ok(),
         Err(_) => false,
     }
 }
 
 /// Makes the calls of rows.
-fn tell_rows(rt: &HostRuntime, story: &Rc<Story>, rows: &str) -> bool {
+fn tell_rows(rt: &HostRuntime, story: &Rc<Story>, table: &HostTable, rows: &str) -> bool {
     let mut out = rt.stdout();
     for row in rows.lines() {
-        if !tell_row(rt.alloc(), &mut out, story, row) {
+        if !tell_row(rt.alloc(), &mut out, story, table, row) {
             return false;
         }
     }
@@ -84,19 +97,19 @@ fn tell_rows(rt: &HostRuntime, story: &Rc<Story>, rows: &str) -> bool {
 }
 
 /// Makes the calls of the rows of a file, if it is there.
-fn tell_file(rt: &HostRuntime, story: &Rc<Story>, path: &str) -> Option<bool> {
+fn tell_file(rt: &HostRuntime, story: &Rc<Story>, table: &HostTable, path: &str) -> Option<bool> {
     let bytes = fs::read(rt, path).ok()?;
     let rows = str::from_utf8(bytes.as_slice()).ok()?;
-    Some(tell_rows(rt, story, rows))
+    Some(tell_rows(rt, story, table, rows))
 }
 
 /// Makes the calls of words, and behind `--rows` those of a file.
-fn tell_all(rt: &HostRuntime, path: &str, words: &[String]) -> Option<bool> {
+fn tell_all(rt: &HostRuntime, table: &HostTable, path: &str, words: &[String]) -> Option<bool> {
     let (story, world) = begun(rt, path)?;
     match words {
         [calls @ .., flag, file] if flag.as_str() == "--rows" => {
             let told = tell_calls(rt, &story, &world, calls);
-            Some(told && tell_file(rt, &story, file.as_str())?)
+            Some(told && tell_file(rt, &story, table, file.as_str())?)
         }
         calls => Some(tell_calls(rt, &story, &world, calls)),
     }
@@ -104,19 +117,37 @@ fn tell_all(rt: &HostRuntime, path: &str, words: &[String]) -> Option<bool> {
 
 /// Makes the calls, and answers the status: 0, or 4 where there is no story, no file of rows, no memory, or no room for the
 /// answers.
-fn status(rt: &HostRuntime) -> u8 {
+fn status(rt: &HostRuntime, table: &HostTable) -> u8 {
     let Ok(args) = env::args(rt) else { return 4 };
     let words: Result<Vec<String>, _> = args.collect(rt.alloc());
     let Ok(words) = words else { return 4 };
     let [_, path, words @ ..] = words.as_slice() else {
         return 4;
     };
-    match tell_all(rt, path.as_str(), words) {
+    match tell_all(rt, table, path.as_str(), words) {
         Some(true) => 0,
         _ => 4,
     }
 }
 
+/// The stored rules are the standard ones.
+#[tactic(auto, unfolding(standard_rules::specs::Answers::HasEffect))]
 fn main(rt: HostRuntime) -> ExitCode {
-    ExitCode::from(status(&rt))
+    let mut table = HostTable::new(rt.alloc());
+    for id in 1..62u8 {
+        let call: HostCall = match Box::new(
+            rt.alloc(),
+            move |alloc: Global, world: &World, now: &ActionNow| -> Result<HostAnswer, AllocError>
+                requires { (1 ≤ id) × (id ≤ 61) × (are_there world.now now.now ≡ true) }
+                ensures { IfOk result (λ answer. HasEffect id world.now now.now answer) }
+            { standard(alloc, id, world, now) },
+        ) {
+            Ok(call) => call,
+            Err(_) => return ExitCode::from(4),
+        };
+        if table.add(HostRule::new(id, call)).is_err() {
+            return ExitCode::from(4);
+        }
+    }
+    ExitCode::from(status(&rt, &table))
 }

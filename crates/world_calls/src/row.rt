@@ -4,8 +4,10 @@ use crate::changes::{change_of, changed};
 use crate::pair::Pair;
 use crate::reads::read_told;
 use crate::rules::rule_told;
+use crate::stages::{action_told, book_told};
 use crate::words::Words;
 use play_meaning::make;
+use standard_rules::HostTable;
 use std::alloc::{AllocError, Global};
 use std::rc::Rc;
 use story_format::Story;
@@ -78,24 +80,54 @@ fn climb_told(alloc: Global, world: &World, words: &mut Words<'_>) -> Result<Str
     }
 }
 
+/// What the call of a rule, an action or a rulebook answers, if it is one of these.
+fn played_told(
+    alloc: Global,
+    world: &mut World,
+    table: &HostTable,
+    call: &str,
+    words: &mut Words<'_>,
+) -> Result<Option<String>, AllocError> {
+    match call {
+        "rule" => Ok(rule_told(alloc, world, words)?),
+        "perform" => Ok(action_told(alloc, world, table, words)?),
+        "consult" => Ok(book_told(alloc, world, table, words)?),
+        _ => Ok(None),
+    }
+}
+
 /// What a call answers by its words.
-fn words_told(alloc: Global, world: &mut World, told: &str) -> Result<String, AllocError> {
+fn words_told(
+    alloc: Global,
+    world: &mut World,
+    table: &HostTable,
+    told: &str,
+) -> Result<String, AllocError> {
     let mut words = Words::of(told);
     match words.word() {
         "make" => make_told(alloc, world, &mut words),
         "chain" => climb_told(alloc, world, &mut words),
-        "rule" => match rule_told(alloc, world, &mut words)? {
-            Some(told) => Ok(told),
-            None => unknown(alloc),
-        },
+        "rule" | "perform" | "consult" => {
+            let call = Words::of(told).word();
+            match played_told(alloc, world, table, call, &mut words)? {
+                Some(told) => Ok(told),
+                None => unknown(alloc),
+            }
+        }
         call => world_told(alloc, world, call, &mut words),
     }
 }
 
 /// What a call answers. Beside those of the world there are `make` in front of a change, which makes it by the function of that
-/// name; `rule`, what the standard rule of a number answers of a noun and a second one, its changes being made; `copy`, behind which the calls go to the copy; `other`, behind which they go to the world that isn't called; and
+/// name; `rule`, what the standard rule of a number answers of a noun and a second one, its changes being made; `perform`, what an action
+/// says and comes to, and `consult`, what a rulebook does outside an action; `copy`, behind which the calls go to the copy; `other`, behind which they go to the world that isn't called; and
 /// `agree`, whether the two worlds say the same of all objects.
-fn call_told(alloc: Global, pair: &mut Pair, call: &str) -> Result<String, AllocError> {
+fn call_told(
+    alloc: Global,
+    pair: &mut Pair,
+    table: &HostTable,
+    call: &str,
+) -> Result<String, AllocError> {
     match call {
         "copy" => {
             pair.copy(alloc)?;
@@ -108,19 +140,24 @@ fn call_told(alloc: Global, pair: &mut Pair, call: &str) -> Result<String, Alloc
         "agree" => truth_told(alloc, pair.agree()),
         "next_turn" => next_turn_told(alloc, &mut pair.here),
         "on_view" => objects_told(alloc, pair.here.on_view(alloc)?.as_slice()),
-        _ => words_told(alloc, &mut pair.here, call),
+        _ => words_told(alloc, &mut pair.here, table, call),
     }
 }
 
 /// What the calls of a row answer, `; ` in between.
-pub fn row_told(alloc: Global, story: &Rc<Story>, row: &str) -> Result<String, AllocError> {
+pub fn row_told(
+    alloc: Global,
+    story: &Rc<Story>,
+    table: &HostTable,
+    row: &str,
+) -> Result<String, AllocError> {
     let mut pair = Pair::begun(alloc, story)?;
     let mut line = String::new(alloc);
     for call in row.split(';') {
         if !line.is_empty() {
             line.push_str("; ")?;
         }
-        line.push_str(call_told(alloc, &mut pair, call)?.as_str())?;
+        line.push_str(call_told(alloc, &mut pair, table, call)?.as_str())?;
     }
     Ok(line)
 }

@@ -47,7 +47,7 @@ fn strokes(alloc: Global, text: &str) -> Result<String, AllocError> {
 }
 
 /// A text in quotation marks, a stroke for each line break.
-fn quoted(alloc: Global, text: &[u8]) -> Result<String, AllocError> {
+pub fn quoted(alloc: Global, text: &[u8]) -> Result<String, AllocError> {
     match str::from_utf8(text) {
         Ok(text) => format!(in alloc; "\"{}\"", strokes(alloc, text)?),
         Err(_) => format!(in alloc; "no text"),

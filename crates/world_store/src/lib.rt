@@ -3,6 +3,7 @@
 #![tactic(auto)]
 
 mod atlas;
+mod bound;
 mod changes;
 mod columns;
 mod describing;
@@ -12,6 +13,7 @@ mod sight;
 mod view;
 mod world;
 
+pub use bound::Bound;
 pub use laws::{
     changes_leave_others, directions_are_directions, tables_give_their_tales_game, the_dark_hides,
     what_is_set_is_read, worlds_are_of_their_stories, worlds_are_whole,

@@ -12,26 +12,26 @@ judged-requires-clause-within c =
     let objects = ap (λ (s : Scope). s.objects) c.new-scope.ensures ∙ c.keys-keys.ensures in
     let statements = c.as_slice.ensures.value ∙ c.in_ok-statements.ensures in
     subst (λ (os : List (List ℕ)). AreWithin (length os) c.as_slice.result.now) (sym objects)
-    (subst (λ (ss : List NumberedSentence). AreWithin (length (names_of c.in_ok-names.names).keys) ss) (sym statements) (named_within c.args.sentences.now (names_of c.in_ok-names.names) c.in_ok-names.ensures))
+    (subst (λ (ss : List NumberedSentence). AreWithin (length (names_of c.args.names.now).keys) ss) (sym statements) (named_within c.args.sentences.now (names_of c.args.names.now) c.requires.objects))
 
 pub judged-requires-clause-counted : goal.judged-requires-clause-counted
 judged-requires-clause-counted c =
     ap (λ (s : Scope). length s.objects) c.new-scope.ensures ∙ ap (λ (os : List (List ℕ)). length os) c.keys-keys.ensures
-    ∙ named_counted c.args.sentences.now (names_of c.in_ok-names.names) c.in_ok-names.ensures
+    ∙ named_counted c.args.sentences.now (names_of c.args.names.now) c.requires.objects
     ∙ ap (λ (ms : List NameAt). 13 + length ms) (sym c.mentions-mentions.ensures)
 
 pub judged-requires-clause-scope : goal.judged-requires-clause-scope
 judged-requires-clause-scope c =
-    scope_meant c.new-scope.result c.args.kinds.now c.args.parents.now c.args.claims.now (names_of c.in_ok-names.names).keys
-    (scope_same c.new-scope.result c.args.kinds.now c.args.parents.now c.args.claims.now c.keys-keys.result.now (names_of c.in_ok-names.names).keys c.in_ok-properties.properties c.as_slice-given.result.now c.in_ok-doors.doors c.in_ok-variables.variables
+    scope_meant c.new-scope.result c.args.kinds.now c.args.parents.now c.args.claims.now (names_of c.args.names.now).keys
+    (scope_same c.new-scope.result c.args.kinds.now c.args.parents.now c.args.claims.now c.keys-keys.result.now (names_of c.args.names.now).keys c.in_ok-properties.properties c.as_slice-given.result.now c.in_ok-doors.doors c.in_ok-variables.variables
     c.new-scope.ensures c.keys-keys.ensures c.in_ok-properties.ensures (c.as_slice-given.ensures.value ∙ c.in_ok-givens.ensures) c.in_ok-doors.ensures c.in_ok-variables.ensures)
     c.requires.named c.requires.above
 
 pub returns : goal.returns
 returns c =
     c.in_ok-said.ensures
-    ∙ said_same c.args.kinds.now c.args.parents.now c.args.claims.now c.args.sentences.now c.new-scope.result c.as_slice.result.now (mentions_of c.mentions-mentions.result.now) (names_of c.in_ok-names.names)
-    c.in_ok-names.ensures
-    (scope_same c.new-scope.result c.args.kinds.now c.args.parents.now c.args.claims.now c.keys-keys.result.now (names_of c.in_ok-names.names).keys c.in_ok-properties.properties c.as_slice-given.result.now c.in_ok-doors.doors c.in_ok-variables.variables
+    ∙ said_same c.args.kinds.now c.args.parents.now c.args.claims.now c.args.sentences.now c.new-scope.result c.as_slice.result.now (mentions_of c.mentions-mentions.result.now) (names_of c.args.names.now)
+    c.requires.objects
+    (scope_same c.new-scope.result c.args.kinds.now c.args.parents.now c.args.claims.now c.keys-keys.result.now (names_of c.args.names.now).keys c.in_ok-properties.properties c.as_slice-given.result.now c.in_ok-doors.doors c.in_ok-variables.variables
     c.new-scope.ensures c.keys-keys.ensures c.in_ok-properties.ensures (c.as_slice-given.ensures.value ∙ c.in_ok-givens.ensures) c.in_ok-doors.ensures c.in_ok-variables.ensures)
     (c.as_slice.ensures.value ∙ c.in_ok-statements.ensures) c.mentions-mentions.ensures

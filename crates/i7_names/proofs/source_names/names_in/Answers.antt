@@ -6,12 +6,12 @@ use Rattle.i7_names.proofs.source_names.names_in.Goals as goal
 
 pub returns : goal.returns
 returns c =
-    let claimed = c.as_slice-claims.ensures.value ∙ c.in_ok-claims.ensures in
+    let claimed = c.claims-claims.ensures in
     record {
       names =
           c.in_ok-names.ensures
-          ∙ ap (λ (objects : List (List ℕ)). known_by objects c.as_slice-claims.result.now) (c.keys.ensures ∙ ap (λ (n : Named). n.keys) c.in_ok-objects.ensures)
-          ∙ ap (known_by (named_by c.args.sentences.now).keys) claimed;
+          ∙ ap (λ (objects : List (List ℕ)). known_by objects c.claims-claims.result.now) (c.keys.ensures ∙ ap (λ (n : Named). n.keys) c.names.ensures)
+          ∙ ap (known_by (named_by c.args.claimed.now).keys) claimed;
       rulebooks = c.in_ok-rulebooks.ensures ∙ ap rulebooks_by claimed;
       scenes = c.in_ok-scenes.ensures ∙ ap scenes_by claimed;
     }

@@ -9,14 +9,14 @@ use Rattle.story_file.proofs.meaning.meant_of.Goals as goal
 
 pub kept_of-requires : goal.kept_of-requires
 kept_of-requires c =
-    let sentences = c.args.sentences.now in
+    let sentences = c.args.claimed.now in
     let tale = c.args.tale.now in
     let is = subst (IsResolution (known_said sentences tale) sentences) c.in-Says.is c.in-Ok.ensures.told in
     subst (λ (k : Known). AreReadable (scope_among k []) tale.objects) (sym c.in-Ok.ensures.names) (readable written (known_said sentences tale) sentences tale c.in-Says.resolved c.requires is)
 
 pub returns-in-Ok-kept_of-clause-meant : goal.returns-in-Ok-kept_of-clause-meant
 returns-in-Ok-kept_of-clause-meant c =
-    let sentences = c.args.sentences.now in
+    let sentences = c.args.claimed.now in
     record {
       tale_is = c.requires;
       resolved = c.in-Says.resolved;

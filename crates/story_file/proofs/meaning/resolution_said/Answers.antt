@@ -5,7 +5,7 @@ use Rattle.story_file.proofs.meaning.resolution_said.Goals as goal
 
 pub resolution_of-requires : goal.resolution_of-requires
 resolution_of-requires c =
-    let sentences = c.args.sentences.now in
+    let sentences = c.args.claimed.now in
     let source = c.in_ok-names.ensures in
     record {
       countable =

@@ -29,6 +29,7 @@ loop-reader-init g c =
       c.in_ok-write_whole.ensures.stands,
       refl,
       run_begins (game_of c.args.session.now) c.args.echo [] most_input unread first first (state_of c.args.session.now) (consumes-nothing unread) (appends-nothing first),
+      refl,
     )
 
 pub returns-in_err-play_line-clause-cut : goal.returns-in_err-play_line-clause-cut
@@ -70,6 +71,7 @@ loop-reader-preserved g c =
       told.stand.1,
       told.game ∙ c.loop-reader.invariant.2,
       run_more game c.args.echo [] most_input c.loop-reader.left c.play_line.new.left unread a rest first b now from state to c.loop-reader.invariant.3 going line,
+      told.story ∙ c.loop-reader.invariant.4,
     )
 
 pub returns-in-Input-clause-played : goal.returns-in-Input-clause-played

@@ -1,5 +1,5 @@
 use Rattle.std.proofs.Common.{sym}
-use Rattle.story_player.proofs.Turning.{break_lacking}
+use Rattle.story_player.proofs.Completing.{break_lacking}
 use Rattle.story_player.proofs.telling.lacks_break.Goals as goal
 
 pub returns : goal.returns

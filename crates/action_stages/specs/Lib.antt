@@ -1,0 +1,11 @@
+pub mod Answering
+pub mod Applying
+pub mod Bodies
+pub mod Lasting
+pub mod Lowering
+pub mod Measures
+pub mod Alike
+pub mod StoryPlay
+pub mod Parts
+pub mod Performing
+pub mod Stages

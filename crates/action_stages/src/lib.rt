@@ -1,0 +1,29 @@
+//! Rulebooks are consulted and actions performed over a loaded story: whole books are kept as lists, each rule is asked in
+//! the world of its moment, and what is tried or followed is one level deeper. Bodies of rules come to an end.
+#![tactic(auto)]
+
+mod acting;
+mod aspects;
+mod conditions;
+mod does;
+mod effects;
+mod end_laws;
+mod failing;
+mod going;
+mod lending;
+mod needs;
+mod parts;
+mod playing;
+mod stage;
+mod stepping;
+mod tale_laws;
+mod work;
+
+pub use end_laws::{
+    each_step_is_nearer_the_end, runs_keep_their_outcome, sound_bodies_end, stories_lower_no_work,
+};
+pub use going::Stage;
+pub use lending::HasWorld;
+pub use needs::needs_of;
+pub use stage::{consult, count_turn, holds, perform, say};
+pub use tale_laws::{games_alike_have_one_session, stories_are_played_as_their_tales};

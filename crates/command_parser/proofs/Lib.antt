@@ -1,0 +1,11 @@
+pub mod Apart
+pub mod Filters
+pub mod LineWords
+pub mod Meanings
+pub mod Places
+pub mod PlainLines
+pub mod Refusals
+pub mod Settled
+pub mod SlotSteps
+pub mod Splits
+pub mod Unfit

@@ -1,0 +1,6 @@
+pub mod Commanding
+pub mod Fillings
+pub mod Readings
+pub mod Searching
+pub mod Settling
+pub mod Tokens

@@ -1,0 +1,29 @@
+//! What a typed command means, over a grammar of lines and the words that objects go by (*Writing with Inform*, chapter 17).
+//! A command is read without memory, except for the question that is asked where a phrase of it may mean several things.
+#![tactic(auto)]
+
+mod answer;
+mod candidates;
+mod command;
+mod commands;
+mod filling;
+mod fitting;
+mod laws;
+mod lines;
+mod listing;
+mod next_token;
+mod question;
+mod read;
+mod reading;
+mod searching;
+mod settling;
+mod token;
+mod unread;
+mod words;
+
+pub use commands::Commands;
+pub use laws::{one_reading, plain_lines_are_read};
+pub use question::{Objects, Question};
+pub use read::{narrow, read_command};
+pub use reading::{Reading, Said};
+pub use token::Token;

@@ -1,0 +1,23 @@
+//! The tokens of a line, one behind the other.
+ghost use Rattle.std.specs.Prelude.{◌≡◌, [], ◌∷◌, MatchOption};
+ghost use Rattle.command_parser.specs.Tokens.{told_token, tokens_from};
+
+use crate::{Commands, Token};
+
+/// The token at a place of a line, and the place behind it.
+pub(crate) fn next_token<C: Commands>(
+    commands: &C,
+    line: u16,
+    place: usize,
+) -> Option<(Token<'_>, usize)>
+    ensures { MatchOption result (tokens_from (C.grammar commands.now) line place ≡ [])
+        (λ next. tokens_from (C.grammar commands.now) line place ≡ told_token next.0 ∷ tokens_from (C.grammar commands.now) line next.1) }
+{
+    if place >= commands.token_count(line) {
+        return None;
+    }
+    match commands.token(line, place) {
+        Some(token) => Some((token, place + 1)),
+        None => None,
+    }
+}

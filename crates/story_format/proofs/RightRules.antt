@@ -1,0 +1,62 @@
+-- What a story's tables say of each rule and each scene is right, and its first actions are those that every story has.
+use Rattle.std.proofs.Common.{◌≡◌, ℕ, Bool, true, ◌&&◌, leb, ltb, eqb, List, [], length, Some}
+use Rattle.std.specs.Prelude.{slice_get}
+use Rattle.std.specs.List.{list_all}
+use Rattle.world_meaning.proofs.Bools.{both_are}
+use Rattle.play_meaning.specs.declared.operand.Counts.{Counts}
+use Rattle.story_format.specs.Checks.{are_distinct, are_right, are_right_objects, are_right_ways, is_right_frame, stand_rightly}
+use Rattle.story_format.specs.Counts.{counts_of}
+use Rattle.story_format.specs.RuleChecks.{are_right_actions, are_right_books, are_right_rules, are_right_scenes, begin_with_actions, is_number_or_none, is_right_action, is_right_aspect, is_right_body, is_right_rule, is_right_scene}
+use Rattle.story_format.specs.RuleMaking.{action_entries}
+use Rattle.story_format.specs.Spells.{IsStory}
+use Rattle.story_format.specs.WorldChecks.{is_right_world}
+use Rattle.story_format.specs.declared.rule_entry.RuleEntry.{RuleEntry}
+use Rattle.story_format.specs.declared.tables.Tables.{Tables}
+use Rattle.story_format.proofs.StoryLemmas.{all_at, four, last_of_five}
+
+rules_right : (t : Tables) → are_right t ≡ true → are_right_rules (counts_of t) t.rules ≡ true
+unfolding are_right is_right_frame
+rules_right t right =
+    let frame = (last_of_five (is_right_frame t) (are_distinct t.strings) (are_right_objects t) (stand_rightly t) (are_right_ways t) right).0 in
+    (four (is_right_world t.world) (are_right_rules (counts_of t) t.rules) (leb (length t.objects) 1000) (ltb (length t.strings) 65535) frame).1
+
+record Parts (t : Tables) : Type 0 where
+  scenes : are_right_scenes t.rules.scenes ≡ true
+  actions : are_right_actions t.rules.actions ≡ true
+  rules : list_all (is_right_rule (counts_of t)) t.rules.rules ≡ true
+
+parts : (t : Tables) → are_right_rules (counts_of t) t.rules ≡ true → Parts t
+unfolding are_right_rules
+parts t right =
+    let r = t.rules in
+    let p =
+    last_of_five (are_right_scenes r.scenes) (are_right_books (length r.scenes) (length r.rules) r.books) (are_right_actions r.actions) (eqb (length r.grammar) 0)
+    (leb (length r.rules) 2000 && list_all (is_right_rule (counts_of t)) r.rules) right in
+    record { scenes = p.0; actions = p.2; rules = (both_are (leb (length r.rules) 2000) (list_all (is_right_rule (counts_of t)) r.rules) p.4).1 }
+
+parts_of : (t : Tables) → IsStory t → Parts t
+parts_of t story = parts t (rules_right t story.right)
+
+pub rule_right : (t : Tables) → IsStory t → (n : ℕ) (rule : RuleEntry) → slice_get t.rules.rules n ≡ Some rule → is_right_rule (counts_of t) rule ≡ true
+rule_right t story n rule there = all_at (is_right_rule (counts_of t)) t.rules.rules n rule (parts_of t story).rules there
+
+body_of_right : (z : Counts) (r : RuleEntry) → is_right_rule z r ≡ true → is_right_body z.codes r.body ≡ true
+unfolding is_right_rule
+body_of_right z r right =
+    (both_are (ltb r.book z.books && is_number_or_none 255 z.actions r.action && is_right_aspect z r.noun && is_right_aspect z r.second && is_right_aspect z r.place
+    && is_number_or_none 255 z.scenes r.scene && is_number_or_none 65535 z.codes r.condition) (is_right_body z.codes r.body) right).1
+
+pub body_right : (t : Tables) → IsStory t → (n : ℕ) (rule : RuleEntry) → slice_get t.rules.rules n ≡ Some rule → is_right_body (counts_of t).codes rule.body ≡ true
+body_right t story n rule there = body_of_right (counts_of t) rule (rule_right t story n rule there)
+
+pub scenes_right : (t : Tables) → IsStory t → list_all is_right_scene t.rules.scenes ≡ true
+scenes_right t story = (both_are (leb (length t.rules.scenes) 50) (list_all is_right_scene t.rules.scenes) (parts_of t story).scenes).1
+
+pub actions_begin : (t : Tables) → IsStory t → begin_with_actions t.rules.actions (action_entries []) ≡ true
+unfolding are_right_actions
+actions_begin t story =
+    let actions = t.rules.actions in
+    (three_of (leb (length actions) 200) (begin_with_actions actions (action_entries [])) (list_all is_right_action actions) (parts_of t story).actions)
+  where
+    three_of : (a b c : Bool) → (a && b && c) ≡ true → b ≡ true
+    three_of a b c h = (both_are a b (both_are (a && b) c h).0).1
