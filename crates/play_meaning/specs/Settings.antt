@@ -1,7 +1,7 @@
 -- What of a story's objects never changes while it is played, by number; nothing of a number that no object has.
 use Rattle.std.specs.Prelude.{ℕ, Bool, List, Option}
 use Rattle.std.specs.List.{range_with_len}
-pub use Rattle.world_meaning.specs.Kinds.{direction_kind, person_kind, room_kind}
+pub use Rattle.world_meaning.specs.Kinds.{container_kind, device_kind, direction_kind, door_kind, man_kind, person_kind, room_kind, supporter_kind, thing_kind}
 use Rattle.world_meaning.specs.Placing.{Kinds}
 use Rattle.world_meaning.specs.declared.article.Article.{Article}
 
@@ -23,26 +23,6 @@ pub record Setting : Type 0 where
   pub room_beyond : ℕ → ℕ → Option ℕ
   pub door_beyond : ℕ → ℕ → Option ℕ
   pub has_description : ℕ → Bool
-
--- ---- the numbers of the built-in kinds, beside those of `Kinds`
-
-abbrev pub thing_kind : ℕ
-thing_kind = 0
-
-abbrev pub door_kind : ℕ
-door_kind = 3
-
-abbrev pub container_kind : ℕ
-container_kind = 4
-
-abbrev pub supporter_kind : ℕ
-supporter_kind = 5
-
-abbrev pub device_kind : ℕ
-device_kind = 7
-
-abbrev pub man_kind : ℕ
-man_kind = 8
 
 -- ---- the numbers of the built-in properties
 

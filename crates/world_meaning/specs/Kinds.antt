@@ -3,14 +3,32 @@ use Rattle.std.specs.Prelude.{◌≡◌, ℕ, Bool, true, false, ◌==◌, List,
 use Rattle.std.specs.List.{list_any}
 use Rattle.world_meaning.specs.declared.kinds.TheConstants.{KINDS}
 
+abbrev pub thing_kind : ℕ
+thing_kind = 0
+
 abbrev pub room_kind : ℕ
 room_kind = 1
 
 abbrev pub direction_kind : ℕ
 direction_kind = 2
 
+abbrev pub door_kind : ℕ
+door_kind = 3
+
+abbrev pub container_kind : ℕ
+container_kind = 4
+
+abbrev pub supporter_kind : ℕ
+supporter_kind = 5
+
 abbrev pub person_kind : ℕ
 person_kind = 6
+
+abbrev pub device_kind : ℕ
+device_kind = 7
+
+abbrev pub man_kind : ℕ
+man_kind = 8
 
 -- the built-in kinds by number: of each, the kind above it
 unfoldable pub built_in_parents : List (Option ℕ)

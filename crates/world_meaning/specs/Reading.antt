@@ -1,8 +1,8 @@
 -- What a typed line means: the grammar `look`, `l`, DIRECTION, `go` DIRECTION, and `undo`, `quit`, `q`; which direction a
 -- noun means is told by the story.
-use Rattle.std.specs.Prelude.{ℕ, Bool, false, not, ◌&&◌, ◌||◌, ◌==◌, nat_lt, List, [], ◌∷◌, length, filter, Option, None, Some, codes, if◌then◌else◌}
+use Rattle.std.specs.Prelude.{ℕ, Bool, not, ◌&&◌, ◌||◌, ◌==◌, nat_lt, List, [], ◌∷◌, length, filter, Option, None, Some, codes, if◌then◌else◌}
 use Rattle.std.specs.List.{slice_split}
-use Rattle.world_meaning.specs.Spelling.{is_spelled}
+use Rattle.world_meaning.specs.Spelling.{is_article, is_spelled}
 use Rattle.world_meaning.specs.declared.reading.Action.TheVariants.{Looking, Going}
 use Rattle.world_meaning.specs.declared.reading.Reading.{Reading}
 use Rattle.world_meaning.specs.declared.reading.Reading.TheVariants.{Act, Undo, Quit, Empty, TooLong, NoVerb, NotSeen, NotUnderstood}
@@ -16,9 +16,6 @@ is_word piece = not (length piece == 0)
 -- the words of a line, parted by blanks
 abbrev pub words_of : List ℕ → List (List ℕ)
 words_of line = filter is_word (slice_split is_blank line)
-
-abbrev pub is_article : List ℕ → Bool
-is_article word = is_spelled word (codes "a") || is_spelled word (codes "an") || is_spelled word (codes "the") || is_spelled word (codes "some")
 
 -- one article in front of a noun phrase is dropped
 abbrev pub noun_of : List (List ℕ) → List (List ℕ)

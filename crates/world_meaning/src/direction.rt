@@ -1,4 +1,4 @@
-//! The twelve directions.
+//! The twelve directions (*Writing with Inform*, chapter 3.2).
 ghost use Rattle.std.specs.Prelude.{◌≡◌};
 
 use crate::ObjNo;
@@ -20,6 +20,26 @@ pub enum Direction {
     Outside,
 }
 
+/// A direction: its name, as its object is printed, the short word that a command may name it by, and the direction that
+/// leads back.
+pub type DirectionRow<'a> = (&'a [u8], &'a [u8], Direction);
+
+/// The directions, by number.
+pub const DIRECTIONS: [DirectionRow<'static>; 12] = [
+    (b"north", b"n", Direction::South),
+    (b"northeast", b"ne", Direction::Southwest),
+    (b"northwest", b"nw", Direction::Southeast),
+    (b"south", b"s", Direction::North),
+    (b"southeast", b"se", Direction::Northwest),
+    (b"southwest", b"sw", Direction::Northeast),
+    (b"east", b"e", Direction::West),
+    (b"west", b"w", Direction::East),
+    (b"up", b"u", Direction::Down),
+    (b"down", b"d", Direction::Up),
+    (b"inside", b"in", Direction::Outside),
+    (b"outside", b"out", Direction::Inside),
+];
+
 impl Direction {
     ghost use Rattle.world_meaning.specs.Directions.{direction_name, direction_number, opposite_of, short_word};
 
@@ -27,80 +47,31 @@ impl Direction {
     pub fn number(self) -> ObjNo
         ensures { result ≡ direction_number self }
     {
-        ObjNo::new(match self {
-            Direction::North => 1,
-            Direction::Northeast => 2,
-            Direction::Northwest => 3,
-            Direction::South => 4,
-            Direction::Southeast => 5,
-            Direction::Southwest => 6,
-            Direction::East => 7,
-            Direction::West => 8,
-            Direction::Up => 9,
-            Direction::Down => 10,
-            Direction::Inside => 11,
-            Direction::Outside => 12,
-        })
+        ObjNo::new(self as u16 + 1)
     }
 
     /// The direction that leads back.
+    #[tactic(auto, unfolding(crate::specs::Directions::opposite_of))]
     pub fn opposite(self) -> Direction
         ensures { result ≡ opposite_of self }
     {
-        match self {
-            Direction::North => Direction::South,
-            Direction::Northeast => Direction::Southwest,
-            Direction::Northwest => Direction::Southeast,
-            Direction::South => Direction::North,
-            Direction::Southeast => Direction::Northwest,
-            Direction::Southwest => Direction::Northeast,
-            Direction::East => Direction::West,
-            Direction::West => Direction::East,
-            Direction::Up => Direction::Down,
-            Direction::Down => Direction::Up,
-            Direction::Inside => Direction::Outside,
-            Direction::Outside => Direction::Inside,
-        }
+        DIRECTIONS[self as usize].2
     }
 
     /// The direction's name, as its object is printed.
+    #[tactic(auto, unfolding(crate::specs::Directions::direction_name))]
     pub fn name(self) -> &'static [u8]
         ensures { result.now ≡ direction_name self }
     {
-        match self {
-            Direction::North => b"north",
-            Direction::Northeast => b"northeast",
-            Direction::Northwest => b"northwest",
-            Direction::South => b"south",
-            Direction::Southeast => b"southeast",
-            Direction::Southwest => b"southwest",
-            Direction::East => b"east",
-            Direction::West => b"west",
-            Direction::Up => b"up",
-            Direction::Down => b"down",
-            Direction::Inside => b"inside",
-            Direction::Outside => b"outside",
-        }
+        DIRECTIONS[self as usize].0
     }
 
     /// The short word that a command may name the direction by.
+    #[tactic(auto, unfolding(crate::specs::Directions::short_word))]
     pub fn short_word(self) -> &'static [u8]
         ensures { result.now ≡ short_word self }
     {
-        match self {
-            Direction::North => b"n",
-            Direction::Northeast => b"ne",
-            Direction::Northwest => b"nw",
-            Direction::South => b"s",
-            Direction::Southeast => b"se",
-            Direction::Southwest => b"sw",
-            Direction::East => b"e",
-            Direction::West => b"w",
-            Direction::Up => b"u",
-            Direction::Down => b"d",
-            Direction::Inside => b"in",
-            Direction::Outside => b"out",
-        }
+        DIRECTIONS[self as usize].1
     }
 
     /// All directions, in the order of their numbers.

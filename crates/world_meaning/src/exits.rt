@@ -8,6 +8,14 @@ pub struct Way {
     pub door: Option<ObjNo>,
 }
 
+impl Way {
+    /// No way: nothing lies beyond.
+    pub const NONE: Way = Way {
+        room: None,
+        door: None,
+    };
+}
+
 /// A room's ways, north first, in the directions' order. An object that is no room has none.
 #[derive(Clone, Copy, Debug, PartialEq, Eq)]
 pub struct Exits {

@@ -25,10 +25,10 @@ mod spelling;
 mod tale;
 mod text;
 
-pub use article::Article;
+pub use article::{Article, is_article};
 pub use chain_laws::walks_tell_ends;
 pub use declared::{Declared, Granted, built_in_declared};
-pub use direction::Direction;
+pub use direction::{DIRECTIONS, Direction, DirectionRow};
 pub use exits::{Exits, Way};
 pub use fault::{Fault, FaultCode};
 pub use holders::have_ends;
