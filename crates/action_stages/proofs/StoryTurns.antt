@@ -2,7 +2,7 @@
 use Rattle.std.proofs.Common.{◌≡◌, ◌∙◌, refl, ℕ, zero, suc, ◌+◌, Bool, true, false, eqb, leb, List, [], ◌∷◌, map, Option, Some, None, Ok, inl, inr}
 use Rattle.std.specs.Prelude.{◌&&◌, slice_get}
 use Rattle.std.specs.List.{list_all}
-use Rattle.world_meaning.proofs.Bools.{both_are, either}
+use Rattle.std.proofs.lemmas.Bool.{cases_Bool, and_parts}
 use Rattle.play_meaning.specs.Attempts.{Attempt, next}
 use Rattle.play_meaning.specs.CodedStories.{begins_by, ends_by, game_of_codes}
 use Rattle.play_meaning.specs.Consulting.{every_turn_book, play_begins_book}
@@ -24,7 +24,7 @@ module _ (g : Game) (begins : (scene : ℕ) (w : World) → g.begins scene w ≡
   none_ends : (scene : ℕ) (p : Progress) → ending_of g scene p ≡ Ok p
   unfolding ending_of
   none_ends scene p =
-      elim (either (scene_of p.world scene).happens) [
+      elim (cases_Bool (scene_of p.world scene).happens) [
         | inl is ↦ rw (is, ends scene p.world) refl
         | inr isnt ↦ rw isnt refl
       ]
@@ -32,7 +32,7 @@ module _ (g : Game) (begins : (scene : ℕ) (w : World) → g.begins scene w ≡
   none_begins : (recurs : Bool) (scene : ℕ) (p : Progress) → beginning_of g recurs scene p ≡ Ok p
   unfolding beginning_of
   none_begins recurs scene p =
-      elim (either (scene_of p.world scene).happens) [
+      elim (cases_Bool (scene_of p.world scene).happens) [
         | inl is ↦ rw is refl
         | inr isnt ↦ rw (isnt, begins scene p.world) refl
       ]
@@ -69,18 +69,18 @@ module _ (g : Game) (begins : (scene : ℕ) (w : World) → g.begins scene w ≡
 scene_codes : (scene : SceneEntry) → is_right_scene scene ≡ true → (eqb scene.begins 65535 ≡ true) × (eqb scene.ends 65535 ≡ true)
 unfolding is_right_scene
 scene_codes scene right =
-    let front = both_are (leb scene.recurring 1 && eqb scene.begins 65535) (eqb scene.ends 65535) right in
-    ((both_are (leb scene.recurring 1) (eqb scene.begins 65535) front.0).1, front.1)
+    let front = and_parts (leb scene.recurring 1 && eqb scene.begins 65535) (eqb scene.ends 65535) right in
+    ((and_parts (leb scene.recurring 1) (eqb scene.begins 65535) front.0).1, front.1)
 
 no_begin : (scenes : List SceneEntry) (n : ℕ) → list_all is_right_scene scenes ≡ true → begins_by (slice_get (map scene_told scenes) n) ≡ None
 no_begin [] n right = refl
-no_begin (scene ∷ scenes) zero right = rw (scene_codes scene (both_are (is_right_scene scene) (list_all is_right_scene scenes) right).0).0 refl
-no_begin (scene ∷ scenes) (suc n) right = no_begin scenes n (both_are (is_right_scene scene) (list_all is_right_scene scenes) right).1
+no_begin (scene ∷ scenes) zero right = rw (scene_codes scene (and_parts (is_right_scene scene) (list_all is_right_scene scenes) right).0).0 refl
+no_begin (scene ∷ scenes) (suc n) right = no_begin scenes n (and_parts (is_right_scene scene) (list_all is_right_scene scenes) right).1
 
 no_end : (scenes : List SceneEntry) (n : ℕ) → list_all is_right_scene scenes ≡ true → ends_by (slice_get (map scene_told scenes) n) ≡ None
 no_end [] n right = refl
-no_end (scene ∷ scenes) zero right = rw (scene_codes scene (both_are (is_right_scene scene) (list_all is_right_scene scenes) right).0).1 refl
-no_end (scene ∷ scenes) (suc n) right = no_end scenes n (both_are (is_right_scene scene) (list_all is_right_scene scenes) right).1
+no_end (scene ∷ scenes) zero right = rw (scene_codes scene (and_parts (is_right_scene scene) (list_all is_right_scene scenes) right).0).1 refl
+no_end (scene ∷ scenes) (suc n) right = no_end scenes n (and_parts (is_right_scene scene) (list_all is_right_scene scenes) right).1
 
 module _ (t : Tables) (story : IsStory t) where
   never_begins : (scene : ℕ) (w : World) → (game_in_play t).begins scene w ≡ Ok false

@@ -3,8 +3,7 @@ use Rattle.std.proofs.Common.{◌≡◌, ◌∙◌, ap, refl, ℕ, zero, suc, �
 use Rattle.std.specs.Prelude.{◌&&◌, slice_get, slice_index_or}
 use Rattle.std.specs.List.{AllZip}
 use Rattle.std.specs.Option.{option_map}
-use Rattle.std.proofs.lemmas.Bool.{eqb-true, ne_eqb}
-use Rattle.world_meaning.proofs.Bools.{either}
+use Rattle.std.proofs.lemmas.Bool.{eqb-true, ne_eqb, cases_Bool}
 use Rattle.play_meaning.specs.CodedStories.{answer_or, begins_by, coded_condition, coded_is_about, ends_by, head_of}
 use Rattle.play_meaning.specs.Codes.{Codes}
 use Rattle.play_meaning.specs.Rules.{Anything, Aspect, Exactly, OfKind, Rule, is_about, is_action, is_happening, is_met}
@@ -53,13 +52,13 @@ other n a b is apart = let same : n ≡ a = eqb-true n a is in ap (λ m. eqb m b
 
 slot_is : (n : ℕ) (slot : Slot) → need_told n ≡ Some slot → slot_of n ≡ slot
 slot_is n slot e =
-    elim (either (eqb n 255)) [
+    elim (cases_Bool (eqb n 255)) [
       | inl none ↦ rw (other n 255 0 none refl, other n 255 1 none refl, other n 255 2 none refl) (let told : Some Absent ≡ Some slot = rw none at e in cc)
-      | inr some ↦ elim (either (eqb n 0)) [
+      | inr some ↦ elim (cases_Bool (eqb n 0)) [
         | inl seen ↦ rw seen (let told : Some Visible ≡ Some slot = rw (some, seen) at e in cc)
-        | inr unseen ↦ elim (either (eqb n 1)) [
+        | inr unseen ↦ elim (cases_Bool (eqb n 1)) [
           | inl touched ↦ rw (unseen, touched) (let told : Some Touched ≡ Some slot = rw (some, unseen, touched) at e in cc)
-          | inr untouched ↦ elim (either (eqb n 2)) [
+          | inr untouched ↦ elim (cases_Bool (eqb n 2)) [
             | inl carried ↦ rw (unseen, untouched, carried) (let told : Some Carried ≡ Some slot = rw (some, unseen, untouched, carried) at e in cc)
             | inr uncarried ↦ let told : None ≡ Some slot = rw (some, unseen, untouched, uncarried) at e in absurd cc
           ]

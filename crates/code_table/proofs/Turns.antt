@@ -14,9 +14,6 @@ number_of named = named.1
 abbrev pub AreInTurn : ℕ → List (ℕ × ℕ) → Type 0
 AreInTurn n named = map number_of named ≡ range_with_len n (length named)
 
-some_is : {A : Type 0} (a b : A) → Some a ≡ Some b → a ≡ b
-some_is a b is = cc
-
 module _ (uses : List Use) (named : ℕ × ℕ) (rest : List (ℕ × ℕ)) where
   abbrev Onward : Bool → Option (List Use)
   Onward is = if is then with_tests (uses ++ use_of named ∷ []) rest else None

@@ -1,11 +1,10 @@
 -- The objects that a slot's phrase may mean, as one filter, and what they come to.
 use Rattle.std.proofs.Common.{◌≡◌, ℕ, Bool, true, false, List, [], ◌∷◌, refl, ap, sym, ◌∙◌, inl, inr}
-use Rattle.std.specs.Prelude.{Option, None, Some, ◌&&◌, ◌||◌, ◌==◌, filter, find, if◌then◌else◌}
+use Rattle.std.specs.Prelude.{Option, None, Some, ◌&&◌, ◌==◌, filter, find, if◌then◌else◌}
 use Rattle.std.specs.Option.{option_map}
 use Rattle.std.specs.Char.{to_ascii_lowercase}
 use Rattle.std.specs.List.{list_all}
-use Rattle.std.proofs.lemmas.Bool.{eq-eqb}
-use Rattle.world_meaning.proofs.Bools.{both, either}
+use Rattle.std.proofs.lemmas.Bool.{eq-eqb, cases_Bool, and_from, or_right, or_left}
 use Rattle.world_meaning.specs.Reading.{noun_of}
 use Rattle.world_meaning.specs.Spelling.{is_spelled}
 use Rattle.play_meaning.specs.Commands.{answer, is_settled, narrowed, settle}
@@ -24,34 +23,26 @@ use Rattle.command_parser.specs.declared.filling.Filling.TheVariants.{Empty, Ope
 
 spelled_itself : (word : List ℕ) → is_spelled word word ≡ true
 spelled_itself [] = refl
-spelled_itself (b ∷ bytes) = both (to_ascii_lowercase b == to_ascii_lowercase b) (is_spelled bytes bytes) (eq-eqb _ _ refl) (spelled_itself bytes)
-
-or_true : (a b : Bool) → b ≡ true → (a || b) ≡ true
-or_true true b is = refl
-or_true false b is = is
-
-or_here : (a b : Bool) → a ≡ true → (a || b) ≡ true
-or_here true b is = refl
-or_here false b is = absurd cc
+spelled_itself (b ∷ bytes) = and_from (to_ascii_lowercase b == to_ascii_lowercase b) (is_spelled bytes bytes) (eq-eqb _ _ refl) (spelled_itself bytes)
 
 -- words each of which is among others
 among_all : (all words : List (List ℕ)) → ((word : List ℕ) → has_word words word ≡ true → has_word all word ≡ true) → list_all (has_word all) words ≡ true
 among_all all [] among = refl
 among_all all (word ∷ words) among =
-    both (has_word all word) (list_all (has_word all) words)
-    (among word (or_here (is_spelled word word) (has_word words word) (spelled_itself word)))
-    (among_all all words (λ other is. among other (or_true (is_spelled other word) (has_word words other) is)))
+    and_from (has_word all word) (list_all (has_word all) words)
+    (among word (or_left (is_spelled word word) (has_word words word) (spelled_itself word)))
+    (among_all all words (λ other is. among other (or_right (is_spelled other word) (has_word words other) is)))
 
 named_as_itself : (g : Grammar) (o : ℕ) → are_named_alike g o o ≡ true
 named_as_itself g o =
     let all = among_all (g.words o) (g.words o) (λ word is. is) in
-    both (list_all (has_word (g.words o)) (g.words o)) (list_all (has_word (g.words o)) (g.words o)) all all
+    and_from (list_all (has_word (g.words o)) (g.words o)) (list_all (has_word (g.words o)) (g.words o)) all all
 
 -- ---- what those that pass a test come to
 
 all_alike : (g : Grammar) (p : ℕ → Bool) (first : ℕ) (objects : List ℕ) → list_all (is_alike_if g p first) objects ≡ list_all (are_named_alike g first) (filter p objects)
 all_alike g p first [] = refl
-all_alike g p first (o ∷ objects) = elim (either (p o)) [
+all_alike g p first (o ∷ objects) = elim (cases_Bool (p o)) [
   | inl is ↦ rw is (ap (λ rest. are_named_alike g first o && rest) (all_alike g p first objects))
   | inr isnt ↦ rw isnt (all_alike g p first objects)
 ]
@@ -70,7 +61,7 @@ settled_first g o objects = rw (named_as_itself g o) (one (list_all (are_named_a
 
 pub filling_is : (g : Grammar) (p : ℕ → Bool) (objects : List ℕ) → filling_of g (filter p objects) ≡ filling_found (find p objects) (λ o. list_all (is_alike_if g p o) objects)
 filling_is g p [] = refl
-filling_is g p (o ∷ objects) = elim (either (p o)) [
+filling_is g p (o ∷ objects) = elim (cases_Bool (p o)) [
   | inl is ↦ rw is (settled_first g o (filter p objects) ∙ ap (λ alike. filling_by (are_named_alike g o o && alike) o) (sym (all_alike g p o objects)))
   | inr isnt ↦ rw isnt (filling_is g p objects)
 ]
@@ -125,17 +116,17 @@ module _ (g : Grammar) (q : Question) (noun words : List (List ℕ)) (is_noun : 
 
 -- ---- candidates as one filter
 
-passes_both : (p : Bool) (o : ℕ) (twice both : List ℕ) → twice ≡ both → (if p then o ∷ twice else twice) ≡ (if p && true then o ∷ both else both)
-passes_both true o twice both is = ap (λ xs. o ∷ xs) is
-passes_both false o twice both is = is
+passes_both : (p : Bool) (o : ℕ) (twice both : List ℕ) → twice ≡ and_from → (if p then o ∷ twice else twice) ≡ (if p && true then o ∷ and_from else and_from)
+passes_both true o twice and_from is = ap (λ xs. o ∷ xs) is
+passes_both false o twice and_from is = is
 
-passes_one : (p : Bool) (o : ℕ) (twice both : List ℕ) → twice ≡ both → twice ≡ (if p && false then o ∷ both else both)
-passes_one true o twice both is = is
-passes_one false o twice both is = is
+passes_one : (p : Bool) (o : ℕ) (twice both : List ℕ) → twice ≡ and_from → twice ≡ (if p && false then o ∷ and_from else and_from)
+passes_one true o twice and_from is = is
+passes_one false o twice and_from is = is
 
 filter_filter : (p q : ℕ → Bool) (objects : List ℕ) → filter p (filter q objects) ≡ filter (λ o. p o && q o) objects
 filter_filter p q [] = refl
-filter_filter p q (o ∷ objects) = elim (either (q o)) [
+filter_filter p q (o ∷ objects) = elim (cases_Bool (q o)) [
   | inl is ↦ rw is (passes_both (p o) o _ _ (filter_filter p q objects))
   | inr isnt ↦ rw isnt (passes_one (p o) o _ _ (filter_filter p q objects))
 ]
@@ -174,7 +165,7 @@ candidates_are g sees slot phrase =
 
 find_none : (p : ℕ → Bool) (objects : List ℕ) → find p objects ≡ None → filter p objects ≡ []
 find_none p [] none = refl
-find_none p (o ∷ objects) none = elim (either (p o)) [
+find_none p (o ∷ objects) none = elim (cases_Bool (p o)) [
   | inl is ↦ absurd (let found : Some o ≡ None = rw is at none in cc)
   | inr isnt ↦ rw isnt (find_none p objects (rw isnt at none))
 ]

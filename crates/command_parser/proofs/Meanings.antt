@@ -3,8 +3,7 @@ use Rattle.std.proofs.Common.{◌≡◌, ℕ, Bool, true, false, List, [], ◌�
 use Rattle.std.specs.Prelude.{Option, None, Some, ◌&&◌, ◌||◌, ◌==◌, codes, filter, if◌then◌else◌}
 use Rattle.std.specs.List.{list_any}
 use Rattle.std.specs.Option.{option_map}
-use Rattle.std.proofs.lemmas.Bool.{ne_eqb}
-use Rattle.world_meaning.proofs.Bools.{either}
+use Rattle.std.proofs.lemmas.Bool.{ne_eqb, cases_Bool}
 use Rattle.world_meaning.specs.Reading.{words_of}
 use Rattle.world_meaning.specs.Texts.{empty_text, not_seen_text, not_understood_text, too_long_text}
 use Rattle.play_meaning.specs.Commands.{answer, command, first_reading, has_split, is_alone, is_too_long, misread, or_next, read, settle, unread}
@@ -40,7 +39,7 @@ misread_by words (line ∷ lines) = one (list_any (has_split words) (line ∷ li
 
 has_passing : (p : Line → Bool) (lines : List Line) → has (filter p lines) ≡ list_any p lines
 has_passing p [] = refl
-has_passing p (line ∷ lines) = elim (either (p line)) [
+has_passing p (line ∷ lines) = elim (cases_Bool (p line)) [
   | inl is ↦ rw is refl
   | inr isnt ↦ rw isnt (has_passing p lines)
 ]
@@ -50,7 +49,7 @@ has_split_is words line = has_is (splits line.tokens words) ∙ fits_is line.tok
 
 any_passing : (p : Line → Bool) (words : List (List ℕ)) (lines : List Line) → list_any (has_split words) (filter p lines) ≡ list_any (λ line. p line && fits line.tokens words) lines
 any_passing p words [] = refl
-any_passing p words (line ∷ lines) = elim (either (p line)) [
+any_passing p words (line ∷ lines) = elim (cases_Bool (p line)) [
   | inl is ↦ rw is (ap (λ b. b || list_any (has_split words) (filter p lines)) (has_split_is words line) ∙ ap (λ b. fits line.tokens words || b) (any_passing p words lines))
   | inr isnt ↦ rw isnt (any_passing p words lines)
 ]

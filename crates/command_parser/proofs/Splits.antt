@@ -1,8 +1,8 @@
 -- The first way to part words among tokens that leaves no slot without a candidate is found from left to right.
 use Rattle.std.proofs.Common.{◌≡◌, ℕ, Bool, true, false, List, [], ◌∷◌, ◌++◌, length, map, refl, ap, ◌∙◌, arith, inl, inr}
 use Rattle.std.specs.Prelude.{Option, None, Some, ◌||◌, nat_lt, filter, find, if◌then◌else◌}
-use Rattle.std.proofs.lemmas.Bool.{lt-ltb}
-use Rattle.world_meaning.proofs.Bools.{either}
+use Rattle.std.proofs.lemmas.Bool.{lt-ltb, cases_Bool}
+use Rattle.std.proofs.lemmas.List.{map-append}
 use Rattle.world_meaning.specs.Spelling.{is_spelled}
 use Rattle.play_meaning.specs.Commands.{are_filled, fillings}
 use Rattle.play_meaning.specs.Grammar.{Direction, Grammar, Line, Something, Token, Word, candidates, candidates_by, is_slot, slot_splits, splits}
@@ -48,21 +48,17 @@ fits_is (Direction ∷ tokens) words = slot_has (splits tokens) (fits tokens) (�
 
 find_joined : {A : Type 0} (p : A → Bool) (xs ys : List A) → find p (xs ++ ys) ≡ or_later (find p xs) (find p ys)
 find_joined p [] ys = refl
-find_joined p (x ∷ xs) ys = elim (either (p x)) [
+find_joined p (x ∷ xs) ys = elim (cases_Bool (p x)) [
   | inl is ↦ rw is refl
   | inr isnt ↦ rw isnt (find_joined p xs ys)
 ]
-
-map_joined : {A B : Type 0} (f : A → B) (xs ys : List A) → map f (xs ++ ys) ≡ map f xs ++ map f ys
-map_joined f [] ys = refl
-map_joined f (x ∷ xs) ys = ap (λ zs. f x ∷ zs) (map_joined f xs ys)
 
 -- the ways behind a slot with these candidates
 behind_found : (objects : List ℕ) (ways : List (List (List ℕ))) → find are_filled (map (λ slots. objects ∷ slots) ways) ≡ in_front objects (find are_filled ways)
 behind_found [] [] = refl
 behind_found [] (way ∷ ways) = behind_found [] ways
 behind_found (o ∷ objects) [] = refl
-behind_found (o ∷ objects) (way ∷ ways) = elim (either (are_filled way)) [
+behind_found (o ∷ objects) (way ∷ ways) = elim (cases_Bool (are_filled way)) [
   | inl is ↦ rw is refl
   | inr isnt ↦ rw isnt (behind_found (o ∷ objects) ways)
 ]
@@ -83,7 +79,7 @@ module _ (g : Grammar) (sees : ℕ → Bool) where
   slot_found slot slots rest behind same front [] = refl
   slot_found slot slots rest behind same front (word ∷ words) =
       let phrase = front ++ word ∷ [] in
-      ap (find are_filled) (map_joined (candidates_by g sees (slot ∷ slots)) (map (λ phrases. phrase ∷ phrases) (rest words)) (slot_splits rest phrase words))
+      ap (find are_filled) (map-append (candidates_by g sees (slot ∷ slots)) (map (λ phrases. phrase ∷ phrases) (rest words)) (slot_splits rest phrase words))
       ∙ find_joined are_filled (ways (slot ∷ slots) (map (λ phrases. phrase ∷ phrases) (rest words))) (ways (slot ∷ slots) (slot_splits rest phrase words))
       ∙ ap (λ first. or_later first (find are_filled (ways (slot ∷ slots) (slot_splits rest phrase words))))
       (ap (find are_filled) (in_each slot slots phrase (rest words)) ∙ behind_found (candidates g sees slot phrase) (ways slots (rest words)) ∙ ap (in_front (candidates g sees slot phrase)) (same words))

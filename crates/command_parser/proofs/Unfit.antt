@@ -1,12 +1,9 @@
 -- Words that can't be parted among tokens fill no slots.
-use Rattle.std.proofs.Common.{◌≡◌, ℕ, Bool, true, false, List, [], ◌∷◌, ◌++◌, refl, ap, sym, ◌∙◌}
-use Rattle.std.specs.Prelude.{Option, None, Some, ◌||◌}
+use Rattle.std.proofs.Common.{◌≡◌, ℕ, Bool, false, List, [], ◌∷◌, ◌++◌, refl, ap, sym, ◌∙◌}
+use Rattle.std.specs.Prelude.{Option, None, Some}
+use Rattle.std.proofs.lemmas.Bool.{or_parts}
 use Rattle.play_meaning.specs.Grammar.{Direction, Grammar, Something, Token, Word, candidates}
 use Rattle.command_parser.specs.Searching.{at_words, behind_word, first_filled, fits, fits_at, in_front, or_later, slot_filled, slot_fits}
-
-neither : (a b : Bool) → (a || b) ≡ false → (a ≡ false) × (b ≡ false)
-neither false b none = (refl, none)
-neither true b none = absurd cc
 
 front_of_none : (objects : List ℕ) → in_front objects None ≡ None
 front_of_none [] = refl
@@ -16,7 +13,7 @@ slot_unfit : (means : List (List ℕ) → List ℕ) (behind : List (List ℕ) �
     → (front words : List (List ℕ)) → slot_fits fit words ≡ false → slot_filled means behind front words ≡ None
 slot_unfit means behind fit unfit front [] none = refl
 slot_unfit means behind fit unfit front (word ∷ words) none =
-    let each = neither (fit words) (slot_fits fit words) none in
+    let each = or_parts (fit words) (slot_fits fit words) none in
     ap (λ found. or_later (in_front (means (front ++ word ∷ [])) found) (slot_filled means behind (front ++ word ∷ []) words)) (unfit words each.0)
     ∙ ap (λ found. or_later found (slot_filled means behind (front ++ word ∷ []) words)) (front_of_none (means (front ++ word ∷ [])))
     ∙ slot_unfit means behind fit unfit (front ++ word ∷ []) words each.1

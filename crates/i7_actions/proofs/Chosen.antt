@@ -4,9 +4,8 @@ use Rattle.std.specs.Prelude.{Some, None, nat_lt, ◌==◌, if◌then◌else◌}
 use Rattle.std.specs.List.{slice_get}
 use Rattle.std.proofs.lemmas.List.{drop-drop, length-drop, get_or-drop}
 use Rattle.std.proofs.lemmas.Option.{slice_get_read, slice_get_within}
-use Rattle.std.proofs.lemmas.Bool.{ltb-true, ltb-false}
+use Rattle.std.proofs.lemmas.Bool.{ltb-true, ltb-false, cases_Bool, and_from, and_parts}
 use Rattle.std.proofs.lemmas.Bool.Decides.{nat_tests}
-use Rattle.world_meaning.proofs.Bools.{both, both_are, either}
 use Rattle.i7_actions.specs.Parts.{first_part, second_part}
 use Rattle.i7_actions.specs.Trying.{GoesBefore, is_longer}
 use Rattle.i7_actions.specs.TryingForms.{Best, best_from, improves}
@@ -22,9 +21,9 @@ Longer f g s t = (g < f) ⊎ ((f ≡ g) × (t < s))
 
 longer_is : (f g s t : ℕ) → longer f g s t ≡ true → Longer f g s t
 longer_is f g s t e =
-    elim (either (nat_lt g f)) [
+    elim (cases_Bool (nat_lt g f)) [
       | inl lt ↦ inl (ltb-true _ _ lt)
-      | inr ge ↦ let is = both_are (f == g) (nat_lt t s) (sym (ap (λ (b : Bool). b || ((f == g) && nat_lt t s)) ge) ∙ e) in inr (grind (arith, nat_tests, is.0), ltb-true _ _ is.1)
+      | inr ge ↦ let is = and_parts (f == g) (nat_lt t s) (sym (ap (λ (b : Bool). b || ((f == g) && nat_lt t s)) ge) ∙ e) in inr (grind (arith, nat_tests, is.0), ltb-true _ _ is.1)
     ]
 
 longer_so : (f g s t : ℕ) → Longer f g s t → longer f g s t ≡ true
@@ -40,13 +39,13 @@ longer_not f g s t e h = let is = longer_so f g s t h in absurd cc
 
 over : (f g h s t u : ℕ) → (Longer f h s u → ⊥) → Longer f g s t → longer h g u t ≡ true
 over f g h s t u isnt does =
-    elim (either (nat_lt g h)) [
+    elim (cases_Bool (nat_lt g h)) [
       | inl above ↦ longer_so h g u t (inl (ltb-true _ _ above))
-      | inr below ↦ elim (either (nat_lt h f)) [
+      | inr below ↦ elim (cases_Bool (nat_lt h f)) [
         | inl lt ↦ absurd (isnt (inl (ltb-true _ _ lt)))
         | inr le ↦ elim does [
           | inl first ↦ absurd (omega (arith, first, ltb-false _ _ below, ltb-false _ _ le))
-          | inr second ↦ elim (either (nat_lt u s)) [
+          | inr second ↦ elim (cases_Bool (nat_lt u s)) [
             | inl lt ↦ let same : f ≡ h = omega (arith, second.0, ltb-false _ _ below, ltb-false _ _ le) in absurd (isnt (inr (same, ltb-true _ _ lt)))
             | inr ge ↦ longer_so h g u t (inr (omega (arith, second.0, ltb-false _ _ below, ltb-false _ _ le), omega (arith, second.1, ltb-false _ _ ge)))
           ]
@@ -102,7 +101,7 @@ none_further xs n m x e le at =
 
 pub earlier : (m n : ℕ) → m < n + 1 → (m < n) ⊎ (m ≡ n)
 earlier m n lt =
-    elim (either (nat_lt m n)) [
+    elim (cases_Bool (nat_lt m n)) [
       | inl less ↦ inl (ltb-true _ _ less)
       | inr more ↦ inr (omega (arith, lt, ltb-false _ _ more))
     ]
@@ -175,7 +174,7 @@ kept can actions rest number n a b e less h isnt = (
               let is : can a ≡ true = ap can (sym same) ∙ tries in
               let moved : GoesBefore number a n b = subst (λ (k : ℕ). GoesBefore k a n b) here (subst (λ (c : Action). GoesBefore m c n b) same before) in
               elim moved [
-                | inl above ↦ let does = both (is_longer a b) (can a) above is in absurd cc
+                | inl above ↦ let does = and_from (is_longer a b) (can a) above is in absurd cc
                 | inr equal ↦ absurd (omega (arith, less, equal.1))
               ]
         ];
@@ -185,13 +184,13 @@ kept can actions rest number n a b e less h isnt = (
 best_on : (can : Action → Bool) (actions rest : List Action) (number : ℕ) (a : Action) (best : Best) → drop number actions ≡ a ∷ rest → IsBest can actions number best
     → IsBest can actions (number + 1) (if improves can a best then Some (number, a) else best)
 best_on can actions rest number a None e h =
-    elim (either (can a)) [
+    elim (cases_Bool (can a)) [
       | inl tries ↦ rw tries (now_first can actions rest number a e tries (λ m other lt at before is. h m other lt at is))
       | inr cannot ↦ rw cannot (still_none can actions rest number a e cannot h)
     ]
 best_on can actions rest number a (Some best) e h =
-    elim (either (is_longer a best.1 && can a)) [
-      | inl does ↦ let are = both_are (is_longer a best.1) (can a) does in rw does (now_first can actions rest number a e are.1 (led_over can actions number best.0 a best.1 h.1 are.0))
+    elim (cases_Bool (is_longer a best.1 && can a)) [
+      | inl does ↦ let are = and_parts (is_longer a best.1) (can a) does in rw does (now_first can actions rest number a e are.1 (led_over can actions number best.0 a best.1 h.1 are.0))
       | inr kept_so ↦ rw kept_so (kept can actions rest number best.0 a best.1 e h.0 h.1 kept_so)
     ]
 
@@ -219,13 +218,13 @@ best_of_all can actions = from_here can actions 0 None actions refl (λ m other 
 
 pub one_first : (m n : ℕ) (a b : Action) → (GoesBefore m a n b → ⊥) → (GoesBefore n b m a → ⊥) → m ≡ n
 one_first m n a b isnt nor =
-    elim (either (is_longer a b)) [
+    elim (cases_Bool (is_longer a b)) [
       | inl above ↦ absurd (isnt (inl above))
-      | inr shorter ↦ elim (either (is_longer b a)) [
+      | inr shorter ↦ elim (cases_Bool (is_longer b a)) [
         | inl above ↦ absurd (nor (inl above))
-        | inr equal ↦ elim (either (nat_lt m n)) [
+        | inr equal ↦ elim (cases_Bool (nat_lt m n)) [
           | inl lt ↦ absurd (isnt (inr (equal, ltb-true _ _ lt)))
-          | inr ge ↦ elim (either (nat_lt n m)) [
+          | inr ge ↦ elim (cases_Bool (nat_lt n m)) [
             | inl lt ↦ absurd (nor (inr (shorter, ltb-true _ _ lt)))
             | inr le ↦ omega (arith, ltb-false _ _ ge, ltb-false _ _ le)
           ]

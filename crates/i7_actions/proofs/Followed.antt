@@ -3,8 +3,7 @@ use Rattle.std.proofs.Common.{◌≡◌, ℕ, ◌+◌, ◌<◌, ◌≤◌, Bool,
 use Rattle.std.specs.Prelude.{Option, Some, None, nat_lt}
 use Rattle.std.specs.List.{position_from, slice_get}
 use Rattle.std.specs.Option.{option_or}
-use Rattle.std.proofs.lemmas.Bool.{ltb-true, ltb-false}
-use Rattle.world_meaning.proofs.Bools.{either}
+use Rattle.std.proofs.lemmas.Bool.{ltb-true, ltb-false, cases_Bool}
 use Rattle.world_meaning.specs.Spelling.{is_spelled}
 use Rattle.i7_conditions.specs.Readings.{FirstOf}
 use Rattle.i7_conditions.specs.Words.{Word, key_of}
@@ -23,7 +22,7 @@ IsTold Is None = (book : ℕ) → Is book → ⊥
 told_first : (First Second : ℕ → Type 0) (a b : Option ℕ) → IsTold First a → IsTold Second b → IsTold (FirstOf First Second) (option_or a b)
 told_first First Second (Some book) b h k = inl h
 told_first First Second None (Some book) h k = inr (h, k)
-told_first First Second None None h k = λ book either. elim either [
+told_first First Second None None h k = λ book cases_Bool. elim cases_Bool [
   | inl first ↦ h book first
   | inr second ↦ k book second.1
 ]
@@ -41,7 +40,7 @@ alone_told words None e = λ book is. let same : None ≡ Some book = sym e ∙ 
 stage_told : (actions : List Action) (words : List Word) (found : Option (ℕ × List Word)) → stage_at words ≡ found → IsTold (IsStage actions words) (stage_said actions found)
 stage_told actions words None e = λ book is. let same : None ≡ Some is.0 = sym e ∙ is.1 in absurd cc
 stage_told actions words (Some parts) e =
-    elim (either (is_action actions parts.1)) [
+    elim (cases_Bool (is_action actions parts.1)) [
       | inl is ↦ rw is (parts, e, (is, refl))
       | inr isnt ↦ rw isnt (λ book stage.
           let both : Some stage.0 ≡ Some parts = sym stage.1 ∙ e in
@@ -72,7 +71,7 @@ IsPlace test names base k None = (m : ℕ) (name : List ℕ) → k ≤ m → sli
 not_at : (test : List ℕ → Bool) (names rest : List (List ℕ)) (k m : ℕ) (name other : List ℕ) → drop k names ≡ name ∷ rest → test name ≡ false → k ≤ m → slice_get names m ≡ Some other
     → test other ≡ true → k + 1 ≤ m
 not_at test names rest k m name other e isnt le at is =
-    elim (either (nat_lt k m)) [
+    elim (cases_Bool (nat_lt k m)) [
       | inl lt ↦ omega (arith, ltb-true _ _ lt)
       | inr ge ↦
           let here : m ≡ k = omega (arith, le, ltb-false _ _ ge) in
@@ -100,7 +99,7 @@ place_is : (test : List ℕ → Bool) (names : List (List ℕ)) (base k start : 
 place_is test names base k start [] e at = λ m name le there is. none_further names k m name e le there
 place_is test names base k start (name ∷ rest) e at =
     let on : IsPlace test names base (k + 1) (position_from test (start + 1) rest) = place_is test names base (k + 1) (start + 1) rest (next_place names rest k name e) (omega (arith, at)) in
-    elim (either (test name)) [
+    elim (cases_Bool (test name)) [
       | inl is ↦ rw is (record { n = k; name = name; from = omega arith; at = at_place names rest k name e; passes = is; numbered = at; first = λ m other le lt there passed. absurd (omega (arith, le, lt)) })
       | inr isnt ↦ rw isnt (place_later test names rest base k name (position_from test (start + 1) rest) e isnt on)
     ]

@@ -2,8 +2,7 @@
 use Rattle.std.proofs.Common.{◌≡◌, ℕ, suc, ◌+◌, ◌<◌, ◌≤◌, Bool, true, false, List, [], ◌∷◌, length, take, drop, refl, sym, ap, ◌∙◌, subst, arith, inl, inr}
 use Rattle.std.specs.Prelude.{Option, Some, None, nat_lt}
 use Rattle.std.proofs.lemmas.List.{length-drop}
-use Rattle.std.proofs.lemmas.Bool.{ltb-true, ltb-false}
-use Rattle.world_meaning.proofs.Bools.{either}
+use Rattle.std.proofs.lemmas.Bool.{ltb-true, ltb-false, cases_Bool}
 use Rattle.play_meaning.specs.Trees.{Nothing, Object}
 use Rattle.i7_conditions.specs.Joining.{is_read}
 use Rattle.i7_conditions.specs.Objects.{Means}
@@ -102,7 +101,7 @@ here Stands start nouns h = record { n = start; from = omega arith; stands = h; 
 
 not_at : (Stands : ℕ → Nouns → Type 0) (start n : ℕ) → Never Stands start → start ≤ n → ((start + 1 ≤ n) → Never Stands n) → Never Stands n
 not_at Stands start n never le later nouns h =
-    elim (either (nat_lt start n)) [
+    elim (cases_Bool (nat_lt start n)) [
       | inl lt ↦ later (omega (arith, ltb-true _ _ lt)) nouns h
       | inr ge ↦ let same : n ≡ start = omega (arith, le, ltb-false _ _ ge) in never nouns (subst (λ (m : ℕ). Stands m nouns) same h)
     ]
@@ -195,7 +194,7 @@ by_front s a words (Some rest) some e =
 
 by_count : (s : Scope) (a : Action) (words : List Word) (count : NounCount) → a.nouns ≡ count → IsGiven s a words (nouns_of s count a.name words)
 by_count s a words Zero e =
-    elim (either (is_name a.name words)) [
+    elim (cases_Bool (is_name a.name words)) [
       | inl is ↦ rw is (record { n = 0; from = omega arith; stands = Reads.alone e is; shortest = λ m le lt. absurd (omega (arith, lt)) }, refl)
       | inr isnt ↦ rw isnt (λ n le nouns reads. let of = of_alone s a words n nouns reads (ap is_zero e) in absurd cc)
     ]

@@ -1,8 +1,7 @@
 -- Words try one action at most, and name one rulebook at most.
 use Rattle.std.proofs.Common.{◌≡◌, ℕ, ◌+◌, ◌<◌, true, List, take, sym, ap, ◌∙◌, subst, arith, inl, inr}
 use Rattle.std.specs.Prelude.{Some, nat_lt}
-use Rattle.std.proofs.lemmas.Bool.{ltb-true, ltb-false}
-use Rattle.world_meaning.proofs.Bools.{either}
+use Rattle.std.proofs.lemmas.Bool.{ltb-true, ltb-false, cases_Bool}
 use Rattle.play_meaning.specs.Trees.{Object}
 use Rattle.i7_conditions.specs.Readings.{FirstOf}
 use Rattle.i7_conditions.specs.Scopes.{Scope}
@@ -23,9 +22,9 @@ use Rattle.i7_actions.proofs.Found.{is_zero, of_alone, of_around}
 -- the lowest of numbers is one
 pub lowest_once : (m n : ℕ) → (m < n → ⊥) → (n < m → ⊥) → m ≡ n
 lowest_once m n never nor =
-    elim (either (nat_lt m n)) [
+    elim (cases_Bool (nat_lt m n)) [
       | inl lt ↦ absurd (never (ltb-true _ _ lt))
-      | inr ge ↦ elim (either (nat_lt n m)) [
+      | inr ge ↦ elim (cases_Bool (nat_lt n m)) [
         | inl lt ↦ absurd (nor (ltb-true _ _ lt))
         | inr le ↦ omega (arith, ltb-false _ _ ge, ltb-false _ _ le)
       ]
@@ -53,7 +52,7 @@ stand_once s count second words n nouns others a b =
 
 reads_once : (s : Scope) (a : Action) (words : List Word) (n : ℕ) → IsOnce (Reads s a words n)
 reads_once s a words n nouns others x y =
-    elim (either (is_zero a.nouns)) [
+    elim (cases_Bool (is_zero a.nouns)) [
       | inl zero ↦ (of_alone s a words n nouns x zero).0 ∙ sym (of_alone s a words n others y zero).0
       | inr some ↦
           let one = of_around s a words n nouns x some in

@@ -1,8 +1,8 @@
 -- Many words that nothing opens mean no object.
-use Rattle.std.proofs.Common.{◌≡◌, ◌<◌, Bool, true, false, ◌||◌, List, [], ◌∷◌, length, refl, ap, ◌∙◌, arith, inl, inr}
+use Rattle.std.proofs.Common.{◌≡◌, ◌<◌, false, List, [], ◌∷◌, length, refl, ap, ◌∙◌, arith, inl, inr}
 use Rattle.std.specs.Prelude.{None, nat_lt, codes}
 use Rattle.std.proofs.lemmas.Bool.Decides.{nat_tests}
-use Rattle.world_meaning.proofs.Bools.{either}
+use Rattle.std.proofs.lemmas.Bool.{cases_Bool, or_parts}
 use Rattle.world_meaning.specs.Spelling.{is_spelled}
 use Rattle.i7_conditions.specs.Marks.{has_from, marks_of, split_opening}
 use Rattle.i7_conditions.specs.Parts.{put_together}
@@ -13,20 +13,16 @@ use Rattle.i7_conditions.specs.declared.found.Found.TheVariants.{Unread}
 use Rattle.i7_conditions.specs.declared.mark.Mark.TheVariants.{Unknown}
 use Rattle.i7_actions.specs.NounForms.{is_opening, may_open, noun_said}
 
-neither : (a b : Bool) → (a || b) ≡ false → (a ≡ false) × (b ≡ false)
-neither true b e = absurd cc
-neither false b e = (refl, e)
-
 opens_nothing : (word : Word) → is_opening word ≡ false → beyond_of word ≡ None
 unfolding is_opening beyond_of
 opens_nothing word e =
-    let nor = neither (is_spelled word (codes "room")) (is_spelled word (codes "door")) e in
+    let nor = or_parts (is_spelled word (codes "room")) (is_spelled word (codes "door")) e in
     rw (nor.0, nor.1) refl
 
 nothing_opened : (first second : Word) (words : List Word) → may_open (first ∷ second ∷ words) ≡ false → split_opening (first ∷ second ∷ words) ≡ None
 nothing_opened first second words e =
-    let nor = neither (is_opening first) (is_opening second) e in
-    elim (either (is_article first)) [
+    let nor = or_parts (is_opening first) (is_opening second) e in
+    elim (cases_Bool (is_article first)) [
       | inl is ↦ rw (is, opens_nothing second nor.1) refl
       | inr isnt ↦ rw (isnt, opens_nothing first nor.0) refl
     ]
@@ -34,7 +30,7 @@ nothing_opened first second words e =
 too_long : (first second : Word) (words : List Word) (s : Scope) → 33 < length (first ∷ second ∷ words) → plainly_named s (first ∷ second ∷ words) ≡ None
 unfolding plainly_named
 too_long first second words s lt =
-    elim (either (is_article first)) [
+    elim (cases_Bool (is_article first)) [
       | inl is ↦ let over : nat_lt 32 (length (second ∷ words)) ≡ true = grind (arith, nat_tests) in rw (is, over) refl
       | inr isnt ↦ let over : nat_lt 32 (length (first ∷ second ∷ words)) ≡ true = grind (arith, nat_tests) in rw (isnt, over) refl
     ]
@@ -42,7 +38,7 @@ too_long first second words s lt =
 unknown_marks : (s : Scope) (first second : Word) (words : List Word) → 33 < length (first ∷ second ∷ words) → may_open (first ∷ second ∷ words) ≡ false
     → marks_of s (first ∷ second ∷ words) ≡ Unknown ∷ []
 unknown_marks s first second words lt e =
-    elim (either (has_from (first ∷ second ∷ words))) [
+    elim (cases_Bool (has_from (first ∷ second ∷ words))) [
       | inl is ↦ rw (is, nothing_opened first second words e) refl
       | inr isnt ↦ rw (isnt, too_long first second words s lt) refl
     ]

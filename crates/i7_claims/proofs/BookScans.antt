@@ -2,7 +2,6 @@
 use Rattle.std.proofs.Common.{◌≡◌, ℕ, Bool, true, false, List, [], ◌∷◌, ◌++◌, refl, sym, ap, ◌∙◌, subst, append-nil, append_assoc, ◌||◌, inl, inr}
 use Rattle.std.specs.Prelude.{bytes_eq, fold, Decides}
 use Rattle.std.proofs.lemmas.List.Folds.{list_any-append}
-use Rattle.world_meaning.proofs.Bools.{either}
 use Rattle.object_words.specs.Mentions.{mention}
 use Rattle.i7_claims.specs.NameScans.{book_twice, is_book_twice, shows_book, with_book, with_book_of}
 use Rattle.i7_claims.specs.Scans.{IsLowest, ShownBy}
@@ -11,12 +10,9 @@ use Rattle.i7_claims.specs.declared.claim.Claim.{Claim}
 use Rattle.i7_claims.specs.declared.claim.Fact.{Fact}
 use Rattle.i7_claims.specs.declared.claim.Fact.TheVariants.{Rulebook}
 use Rattle.std.proofs.lemmas.Slice.Eq.{bytes_eq-Decides}
+use Rattle.std.proofs.lemmas.Bool.{cases_Bool}
 use Rattle.i7_claims.proofs.Lowest.{lowest_is}
 use Rattle.i7_claims.proofs.NameScans.{never}
-
-or_there : (a b : Bool) → b ≡ true → (a || b) ≡ true
-or_there true b h = refl
-or_there false b h = h
 
 same_or : (a b c : Bool) → a ≡ c → (a || b) ≡ (c || b)
 same_or a b c h = ap (λ x. x || b) h
@@ -29,7 +25,7 @@ or_twice false false h = refl
 -- a name that is mentioned is among the others as if it stood behind them
 pub mention_has : (names : List (List ℕ)) (name other : List ℕ) → has_name (mention names name) other ≡ has_name (names ++ name ∷ []) other
 mention_has names name other =
-    elim (either (has_name names name)) [
+    elim (cases_Bool (has_name names name)) [
       | inl is ↦ rw is (sym (list_any-append (bytes_eq other) names (name ∷ []) ∙ or_twice (has_name names other) (bytes_eq other name) (λ same. ap (has_name names) ((bytes_eq-Decides other name).0 same) ∙ is)))
       | inr isnt ↦ rw isnt refl
     ]

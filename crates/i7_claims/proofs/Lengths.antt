@@ -6,8 +6,7 @@ use Rattle.std.proofs.lemmas.List.{length-append, length-drop, length-map, lengt
 use Rattle.std.proofs.lemmas.List.Folds.{length-prefix_len}
 use Rattle.std.proofs.lemmas.Slice.Eq.{bytes_eq-Decides}
 use Rattle.std.specs.Char.{to_ascii_lowercase}
-use Rattle.std.proofs.lemmas.Bool.{ltb-true, ltb-false}
-use Rattle.world_meaning.proofs.Bools.{either}
+use Rattle.std.proofs.lemmas.Bool.{ltb-true, ltb-false, cases_Bool}
 use Rattle.world_meaning.specs.Spelling.{is_spelled}
 use Rattle.i7_claims.specs.NameScans.{IsShort, Standings, longer, longer_claim, longer_fact, no_standings, with_claim, with_fact, with_naming}
 use Rattle.i7_claims.specs.Phrases.{behind_word, first_word, is_article, is_behind_and, is_denied, is_letter, is_name, is_phrase, kind_said, longest_phrase, name_in, without_article, without_blank}
@@ -23,7 +22,7 @@ same_length a b h = ap length ((bytes_eq-Decides a b).0 h)
 
 other_length : (a b : List ℕ) → length a < length b → bytes_eq a b ≡ false
 other_length a b lt =
-    elim (either (bytes_eq a b)) [
+    elim (cases_Bool (bytes_eq a b)) [
       | inl is ↦ absurd (omega (arith, lt, same_length a b is))
       | inr isnt ↦ isnt
     ]
@@ -70,7 +69,7 @@ spelled_length word spelling h =
 
 spelled_longer : (word spelling : List ℕ) → length spelling < length word → is_spelled word spelling ≡ false
 spelled_longer word spelling lt =
-    elim (either (is_spelled word spelling)) [
+    elim (cases_Bool (is_spelled word spelling)) [
       | inl is ↦ absurd (omega (arith, lt, spelled_length word spelling is))
       | inr isnt ↦ isnt
     ]
@@ -97,9 +96,9 @@ behind_short words most le = omega (arith, le, behind_length words)
 
 article_length : (words : List ℕ) → length words ≤ length (without_article words) + 5
 article_length words =
-    elim (either (is_article (first_word words))) [
+    elim (cases_Bool (is_article (first_word words))) [
       | inl is ↦
-          elim (either (ltb 4 (length (first_word words)))) [
+          elim (cases_Bool (ltb 4 (length (first_word words)))) [
             | inl long ↦ absurd (true≢false (sym is ∙ long_no_article (first_word words) (ltb-true _ _ long)))
             | inr short ↦ rw is (omega (arith, behind_short words 4 (ltb-false _ _ short)))
           ]
@@ -112,7 +111,7 @@ word_length words spelling is = behind_short words (length spelling) (omega (ari
 name_length : (phrase : List ℕ) → length phrase ≤ length (name_in phrase) + 14
 name_length phrase =
     let a = article_length phrase in
-    elim (either (is_denied phrase)) [
+    elim (cases_Bool (is_denied phrase)) [
       | inl is ↦
           let n = word_length (without_article phrase) (codes "not") is in
           let b = article_length (behind_word (without_article phrase)) in
@@ -129,7 +128,7 @@ no_long_phrase : (most : ℕ) (known : Standings) (is_joined : Bool) (phrase : L
 unfolding is_phrase
 no_long_phrase most known false phrase h long = no_long_name most known phrase h (omega (arith, long))
 no_long_phrase most known true phrase h long =
-    elim (either (is_behind_and phrase)) [
+    elim (cases_Bool (is_behind_and phrase)) [
       | inl is ↦
           let n = word_length phrase (codes "and") is in
           let none = no_long_name most known (behind_word phrase) h (omega (arith, long, n)) in
@@ -143,7 +142,7 @@ no_longer_name most known is_joined column front (b ∷ bytes) h long =
     let more : longest_phrase most < length (front ++ b ∷ []) = omega (arith, long, length-append front (b ∷ [])) in
     let none = no_long_phrase most known is_joined (front ++ b ∷ []) h more in
     let rest = no_longer_name most known is_joined column (front ++ b ∷ []) bytes h more in
-    elim (either (may_end column bytes)) [
+    elim (cases_Bool (may_end column bytes)) [
       | inl is ↦ rw (is, none, rest) refl
       | inr isnt ↦ rw (isnt, rest) refl
     ]

@@ -1,8 +1,7 @@
 -- The lowest line that shows something, found from left to right.
 use Rattle.std.proofs.Common.{◌≡◌, ℕ, ◌≤◌, min, Bool, true, false, List, [], ◌∷◌, ◌++◌, Option, refl, sym, ap, ◌∙◌, subst, append_assoc, append-nil, true≢false, arith, inl, inr, ◌⊎◌, ⊎_elim}
-use Rattle.std.proofs.lemmas.Bool.{cases_lt}
+use Rattle.std.proofs.lemmas.Bool.{cases_lt, cases_Bool}
 use Rattle.std.specs.Prelude.{Some, None, fold, Decides}
-use Rattle.world_meaning.proofs.Bools.{either}
 use Rattle.i7_claims.specs.declared.claim.Claim.{Claim}
 use Rattle.i7_claims.specs.Scans.{IsLowest, ShownBy, lower, lowest}
 
@@ -77,7 +76,7 @@ module _ (Here : List Claim → Claim → Type 0) where
 pub found_stays : {S : Type 0} (shows : S → Claim → Bool) (next : S → Claim → S) (s : S) (claims : List Claim) (line : ℕ) → lowest shows next s claims (Some line) ≡ None → ⊥
 found_stays shows next s [] line h = absurd cc
 found_stays shows next s (c ∷ cs) line h =
-    elim (either (shows s c)) [
+    elim (cases_Bool (shows s c)) [
       | inl is ↦ let later : lowest shows next (next s c) cs (Some (min line c.line)) ≡ None = rw is at h in found_stays shows next (next s c) cs (min line c.line) later
       | inr isnt ↦ let later : lowest shows next (next s c) cs (Some line) ≡ None = rw isnt at h in found_stays shows next (next s c) cs line later
     ]
@@ -85,7 +84,7 @@ found_stays shows next s (c ∷ cs) line h =
 -- where nothing is found, the first shows nothing, and nothing is found behind it
 pub none_shown : {S : Type 0} (shows : S → Claim → Bool) (next : S → Claim → S) (s : S) (c : Claim) (cs : List Claim) → lowest shows next s (c ∷ cs) None ≡ None → (shows s c ≡ false) × (lowest shows next (next s c) cs None ≡ None)
 none_shown shows next s c cs h =
-    elim (either (shows s c)) [
+    elim (cases_Bool (shows s c)) [
       | inl is ↦ let later : lowest shows next (next s c) cs (Some c.line) ≡ None = rw is at h in absurd (found_stays shows next (next s c) cs c.line later)
       | inr isnt ↦ let later : lowest shows next (next s c) cs None ≡ None = rw isnt at h in (isnt, later)
     ]

@@ -1,6 +1,7 @@
 -- The scans for names that stand for two things find the lowest line of such a name.
-use Rattle.std.proofs.Common.{◌≡◌, ℕ, Bool, true, false, not, List, [], ◌∷◌, ◌++◌, Option, refl, sym, ap, ◌∙◌, subst}
+use Rattle.std.proofs.Common.{◌≡◌, ℕ, Bool, true, false, List, [], ◌∷◌, ◌++◌, Option, refl, sym, ap, ◌∙◌, subst}
 use Rattle.std.specs.Prelude.{Some, None, bytes_eq, fold, Decides, if◌then◌else◌}
+use Rattle.std.proofs.lemmas.Bool.{not-true}
 use Rattle.i7_claims.specs.Firsts.{first_of, given}
 use Rattle.i7_claims.specs.NameScans.{Standings, built_in_standings, clashes, is_twice, name_twice, no_standings, shows_twice, with_claim, with_fact, with_naming}
 use Rattle.i7_claims.specs.Scans.{IsLowest, ShownBy}
@@ -46,13 +47,9 @@ known_before before name =
     ap (λ (known : Standings). known name) (fold_claims before built_in_standings ∙ sym (fold_append with_naming no_standings built_in_namings (namings_of before)))
     ∙ fold_naming (built_in_namings ++ namings_of before) no_standings name
 
-false_of : (b : Bool) → not b ≡ true → b ≡ false
-false_of true h = absurd cc
-false_of false h = refl
-
 clash_decides : (found : Option Standing) (said : Standing) → Decides (clashes found said) ((known : Standing) × (found ≡ Some known) × (suits known said ≡ false))
 clash_decides None said = (λ h. absurd cc, λ r. absurd cc)
-clash_decides (Some k) said = (λ h. (k, refl, false_of (suits k said) h), λ r. let same : k ≡ r.0 = cc in let no : suits k said ≡ false = ap (λ s. suits s said) same ∙ r.2 in rw no refl)
+clash_decides (Some k) said = (λ h. (k, refl, not-true (suits k said) h), λ r. let same : k ≡ r.0 = cc in let no : suits k said ≡ false = ap (λ s. suits s said) same ∙ r.2 in rw no refl)
 
 pub never : {P : Type 0} → (P → ⊥) → Decides false P
 never no_such = (λ h. absurd cc, λ h. absurd (no_such h))

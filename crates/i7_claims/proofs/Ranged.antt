@@ -1,7 +1,7 @@
 -- The numbers of claims are in range where those of the sentences are.
 use Rattle.std.proofs.Common.{◌≡◌, ℕ, true, List, [], ◌∷◌, ◌++◌, map, Option, inl, inr}
 use Rattle.std.specs.Prelude.{Some, None, flat_map}
-use Rattle.world_meaning.proofs.Bools.{either}
+use Rattle.std.proofs.lemmas.Bool.{cases_Bool}
 use Rattle.world_meaning.specs.Declarations.{is_number}
 use Rattle.world_meaning.specs.declared.place.Rel.{Rel}
 use Rattle.world_meaning.specs.declared.place.Rel.TheVariants.{In, On, Carried, Worn, Part}
@@ -120,17 +120,17 @@ declares_ranged _ line = tt
 
 numbers_ranged : (known : Standings) (said : Assertion) (line : ℕ) → IsRangedSaid said → AreRanged (numbers_said known said line)
 numbers_ranged known (assertion.NumberOf property object number) line h =
-    elim (either (is_number_name (known (key_of property.text)))) [
+    elim (cases_Bool (is_number_name (known (key_of property.text)))) [
       | inl is ↦ rw is (tt, (h, tt))
       | inr isnt ↦ rw isnt (tt, (tt, tt))
     ]
 numbers_ranged known (assertion.UsuallyNumber property kind number) line h =
-    elim (either (is_number_name (known (key_of property.text)))) [
+    elim (cases_Bool (is_number_name (known (key_of property.text)))) [
       | inl is ↦ rw is (h, tt)
       | inr isnt ↦ rw isnt (tt, tt)
     ]
 numbers_ranged known (assertion.VariableIs variable number) line h =
-    elim (either (is_variable_name (known (key_of variable.text)))) [
+    elim (cases_Bool (is_variable_name (known (key_of variable.text)))) [
       | inl is ↦ rw is (h, tt)
       | inr isnt ↦ rw isnt (tt, tt)
     ]

@@ -1,8 +1,7 @@
 -- The scan for a name that is one too many finds the lowest line of such a one.
-use Rattle.std.proofs.Common.{◌≡◌, ℕ, ◌≤◌, Bool, true, false, not, List, length, Option, refl, ap, ◌∙◌}
+use Rattle.std.proofs.Common.{◌≡◌, ℕ, ◌≤◌, false, not, List, length, Option, refl, ap, ◌∙◌}
 use Rattle.std.specs.Prelude.{Some, None, Decides, nat_le}
-use Rattle.std.proofs.lemmas.Bool.{le-leb, leb-true}
-use Rattle.world_meaning.proofs.Bools.{both, both_are}
+use Rattle.std.proofs.lemmas.Bool.{le-leb, leb-true, and_from, and_parts, not-true, not_from_false}
 use Rattle.i7_claims.specs.Scans.{IsLowest, ShownBy}
 use Rattle.i7_claims.specs.Sorts.{IsTooMany, built_in_names, claimed_as, is_too_many, most_names, names_as, shows_too_many, too_many_as, with_claimed}
 use Rattle.i7_claims.specs.Standings.{has_name}
@@ -10,19 +9,11 @@ use Rattle.i7_claims.specs.declared.claim.Claim.{Claim}
 use Rattle.i7_claims.specs.declared.sorts.Sort.{Sort}
 use Rattle.i7_claims.proofs.Lowest.{lowest_is}
 
-pub not_true : (b : Bool) → not b ≡ true → b ≡ false
-not_true true h = absurd cc
-not_true false h = refl
-
-pub not_false : (b : Bool) → b ≡ false → not b ≡ true
-not_false true h = absurd cc
-not_false false h = refl
-
 too_many_decides : (most : ℕ) (names : List (List ℕ)) (found : Option (List ℕ)) → Decides (is_too_many most names found) ((name : List ℕ) × (found ≡ Some name) × (has_name names name ≡ false) × (most ≤ length names))
 too_many_decides most names None = (λ h. absurd cc, λ r. absurd cc)
 too_many_decides most names (Some n) = (
-  λ h. let t = both_are (not (has_name names n)) (nat_le most (length names)) h in (n, refl, not_true (has_name names n) t.0, leb-true most (length names) t.1),
-  λ r. let same : n ≡ r.0 = cc in both (not (has_name names n)) (nat_le most (length names)) (not_false (has_name names n) (ap (has_name names) same ∙ r.2)) (le-leb most (length names) r.3),
+  λ h. let t = and_parts (not (has_name names n)) (nat_le most (length names)) h in (n, refl, not-true (has_name names n) t.0, leb-true most (length names) t.1),
+  λ r. let same : n ≡ r.0 = cc in and_from (not (has_name names n)) (nat_le most (length names)) (not_from_false (has_name names n) (ap (has_name names) same ∙ r.2)) (le-leb most (length names) r.3),
 )
 
 pub too_many_lowest : (s : Sort) (claims : List Claim) → IsLowest (ShownBy (λ before c. IsTooMany s before c.fact) claims) (too_many_as s claims)

@@ -1,9 +1,8 @@
 -- What words are found to be alone, as a number, is what they are.
 use Rattle.std.proofs.Common.{◌≡◌, ℕ, ℤ, ◌+◌, ◌<◌, ◌≤◌, ◌⊎◌, true, false, ◌||◌, List, [], refl, sym, ap, ◌∙◌, subst, arith, inl, inr}
 use Rattle.std.specs.Prelude.{Option, Some, None, codes, nat_lt}
-use Rattle.std.proofs.lemmas.Bool.{ltb-true, ltb-false}
+use Rattle.std.proofs.lemmas.Bool.{ltb-true, ltb-false, cases_Bool}
 use Rattle.std.proofs.lemmas.Bool.Decides.{nat_tests}
-use Rattle.world_meaning.proofs.Bools.{either}
 use Rattle.play_meaning.specs.Trees.{CountOf, Description, Literal, Number, Object, PropertyOf, TurnCount, Variable}
 use Rattle.i7_conditions.specs.Describing.{Describes, IsDescriptionFound, adjectives_in, froms_in}
 use Rattle.i7_conditions.specs.Descriptions.{description_said}
@@ -111,7 +110,7 @@ property_found s words (Some parts) at = property_by_found s words parts (proper
 
 over_either : (a b : ℕ) → (9 < a) ⊎ (8 < b) → (nat_lt 9 a || nat_lt 8 b) ≡ true
 over_either a b (inl lt) = rw (past a 9 lt) refl
-over_either a b (inr lt) = elim (either (nat_lt 9 a)) [
+over_either a b (inr lt) = elim (cases_Bool (nat_lt 9 a)) [
   | inl is ↦ rw is refl
   | inr isnt ↦ rw isnt (past b 8 lt)
 ]
@@ -127,7 +126,7 @@ count_of_found s words parts at named Unread h = λ t term.
 count_found : (s : Scope) (words : List Word) (found : Option Parts) → split_of words ≡ found → IsFormFound s words 3 (a_count s found)
 count_found s words None at = λ t term. let of = of_count s words 3 t term refl in let same : None ≡ Some of.0 = sym at ∙ of.2 in absurd cc
 count_found s words (Some parts) at =
-    elim (either (is_named (codes "number") parts.0)) [
+    elim (cases_Bool (is_named (codes "number") parts.0)) [
       | inl is ↦ rw is (count_of_found s words parts at is (description_said s parts.1) (descriptions_found s parts.1 (description_said s parts.1) refl))
       | inr isnt ↦ rw isnt (λ t term.
           let of = of_count s words 3 t term refl in
@@ -154,7 +153,7 @@ this_first s words form t term = record { form = form; later = omega arith; is_t
 
 not_this : (s : Scope) (words : List Word) (start : ℕ) → ((t : Number) → IsTerm s words start t → ⊥) → (form : ℕ) → start ≤ form → (t : Number) → IsTerm s words form t → (start + 1 ≤ form → ⊥) → ⊥
 not_this s words start never form le t term later =
-    elim (either (nat_lt start form)) [
+    elim (cases_Bool (nat_lt start form)) [
       | inl lt ↦ later (omega (arith, ltb-true _ _ lt))
       | inr ge ↦ let same : form ≡ start = omega (arith, le, ltb-false _ _ ge) in never t (subst (λ (f : ℕ). IsTerm s words f t) same term)
     ]
@@ -181,7 +180,7 @@ or_last Unread b c = refl
 
 turns_found : (s : Scope) (words : List Word) → IsFoundFrom s words 4 (turn_count words)
 turns_found s words =
-    elim (either (is_named (codes "turn count") words)) [
+    elim (cases_Bool (is_named (codes "turn count") words)) [
       | inl is ↦ rw is (this_first s words 4 TurnCount (IsTerm.turns is), refl)
       | inr isnt ↦ rw isnt (λ form le t term. let of = of_turns s words form t term le in let is = of.1 in absurd cc)
     ]
@@ -206,7 +205,7 @@ found_alone s words Unread can h = λ t meant. h meant.form (omega arith) t mean
 pub term_found : (s : Scope) (words : List Word) → IsTermFound s words (term_said s words)
 unfolding term_said
 term_found s words =
-    elim (either (can_stand s words)) [
+    elim (cases_Bool (can_stand s words)) [
       | inl can ↦ rw can (found_alone s words (from_literal s words) can (all_found s words))
       | inr cannot ↦ rw cannot (λ t meant. let can = meant.stands in absurd cc)
     ]
@@ -237,9 +236,9 @@ form_once s words f g t u (IsTerm.turns e) other k = sym (of_turns s words g u o
 
 pub alone_once : (s : Scope) (words : List Word) (t u : Number) → IsTermMeant s words t → IsTermMeant s words u → t ≡ u
 alone_once s words t u a b =
-    elim (either (nat_lt a.form b.form)) [
+    elim (cases_Bool (nat_lt a.form b.form)) [
       | inl lt ↦ absurd (b.first a.form (ltb-true _ _ lt) t a.is_term)
-      | inr ge ↦ elim (either (nat_lt b.form a.form)) [
+      | inr ge ↦ elim (cases_Bool (nat_lt b.form a.form)) [
         | inl lt ↦ absurd (a.first b.form (ltb-true _ _ lt) u b.is_term)
         | inr le ↦ form_once s words a.form b.form t u a.is_term b.is_term (omega (arith, ltb-false _ _ ge, ltb-false _ _ le))
       ]

@@ -3,9 +3,8 @@ use Rattle.std.proofs.Common.{◌≡◌, ℕ, zero, suc, ◌+◌, ◌-◌, ◌<�
 use Rattle.std.specs.Prelude.{Option, Some, None, is_some, nat_lt}
 use Rattle.std.specs.List.{list_any}
 use Rattle.std.proofs.lemmas.List.{drop-drop, drop_all, length-append, length-drop, take_all}
-use Rattle.std.proofs.lemmas.Bool.{ltb-true, ltb-false}
+use Rattle.std.proofs.lemmas.Bool.{ltb-true, ltb-false, cases_Bool, and_from, and_parts, or_right}
 use Rattle.std.proofs.lemmas.Bool.Decides.{nat_tests}
-use Rattle.world_meaning.proofs.Bools.{both, both_are, either}
 use Rattle.play_meaning.specs.Meant.{by_operator}
 use Rattle.play_meaning.specs.Trees.{Number}
 use Rattle.play_meaning.specs.declared.tree.number.Operator.{Operator}
@@ -108,7 +107,7 @@ IsFirstEnd s column words start (Some n) = (start ≤ n) × IsEnd s column words
 
 not_here : (s : Scope) (column : Column) (words : List Word) (start : ℕ) → (IsEnd s column words start → ⊥) → (n : ℕ) → start ≤ n → IsEnd s column words n → (start + 1 ≤ n → ⊥) → ⊥
 not_here s column words start never n le end later =
-    elim (either (nat_lt start n)) [
+    elim (cases_Bool (nat_lt start n)) [
       | inl lt ↦ later (omega (arith, ltb-true _ _ lt))
       | inr ge ↦ let same : n ≡ start = omega (arith, le, ltb-false _ _ ge) in never (subst (IsEnd s column words) same end)
     ]
@@ -118,16 +117,12 @@ ends_later s column words start None never later = λ n le end. not_here s colum
 ends_later s column words start (Some n) never later =
     (omega (arith, later.0), later.1, λ m le lt end. not_here s column words start never m le end (λ more. later.2 m more lt end))
 
-or_true : (a b : Bool) → b ≡ true → (a || b) ≡ true
-or_true true b e = refl
-or_true false b e = e
-
 -- an operator that is passed over stands in the part
 held_operator : (words rest : List Word) (k n : ℕ) (word : Word) → drop k words ≡ word ∷ rest → is_operator word ≡ true → k < n → list_any is_operator (take n words) ≡ true
 held_operator [] rest k n word e is lt = let none = drop_none k in absurd cc
 held_operator (first ∷ words) rest k zero word e is lt = absurd (omega (arith, lt))
 held_operator (first ∷ words) rest zero (suc n) word e is lt = let head : first ≡ word = cc in rw (head, is) refl
-held_operator (first ∷ words) rest (suc k) (suc n) word e is lt = or_true (is_operator first) (list_any is_operator (take n words)) (held_operator words rest k n word e is (omega (arith, lt)))
+held_operator (first ∷ words) rest (suc k) (suc n) word e is lt = or_right (is_operator first) (list_any is_operator (take n words)) (held_operator words rest k n word e is (omega (arith, lt)))
 
 cannot_be : (s : Scope) (words : List Word) → s.has_operators ≡ false → list_any is_operator words ≡ true → is_term s words ≡ false
 unfolding term_said
@@ -159,12 +154,12 @@ no_end_here : (s : Scope) (column : Column) (words rest : List Word) (n : ℕ) (
 no_end_here s column words rest n word e isnt end =
     let same = (same_word words rest n word end.word end.rest e end.at).1 in
     let told : is_some (looked column (length rest)) ≡ true = ap (λ (more : List Word). is_some (looked column (length more))) (sym same) ∙ end.told in
-    let is = both (is_some (looked column (length rest))) (is_term s (take n words)) told end.part in
+    let is = and_from (is_some (looked column (length rest))) (is_term s (take n words)) told end.part in
     absurd cc
 
 an_end : (s : Scope) (column : Column) (words rest : List Word) (n : ℕ) (word : Word) → drop n words ≡ word ∷ rest → is_operator word ≡ true → is_end s column words n rest ≡ true → IsEnd s column words n
 an_end s column words rest n word e is ends =
-    let parts = both_are (is_some (looked column (length rest))) (is_term s (take n words)) ends in
+    let parts = and_parts (is_some (looked column (length rest))) (is_term s (take n words)) ends in
     record { word = word; rest = rest; at = e; joins = is; told = parts.0; part = parts.1 }
 
 on_or_stop : (s : Scope) (column : Column) (words rest : List Word) (start : ℕ) (word : Word) (later : Option ℕ) (some : Bool) → s.has_operators ≡ some → drop start words ≡ word ∷ rest → is_operator word ≡ true
@@ -178,8 +173,8 @@ part_is s column words start (word ∷ rest) e =
     let next : suc start ≡ start + 1 = omega arith in
     let on : IsFirstEnd s column words (start + 1) (part_from s column words (start + 1) rest) =
     part_is s column words (start + 1) rest (ap (λ (m : ℕ). drop m words) (sym next) ∙ drop_next words rest start word e) in
-    elim (either (is_operator word)) [
-      | inl is ↦ elim (either (is_end s column words start rest)) [
+    elim (cases_Bool (is_operator word)) [
+      | inl is ↦ elim (cases_Bool (is_end s column words start rest)) [
         | inl ends ↦ rw (is, ends) (omega arith, an_end s column words rest start word e is ends, λ m le lt end. absurd (omega (arith, le, lt)))
         | inr never ↦ rw (is, never) (on_or_stop s column words rest start word (part_from s column words (start + 1) rest) s.has_operators refl e is (no_end_here s column words rest start word e never) on)
       ]
@@ -215,7 +210,7 @@ joins_by word operator e = ap is_some e
 
 some_part : (s : Scope) (column : Column) (words : List Word) → is_some (part_from s column words 0 words) ≡ true → is_some (first_part s column words) ≡ true
 some_part s column words some =
-    elim (either (is_term s words)) [
+    elim (cases_Bool (is_term s words)) [
       | inl is ↦ rw is refl
       | inr isnt ↦ rw isnt some
     ]
@@ -296,7 +291,7 @@ first_over s words rest n operator t m h meant over counts =
 
 rest_over : (s : Scope) (words rest : List Word) (n : ℕ) (operator : Operator) (t m : Number) → IsJoined s words rest n operator → IsTermMeant s (take n words) t → CountsAs s rest m → is_over m ≡ true → IsFollowed s words TooMany
 rest_over s words rest n operator t m h meant counts over =
-    let is : is_over (by_operator operator t m) ≡ true = over_joined operator t m ∙ or_true (is_over t) (is_over m) over in
+    let is : is_over (by_operator operator t m) ≡ true = over_joined operator t m ∙ or_right (is_over t) (is_over m) over in
     (by_operator operator t m, is_joined s words rest n operator t m h meant counts, is)
 
 none_over : (s : Scope) (words rest : List Word) (n : ℕ) (operator : Operator) (t m : Number) → IsJoined s words rest n operator → IsTermMeant s (take n words) t → is_over t ≡ false → CountsAs s rest m → is_over m ≡ false
@@ -370,7 +365,7 @@ part_follows s column words n tells never h next =
 by_top : (s : Scope) (column : Column) (words : List Word) (n : ℕ) → Tells s column words → top s words ≡ Some n
     → ((rest : List Word) (k : ℕ) → length rest < length words → Tells s column rest → top s rest ≡ Some k → IsFollowed s rest (number_by s column k rest)) → IsFollowed s words (number_by s column n words)
 by_top s column words n tells e next =
-    elim (either (is_term s words)) [
+    elim (cases_Bool (is_term s words)) [
       | inl is ↦ let all : Some (length words) ≡ Some n = rw is at e in let same : length words ≡ n = cc in whole_follows s column words n same is
       | inr isnt ↦
           let first : part_from s (column_of s words) words 0 words ≡ Some n = rw isnt at e in
@@ -410,9 +405,9 @@ counted_once s words m p (CountsAs.alone {t = t} a) (CountsAs.alone {t = u} b) =
 counted_once s words m p (CountsAs.alone {t = t} a) (CountsAs.joined n none meant at shortest counts) = absurd (none t a)
 counted_once s words m p (CountsAs.joined n none meant at shortest counts) (CountsAs.alone {t = t} a) = absurd (none t a)
 counted_once s words m p (CountsAs.joined {rest = rest} {operator = operator} {t = t} {m = more} n none meant at shortest counts) (CountsAs.joined {rest = rest2} {operator = operator2} {t = u} {m = other} k none2 meant2 at2 shortest2 counts2) =
-    elim (either (nat_lt n k)) [
+    elim (cases_Bool (nat_lt n k)) [
       | inl lt ↦ absurd (shortest2 n (ltb-true _ _ lt) t more operator rest meant at (counted s rest more counts))
-      | inr ge ↦ elim (either (nat_lt k n)) [
+      | inr ge ↦ elim (cases_Bool (nat_lt k n)) [
         | inl lt ↦ absurd (shortest k (ltb-true _ _ lt) u other operator2 rest2 meant2 at2 (counted s rest2 other counts2))
         | inr le ↦
             let same : k ≡ n = omega (arith, ltb-false _ _ ge, ltb-false _ _ le) in

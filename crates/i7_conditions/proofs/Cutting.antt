@@ -2,9 +2,8 @@
 use Rattle.std.proofs.Common.{◌≡◌, ℕ, zero, suc, ◌+◌, ◌-◌, ◌<◌, ◌≤◌, min, Bool, true, false, cond, List, [], ◌∷◌, ◌++◌, length, take, drop, get_or, refl, sym, ap, ◌∙◌, subst, append_assoc, arith, inl, inr}
 use Rattle.std.specs.Prelude.{Option, Some, None, nat_lt}
 use Rattle.std.proofs.lemmas.List.{append-nil, length-append, length-drop, length-take}
-use Rattle.std.proofs.lemmas.Bool.{ltb-true, ltb-false}
+use Rattle.std.proofs.lemmas.Bool.{ltb-true, ltb-false, cases_Bool}
 use Rattle.std.proofs.lemmas.Bool.Decides.{nat_tests}
-use Rattle.world_meaning.proofs.Bools.{either}
 use Rattle.play_meaning.specs.declared.tree.object.Adjective.{Adjective}
 use Rattle.i7_conditions.specs.Adjectives.{adjective_named, kind_named}
 use Rattle.i7_conditions.specs.Cuts.{CanBeCut, IsCut, IsFrontFound, IsMeant, IsShortest}
@@ -61,7 +60,7 @@ IsGoes s words column count len (Goes a n) =
 
 none_here : (s : Scope) (words : List Word) (column : List Step) (count m : ℕ) → adjective_at s words column count ≡ None → (count + 1 ≤ m → adjective_at s words column m ≡ None) → count ≤ m → adjective_at s words column m ≡ None
 none_here s words column count m none later le =
-    elim (either (nat_lt count m)) [
+    elim (cases_Bool (nat_lt count m)) [
       | inl lt ↦ later (omega (arith, ltb-true _ _ lt))
       | inr ge ↦ let same : m ≡ count = omega (arith, ltb-false _ _ ge) in ap (adjective_at s words column) same ∙ none
     ]
@@ -105,7 +104,7 @@ long_names s [] lt = absurd (omega arith)
 long_names s (first ∷ rest) lt =
     let long : nat_lt 32 (length rest) ≡ true = grind (arith, nat_tests) in
     let longer : nat_lt 32 (length (first ∷ rest)) ≡ true = grind (arith, nat_tests) in
-    elim (either (is_not first)) [
+    elim (cases_Bool (is_not first)) [
       | inl is ↦ rw (is, long) refl
       | inr isnt ↦ rw (isnt, longer) refl
     ]
@@ -139,7 +138,7 @@ window_long words = omega (arith, length-take (min (length words) 33) words)
 
 name_short : (s : Scope) (word : Word) (words : List Word) (m : ℕ) (a : Adjective) → m < length words + 1 → adjective_named s (take (suc m) (word ∷ words)) ≡ Some a → suc m ≤ 33
 name_short s word words m a lt e =
-    elim (either (nat_lt 33 (suc m))) [
+    elim (cases_Bool (nat_lt 33 (suc m))) [
       | inl long ↦
           let more = ltb-true _ _ long in
           let over : 33 < length (take (suc m) (word ∷ words)) = omega (arith, more, length-take (suc m) (word ∷ words)) in
@@ -244,7 +243,7 @@ pub follow_same : (c d : List Step) (words : List Word) → ((j : ℕ) → j ≤
 follow_same c d [] h n done = refl
 follow_same c d (word ∷ words) h n done =
     let next = follow_same c d words (λ j le. h j (omega arith)) in
-    elim (either (nat_lt 0 n)) [
+    elim (cases_Bool (nat_lt 0 n)) [
       | inl is ↦ rw is (next (n - 1) done)
       | inr isnt ↦ rw isnt (ap (λ step. followed step done (λ count more. follow c count more words)) (h (length words + 1) (omega arith))
           ∙ followed_same (looked d (length words + 1)) done (λ count more. follow c count more words) (λ count more. follow d count more words) next)
@@ -313,7 +312,7 @@ none_is_found s words stuck = λ cut. let can = cut_goes s words cut.0 cut.1 cut
 pub front_found : (s : Scope) (words : List Word) (found : Option Front) → found ≡ front_said s words → IsFrontFound s words found
 unfolding front_said
 front_found s words found e =
-    elim (either (can_go (top s words))) [
+    elim (cases_Bool (can_go (top s words))) [
       | inl can ↦ subst (IsFrontFound s words) (sym e) (read_is_found s words (follow (column_of s words) 0 [] words) (follow_means (length words) s words [] (omega arith) can))
       | inr stuck ↦ subst (IsFrontFound s words) (sym (e ∙ unread s words stuck)) (none_is_found s words stuck)
     ]

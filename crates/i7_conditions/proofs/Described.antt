@@ -2,8 +2,7 @@
 use Rattle.std.proofs.Common.{◌≡◌, ℕ, ◌<◌, ◌≤◌, List, [], length, map, take, drop, refl, sym, ap, ◌∙◌, subst, arith, inl, inr}
 use Rattle.std.specs.Prelude.{Option, Some, None, nat_lt}
 use Rattle.std.proofs.lemmas.List.{length-map}
-use Rattle.std.proofs.lemmas.Bool.{ltb-true, ltb-false}
-use Rattle.world_meaning.proofs.Bools.{either}
+use Rattle.std.proofs.lemmas.Bool.{ltb-true, ltb-false, cases_Bool}
 use Rattle.world_meaning.specs.declared.place.Rel.{Rel}
 use Rattle.world_meaning.specs.declared.place.Rel.TheVariants.{In}
 use Rattle.play_meaning.specs.Meant.{adjective_meant}
@@ -55,7 +54,7 @@ described_found : (s : Scope) (words : List Word) (front : Front) (held : Option
     → IsDescriptionFound s words (described front held)
 described_found s words front held describes few =
     let count = adjectives_told front held in
-    elim (either (nat_lt 9 (length front.adjectives))) [
+    elim (cases_Bool (nat_lt 9 (length front.adjectives))) [
       | inl many ↦ let over : 9 < adjectives_in (description_of front held) = omega (arith, ltb-true _ _ many, count) in rw many (description_of front held, describes, inl over)
       | inr fits ↦ let within : adjectives_in (description_of front held) ≤ 9 = omega (arith, ltb-false _ _ fits, count) in rw fits (describes, within, few)
     ]
@@ -87,9 +86,9 @@ same_cut s words adjectives others k j (IsMeant.kind e) (IsMeant.kind f) = let g
 same_cut s words adjectives others k j (IsMeant.kind e) (IsMeant.more n no_kind f shortest rest) = absurd cc
 same_cut s words adjectives others k j (IsMeant.more n no_kind f shortest rest) (IsMeant.kind e) = absurd cc
 same_cut s words adjectives others k j (IsMeant.more {a = a} {others = more} n no_kind e shortest rest) (IsMeant.more {a = b} {others = same} m none f shorter behind) =
-    elim (either (nat_lt n m)) [
+    elim (cases_Bool (nat_lt n m)) [
       | inl lt ↦ absurd (shorter n (ltb-true _ _ lt) a e (more, k, meant_is_cut s (drop n words) more k rest))
-      | inr ge ↦ elim (either (nat_lt m n)) [
+      | inr ge ↦ elim (cases_Bool (nat_lt m n)) [
         | inl lt ↦ absurd (shortest m (ltb-true _ _ lt) b f (same, j, meant_is_cut s (drop m words) same j behind))
         | inr le ↦
             let at : m ≡ n = omega (arith, ltb-false _ _ ge, ltb-false _ _ le) in

@@ -2,8 +2,7 @@
 use Rattle.std.proofs.Common.{◌≡◌, ℕ, suc, ◌+◌, ◌-◌, ◌<◌, ◌≤◌, min, true, false, ◌&&◌, ◌||◌, List, [], ◌∷◌, length, take, drop, refl, sym, ap, ◌∙◌, subst, arith, inl, inr}
 use Rattle.std.specs.Prelude.{Option, Some, None, nat_lt}
 use Rattle.std.proofs.lemmas.List.{length-drop}
-use Rattle.std.proofs.lemmas.Bool.{ltb-true, ltb-false}
-use Rattle.world_meaning.proofs.Bools.{both, both_are, either}
+use Rattle.std.proofs.lemmas.Bool.{ltb-true, ltb-false, cases_Bool, and_from, and_parts}
 use Rattle.play_meaning.specs.Trees as tree
 use Rattle.i7_conditions.specs.Clauses.{AsksByVerb, Does, HasText, StandsAt, asks_over, done_by, is_a_description, is_verb}
 use Rattle.i7_conditions.specs.Joining.{is_read}
@@ -51,7 +50,7 @@ IsFirstPlace s verb words start (Some n) = Stands s verb words n × ((m : ℕ) �
 
 not_at : (s : Scope) (verb : Verb) (words : List Word) (start : ℕ) → (Stands s verb words start → ⊥) → (n : ℕ) → start ≤ n → Stands s verb words n → (start + 1 ≤ n → ⊥) → ⊥
 not_at s verb words start never n le stands later =
-    elim (either (nat_lt start n)) [
+    elim (cases_Bool (nat_lt start n)) [
       | inl lt ↦ later (omega (arith, ltb-true _ _ lt))
       | inr ge ↦ let same : n ≡ start = omega (arith, le, ltb-false _ _ ge) in never (subst (Stands s verb words) same stands)
     ]
@@ -65,8 +64,8 @@ same_place words rest n word other more e f = let both : other ∷ more ≡ word
 
 stands_here : (s : Scope) (verb : Verb) (words rest : List Word) (n : ℕ) (word : Word) → drop n words ≡ word ∷ rest → fits s verb words n word rest ≡ true → Stands s verb words n
 stands_here s verb words rest n word e is =
-    let parts = both_are (is_verb verb word) (is_read (object_said s (take n words)) && is_read (object_said s rest)) is in
-    let objects = both_are (is_read (object_said s (take n words))) (is_read (object_said s rest)) parts.1 in
+    let parts = and_parts (is_verb verb word) (is_read (object_said s (take n words)) && is_read (object_said s rest)) is in
+    let objects = and_parts (is_read (object_said s (take n words))) (is_read (object_said s rest)) parts.1 in
     let first = object_there s (take n words) objects.0 in
     let second = object_there s rest objects.1 in
     (first.0, second.0, record { word = word; rest = rest; at = e; is = parts.0; subject = first.1; object = second.1 })
@@ -78,8 +77,8 @@ never_here s verb words rest n word e isnt stands =
     let verb_is : is_verb verb word ≡ true = ap (is_verb verb) (sym same.0) ∙ at.is in
     let second : is_read (object_said s rest) ≡ true = ap (λ (more : List Word). is_read (object_said s more)) (sym same.1) ∙ object_is s at.rest stands.1 at.object in
     let first = object_is s (take n words) stands.0 at.subject in
-    let is = both (is_verb verb word) (is_read (object_said s (take n words)) && is_read (object_said s rest)) verb_is
-    (both (is_read (object_said s (take n words))) (is_read (object_said s rest)) first second) in
+    let is = and_from (is_verb verb word) (is_read (object_said s (take n words)) && is_read (object_said s rest)) verb_is
+    (and_from (is_read (object_said s (take n words))) (is_read (object_said s rest)) first second) in
     absurd cc
 
 place_is : (s : Scope) (verb : Verb) (words : List Word) (start : ℕ) (rest : List Word) → drop start words ≡ rest → IsFirstPlace s verb words start (place_from s verb words start rest)
@@ -91,7 +90,7 @@ place_is s verb words start (word ∷ rest) e =
     let next : suc start ≡ start + 1 = omega arith in
     let on : IsFirstPlace s verb words (start + 1) (place_from s verb words (start + 1) rest) =
     place_is s verb words (start + 1) rest (ap (λ (m : ℕ). drop m words) (sym next) ∙ drop_next words rest start word e) in
-    elim (either (fits s verb words start word rest)) [
+    elim (cases_Bool (fits s verb words start word rest)) [
       | inl is ↦ rw is (stands_here s verb words rest start word e is, λ m le lt stands. absurd (omega (arith, le, lt)))
       | inr isnt ↦ rw isnt (place_later s verb words start (place_from s verb words (start + 1) rest) (never_here s verb words rest start word e isnt) on)
     ]
@@ -156,7 +155,7 @@ text_as s words n e is Unread h = λ c asks.
 
 text_found : (s : Scope) (words : List Word) → IsFoundAs (HasText s words) asks_over (text_said s words)
 text_found s words =
-    elim (either (is_a_description (drop (length words - 3) words))) [
+    elim (cases_Bool (is_a_description (drop (length words - 3) words))) [
       | inl is ↦ rw is (text_as s words (length words - 3) refl is (one tree.HasDescription (object_said s (take (length words - 3) words)))
           (one_found tree.HasDescription (Means s (take (length words - 3) words)) is_deep asks_over (λ o. refl) (object_said s (take (length words - 3) words)) (object_found s (take (length words - 3) words))))
       | inr isnt ↦ rw isnt (λ c asks. let is : is_a_description (drop (length words - 3) words) ≡ true = ap (λ (m : ℕ). is_a_description (drop m words)) (sym (at_end words asks.0 asks.2)) ∙ asks.2 in absurd cc)

@@ -6,8 +6,9 @@ use Rattle.std.specs.Global.{Vec}
 use Rattle.std.specs.Map.{lookup}
 use Rattle.std.specs.Option.{option_or}
 use Rattle.std.proofs.lemmas.List.{take_all}
+use Rattle.std.proofs.lemmas.Bool.{cases_Bool}
+use Rattle.std.proofs.Math.Bool.{or_assoc}
 use Rattle.world_meaning.specs.declared.tale.Object.{Object}
-use Rattle.world_meaning.proofs.Bools.{either}
 use Rattle.i7_conditions.specs.NamesOf.{any_named_by_operator}
 use Rattle.i7_conditions.specs.Operators.{holds_operator}
 use Rattle.i7_conditions.specs.Meanings.{Meanings, given, with_object, with_objects}
@@ -22,7 +23,7 @@ copied_none (Some x) false e is = absurd cc
 looked_behind : {K X : Type 0} (test : K → Bool) (es : List (K × X)) (k : K) (x : X) → lookup test (es ++ (k, x) ∷ []) ≡ option_or (lookup test es) (cond (test k) (Some x) None)
 looked_behind test [] k x = refl
 looked_behind test (e ∷ es) k x =
-    elim (either (test e.0)) [
+    elim (cases_Bool (test e.0)) [
       | inl is ↦ rw is refl
       | inr isnt ↦ rw isnt (looked_behind test es k x)
     ]
@@ -42,13 +43,9 @@ objects_step old new number (first ∷ rest) object all l e n h =
 
 -- ---- operators among their names
 
-or_first : (a b c : Bool) → ((a || b) || c) ≡ (a || (b || c))
-or_first true b c = refl
-or_first false b c = refl
-
 pub operators_step : (was now : Bool) (rest : List Object) (object : Object) (all : Bool) → 1 ≤ length rest → object ≡ get_or rest 0 object → now ≡ (was || holds_operator object.name)
     → (was || any_named_by_operator rest) ≡ all → (now || any_named_by_operator (take (length rest - 1) (drop 1 rest))) ≡ all
 operators_step was now [] object all l e n h = absurd (omega arith)
 operators_step was now (first ∷ rest) object all l e n h =
     let whole : take (length (first ∷ rest) - 1) rest ≡ rest = take_all _ rest (omega arith) in
-    rw (whole, n, e) (or_first was (holds_operator first.name) (any_named_by_operator rest) ∙ h)
+    rw (whole, n, e) (or_assoc was (holds_operator first.name) (any_named_by_operator rest) ∙ h)

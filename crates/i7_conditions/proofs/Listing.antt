@@ -1,6 +1,7 @@
 -- What is found of readings, from what is found of their parts.
-use Rattle.std.proofs.Common.{◌≡◌, Bool, true, false, ◌||◌, refl, sym, ap, ◌∙◌, subst, inl, inr}
+use Rattle.std.proofs.Common.{◌≡◌, Bool, ◌||◌, refl, sym, ap, ◌∙◌, subst, inl, inr}
 use Rattle.std.specs.Prelude.{Option, None, Some}
+use Rattle.std.proofs.lemmas.Bool.{or_right}
 use Rattle.i7_conditions.specs.Readings.{FirstOf, IsFoundAs, one, or_else, two}
 use Rattle.i7_conditions.specs.declared.found.Found.{Found}
 use Rattle.i7_conditions.specs.declared.found.Found.TheVariants.{Read, TooMany, Unread}
@@ -14,10 +15,6 @@ or_found First Second over Unread Unread h k = λ x either. elim either [
   | inl first ↦ h x first
   | inr second ↦ k x second.1
 ]
-
-or_true : (a b : Bool) → b ≡ true → (a || b) ≡ true
-or_true true b e = refl
-or_true false b e = e
 
 -- one part, and what is made of it
 abbrev pub Made : {A C : Type 0} → (A → C) → (A → Type 0) → C → Type 0
@@ -37,7 +34,7 @@ pub two_found : {A B C : Type 0} (make : A → B → C) (First : A → Type 0) (
     → ((x : A) (y : B) → is_over (make x y) ≡ (over_first x || over_second y)) → (a : Found A) (b : Found B) → IsFoundAs First over_first a → IsFoundAs Second over_second b
     → IsFoundAs (MadeOfTwo make First Second) is_over (two make a b)
 two_found make First Second fst snd is_over same (Read x) (Read y) h k = ((x, y, h.0, k.0, refl), same x y ∙ rw (h.1, k.1) refl)
-two_found make First Second fst snd is_over same (Read x) TooMany h k = (make x k.0, (x, k.0, h.0, k.1, refl), same x k.0 ∙ or_true (fst x) (snd k.0) k.2)
+two_found make First Second fst snd is_over same (Read x) TooMany h k = (make x k.0, (x, k.0, h.0, k.1, refl), same x k.0 ∙ or_right (fst x) (snd k.0) k.2)
 two_found make First Second fst snd is_over same (Read x) Unread h k = λ c made. k made.1 made.3
 two_found make First Second fst snd is_over same TooMany (Read y) h k = (make h.0 y, (h.0, y, h.1, k.0, refl), same h.0 y ∙ rw h.2 refl)
 two_found make First Second fst snd is_over same TooMany TooMany h k = (make h.0 k.0, (h.0, k.0, h.1, k.1, refl), same h.0 k.0 ∙ rw h.2 refl)

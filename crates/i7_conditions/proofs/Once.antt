@@ -2,8 +2,7 @@
 use Rattle.std.proofs.Common.{◌≡◌, ℕ, List, [], ◌∷◌, take, sym, ap, ◌∙◌, subst, arith, inl, inr}
 use Rattle.std.specs.Prelude.{Option, Some, None, nat_lt}
 use Rattle.std.specs.List.{slice_split}
-use Rattle.std.proofs.lemmas.Bool.{ltb-true, ltb-false}
-use Rattle.world_meaning.proofs.Bools.{either}
+use Rattle.std.proofs.lemmas.Bool.{ltb-true, ltb-false, cases_Bool}
 use Rattle.world_meaning.specs.declared.place.Rel.{Rel}
 use Rattle.play_meaning.specs.Meant.{quality_meant}
 use Rattle.play_meaning.specs.Trees as tree
@@ -66,9 +65,9 @@ has_text_once s words c d a b =
 
 one_place : (s : Scope) (verb : Verb) (words : List Word) (c d : Condition) (a : Does s verb words c) (b : Does s verb words d) → a.n ≡ b.n
 one_place s verb words c d a b =
-    elim (either (nat_lt a.n b.n)) [
+    elim (cases_Bool (nat_lt a.n b.n)) [
       | inl lt ↦ absurd (b.shortest a.n (ltb-true _ _ lt) a.holder a.o a.stands)
-      | inr ge ↦ elim (either (nat_lt b.n a.n)) [
+      | inr ge ↦ elim (cases_Bool (nat_lt b.n a.n)) [
         | inl lt ↦ absurd (a.shortest b.n (ltb-true _ _ lt) b.holder b.o b.stands)
         | inr le ↦ omega (arith, ltb-false _ _ ge, ltb-false _ _ le)
       ]

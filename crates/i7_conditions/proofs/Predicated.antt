@@ -2,7 +2,7 @@
 use Rattle.std.proofs.Common.{◌≡◌, ℕ, ◌≤◌, ◌<◌, ◌⊎◌, true, false, ◌||◌, List, [], refl, sym, ap, ◌∙◌, subst, arith, inl, inr}
 use Rattle.std.specs.Prelude.{Option, Some, None, nat_lt}
 use Rattle.std.proofs.lemmas.Bool.Decides.{nat_tests}
-use Rattle.world_meaning.proofs.Bools.{either}
+use Rattle.std.proofs.lemmas.Bool.{cases_Bool}
 use Rattle.world_meaning.specs.declared.place.Rel.{Rel}
 use Rattle.world_meaning.specs.declared.place.Rel.TheVariants.{In}
 use Rattle.play_meaning.specs.Trees as tree
@@ -38,7 +38,7 @@ object_found s words = object_as s words (object_said s words) (objects_found s 
 
 over_either : (a b : ℕ) → (9 < a) ⊎ (8 < b) → (nat_lt 9 a || nat_lt 8 b) ≡ true
 over_either a b (inl lt) = rw (past a 9 lt) refl
-over_either a b (inr lt) = elim (either (nat_lt 9 a)) [
+over_either a b (inr lt) = elim (cases_Bool (nat_lt 9 a)) [
   | inl is ↦ rw is refl
   | inr isnt ↦ rw isnt (past b 8 lt)
 ]

@@ -1,7 +1,7 @@
 -- What a clause is found to ask is what it asks.
 use Rattle.std.proofs.Common.{◌≡◌, true, List, refl, sym, ap, ◌∙◌, subst, inl, inr}
 use Rattle.std.specs.Prelude.{Option, Some, None}
-use Rattle.world_meaning.proofs.Bools.{either}
+use Rattle.std.proofs.lemmas.Bool.{cases_Bool}
 use Rattle.play_meaning.specs.Trees as tree
 use Rattle.i7_conditions.specs.ClauseForms.{asked_in, clause_said, dark_said, from_not_dark, not_dark}
 use Rattle.i7_conditions.specs.Clauses.{Asks, AsksIn, InTheDark, NotInTheDark, asks_over, behind_not, is_darkness, split_is}
@@ -15,7 +15,7 @@ use Rattle.i7_conditions.proofs.Listing.{or_found}
 
 dark_found : (words : List Word) → IsFoundAs (InTheDark words) asks_over (dark_said words)
 dark_found words =
-    elim (either (is_darkness words)) [
+    elim (cases_Bool (is_darkness words)) [
       | inl is ↦ rw is ((is, refl), refl)
       | inr isnt ↦ rw isnt (λ c asks. let is = asks.0 in absurd cc)
     ]
@@ -23,7 +23,7 @@ dark_found words =
 not_dark_found : (words : List Word) (found : Option (List Word)) → behind_not words ≡ found → IsFoundAs (NotInTheDark words) asks_over (not_dark found)
 not_dark_found words None at = λ c asks. let same : None ≡ Some asks.0 = sym at ∙ asks.1 in absurd cc
 not_dark_found words (Some rest) at =
-    elim (either (is_darkness rest)) [
+    elim (cases_Bool (is_darkness rest)) [
       | inl is ↦ rw is ((rest, at, is, refl), refl)
       | inr isnt ↦ rw isnt (λ c asks. let is : is_darkness rest ≡ true = ap is_darkness (ap words_in (sym at ∙ asks.1)) ∙ asks.2 in absurd cc)
     ]

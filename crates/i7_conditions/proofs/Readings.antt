@@ -2,9 +2,8 @@
 use Rattle.std.proofs.Common.{◌≡◌, ℕ, ◌+◌, ◌<◌, ◌≤◌, max, Bool, true, false, cond, List, [], ◌∷◌, ◌++◌, map, refl, sym, ap, subst, ◌∙◌, append_assoc, arith, inl, inr}
 use Rattle.std.specs.Prelude.{Option, Some, None, flat_map, nat_lt, option_map}
 use Rattle.std.proofs.lemmas.List.{append-nil}
-use Rattle.std.proofs.lemmas.Bool.{ltb-true, ltb-false}
+use Rattle.std.proofs.lemmas.Bool.{ltb-true, ltb-false, cases_Bool}
 use Rattle.std.proofs.lemmas.Bool.Decides.{nat_tests}
-use Rattle.world_meaning.proofs.Bools.{either}
 use Rattle.play_meaning.specs.Trees.{Object, The, Noun, SecondNoun, Location, Nothing, Turning, RoomFrom, DoorFrom}
 use Rattle.i7_conditions.specs.Marks.{marks_of}
 use Rattle.i7_conditions.specs.Objects.{IsObjectFound, Means, froms, told}
@@ -105,8 +104,8 @@ one_more n = grind (arith, nat_tests)
 
 joined_at : (is_door : Bool) (d r : Object) (m n : ℕ) → joined is_door (capped_at m d) (capped_at n r) ≡ capped_at (max m n + 1) (beyond is_door d r)
 joined_at is_door d r m n =
-    elim (either (nat_lt m 9)) [
-      | inl a ↦ elim (either (nat_lt n 9)) [
+    elim (cases_Bool (nat_lt m 9)) [
+      | inl a ↦ elim (cases_Bool (nat_lt n 9)) [
         | inl b ↦ rw (a, b) (ap (λ t. cond t (Built (beyond is_door d r) (max m n + 1)) Deep) (one_more (max m n)))
         | inr b ↦ let over : nat_lt (max m n + 1) 9 ≡ false = grind (arith, nat_tests, ltb-false _ _ b) in rw (a, b, over) refl
       ]
@@ -156,7 +155,7 @@ told_alone ms o e = put_told ms (o ∷ []) e ∙ append-nil (told o)
 
 one_told : (ms : List Mark) (o : Object) → objects_on (Some []) ms ≡ Some (o ∷ []) → IsToldBy ms (found_in (Some (capped o ∷ [])))
 one_told ms o e =
-    elim (either (nat_lt (froms o) 9)) [
+    elim (cases_Bool (nat_lt (froms o) 9)) [
       | inl few ↦ let le : froms o ≤ 8 = omega (arith, ltb-true _ _ few) in rw few (told_alone ms o e, le)
       | inr many ↦ let lt : 8 < froms o = omega (arith, ltb-false _ _ many) in rw many (o, told_alone ms o e, lt)
     ]

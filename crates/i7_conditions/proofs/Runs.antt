@@ -4,12 +4,12 @@ use Rattle.std.specs.Prelude.{flat_map}
 use Rattle.std.specs.List.{position_or_len, slice_split}
 use Rattle.std.proofs.lemmas.List.Splits.{slice_split_first, slice_split-cons_no}
 use Rattle.std.proofs.lemmas.List.{append-nil, drop-drop, length-drop, take_all}
-use Rattle.world_meaning.proofs.Bools.{either}
+use Rattle.std.proofs.lemmas.Bool.{cases_Bool}
 
 split_whole : {A : Type 0} (p : A → Bool) (xs : List A) → length xs ≤ position_or_len p xs → slice_split p xs ≡ xs ∷ []
 split_whole p [] le = refl
 split_whole p (x ∷ xs) le =
-    elim (either (p x)) [
+    elim (cases_Bool (p x)) [
       | inl is ↦ let z : length (x ∷ xs) ≤ 0 = rw is at le in absurd (omega arith)
       | inr isnt ↦ let s : length (x ∷ xs) ≤ 1 + position_or_len p xs = rw isnt at le in rw (slice_split-cons_no p x xs isnt, split_whole p xs (omega arith)) refl
     ]

@@ -3,9 +3,8 @@ use Rattle.std.proofs.Common.{◌≡◌, ◌⊎◌, ℕ, zero, suc, ◌+◌, ◌
 use Rattle.std.specs.Prelude.{None, nat_lt}
 use Rattle.std.proofs.Math.ListN.{get_or-eq_default}
 use Rattle.std.proofs.lemmas.List.{length-append, length-drop}
-use Rattle.std.proofs.lemmas.Bool.{ltb-true, ltb-false}
+use Rattle.std.proofs.lemmas.Bool.{ltb-true, ltb-false, cases_Bool}
 use Rattle.std.proofs.lemmas.Bool.Decides.{nat_tests}
-use Rattle.world_meaning.proofs.Bools.{either}
 use Rattle.i7_conditions.specs.Adjectives.{kind_named}
 use Rattle.i7_conditions.specs.Fronts.{IsToldBy, adjective_at, column_of, follow, goes, looked, step_at, stops_with, window_of}
 use Rattle.i7_conditions.specs.Scopes.{Scope}
@@ -22,9 +21,9 @@ IsStopped column stops = (j : ℕ) → length column ≤ j + stops → looked co
 
 at_end_stops : (column : List Step) (stops j : ℕ) → IsStopped column stops → length column ≤ j + stops → looked (column ++ Stops ∷ []) j ≡ Stops
 at_end_stops column stops j h le =
-    elim (either (nat_lt j (length column))) [
+    elim (cases_Bool (nat_lt j (length column))) [
       | inl lt ↦ looked_before column (Stops ∷ []) j Stops (ltb-true _ _ lt) ∙ h j le
-      | inr ge ↦ elim (either (nat_lt (length column) j)) [
+      | inr ge ↦ elim (cases_Bool (nat_lt (length column) j)) [
         | inl lt ↦ get_or-eq_default (column ++ Stops ∷ []) Stops (omega (arith, ltb-true _ _ lt, length-append column (Stops ∷ [])))
         | inr le ↦ let same : j ≡ length column = omega (arith, ltb-false _ _ ge, ltb-false _ _ le) in ap (looked (column ++ Stops ∷ [])) same ∙ looked_at_end column Stops Stops
       ]
@@ -80,7 +79,7 @@ further s [] (suc m) stops h many le j lt = get_or-eq_default (column_of s []) S
 further s (word ∷ words) (suc m) stops h many le j lt =
     let ih = further s words m stops h many le in
     let all : AllStop (column_of s words) (length words) = λ i near.
-    elim (either (nat_lt (length (drop m words)) i)) [
+    elim (cases_Bool (nat_lt (length (drop m words)) i)) [
       | inl past ↦ ih i (ltb-true _ _ past)
       | inr within ↦
           let here : i ≤ length (drop m words) = ltb-false _ _ within in
@@ -88,7 +87,7 @@ further s (word ∷ words) (suc m) stops h many le j lt =
     ]
     in
     let long : 32 ≤ length words = omega (arith, many, le, length-drop m words) in
-    elim (either (nat_lt j (length (column_of s words)))) [
+    elim (cases_Bool (nat_lt j (length (column_of s words)))) [
       | inl before ↦ looked_before (column_of s words) (step_at s (word ∷ words) (column_of s words) ∷ []) j Stops (ltb-true _ _ before) ∙ ih j lt
       | inr ge ↦
           ap (λ (step : Step). looked (column_of s words ++ step ∷ []) j) (step_stops s word words (column_of s words) all long)
@@ -104,7 +103,7 @@ stopped_told s words place stops column le same h few (inl all) = λ left. ap (�
 stopped_told s words place stops column le same h few (inr many) = λ left.
     let stopped : IsStopped (column_of s (drop place words)) stops = subst (λ (c : List Step). IsStopped c stops) same h in
     let long : stops ≤ length (drop place words) + 1 = omega (arith, few, ap length same, column_long s (drop place words)) in
-    elim (either (nat_lt (length (drop place words)) left)) [
+    elim (cases_Bool (nat_lt (length (drop place words)) left)) [
       | inl past ↦
           let lt = ltb-true _ _ past in
           get_or-eq_default column Stops (omega (arith, lt, ap length same, column_long s (drop place words))) ∙ sym (further s words place stops stopped many long left lt)

@@ -2,7 +2,7 @@
 use Rattle.std.proofs.Common.{◌≡◌, ◌≢◌, ℕ, Bool, true, false, not, List, [], ◌∷◌, ◌++◌, Option, refl, sym, ap, ◌∙◌, subst, append_assoc, inl, inr, ◌⊎◌, ⊎_elim, true≢false}
 use Rattle.std.specs.Prelude.{Some, None, find, fold, option_map}
 use Rattle.std.specs.List.{list_any}
-use Rattle.world_meaning.proofs.Bools.{either}
+use Rattle.std.proofs.lemmas.Bool.{cases_Bool}
 use Rattle.i7_kinds.specs.FirstShown.{IsFirst, IsShown}
 use Rattle.i7_kinds.proofs.FirstShown.{first_same, passed_first, first_passed}
 
@@ -14,7 +14,7 @@ IsAmong x (y ∷ ys) = (x ≡ y) ⊎ IsAmong x ys
 pub any_to : {T : Type 0} (test : T → Bool) (xs : List T) → list_any test xs ≡ true → (x : T) × IsAmong x xs × (test x ≡ true)
 any_to test [] h = absurd cc
 any_to test (x ∷ xs) h =
-    elim (either (test x)) [
+    elim (cases_Bool (test x)) [
       | inl is ↦ (x, inl refl, is)
       | inr isnt ↦ let later : list_any test xs ≡ true = rw isnt at h in let t = any_to test xs later in (t.0, inr t.1, t.2)
     ]
@@ -23,7 +23,7 @@ pub any_from : {T : Type 0} (test : T → Bool) (xs : List T) (x : T) → IsAmon
 any_from test [] x m h = elim m [ ]
 any_from test (y ∷ ys) x (inl same) h = let is : test y ≡ true = ap test (sym same) ∙ h in rw is refl
 any_from test (y ∷ ys) x (inr later) h =
-    elim (either (test y)) [
+    elim (cases_Bool (test y)) [
       | inl is ↦ rw is refl
       | inr isnt ↦ rw isnt (any_from test ys x later h)
     ]
@@ -33,7 +33,7 @@ pub found_in : {T : Type 0} (test : T → Bool) (front back : List T) (x : T) �
 found_in test [] back x m h = elim m [ ]
 found_in test (y ∷ ys) back x (inl same) h = let is : test y ≡ true = ap test (sym same) ∙ h in (y, rw is refl, is, inl refl)
 found_in test (y ∷ ys) back x (inr later) h =
-    elim (either (test y)) [
+    elim (cases_Bool (test y)) [
       | inl is ↦ (y, rw is refl, is, inl refl)
       | inr isnt ↦ let t = found_in test ys back x later h in (t.0, rw isnt t.1, t.2, inr t.3)
     ]
@@ -43,7 +43,7 @@ found_among : {T : Type 0} (test : T → Bool) (first middle last : List T) (x :
     → (y : T) × (find test (first ++ (middle ++ last)) ≡ Some y) × (test y ≡ true) × (IsAmong y first ⊎ IsAmong y middle)
 found_among test [] middle last x m h = let t = found_in test middle last x m h in (t.0, t.1, t.2, inr t.3)
 found_among test (z ∷ zs) middle last x m h =
-    elim (either (test z)) [
+    elim (cases_Bool (test z)) [
       | inl is ↦ (z, rw is refl, is, inl (inl refl))
       | inr isnt ↦
           let t = found_among test zs middle last x m h in
@@ -98,14 +98,14 @@ module _ {T V : Type 0} (same : T → T → Bool) (value : T → V) (agrees : V 
   agreed v (Some w) h = ap (λ (u : V). Some u) (sym (keyed.agreeing v w h))
 
   differing : (v w : V) → v ≢ w → agrees v (Some w) ≡ false
-  differing v w isnt = elim (either (agrees v (Some w))) [
+  differing v w isnt = elim (cases_Bool (agrees v (Some w))) [
     | inl is ↦ absurd (isnt (keyed.agreeing v w is))
     | inr never ↦ never
   ]
 
   one_is_other : (xs : List T) (x y : T) → same x y ≡ true → value y ≢ value x → (is_other xs x ≡ true) ⊎ (is_other xs y ≡ true)
   one_is_other xs x y key isnt =
-      elim (either (agrees (value x) (option_map value (find (same x) xs)))) [
+      elim (cases_Bool (agrees (value x) (option_map value (find (same x) xs)))) [
         | inl is ↦
             let found = agreed (value x) (option_map value (find (same x) xs)) is in
             let other : agrees (value y) (option_map value (find (same y) xs)) ≡ false = rw (keyed.alike x y key, found) (differing (value y) (value x) isnt) in

@@ -1,9 +1,9 @@
 -- What is known of an object by all claims is the deepest of what is demanded of it, and whether something is in it.
-use Rattle.std.proofs.Common.{◌≡◌, ℕ, zero, suc, ◌<◌, true, false, List, [], ◌∷◌, length, Option}
+use Rattle.std.proofs.Common.{◌≡◌, ℕ, ◌<◌, true, false, List, [], ◌∷◌, length, Option}
 use Rattle.std.proofs.Common.{refl, sym, ap, ◌∙◌, subst, arith, inl, inr, ◌⊎◌, ⊎_elim, true≢false, get_or-set_same, get_or-set_other}
-use Rattle.std.specs.Prelude.{Some, Decides, bytes_eq, fold, slice_get, slice_set}
+use Rattle.std.specs.Prelude.{Decides, bytes_eq, fold, slice_set}
 use Rattle.std.proofs.lemmas.Slice.Eq.{bytes_eq-Decides}
-use Rattle.world_meaning.proofs.Bools.{either}
+use Rattle.std.proofs.lemmas.Bool.{cases_Bool}
 use Rattle.world_meaning.proofs.Climbs.{climbs_decide}
 use Rattle.world_meaning.specs.Kinds.{Under, itself, is_under, room_kind}
 use Rattle.world_meaning.specs.declared.place.Rel.{Rel}
@@ -61,9 +61,9 @@ under_more S Is d k all u x (inr same) = subst (λ (n : ℕ). Under S d n) (sym 
 pub sums_more : (S : List (Option ℕ)) (Is : ℕ → Type 0) (known : Demanded) (k : ℕ) → Sums S Is known → Sums S (Or Is k) (deepen S known k)
 sums_more S Is Nothing k h = (inr refl, under_more S Is k k (λ x is. absurd (h x is)) itself)
 sums_more S Is (Deepest d) k h =
-    elim (either (is_under S d k)) [
+    elim (cases_Bool (is_under S d k)) [
       | inl t ↦ rw t (inl h.0, under_more S Is d k h.1 ((climbs_decide S d k).0 t))
-      | inr f ↦ elim (either (is_under S k d)) [
+      | inr f ↦ elim (cases_Bool (is_under S k d)) [
         | inl t ↦ rw (f, t) (inr refl, under_more S Is k k (λ x is. trans S k d x ((climbs_decide S k d).0 t) (h.1 x is)) itself)
         | inr g ↦ rw (f, g) tt
       ]
@@ -77,11 +77,6 @@ set_here knowns i known lt = get_or-set_same knowns i known unknown lt
 
 set_other : (knowns : List Known) (i o : ℕ) (known : Known) → (o ≡ i → ⊥) → known_at (slice_set knowns i known) o ≡ known_at knowns o
 set_other knowns i o known other = get_or-set_other knowns i o known unknown other
-
-pub is_within : {X : Type 0} (xs : List X) (i : ℕ) (v : X) → slice_get xs i ≡ Some v → i < length xs
-is_within [] i v h = absurd cc
-is_within (x ∷ xs) zero v h = omega arith
-is_within (x ∷ xs) (suc i) v h = omega (arith, is_within xs i v h)
 
 other_name : (a b : List ℕ) → bytes_eq a b ≡ false → a ≡ b → ⊥
 other_name a b isnt same = true≢false (sym ((bytes_eq-Decides a b).1 same) ∙ isnt)
@@ -142,7 +137,7 @@ module _ (s : Scope) (name : List ℕ) (o : ℕ) (once : (other : List ℕ) → 
       let i = number_in s.objects object in
       let now : Known = record (known_at knowns i) { demanded = deepened s knowns object kind } in
       let Q = λ (x : ℕ). Is x ⊎ ((object ≡ name) × (x ≡ kind)) in
-      elim (either (bytes_eq object name)) [
+      elim (cases_Bool (bytes_eq object name)) [
         | inl is ↦
             let same : object ≡ name = (bytes_eq-Decides object name).0 is in
             let at_i : IsKnown s.parents Is Holds (known_at knowns i) = subst (λ (n : ℕ). IsKnown s.parents Is Holds (known_at knowns n)) (sym (here_is object is)) h in
@@ -160,8 +155,8 @@ module _ (s : Scope) (name : List ℕ) (o : ℕ) (once : (other : List ℕ) → 
       let i = number_in s.objects p.holder in
       let now : Known = record (known_at knowns i) { holds = true } in
       let More = IsHeldIn name (Placed p) in
-      elim (either (is_in p.relation)) [
-        | inl is ↦ rw is (elim (either (bytes_eq p.holder name)) [
+      elim (cases_Bool (is_in p.relation)) [
+        | inl is ↦ rw is (elim (cases_Bool (bytes_eq p.holder name)) [
           | inl at ↦
               let same : p.holder ≡ name = (bytes_eq-Decides p.holder name).0 at in
               let at_i : IsKnown s.parents Is Holds (known_at knowns i) = subst (λ (n : ℕ). IsKnown s.parents Is Holds (known_at knowns n)) (sym (here_is p.holder at)) h in
@@ -183,7 +178,7 @@ module _ (s : Scope) (name : List ℕ) (o : ℕ) (once : (other : List ℕ) → 
       let More = λ (x : ℕ). DemandsKind s name x (Demands d) in
       let Q = λ (x : ℕ). Is x ⊎ More x in
       let now = with_demand s knowns d.object k in
-      elim (either (has_name s.kinds d.kind)) [
+      elim (cases_Bool (has_name s.kinds d.kind)) [
         | inl is ↦ let e : with_kind s knowns d ≡ now = rw is refl in so Q Holds (with_kind s knowns d) now e (nothing_held s.parents Q Holds ⊥ (known_at now o) (λ n. n)
             (same_known s.parents (λ x. Is x ⊎ ((d.object ≡ name) × (x ≡ k))) Q Holds Holds (λ x r. ⊎_elim (λ old. inl old) (λ m. inr (m.0, is, m.1)) r)
             (λ x r. ⊎_elim (λ old. inl old) (λ m. inr (m.0, m.2)) r) (λ a. a) (λ a. a) (known_at now o)
@@ -195,7 +190,7 @@ module _ (s : Scope) (name : List ℕ) (o : ℕ) (once : (other : List ℕ) → 
       let More = λ (x : ℕ). DemandsKind s name x (RoomUnlessDoor object) in
       let Q = λ (x : ℕ). Is x ⊎ More x in
       let now = with_demand s knowns object room_kind in
-      elim (either (has_name s.doors object)) [
+      elim (cases_Bool (has_name s.doors object)) [
         | inl is ↦ let e : with_room s knowns object ≡ knowns = rw is refl in so Q Holds (with_room s knowns object) knowns e (nothing_held s.parents Q Holds ⊥ (known_at knowns o) (λ n. n)
             (nothing_more s.parents Is More Holds (known_at knowns o) (λ x m. true≢false (sym is ∙ m.1)) h))
         | inr isnt ↦ let e : with_room s knowns object ≡ now = rw isnt refl in so Q Holds (with_room s knowns object) now e (nothing_held s.parents Q Holds ⊥ (known_at now o) (λ n. n)

@@ -3,9 +3,8 @@
 use Rattle.std.proofs.Common.{◌≡◌, ℕ, Bool, true, List, [], ◌∷◌, ◌++◌, Option, refl, sym, ap, ◌∙◌, subst, inl, inr, ◌⊎◌, ⊎_elim}
 use Rattle.std.specs.Prelude.{◌==◌, Some, None, find, option_map, if◌then◌else◌}
 use Rattle.std.specs.List.{list_any}
-use Rattle.std.proofs.lemmas.Bool.{eqb-true, eq-eqb}
+use Rattle.std.proofs.lemmas.Bool.{eqb-true, eq-eqb, cases_Bool}
 use Rattle.std.proofs.lemmas.Slice.Eq.{bytes_eq-Decides}
-use Rattle.world_meaning.proofs.Bools.{either}
 use Rattle.i7_claims.specs.declared.statements.Numbered.{Numbered}
 use Rattle.i7_claims.specs.declared.statements.Numbered.TheVariants as numbered
 use Rattle.i7_claims.specs.declared.statements.NumberedSentence.{NumberedSentence}
@@ -43,7 +42,7 @@ one_line test s rest later same ds h =
     let Goal : List Description → Type 0 = λ ds. option_map line_of_description (find test (ds ++ rest)) ≡ option_map line_of_statement (if list_any test ds then Some s else later) in
     ⊎_elim
     (λ none. subst Goal (sym none) same)
-    (λ t. subst Goal (sym t.1) (elim (either (test t.0)) [
+    (λ t. subst Goal (sym t.1) (elim (cases_Bool (test t.0)) [
       | inl is ↦ rw is (ap (λ (n : ℕ). Some n) t.2)
       | inr isnt ↦ rw isnt same
     ]))
@@ -59,7 +58,7 @@ module _ (parents : List (Option ℕ)) (knowns : List Known) where
   one_at_most before numbered.Aside line = inl refl
   one_at_most None (numbered.Description text) line = inl refl
   one_at_most (Some o) (numbered.Description text) line =
-      elim (either (is_room parents knowns o)) [
+      elim (cases_Bool (is_room parents knowns o)) [
         | inl is ↦ inr (record { object = o; text = text; line = line }, rw is refl, refl)
         | inr isnt ↦ inl (rw isnt refl)
       ]
@@ -89,7 +88,7 @@ module _ (parents : List (Option ℕ)) (knowns : List Known) where
       → Describes parents knowns d.object d.text before (numbered.Description text)
   alone_to before None e d text line m = absurd m
   alone_to before (Some o) e d text line m =
-      elim (either (is_room parents knowns o)) [
+      elim (cases_Bool (is_room parents knowns o)) [
         | inl is ↦
             let t : IsAmong d (record { object = o; text = text; line = line } ∷ []) = rw is at m in
             ⊎_elim

@@ -1,9 +1,9 @@
 -- An object of a tale has the description with which any sentence describes it.
 use Rattle.std.proofs.Common.{◌≡◌, ◌≢◌, ℕ, ◌+◌, ◌<◌, zero, suc, Bool, true, List, [], ◌∷◌, ◌++◌, length, Option, refl, sym, ap, ◌∙◌, subst, append-nil, arith, inl, inr, ⊎_elim, true≢false}
 use Rattle.std.specs.Prelude.{◌==◌, Some, None, Result, bytes_eq, find, map, option_map, slice_get}
-use Rattle.std.proofs.lemmas.Bool.{eq-eqb}
+use Rattle.std.proofs.lemmas.Bool.{eq-eqb, cases_Bool}
 use Rattle.std.proofs.lemmas.Slice.Eq.{bytes_eq-Decides}
-use Rattle.world_meaning.proofs.Bools.{either}
+use Rattle.std.proofs.lemmas.List.{map-append}
 use Rattle.world_meaning.specs.Kinds.{Under, room_kind}
 use Rattle.world_meaning.specs.Tale.{object_at}
 use Rattle.world_meaning.specs.declared.fault.Fault.{Fault}
@@ -87,7 +87,7 @@ module _ (parents : List (Option ℕ)) (knowns : List Known) (o : ℕ) where
 
 same_text : (a b : List ℕ) → (a ≢ b → ⊥) → a ≡ b
 same_text a b h =
-    elim (either (bytes_eq a b)) [
+    elim (cases_Bool (bytes_eq a b)) [
       | inl is ↦ (bytes_eq-Decides a b).0 is
       | inr isnt ↦ absurd (h (λ e. true≢false (sym ((bytes_eq-Decides a b).1 e) ∙ isnt)))
     ]
@@ -134,10 +134,6 @@ module _ (parents : List (Option ℕ)) (knowns : List Known) (o : ℕ) where
 
 -- ---- what sentences state
 
-map_on : {A B : Type 0} (f : A → B) (xs ys : List A) → map f (xs ++ ys) ≡ map f xs ++ map f ys
-map_on f [] ys = refl
-map_on {B = B} f (x ∷ xs) ys = ap (λ (zs : List B). f x ∷ zs) (map_on f xs ys)
-
 one_subject : (named : Named) (o : ℕ) (names : List Name) → IsOneName named o names → subject_of (numbered_subject named names) ≡ Some o
 one_subject named o names t = ap (λ (ns : List Name). subject_of (numbered_subject named ns)) t.1 ∙ ap (λ (n : ℕ). Some n) t.2
 
@@ -160,7 +156,7 @@ ends_said : (named : Named) (o : ℕ) (sentences : List Sentence) → LastIsAbou
 ends_said named o sentences h = record {
   earlier = map (statement_in named) h.earlier;
   last = statement_in named h.last;
-  parts = ap (map (statement_in named)) h.parts ∙ map_on (statement_in named) h.earlier (h.last ∷ []);
+  parts = ap (map (statement_in named)) h.parts ∙ map-append (statement_in named) h.earlier (h.last ∷ []);
   about = subject_said named o h.last.said h.about;
 }
 
@@ -176,7 +172,7 @@ module _ (parents : List (Option ℕ)) (knowns : List Known) (named : Named) (ta
     before = map (statement_in named) shown.before;
     item = statement_in named shown.item;
     after = map (statement_in named) shown.after;
-    split = ap (map (statement_in named)) shown.split ∙ map_on (statement_in named) shown.before (shown.item ∷ shown.after);
+    split = ap (map (statement_in named)) shown.split ∙ map-append (statement_in named) shown.before (shown.item ∷ shown.after);
     here = describes_said shown.before shown.item.said shown.here;
   }
 

@@ -3,7 +3,7 @@ use Rattle.std.proofs.Common.{◌≡◌, ℕ, Bool, true, false, ◌||◌, List,
 use Rattle.std.specs.Prelude.{Some, None, Decides, bytes_eq, fold}
 use Rattle.std.proofs.lemmas.List.Folds.{list_any-append}
 use Rattle.std.proofs.lemmas.Slice.Eq.{bytes_eq-Decides}
-use Rattle.world_meaning.proofs.Bools.{both, both_are, either}
+use Rattle.std.proofs.lemmas.Bool.{cases_Bool, and_from, and_parts, or_cases, or_left, or_right}
 use Rattle.world_meaning.proofs.Climbs.{climbs_decide}
 use Rattle.world_meaning.specs.Kinds.{is_under}
 use Rattle.i7_kinds.specs.Doors.{DemandsDoor, IsDoorDemanded, IsTold, IsToldAgain, all_told, door_demanded, door_told, door_twice, doors_of, is_door_kind, is_told_again, shows_told_again, with_told}
@@ -18,20 +18,8 @@ use Rattle.i7_claims.proofs.BookScans.{mention_has}
 use Rattle.i7_claims.proofs.Lowest.{lowest_is}
 use Rattle.i7_claims.proofs.NameScans.{never}
 
-pub or_either : (a b : Bool) → (a || b) ≡ true → (a ≡ true) ⊎ (b ≡ true)
-or_either true b h = inl refl
-or_either false b h = inr h
-
-pub or_first : (a b : Bool) → a ≡ true → (a || b) ≡ true
-or_first true b h = refl
-or_first false b h = absurd cc
-
-pub or_second : (a b : Bool) → b ≡ true → (a || b) ≡ true
-or_second true b h = refl
-or_second false b h = h
-
 one_name : (name other : List ℕ) → (bytes_eq other name || false) ≡ bytes_eq other name
-one_name name other = elim (either (bytes_eq other name)) [
+one_name name other = elim (cases_Bool (bytes_eq other name)) [
   | inl is ↦ rw is refl
   | inr isnt ↦ rw isnt refl
 ]
@@ -50,17 +38,17 @@ module _ (told : Fact → Option (List ℕ)) where
   step_to : (names : List (List ℕ)) (found : Option (List ℕ)) (name : List ℕ) → has_name (with_name names found) name ≡ true → (has_name names name ≡ true) ⊎ (found ≡ Some name)
   step_to names None name h = inl h
   step_to names (Some other) name h =
-      ⊎_elim (λ old. inl old) (λ same. inr (ap (λ (n : List ℕ). Some n) (sym ((bytes_eq-Decides name other).0 same)))) (or_either (has_name names name) (bytes_eq name other) (sym (more_has names other name) ∙ h))
+      ⊎_elim (λ old. inl old) (λ same. inr (ap (λ (n : List ℕ). Some n) (sym ((bytes_eq-Decides name other).0 same)))) (or_cases (has_name names name) (bytes_eq name other) (sym (more_has names other name) ∙ h))
 
   step_old : (names : List (List ℕ)) (found : Option (List ℕ)) (name : List ℕ) → has_name names name ≡ true → has_name (with_name names found) name ≡ true
   step_old names None name h = h
-  step_old names (Some other) name h = more_has names other name ∙ or_first (has_name names name) (bytes_eq name other) h
+  step_old names (Some other) name h = more_has names other name ∙ or_left (has_name names name) (bytes_eq name other) h
 
   step_new : (names : List (List ℕ)) (found : Option (List ℕ)) (name : List ℕ) → found ≡ Some name → has_name (with_name names found) name ≡ true
   step_new names None name h = absurd cc
   step_new names (Some other) name h =
       let same : name ≡ other = cc in
-      more_has names other name ∙ or_second (has_name names name) (bytes_eq name other) ((bytes_eq-Decides name other).1 same)
+      more_has names other name ∙ or_right (has_name names name) (bytes_eq name other) ((bytes_eq-Decides name other).1 same)
 
   fold_to : (claims : List Claim) (names : List (List ℕ)) (name : List ℕ) → has_name (fold (with_told told) names claims) name ≡ true → (has_name names name ≡ true) ⊎ TellsOne claims name
   unfolding TellsOne
@@ -95,9 +83,9 @@ module _ (told : Fact → Option (List ℕ)) where
 
 demanded_to : (kinds : List (List ℕ)) (parents : List (Option ℕ)) (object : List ℕ) (f : Fact) → door_demanded kinds parents f ≡ Some object → DemandsDoor kinds parents object f
 demanded_to kinds parents object (Demands d) h =
-    elim (either (is_door_kind kinds parents d.kind)) [
+    elim (cases_Bool (is_door_kind kinds parents d.kind)) [
       | inl is ↦
-          let t = both_are (has_name kinds d.kind) (is_under parents (number_in kinds d.kind) door_kind) is in
+          let t = and_parts (has_name kinds d.kind) (is_under parents (number_in kinds d.kind) door_kind) is in
           let told : Some d.object ≡ Some object = rw is at h in
           (cc, t.0, (climbs_decide parents (number_in kinds d.kind) door_kind).0 t.1)
       | inr isnt ↦ let none : None ≡ Some object = rw isnt at h in absurd cc
@@ -106,7 +94,7 @@ demanded_to kinds parents object _ h = absurd cc
 
 demanded_from : (kinds : List (List ℕ)) (parents : List (Option ℕ)) (object : List ℕ) (f : Fact) → DemandsDoor kinds parents object f → door_demanded kinds parents f ≡ Some object
 demanded_from kinds parents object (Demands d) t =
-    let is : is_door_kind kinds parents d.kind ≡ true = both (has_name kinds d.kind) (is_under parents (number_in kinds d.kind) door_kind) t.1 ((climbs_decide parents (number_in kinds d.kind) door_kind).1 t.2) in
+    let is : is_door_kind kinds parents d.kind ≡ true = and_from (has_name kinds d.kind) (is_under parents (number_in kinds d.kind) door_kind) t.1 ((climbs_decide parents (number_in kinds d.kind) door_kind).1 t.2) in
     rw is (ap (λ (n : List ℕ). Some n) t.0)
 demanded_from kinds parents object _ t = absurd t
 

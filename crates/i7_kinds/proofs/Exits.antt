@@ -2,8 +2,7 @@
 use Rattle.std.proofs.Common.{◌≡◌, ℕ, Bool, true, false, cond, refl}
 use Rattle.std.specs.Prelude.{◌==◌, not, Option, Some, None, is_some, option_copied}
 use Rattle.std.specs.Borrow.{Bor}
-use Rattle.std.proofs.lemmas.Bool.{eqb-true}
-use Rattle.world_meaning.proofs.Bools.{both_are}
+use Rattle.std.proofs.lemmas.Bool.{eqb-true, and_parts}
 use Rattle.i7_claims.specs.Firsts.{first_of}
 use Rattle.i7_kinds.specs.Views.{exit_eq, given_exit}
 use Rattle.i7_kinds.specs.declared.ways.Exit.{Exit}
@@ -12,7 +11,7 @@ use Rattle.i7_claims.proofs.Firsts.{first_put}
 
 pub exit_sound : (a b : Exit) → exit_eq a b ≡ true → a ≡ b
 exit_sound a b same =
-    let both = both_are (a.room == b.room) (a.direction == b.direction) same in
+    let both = and_parts (a.room == b.room) (a.direction == b.direction) same in
     λ i. record { room = eqb-true a.room b.room both.0 i; direction = eqb-true a.direction b.direction both.1 i }
 
 -- an exit that leads nowhere yet is led

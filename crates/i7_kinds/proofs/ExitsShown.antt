@@ -2,8 +2,7 @@
 use Rattle.std.proofs.Common.{◌≡◌, ◌≢◌, ℕ, Bool, true, false, List, [], ◌∷◌, ◌++◌, Option, refl, sym, ap, ◌∙◌, subst, append_assoc, inl, inr, ⊎_elim, true≢false}
 use Rattle.std.specs.Prelude.{◌==◌, Some, None, find, flat_map, option_map}
 use Rattle.std.specs.List.{list_any}
-use Rattle.std.proofs.lemmas.Bool.{eqb-true, eq-eqb}
-use Rattle.world_meaning.proofs.Bools.{both, both_are, either}
+use Rattle.std.proofs.lemmas.Bool.{eqb-true, eq-eqb, cases_Bool, and_from, and_parts}
 use Rattle.i7_claims.specs.Firsts.{first_of}
 use Rattle.i7_claims.specs.declared.statements.Numbered.{Numbered}
 use Rattle.i7_claims.specs.declared.statements.Numbered.TheVariants as numbered
@@ -55,7 +54,7 @@ module _ {A T : Type 0} (told : A → List T) (test : T → Bool) where
   skipped : (front back : List T) → list_any test front ≡ false → find test (front ++ back) ≡ find test back
   skipped [] back none = refl
   skipped (t ∷ ts) back none =
-      elim (either (test t)) [
+      elim (cases_Bool (test t)) [
         | inl is ↦ let any : list_any test (t ∷ ts) ≡ true = rw is refl in absurd (true≢false (sym any ∙ none))
         | inr isnt ↦ let later : list_any test ts ≡ false = rw isnt at none in rw isnt (skipped ts back later)
       ]
@@ -77,7 +76,7 @@ module _ {A T : Type 0} (told : A → List T) (test : T → Bool) where
   unfolding ToldFirst
   told_first [] = nothing_told
   told_first (a ∷ items) =
-      elim (either (list_any test (told a))) [
+      elim (cases_Bool (list_any test (told a))) [
         | inl is ↦
             let t = any_to test (told a) is in
             let u = found_in test (told a) (flat_map told items) t.0 t.1 t.2 in
@@ -89,12 +88,12 @@ module _ {A T : Type 0} (told : A → List T) (test : T → Bool) where
 
 is_exit_to : (room direction : ℕ) (lead : Lead) → is_exit room direction lead ≡ true → lead.exit ≡ record { room = room; direction = direction }
 is_exit_to room direction lead h =
-    let t = both_are (lead.exit.room == room) (lead.exit.direction == direction) h in
+    let t = and_parts (lead.exit.room == room) (lead.exit.direction == direction) h in
     λ i. record { room = eqb-true lead.exit.room room t.0 i; direction = eqb-true lead.exit.direction direction t.1 i }
 
 is_exit_from : (room direction : ℕ) (lead : Lead) → lead.exit ≡ record { room = room; direction = direction } → is_exit room direction lead ≡ true
 is_exit_from room direction lead e =
-    both (lead.exit.room == room) (lead.exit.direction == direction) (eq-eqb lead.exit.room room (ap (λ (x : Exit). x.room) e))
+    and_from (lead.exit.room == room) (lead.exit.direction == direction) (eq-eqb lead.exit.room room (ap (λ (x : Exit). x.room) e))
     (eq-eqb lead.exit.direction direction (ap (λ (x : Exit). x.direction) e))
 
 module _ (Leads : Lead → Numbered → Type 0) (leads_in : Numbered → List Lead) (to : (lead : Lead) (said : Numbered) → IsAmong lead (leads_in said) → Leads lead said)
@@ -169,7 +168,7 @@ way_out statements room direction =
 -- ---- all statements of one exit agree
 
 target_itself : (t : Target) → is_target t t ≡ true
-target_itself t = both (t.room == t.room) (is_same_door t.door t.door) (eq-eqb t.room t.room refl) (same_door_itself t.door)
+target_itself t = and_from (t.room == t.room) (is_same_door t.door t.door) (eq-eqb t.room t.room refl) (same_door_itself t.door)
 
 led_again : (before : List NumberedSentence) (s other : NumberedSentence) (earlier between : List NumberedSentence) (exit : Exit) (a b : Target) → before ≡ earlier ++ other ∷ between
     → States (record { exit = exit; target = a }) s.said → States (record { exit = exit; target = b }) other.said → a ≢ b → IsLedElsewhere before s
@@ -208,7 +207,7 @@ agree_or_again statements none exit a b differ x y =
 -- where none is refused they agree
 pub agree : (statements : List NumberedSentence) → (IsShown IsLedElsewhere statements → ⊥) → (exit : Exit) (a b : Target) → IsLed States statements exit a → IsLed States statements exit b → a ≡ b
 agree statements none exit a b x y =
-    elim (either (is_target a b)) [
+    elim (cases_Bool (is_target a b)) [
       | inl is ↦ same_targets a b is
       | inr isnt ↦ absurd (agree_or_again statements none exit a b (λ e. true≢false (sym (target_itself a) ∙ ap (is_target a) e ∙ isnt)) x y)
     ]

@@ -3,11 +3,10 @@ use Rattle.std.proofs.Common.{◌≡◌, ℕ, ◌+◌, ◌<◌, ◌≤◌, Bool,
 use Rattle.std.specs.Prelude.{count_by, filter}
 use Rattle.std.specs.List.{slice_split}
 use Rattle.std.specs.Char.{to_ascii_lowercase}
-use Rattle.std.proofs.lemmas.Bool.{le-ltb, ltb-false, ne_eqb}
+use Rattle.std.proofs.lemmas.Bool.{le-ltb, ltb-false, ne_eqb, cases_Bool}
 use Rattle.std.proofs.lemmas.List.{append-nil}
 use Rattle.std.proofs.lemmas.List.Splits.{length-slice_split}
 use Rattle.std.proofs.lemmas.List.Sums.{sum_by-cons}
-use Rattle.world_meaning.proofs.Bools.{either}
 use Rattle.object_words.proofs.MentionLemmas.{mentioned_few}
 use Rattle.object_words.specs.Words.{is_blank, is_word, blank_words, more_words, words_for}
 use Rattle.world_meaning.specs.Spelling.{lowered}
@@ -16,17 +15,17 @@ use Rattle.i7_kinds.specs.Tales.{is_too_long}
 filtered_few : (t : List ℕ → Bool) (xs : List (List ℕ)) → length (filter t xs) ≤ length xs
 filtered_few t [] = omega arith
 filtered_few t (x ∷ xs) =
-    elim (either (t x)) [
+    elim (cases_Bool (t x)) [
       | inl is ↦ rw is (omega (arith, filtered_few t xs))
       | inr isnt ↦ rw isnt (omega (arith, filtered_few t xs))
     ]
 
 blank_lowered : (b : ℕ) → is_blank (to_ascii_lowercase b) ≡ is_blank b
 blank_lowered b =
-    elim (either (ltb b 65)) [
+    elim (cases_Bool (ltb b 65)) [
       | inl is ↦ rw is refl
       | inr isnt ↦
-          elim (either (ltb b 91)) [
+          elim (cases_Bool (ltb b 91)) [
             | inl small ↦
                 let le = ltb-false _ _ isnt in
                 let moved : eqb (b + 32) 32 ≡ false = ne_eqb _ _ (λ k. omega (arith, k, le)) in

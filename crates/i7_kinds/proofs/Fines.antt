@@ -2,8 +2,7 @@
 -- the directions that of a direction.
 use Rattle.std.proofs.Common.{◌≡◌, ℕ, zero, suc, ◌+◌, ◌-◌, ◌<◌, ◌≤◌, Bool, true, false, ◌&&◌, eqb, List, [], ◌∷◌, length, Option, refl, sym, ap, ◌∙◌, subst, arith, inl, inr, true≢false}
 use Rattle.std.specs.Prelude.{Some, None, fold, not, replicate, slice_set}
-use Rattle.std.proofs.lemmas.Bool.{eqb-true}
-use Rattle.world_meaning.proofs.Bools.{either}
+use Rattle.std.proofs.lemmas.Bool.{eqb-true, cases_Bool, not-false}
 use Rattle.world_meaning.proofs.Climbs.{climbs_decide}
 use Rattle.world_meaning.specs.Kinds.{Under, itself, is_under}
 use Rattle.i7_kinds.specs.KindClaims.{is_unknown, same_names, shows_unknown, unknown_kind}
@@ -66,18 +65,14 @@ under_base parents (Some x) kind deepest u v = trans parents kind deepest x u v
 deepen_fine : (parents : List (Option ℕ)) (n : ℕ) (b : Option ℕ) (demanded : Demanded) (kind : ℕ) → kind < n → is_parted (deepen parents demanded kind) ≡ false → IsFine parents n b demanded → IsFine parents n b (deepen parents demanded kind)
 deepen_fine parents n b Nothing kind lt h fine = (lt, any_base parents b kind fine)
 deepen_fine parents n b (Deepest d) kind lt h fine =
-    elim (either (is_under parents d kind)) [
+    elim (cases_Bool (is_under parents d kind)) [
       | inl is ↦ rw is fine
-      | inr isnt ↦ elim (either (is_under parents kind d)) [
+      | inr isnt ↦ elim (cases_Bool (is_under parents kind d)) [
         | inl up ↦ rw (isnt, up) (lt, under_base parents b kind d ((climbs_decide parents kind d).0 up) fine.1)
         | inr apart ↦ let parted : true ≡ false = rw (isnt, apart) at h in absurd (true≢false parted)
       ]
     ]
 deepen_fine parents n b Parted kind lt h fine = absurd fine
-
-not_false : (b : Bool) → not b ≡ false → b ≡ true
-not_false true h = refl
-not_false false h = absurd cc
 
 -- with more kinds than the built-in ones, and each name of a kind below n
 module _ (s : Scope) (n : ℕ) (many : 10 ≤ n) (known_kinds : (kind : List ℕ) → has_name s.kinds kind ≡ true → number_in s.kinds kind < n) where
@@ -87,7 +82,7 @@ module _ (s : Scope) (n : ℕ) (many : 10 ≤ n) (known_kinds : (kind : List ℕ
   holder_fine : (p : Placing) (knowns : List Known) → Fine knowns → Fine (with_holder s knowns p)
   holder_fine p knowns fine o =
       let holder = number_in s.objects p.holder in
-      elim (either (is_in p.relation)) [
+      elim (cases_Bool (is_in p.relation)) [
         | inl is ↦ rw is (set_at (λ (k : Known). IsFine s.parents n (base o) k.demanded) knowns holder o (record (known_at knowns holder) { holds = true }) (fine o) (λ e. subst (λ (x : ℕ). IsFine s.parents n (base x) (known_at knowns holder).demanded) (sym e) (fine holder)))
         | inr isnt ↦ rw isnt (fine o)
       ]
@@ -100,14 +95,14 @@ module _ (s : Scope) (n : ℕ) (many : 10 ≤ n) (known_kinds : (kind : List ℕ
 
   room_fine : (name : List ℕ) (knowns : List Known) → (not (has_name s.doors name) && is_parted (deepened s knowns name 1)) ≡ false → Fine knowns → Fine (with_room s knowns name)
   room_fine name knowns h fine =
-      elim (either (has_name s.doors name)) [
+      elim (cases_Bool (has_name s.doors name)) [
         | inl is ↦ rw is fine
         | inr isnt ↦ let apart : is_parted (deepened s knowns name 1) ≡ false = rw isnt at h in rw isnt (demand_fine name 1 knowns (omega (arith, many)) apart fine)
       ]
 
   fact_fine : (f : Fact) (knowns : List Known) → is_off s knowns f ≡ false → is_unknown s.kinds f ≡ false → Fine knowns → Fine (with_known s knowns f)
   fact_fine (Demands d) knowns h k fine o =
-      let there = not_false (has_name s.kinds d.kind) k in
+      let there = not-false (has_name s.kinds d.kind) k in
       let apart : is_parted (deepened s knowns d.object (number_in s.kinds d.kind)) ≡ false = rw there at h in
       rw there (demand_fine d.object (number_in s.kinds d.kind) knowns (known_kinds d.kind there) apart fine o)
   fact_fine (RoomUnlessDoor name) knowns h k fine o = room_fine name knowns h fine o
@@ -152,17 +147,17 @@ knowns_fine s n claims kinds many h k = claims_fine s n many kinds claims (first
 
 pub fact_length : (s : Scope) (f : Fact) (knowns : List Known) → length (with_known s knowns f) ≡ length knowns
 fact_length s (Demands d) knowns =
-    elim (either (has_name s.kinds d.kind)) [
+    elim (cases_Bool (has_name s.kinds d.kind)) [
       | inl is ↦ rw is (set_length knowns (number_in s.objects d.object) _)
       | inr isnt ↦ rw isnt refl
     ]
 fact_length s (RoomUnlessDoor name) knowns =
-    elim (either (has_name s.doors name)) [
+    elim (cases_Bool (has_name s.doors name)) [
       | inl is ↦ rw is refl
       | inr isnt ↦ rw isnt (set_length knowns (number_in s.objects name) _)
     ]
 fact_length s (Placed p) knowns =
-    elim (either (is_in p.relation)) [
+    elim (cases_Bool (is_in p.relation)) [
       | inl is ↦ rw is (set_length knowns (number_in s.objects p.holder) _)
       | inr isnt ↦ rw isnt refl
     ]
@@ -187,7 +182,7 @@ holder_few n false many = omega (arith, many)
 
 deepest_few : (n kind : ℕ) (holds : Bool) → 10 ≤ n → kind < n → kind_by (Deepest kind) holds < n
 deepest_few n kind holds many lt =
-    elim (either (eqb kind 0)) [
+    elim (cases_Bool (eqb kind 0)) [
       | inl is ↦ rw is (holder_few n holds many)
       | inr isnt ↦ rw isnt lt
     ]
@@ -201,7 +196,7 @@ kind_few parents n b Parted holds many fine = absurd fine
 pub kind_based : (parents : List (Option ℕ)) (n b : ℕ) (demanded : Demanded) (holds : Bool) → (Under parents 0 b → ⊥) → IsFine parents n (Some b) demanded → Under parents (kind_by demanded holds) b
 kind_based parents n b Nothing holds top fine = absurd cc
 kind_based parents n b (Deepest kind) holds top fine =
-    elim (either (eqb kind 0)) [
+    elim (cases_Bool (eqb kind 0)) [
       | inl is ↦ absurd (top (subst (λ (k : ℕ). Under parents k b) (eqb-true kind 0 is) fine.1))
       | inr isnt ↦ rw isnt fine.1
     ]

@@ -1,7 +1,7 @@
 -- A scan from left to right finds the first item that shows what it tests, and where lines rise the lowest line.
 use Rattle.std.proofs.Common.{◌≡◌, ℕ, ◌≤◌, Bool, true, false, List, [], ◌∷◌, ◌++◌, Option, refl, sym, ap, ◌∙◌, subst, append_assoc, arith, inl, inr, ◌⊎◌, ⊎_elim, true≢false}
 use Rattle.std.specs.Prelude.{Some, None, find, fold, option_map, if◌then◌else◌}
-use Rattle.world_meaning.proofs.Bools.{either}
+use Rattle.std.proofs.lemmas.Bool.{cases_Bool}
 use Rattle.i7_kinds.specs.FirstShown.{IsFirst, IsFound, IsShown, IsShownAt}
 use Rattle.i7_lexer.specs.Rising.{LinesRise}
 use Rattle.i7_claims.specs.Scans.{IsLowest}
@@ -123,7 +123,7 @@ module _ {S A : Type 0} (line_of : A → ℕ) (shows : S → A → Bool) (next :
   unfolding Passes
   passed_first start [] = nothing_in_none start
   passed_first start (x ∷ xs) =
-      elim (either (shows start x)) [
+      elim (cases_Bool (shows start x)) [
         | inl is ↦ rw is (record { first = record { before = []; item = x; after = xs; split = refl; here = is }; none_before = nothing_in_none start; on = refl })
         | inr isnt ↦ rw isnt (passed_later start x xs _ isnt (passed_first (next start x) xs))
       ]
@@ -131,7 +131,7 @@ module _ {S A : Type 0} (line_of : A → ℕ) (shows : S → A → Bool) (next :
 pub found_passed : {A : Type 0} (test : A → Bool) (items : List A) → find test items ≡ first_passed (λ (state : Unit {0}) item. test item) (λ state item. state) tt items
 found_passed test [] = refl
 found_passed test (x ∷ xs) =
-    elim (either (test x)) [
+    elim (cases_Bool (test x)) [
       | inl is ↦ rw is refl
       | inr isnt ↦ rw isnt (found_passed test xs)
     ]

@@ -1,9 +1,8 @@
 -- The scans for kinds find the lowest lines, and kinds that are few have small numbers.
 use Rattle.std.proofs.Common.{◌≡◌, ℕ, ◌+◌, ◌≤◌, Bool, false, not, List, [], ◌∷◌, ◌++◌, length, Option, refl, sym, ap, ◌∙◌, subst, arith, inl, inr}
 use Rattle.std.specs.Prelude.{Some, None, Decides, fold, nat_le}
-use Rattle.std.proofs.lemmas.Bool.{le-leb, leb-true, leb-false}
+use Rattle.std.proofs.lemmas.Bool.{le-leb, leb-true, leb-false, not-true, not_from_false, cases_Bool}
 use Rattle.std.proofs.lemmas.List.{length-append}
-use Rattle.world_meaning.proofs.Bools.{either}
 use Rattle.world_meaning.proofs.Climbs.{climbs_decide}
 use Rattle.world_meaning.specs.Kinds.{built_in_parents}
 use Rattle.object_words.specs.Mentions.{mention}
@@ -20,10 +19,9 @@ use Rattle.i7_claims.specs.declared.claim.Fact.TheVariants.{Lies, CanBe, HasNumb
 use Rattle.i7_kinds.proofs.Bounds.{number-within}
 use Rattle.i7_claims.proofs.Lowest.{lowest_is, none_shown}
 use Rattle.i7_claims.proofs.NameScans.{never}
-use Rattle.i7_claims.proofs.SortScans.{not_true, not_false}
 
 not_decides : (b : Bool) → Decides (not b) (b ≡ false)
-not_decides b = (not_true b, not_false b)
+not_decides b = (not-true b, not_from_false b)
 
 unknown_decides : (names : List (List ℕ)) (f : Fact) → Decides (is_unknown names f) (IsUnknown names f)
 unknown_decides names (Lies l) = not_decides (has_name names l.parent)
@@ -73,7 +71,7 @@ kinds_few claims h = count_few claims 10 (omega arith) h
 
 mention_one : (names : List (List ℕ)) (name : List ℕ) → length (mention names name) ≤ length names + 1
 mention_one names name =
-    elim (either (has_name names name)) [
+    elim (cases_Bool (has_name names name)) [
       | inl is ↦ rw is (omega arith)
       | inr isnt ↦ rw isnt (omega (arith, length-append names (name ∷ [])))
     ]
@@ -132,7 +130,7 @@ kinds_small claims h = small_parents (kind_names claims) claims built_in_parents
 name_step : (most : ℕ) (names : List (List ℕ)) (found : Option (List ℕ)) → length names ≤ most → is_too_many most names found ≡ false → length (with_name names found) ≤ most
 name_step most names None few h = few
 name_step most names (Some name) few h =
-    elim (either (has_name names name)) [
+    elim (cases_Bool (has_name names name)) [
       | inl is ↦ rw is few
       | inr isnt ↦ let full : nat_le most (length names) ≡ false = rw isnt at h in rw isnt (omega (arith, leb-false most (length names) full, length-append names (name ∷ [])))
     ]

@@ -4,7 +4,8 @@ use Rattle.std.proofs.Common.{◌≡◌, ℕ, ℤ, zero, suc, Bool, true, false,
 use Rattle.std.specs.Prelude.{Some, None, bytes_eq, codes, flat_map, is_some, slice_get}
 use Rattle.std.proofs.lemmas.List.Folds.{list_any-append}
 use Rattle.std.proofs.lemmas.Slice.Eq.{bytes_eq-Decides}
-use Rattle.world_meaning.proofs.Bools.{either}
+use Rattle.std.proofs.lemmas.Bool.{or_cases, cases_Bool}
+use Rattle.std.proofs.Math.Bool.{or-false}
 use Rattle.world_meaning.specs.declared.place.Rel.{Rel}
 use Rattle.world_meaning.specs.declared.place.Rel.TheVariants.{In, On, Carried, Worn, Part}
 use Rattle.object_words.specs.Mentions.{mention}
@@ -33,7 +34,6 @@ use Rattle.i7_claims.specs.declared.claim.Standing.{Standing}
 use Rattle.i7_claims.specs.declared.claim.Standing.TheVariants as stands
 use Rattle.i7_claims.specs.declared.wording.What.{What}
 use Rattle.i7_claims.proofs.Lowest.{none_shown}
-use Rattle.i7_kinds.proofs.DoorScans.{or_either}
 use Rattle.i7_kinds.proofs.KindPlaces.{AreNew, IsNew}
 use Rattle.i7_kinds.proofs.NamesOnce.{at_number, same_some}
 
@@ -187,16 +187,12 @@ unnamed : (found : Option Standing) → clashes found stands.Kind ≡ false → 
 unnamed None h k = true≢false (sym k)
 unnamed (Some s) h k = true≢false h
 
-or_none : (b : Bool) → (b || false) ≡ b
-or_none true = refl
-or_none false = refl
-
 mention_is : (names : List (List ℕ)) (name other : List ℕ) → has_name names name ≡ false → has_name (mention names name) other ≡ true → (has_name names other ≡ true) ⊎ (other ≡ name)
 mention_is names name other new h =
     let there : has_name (names ++ name ∷ []) other ≡ true = rw new at h in
     ⊎_elim (λ old. inl old) (λ is. inr ((bytes_eq-Decides other name).0 is))
-    (or_either (has_name names other) (bytes_eq other name) (sym
-    (list_any-append (bytes_eq other) names (name ∷ []) ∙ ap (λ (b : Bool). has_name names other || b) (or_none (bytes_eq other name))) ∙ there))
+    (or_cases (has_name names other) (bytes_eq other name) (sym
+    (list_any-append (bytes_eq other) names (name ∷ []) ∙ ap (λ (b : Bool). has_name names other || b) (or-false (bytes_eq other name))) ∙ there))
 
 given_here : (a : Option Standing) (standing : Standing) (name other : List ℕ) → other ≡ name → is_some (first_of a (given bytes_eq name standing other)) ≡ true
 given_here (Some x) standing name other same = refl
@@ -214,7 +210,7 @@ kind_step kind parent line rest known names all none later =
     let now = with_claim known one in
     let t = none_shown shows_twice with_claim known one (two ∷ rest) none in
     let u = none_shown shows_twice with_claim now two rest t.1 in
-    let new : has_name names k ≡ false = ⊎_elim (λ old. absurd (unnamed (known k) t.0 (all k old))) (λ isnt. isnt) (either (has_name names k)) in
+    let new : has_name names k ≡ false = ⊎_elim (λ old. absurd (unnamed (known k) t.0 (all k old))) (λ isnt. isnt) (cases_Bool (has_name names k)) in
     let named_now : AreNamed now (mention names k) = λ name h. ⊎_elim (λ old. some_first (known name) _ (all name old)) (λ same. given_here (known name) stands.Kind k name same)
     (mention_is names k name new h) in
     (tt, (new, later now named_now u.1))

@@ -1,8 +1,8 @@
 -- The kind that is known of an object in the end is the kind that is meant for its name, and no other is.
 use Rattle.std.proofs.Common.{◌≡◌, ℕ, ◌<◌, Bool, true, false, eqb, List, [], ◌∷◌, ◌++◌, length, Option, refl, sym, ap, ◌∙◌, subst, arith, inl, inr, ◌⊎◌, ⊎_elim, true≢false}
-use Rattle.std.specs.Prelude.{Some, None, Decides, codes, not, slice_get}
-use Rattle.std.proofs.lemmas.Bool.{eqb-true, eq-eqb}
-use Rattle.world_meaning.proofs.Bools.{either}
+use Rattle.std.specs.Prelude.{Some, None, Decides, codes, slice_get}
+use Rattle.std.proofs.lemmas.Bool.{eqb-true, eq-eqb, cases_Bool, not-false}
+use Rattle.std.proofs.lemmas.Option.{slice_get_within}
 use Rattle.world_meaning.specs.Directions.{direction_name, direction_number}
 use Rattle.world_meaning.specs.Kinds.{Under, itself as no_step, above as step, built_in_parents}
 use Rattle.world_meaning.specs.declared.place.Rel.{Rel}
@@ -24,7 +24,7 @@ use Rattle.i7_kinds.specs.Tales.{scope_of}
 use Rattle.i7_kinds.specs.declared.knowns.Demanded.{Demanded}
 use Rattle.i7_kinds.specs.declared.knowns.Demanded.TheVariants.{Nothing, Deepest, Parted}
 use Rattle.i7_kinds.specs.declared.knowns.Known.{Known}
-use Rattle.i7_kinds.proofs.DemandsSummed.{DemandsKind, IsHeldIn, IsKnown, SomeFact, Sums, claims_known, fact_among, fact_of, is_within}
+use Rattle.i7_kinds.proofs.DemandsSummed.{DemandsKind, IsHeldIn, IsKnown, SomeFact, Sums, claims_known, fact_among, fact_of}
 use Rattle.i7_kinds.proofs.DoorScans.{doors_decide}
 use Rattle.i7_kinds.proofs.Fines.{IsFine, base}
 use Rattle.i7_kinds.proofs.FirstDemands.{IsFirst, direction_is_first, first_are_known, first_named, player_is_first}
@@ -34,10 +34,6 @@ use Rattle.i7_kinds.proofs.ObjectsNamed.{NoneFound}
 use Rattle.i7_kinds.proofs.Readiness.{fine_of}
 use Rattle.i7_kinds.proofs.Rooted.{authors_behind}
 use Rattle.i7_kinds.proofs.UnderNames.{built_in_stands, kind_number, none_unknown, to_numbers, under_named}
-
-known : (b : Bool) → not b ≡ false → b ≡ true
-known true h = refl
-known false h = absurd cc
 
 -- ---- what is claimed stands somewhere
 
@@ -67,7 +63,7 @@ module _ (claims : List Claim) (keys : List (List ℕ)) (new : AreNew built_in_k
   numbered i kind h = kind_number claims new found.known i kind (kind_at_number i kind h)
 
   pub is_kind : (d : Demand) → IsClaimed claims (Demands d) → has_name (kind_names claims) d.kind ≡ true
-  is_kind d h = known (has_name (kind_names claims) d.kind) (none_unknown (kind_names claims) claims (Demands d) found.known h)
+  is_kind d h = not-false (has_name (kind_names claims) d.kind) (none_unknown (kind_names claims) claims (Demands d) found.known h)
 
   -- ---- doors, by their names
 
@@ -158,7 +154,7 @@ module _ (claims : List Claim) (keys : List (List ℕ)) (new : AreNew built_in_k
         let N = kind_names claims in
         let doors = (scope_of claims keys).doors in
         let number : number_in N kind ≡ 1 = ap (number_in N) same ∙ numbered 1 (codes "room") refl in
-        let no_door : has_name doors name ≡ false = ⊎_elim (λ is. absurd (none (is_said_door name is))) (λ isnt. isnt) (either (has_name doors name)) in (
+        let no_door : has_name doors name ≡ false = ⊎_elim (λ is. absurd (none (is_said_door name is))) (λ isnt. isnt) (cases_Bool (has_name doors name)) in (
           inr (fact_among (DemandsKind (scope_of claims keys) name (number_in N kind)) claims (RoomUnlessDoor name) h (refl, no_door, number)),
           ap (slice_get N) number ∙ kind_at_number 1 (codes "room") refl ∙ ap (λ (n : List ℕ). Some n) (sym same),
         )
@@ -215,7 +211,7 @@ module _ (claims : List Claim) (keys : List (List ℕ)) (new : AreNew built_in_k
         → Sums (parents_of (kind_names claims) claims) IsAsked demanded → Decides is (⊥ ⊎ SomeFact (IsHeldIn name) claims) → HasKindAt (kind_by demanded is)
     meant Nothing is b n fine root sums d = thing_or is d (nothing_asked sums)
     meant (Deepest k) is b n fine root sums d =
-        elim (either (eqb k 0)) [
+        elim (cases_Bool (eqb k 0)) [
           | inl zero_is ↦ rw zero_is (thing_or is d (thing_asked (subst (λ (m : ℕ). (x : ℕ) → IsAsked x → Under (parents_of (kind_names claims) claims) m x) (eqb-true k 0 zero_is) sums.1) root))
           | inr isnt ↦ rw isnt (deeper k (λ same. true≢false (sym (eq-eqb k 0 same) ∙ isnt)) sums.0 sums.1)
         ]
@@ -231,9 +227,9 @@ module _ (claims : List Claim) (keys : List (List ℕ)) (new : AreNew built_in_k
 
     only_it : (other : List ℕ) → o ≡ number_in keys other → other ≡ name
     only_it other same =
-        elim (either (has_name keys other)) [
+        elim (cases_Bool (has_name keys other)) [
           | inl is ↦ one_value (slice_get keys o) other name (ap (slice_get keys) same ∙ at_number keys other is) stands
-          | inr isnt ↦ let lt : o < length keys = is_within keys o name stands in let past : number_in keys other ≡ length keys = number_past keys other isnt in absurd (omega (arith, lt, past, same))
+          | inr isnt ↦ let lt : o < length keys = slice_get_within keys o name stands in let past : number_in keys other ≡ length keys = number_past keys other isnt in absurd (omega (arith, lt, past, same))
         ]
 
     -- what is known of it by all claims
@@ -241,7 +237,7 @@ module _ (claims : List Claim) (keys : List (List ℕ)) (new : AreNew built_in_k
     object_meant counted =
         let S = parents_of (kind_names claims) claims in
         let s = scope_of claims keys in
-        let lt : o < length keys = is_within keys o name stands in
+        let lt : o < length keys = slice_get_within keys o name stands in
         kind_meant (known_at (knowns_of s claims) o) (base o) (length S) (fine_of claims keys found.known found.on_path o) thing_is_root
         (claims_known s name o only_it (number_is keys once o name stands) claims (λ x. base o ≡ Some x) ⊥ (first_knowns (length keys)) (omega (arith, lt, counted))
         (first_are_known S (length keys) o))

@@ -1,7 +1,9 @@
 -- The kinds of the tale of an accepted source are the built-in ones and those that are claimed, and lie as is claimed.
-use Rattle.std.proofs.Common.{◌≡◌, ℕ, zero, suc, ◌<◌, List, [], ◌∷◌, ◌++◌, length, Option, refl, ap, ◌∙◌, subst, arith, inl, inr, ◌⊎◌, ⊎_elim}
+use Rattle.std.proofs.Common.{◌≡◌, ℕ, zero, suc, List, [], ◌∷◌, ◌++◌, length, Option, refl, ap, ◌∙◌, subst, arith, inl, inr, ◌⊎◌, ⊎_elim}
 use Rattle.std.specs.Prelude.{Some, slice_get}
 use Rattle.std.proofs.lemmas.List.{length-append}
+use Rattle.std.proofs.lemmas.Option.{slice_get_within}
+use Rattle.world_meaning.proofs.Options.{get_within}
 use Rattle.world_meaning.specs.Kinds.{Under, built_in_parents}
 use Rattle.i7_sentences.specs.declared.sentence.Sentence.{Sentence}
 use Rattle.i7_claims.specs.Claims.{claims_of}
@@ -18,7 +20,6 @@ use Rattle.i7_kinds.specs.KindClaims.{declared_by, parents_of}
 use Rattle.i7_kinds.specs.KindsMeant.{AreItsKinds, IsClaimed, IsKind, KindsLieAsClaimed}
 use Rattle.i7_kinds.specs.Knowns.{knowns_of}
 use Rattle.i7_kinds.specs.Tales.{entries_of, made_of, scope_of}
-use Rattle.i7_kinds.proofs.DemandsSummed.{is_within}
 use Rattle.i7_kinds.proofs.KindPlaces.{AreNew, as_many, author_kinds, kind_in, kinds_once}
 use Rattle.i7_kinds.proofs.KindsDeclared.{kinds_new}
 use Rattle.i7_kinds.proofs.NamesOnce.{at_number, is_there, same_some}
@@ -32,11 +33,6 @@ in_front_or_behind : {X : Type 0} (xs ys : List X) (i : ℕ) (v : X) → slice_g
 in_front_or_behind [] ys i v h = inr (i, h)
 in_front_or_behind (x ∷ xs) ys zero v h = inl h
 in_front_or_behind (x ∷ xs) ys (suc i) v h = in_front_or_behind xs ys i v h
-
-there_is : {X : Type 0} (xs : List X) (i : ℕ) → i < length xs → (v : X) × (slice_get xs i ≡ Some v)
-there_is [] i lt = absurd (omega (arith, lt))
-there_is (x ∷ xs) zero lt = (x, refl)
-there_is (x ∷ xs) (suc i) lt = there_is xs i (omega (arith, lt))
 
 -- an author's kind is claimed
 abbrev Declared : List Claim → List ℕ → Type 0
@@ -96,8 +92,8 @@ module _ (sentences : List Sentence) (new : AreNew built_in_kinds (claims_of sen
       let N = kind_names claims in
       let S = parents_of N claims in
       record {
-        named = λ number lt. there_is N number (omega (arith, lt, counted));
-        within = λ number kind h. omega (arith, is_within N number kind h, counted);
+        named = λ number lt. get_within N number (omega (arith, lt, counted));
+        within = λ number kind h. omega (arith, slice_get_within N number kind h, counted);
         once = kinds_once claims;
         kind = is_kind;
         numbered = numbered_kind;

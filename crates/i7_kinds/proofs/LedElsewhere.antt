@@ -1,8 +1,7 @@
 -- The statement that leads an exit to a second target is the first that leads one elsewhere than a statement before it.
 use Rattle.std.proofs.Common.{◌≡◌, ℕ, Bool, true, List, [], ◌∷◌, ◌++◌, Option, refl, sym, ap, ◌∙◌, subst, inl, inr, ⊎_elim}
 use Rattle.std.specs.Prelude.{◌==◌, Some, None, option_map}
-use Rattle.std.proofs.lemmas.Bool.{eqb-true, eq-eqb}
-use Rattle.world_meaning.proofs.Bools.{both, both_are}
+use Rattle.std.proofs.lemmas.Bool.{eqb-true, eq-eqb, and_from, and_parts}
 use Rattle.i7_claims.specs.declared.statements.Numbered.{Numbered}
 use Rattle.i7_claims.specs.declared.statements.Numbered.TheVariants as numbered
 use Rattle.i7_claims.specs.declared.statements.NumberedDoor.{NumberedDoor}
@@ -30,7 +29,7 @@ same_door_itself (Some a) = eq-eqb a a refl
 
 pub same_targets : (a b : Target) → is_target a b ≡ true → a ≡ b
 same_targets a b h =
-    let t = both_are (a.room == b.room) (is_same_door a.door b.door) h in
+    let t = and_parts (a.room == b.room) (is_same_door a.door b.door) h in
     λ i. record { room = eqb-true a.room b.room t.0 i; door = same_doors a.door b.door t.1 i }
 
 abbrev same_exit : Lead → Lead → Bool
@@ -38,7 +37,7 @@ same_exit lead other = is_exit lead.exit.room lead.exit.direction other
 
 same_rooms : (a b : Lead) → same_exit a b ≡ true → (b.exit.room ≡ a.exit.room) × (b.exit.direction ≡ a.exit.direction)
 same_rooms a b h =
-    let t = both_are (b.exit.room == a.exit.room) (b.exit.direction == a.exit.direction) h in
+    let t = and_parts (b.exit.room == a.exit.room) (b.exit.direction == a.exit.direction) h in
     (eqb-true b.exit.room a.exit.room t.0, eqb-true b.exit.direction a.exit.direction t.1)
 
 same_exits : (a b : Lead) → same_exit a b ≡ true → a.exit ≡ b.exit
@@ -46,7 +45,7 @@ same_exits a b h = let t = same_rooms a b h in λ i. record { room = sym t.0 i; 
 
 pub exits_same : (a b : Lead) → a.exit ≡ b.exit → same_exit a b ≡ true
 exits_same a b h =
-    both (b.exit.room == a.exit.room) (b.exit.direction == a.exit.direction)
+    and_from (b.exit.room == a.exit.room) (b.exit.direction == a.exit.direction)
     (eq-eqb b.exit.room a.exit.room (ap (λ (e : Exit). e.room) (sym h)))
     (eq-eqb b.exit.direction a.exit.direction (ap (λ (e : Exit). e.direction) (sym h)))
 
@@ -56,7 +55,7 @@ keyed = record {
   alike = λ x y h. let t = same_rooms x y h in λ i z. is_exit (t.0 i) (t.1 i) z;
   with_none = λ v. refl;
   agreeing = same_targets;
-  with_itself = λ v. both (v.room == v.room) (is_same_door v.door v.door) (eq-eqb v.room v.room refl) (same_door_itself v.door);
+  with_itself = λ v. and_from (v.room == v.room) (is_same_door v.door v.door) (eq-eqb v.room v.room refl) (same_door_itself v.door);
 }
 
 -- ---- what a statement states

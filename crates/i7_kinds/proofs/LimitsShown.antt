@@ -3,7 +3,7 @@ use Rattle.std.proofs.Common.{◌≡◌, ℕ, zero, suc, ◌+◌, ◌-◌, ◌�
 use Rattle.std.specs.Prelude.{Some, None, Decides, option_map, slice_get}
 use Rattle.std.specs.List.{list_any}
 use Rattle.std.proofs.lemmas.Bool.Decides.{Decides-ltb, Decides-or}
-use Rattle.world_meaning.proofs.Bools.{either}
+use Rattle.std.proofs.lemmas.Bool.{cases_Bool}
 use Rattle.world_meaning.proofs.Climbs.{climbs_decide}
 use Rattle.world_meaning.specs.Kinds.{is_under, room_kind}
 use Rattle.object_words.specs.Words.{words_for}
@@ -138,7 +138,7 @@ module _ (parents : List (Option ℕ)) (knowns : List Known) where
   unfolding FoundFrom
   found_from from [] = no_known
   found_from from (k ∷ ks) =
-      elim (either (is_under parents (kind_of k) room_kind)) [
+      elim (cases_Bool (is_under parents (kind_of k) room_kind)) [
         | inl is ↦ rw is (0, omega arith, record { known = k; at = refl; under = (climbs_decide parents (kind_of k) room_kind).0 is }, λ j lt r. absurd (omega arith))
         | inr isnt ↦ rw isnt (found_behind from k ks (room_from parents (from + 1) ks) isnt (found_from (from + 1) ks))
       ]

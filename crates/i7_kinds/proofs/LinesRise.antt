@@ -1,7 +1,7 @@
 -- Where the lines of sentences rise, so do those of what they state and of the objects that they mention.
 use Rattle.std.proofs.Common.{◌≡◌, ℕ, ◌≤◌, List, [], ◌∷◌, ◌++◌, refl, sym, ap, ◌∙◌, subst, append_assoc, append-nil, arith, inl, inr}
 use Rattle.std.specs.Prelude.{flat_map, fold, map}
-use Rattle.world_meaning.proofs.Bools.{either}
+use Rattle.std.proofs.lemmas.Bool.{cases_Bool}
 use Rattle.i7_sentences.specs.declared.name.Name.{Name}
 use Rattle.i7_sentences.specs.declared.sentence.Sentence.{Sentence}
 use Rattle.i7_claims.specs.Statements.{NameAt, Named, built_in_keys, has_key, key_of, named_by, names_at, names_in, stated_by, statement_in, with_name, with_names_of}
@@ -37,7 +37,7 @@ MentionsRise named lines = RiseFrom 0 (map line_at named.mentions ++ lines)
 
 name_step : (named : Named) (at : NameAt) (lines : List ℕ) → MentionsRise named (at.line ∷ lines) → MentionsRise (with_name named at) lines
 name_step named at lines r =
-    elim (either (has_key named.keys (key_of at.name.text))) [
+    elim (cases_Bool (has_key named.keys (key_of at.name.text))) [
       | inl is ↦ rw is (left_out 0 (map line_at named.mentions) (at.line ∷ []) lines r)
       | inr isnt ↦ rw isnt (subst (λ (ns : List ℕ). RiseFrom 0 ns)
           (sym (ap (λ (ns : List ℕ). ns ++ lines) (map_append line_at named.mentions (at ∷ [])) ∙ append_assoc (map line_at named.mentions) (at.line ∷ []) lines)) r)

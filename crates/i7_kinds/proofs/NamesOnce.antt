@@ -3,9 +3,8 @@ use Rattle.std.proofs.Common.{◌≡◌, ℕ, zero, suc, ◌<◌, Bool, true, fa
 use Rattle.std.specs.Prelude.{Some, None, bytes_eq, fold, slice_get}
 use Rattle.std.specs.List.{position_or_len}
 use Rattle.std.proofs.Math.Numerals.{one-add}
-use Rattle.std.proofs.lemmas.Bool.{lt-ltb}
+use Rattle.std.proofs.lemmas.Bool.{lt-ltb, cases_Bool}
 use Rattle.std.proofs.lemmas.Slice.Eq.{bytes_eq-Decides}
-use Rattle.world_meaning.proofs.Bools.{either}
 use Rattle.object_words.specs.Mentions.{mention}
 use Rattle.i7_claims.specs.Numbers.{has_name, number_in, place_or}
 
@@ -16,11 +15,6 @@ pub one_value : {X : Type 0} (found : Option X) (x y : X) → found ≡ Some x �
 one_value found x y h k = same_some (sym h ∙ k)
 
 -- ---- places in lists
-
-pub get_front : {X : Type 0} (xs ys : List X) (i : ℕ) (v : X) → slice_get xs i ≡ Some v → slice_get (xs ++ ys) i ≡ Some v
-get_front [] ys i v h = absurd cc
-get_front (x ∷ xs) ys zero v h = h
-get_front (x ∷ xs) ys (suc i) v h = get_front xs ys i v h
 
 pub get_pushed : {X : Type 0} (xs : List X) (v : X) (i : ℕ) (w : X) → slice_get (xs ++ v ∷ []) i ≡ Some w → ((i ≡ length xs) × (v ≡ w)) ⊎ (slice_get xs i ≡ Some w)
 get_pushed [] v zero w h = inl (refl, same_some h)
@@ -33,7 +27,7 @@ get_pushed (x ∷ xs) v (suc i) w h = ⊎_elim (λ here. inl (ap suc here.0, her
 place_within : (names : List (List ℕ)) (name : List ℕ) → has_name names name ≡ true → position_or_len (bytes_eq name) names < length names
 place_within [] name h = absurd cc
 place_within (n ∷ names) name h =
-    elim (either (bytes_eq name n)) [
+    elim (cases_Bool (bytes_eq name n)) [
       | inl is ↦ rw is (omega arith)
       | inr isnt ↦ let later : has_name names name ≡ true = rw isnt at h in rw isnt (omega (arith, place_within names name later))
     ]
@@ -41,7 +35,7 @@ place_within (n ∷ names) name h =
 at_place : (names : List (List ℕ)) (name : List ℕ) → has_name names name ≡ true → slice_get names (position_or_len (bytes_eq name) names) ≡ Some name
 at_place [] name h = absurd cc
 at_place (n ∷ names) name h =
-    elim (either (bytes_eq name n)) [
+    elim (cases_Bool (bytes_eq name n)) [
       | inl is ↦ let same : name ≡ n = (bytes_eq-Decides name n).0 is in rw is (ap (λ (x : List ℕ). Some x) (sym same))
       | inr isnt ↦ let later : has_name names name ≡ true = rw isnt at h in rw (isnt, one-add) (at_place names name later)
     ]
@@ -55,7 +49,7 @@ at_number names name h =
 nowhere : (names : List (List ℕ)) (name : List ℕ) → has_name names name ≡ false → position_or_len (bytes_eq name) names ≡ length names
 nowhere [] name h = refl
 nowhere (n ∷ names) name h =
-    elim (either (bytes_eq name n)) [
+    elim (cases_Bool (bytes_eq name n)) [
       | inl is ↦ let other : true ≡ false = rw is at h in absurd (true≢false other)
       | inr isnt ↦ let later : has_name names name ≡ false = rw isnt at h in rw (isnt, one-add) (ap suc (nowhere names name later))
     ]
@@ -72,7 +66,7 @@ pub is_there : (names : List (List ℕ)) (i : ℕ) (name : List ℕ) → slice_g
 is_there [] i name h = absurd cc
 is_there (n ∷ names) zero name h = let same : name ≡ n = sym (same_some h) in rw ((bytes_eq-Decides name n).1 same) refl
 is_there (n ∷ names) (suc i) name h =
-    elim (either (bytes_eq name n)) [
+    elim (cases_Bool (bytes_eq name n)) [
       | inl is ↦ rw is refl
       | inr isnt ↦ rw isnt (is_there names i name h)
     ]
@@ -96,7 +90,7 @@ once_pushed names name once new i j other h k =
 
 pub once_mention : (names : List (List ℕ)) (name : List ℕ) → StandOnce names → StandOnce (mention names name)
 once_mention names name once =
-    elim (either (has_name names name)) [
+    elim (cases_Bool (has_name names name)) [
       | inl is ↦ rw is once
       | inr isnt ↦ rw isnt (once_pushed names name once isnt)
     ]

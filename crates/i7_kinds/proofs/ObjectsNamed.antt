@@ -2,7 +2,7 @@
 use Rattle.std.proofs.Common.{◌≡◌, ℕ, zero, suc, ◌+◌, List, [], ◌∷◌, ◌++◌, map, Option, refl, sym, ap, ◌∙◌, arith, inl, inr, append_assoc, Ok}
 use Rattle.std.specs.Prelude.{Some, None, fold, slice_get}
 use Rattle.std.proofs.lemmas.List.{map-append}
-use Rattle.world_meaning.proofs.Bools.{either}
+use Rattle.std.proofs.lemmas.Bool.{cases_Bool}
 use Rattle.world_meaning.specs.declared.declared.Declared.{Declared}
 use Rattle.world_meaning.specs.declared.fault.Fault.{Fault}
 use Rattle.world_meaning.specs.declared.fault.FaultCode.TheVariants.{Twice}
@@ -82,7 +82,7 @@ pub record Keyed (named : Named) : Type 0 where
 
 keyed_name : (named : Named) (at : NameAt) → Keyed named → Keyed (with_name named at)
 keyed_name named at keyed =
-    elim (either (has_key named.keys (key_at at))) [
+    elim (cases_Bool (has_key named.keys (key_at at))) [
       | inl is ↦ rw is keyed
       | inr isnt ↦
           let once : StandOnce (named.keys ++ key_at at ∷ []) = rw isnt at (once_mention named.keys (key_at at) keyed.once) in

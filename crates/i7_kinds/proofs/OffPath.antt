@@ -1,16 +1,14 @@
 -- The scan for demands off the path of earlier ones finds the lowest line at which two kinds on no one path are demanded of an object.
 use Rattle.std.proofs.Common.{◌≡◌, ◌≢◌, ℕ, zero, suc, ◌-◌, ◌≤◌, ◌<◌, true, not, List, [], ◌∷◌, ◌++◌, length, replicate, Option, refl, sym, ap, ◌∙◌, subst, append_assoc, append-nil, arith, length-append, inl, inr, ◌⊎◌, ⊎_elim, true≢false}
 use Rattle.std.specs.Prelude.{◌==◌, Decides, fold, slice_index_or, slice_set}
-use Rattle.std.proofs.lemmas.Bool.{cases_lt, eqb-true, eqb-false}
+use Rattle.std.proofs.lemmas.Bool.{cases_lt, eqb-true, eqb-false, not-true, not_from_false, cases_Bool, and_from, and_parts}
 use Rattle.std.proofs.lemmas.List.{get_or-replicate, get_or-set_other, get_or-set_same, length-replicate, length-set}
 use Rattle.std.proofs.Math.ListN.{get_or-append}
 use Rattle.std.proofs.Math.Seq.{get_or-append_right}
-use Rattle.world_meaning.proofs.Bools.{both, both_are, either}
 use Rattle.world_meaning.proofs.Climbs.{climbs_decide}
 use Rattle.world_meaning.specs.Kinds.{Under, itself, direction_kind, is_under, person_kind, room_kind}
 use Rattle.i7_claims.proofs.Lowest.{lowest_is}
 use Rattle.i7_claims.proofs.NameScans.{never}
-use Rattle.i7_claims.proofs.SortScans.{not_false, not_true}
 use Rattle.i7_claims.specs.Numbers.{has_name, number_in}
 use Rattle.i7_claims.specs.Scans.{IsLowest, ShownBy}
 use Rattle.i7_claims.specs.Statements.{named_by}
@@ -47,9 +45,9 @@ module _ (parents : List (Option ℕ)) where
   unfolding StandsFor
   stands_deeper P Nothing asked h = (inr refl, λ kind s. ⊎_elim (λ p. absurd (h kind p)) (λ e. subst (λ (n : ℕ). Under parents asked n) e itself) s)
   stands_deeper P (Deepest d) asked h =
-      elim (either (is_under parents d asked)) [
+      elim (cases_Bool (is_under parents d asked)) [
         | inl is ↦ rw is (inl h.0, λ kind s. ⊎_elim (λ p. h.1 kind p) (λ e. subst (λ (n : ℕ). Under parents d n) e ((climbs_decide parents d asked).0 is)) s)
-        | inr isnt ↦ elim (either (is_under parents asked d)) [
+        | inr isnt ↦ elim (cases_Bool (is_under parents asked d)) [
           | inl below ↦ rw (isnt, below) (
             inr refl,
             λ kind s. ⊎_elim (λ p. trans parents asked d kind ((climbs_decide parents asked d).0 below) (h.1 kind p))
@@ -146,7 +144,7 @@ module _ (s : Scope) where
   asked_step : (P : ℕ → Type 0) (knowns : List Known) (n kind o : ℕ) → o < length knowns → StandsFor s.parents P (known_at knowns o).demanded
       → StandsFor s.parents (λ k. P k ⊎ ((n ≡ o) × (kind ≡ k))) (known_at (set_demand knowns n kind) o).demanded
   asked_step P knowns n kind o lt h =
-      elim (either (n == o)) [
+      elim (cases_Bool (n == o)) [
         | inl is ↦
             let here = stands_same s.parents (λ k. P k ⊎ (kind ≡ k)) (λ k. P k ⊎ ((o ≡ o) × (kind ≡ k)))
             (λ k t. ⊎_elim (λ p. inl p) (λ e. inr (refl, e)) t) (λ k t. ⊎_elim (λ p. inl p) (λ e. inr e.1) t) (deepen s.parents (known_at knowns o).demanded kind)
@@ -162,7 +160,7 @@ module _ (s : Scope) where
   -- what holds of an object has nothing to do with its demands
   held_same : (knowns : List Known) (n o : ℕ) → o < length knowns → (known_at (slice_set knowns n (record (known_at knowns n) { holds = true })) o).demanded ≡ (known_at knowns o).demanded
   held_same knowns n o lt =
-      elim (either (n == o)) [
+      elim (cases_Bool (n == o)) [
         | inl is ↦
             subst (λ (m : ℕ). (known_at (slice_set knowns m (record (known_at knowns m) { holds = true })) o).demanded ≡ (known_at knowns o).demanded) (sym (eqb-true n o is))
             (ap (λ (known : Known). known.demanded) (get_or-set_same knowns o _ unknown lt))
@@ -176,7 +174,7 @@ module _ (s : Scope) where
       → StandsFor s.parents (λ k. P k ⊎ DemandsKind s o k f) (known_at (with_known s knowns f) o).demanded
   fact_step P knowns (Demands d) o lt h =
       let Goal : List Known → Type 0 = λ ks. StandsFor s.parents (λ k. P k ⊎ DemandsKind s o k (Demands d)) (known_at ks o).demanded in
-      elim (either (has_name s.kinds d.kind)) [
+      elim (cases_Bool (has_name s.kinds d.kind)) [
         | inl is ↦
             let e : with_known s knowns (Demands d) ≡ set_demand knowns (number_in s.objects d.object) (number_in s.kinds d.kind) = rw is refl in
             subst Goal (sym e) (stands_same s.parents (λ k. P k ⊎ ((number_in s.objects d.object ≡ o) × (number_in s.kinds d.kind ≡ k))) (λ k. P k ⊎ DemandsKind s o k (Demands d))
@@ -188,7 +186,7 @@ module _ (s : Scope) where
       ]
   fact_step P knowns (RoomUnlessDoor object) o lt h =
       let Goal : List Known → Type 0 = λ ks. StandsFor s.parents (λ k. P k ⊎ DemandsKind s o k (RoomUnlessDoor object)) (known_at ks o).demanded in
-      elim (either (has_name s.doors object)) [
+      elim (cases_Bool (has_name s.doors object)) [
         | inl is ↦
             let e : with_known s knowns (RoomUnlessDoor object) ≡ knowns = rw is refl in
             subst Goal (sym e) (nothing_asked P (λ k. DemandsKind s o k (RoomUnlessDoor object)) (λ k t. true≢false (sym is ∙ t.0)) (known_at knowns o).demanded h)
@@ -199,7 +197,7 @@ module _ (s : Scope) where
             (asked_step P knowns (number_in s.objects object) room_kind o lt h))
       ]
   fact_step P knowns (Placed p) o lt h =
-      elim (either (is_in p.relation)) [
+      elim (cases_Bool (is_in p.relation)) [
         | inl is ↦ rw is (subst (λ (d : Demanded). StandsFor s.parents (λ k. P k ⊎ ⊥) d) (sym (held_same knowns (number_in s.objects p.holder) o lt))
             (nothing_asked P (λ k. ⊥) (λ k none. none) (known_at knowns o).demanded h))
         | inr isnt ↦ rw isnt (nothing_asked P (λ k. ⊥) (λ k none. none) (known_at knowns o).demanded h)
@@ -208,17 +206,17 @@ module _ (s : Scope) where
 
   length_step : (knowns : List Known) (f : Fact) → length (with_known s knowns f) ≡ length knowns
   length_step knowns (Demands d) =
-      elim (either (has_name s.kinds d.kind)) [
+      elim (cases_Bool (has_name s.kinds d.kind)) [
         | inl is ↦ rw is (length-set knowns (number_in s.objects d.object) _)
         | inr isnt ↦ rw isnt refl
       ]
   length_step knowns (RoomUnlessDoor object) =
-      elim (either (has_name s.doors object)) [
+      elim (cases_Bool (has_name s.doors object)) [
         | inl is ↦ rw is refl
         | inr isnt ↦ rw isnt (length-set knowns (number_in s.objects object) _)
       ]
   length_step knowns (Placed p) =
-      elim (either (is_in p.relation)) [
+      elim (cases_Bool (is_in p.relation)) [
         | inl is ↦ rw is (length-set knowns (number_in s.objects p.holder) _)
         | inr isnt ↦ rw isnt refl
       ]
@@ -309,24 +307,24 @@ module _ (s : Scope) where
         let o = number_in s.objects d.object in
         let kind = number_in s.kinds d.kind in (
           λ is.
-              let t = both_are (has_name s.kinds d.kind) (is_parted (deepen s.parents (known_at (known before) o).demanded kind)) is in
+              let t = and_parts (has_name s.kinds d.kind) (is_parted (deepen s.parents (known_at (known before) o).demanded kind)) is in
               off_to before c o kind (λ k same. subst (λ (f : Fact). DemandsKind s o k f) (sym e) (t.0, refl, same)) t.1,
           λ h.
               let q : DemandsKind s h.object h.kind (Demands d) = subst (λ (f : Fact). DemandsKind s h.object h.kind f) e h.demands in
               let is = off_from before c h (λ k r. let q' : DemandsKind s h.object k (Demands d) = subst (λ (f : Fact). DemandsKind s h.object k f) e r in sym q.2 ∙ q'.2) in
-              both (has_name s.kinds d.kind) (is_parted (deepen s.parents (known_at (known before) o).demanded kind)) q.0
+              and_from (has_name s.kinds d.kind) (is_parted (deepen s.parents (known_at (known before) o).demanded kind)) q.0
               (subst (λ (n : ℕ). is_parted (deepen s.parents (known_at (known before) n).demanded kind) ≡ true) (sym q.1)
               (subst (λ (k : ℕ). is_parted (deepen s.parents (known_at (known before) h.object).demanded k) ≡ true) (sym q.2) is)),
         )
     off_decides before c (RoomUnlessDoor object) e =
         let o = number_in s.objects object in (
           λ is.
-              let t = both_are (not (has_name s.doors object)) (is_parted (deepen s.parents (known_at (known before) o).demanded room_kind)) is in
-              off_to before c o room_kind (λ k same. subst (λ (f : Fact). DemandsKind s o k f) (sym e) (not_true (has_name s.doors object) t.0, refl, same)) t.1,
+              let t = and_parts (not (has_name s.doors object)) (is_parted (deepen s.parents (known_at (known before) o).demanded room_kind)) is in
+              off_to before c o room_kind (λ k same. subst (λ (f : Fact). DemandsKind s o k f) (sym e) (not-true (has_name s.doors object) t.0, refl, same)) t.1,
           λ h.
               let q : DemandsKind s h.object h.kind (RoomUnlessDoor object) = subst (λ (f : Fact). DemandsKind s h.object h.kind f) e h.demands in
               let is = off_from before c h (λ k r. let q' : DemandsKind s h.object k (RoomUnlessDoor object) = subst (λ (f : Fact). DemandsKind s h.object k f) e r in sym q.2 ∙ q'.2) in
-              both (not (has_name s.doors object)) (is_parted (deepen s.parents (known_at (known before) o).demanded room_kind)) (not_false (has_name s.doors object) q.0)
+              and_from (not (has_name s.doors object)) (is_parted (deepen s.parents (known_at (known before) o).demanded room_kind)) (not_from_false (has_name s.doors object) q.0)
               (subst (λ (n : ℕ). is_parted (deepen s.parents (known_at (known before) n).demanded room_kind) ≡ true) (sym q.1)
               (subst (λ (k : ℕ). is_parted (deepen s.parents (known_at (known before) h.object).demanded k) ≡ true) (sym q.2) is)),
         )

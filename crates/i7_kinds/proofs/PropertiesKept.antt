@@ -2,9 +2,8 @@
 use Rattle.std.proofs.Common.{◌≡◌, ℕ, zero, suc, ◌+◌, ◌≤◌, ◌<◌, Bool, true, false, ◌||◌, ◌&&◌, List, [], ◌∷◌, ◌++◌, length, Option, refl, sym, ap, ◌∙◌, subst, length-append, arith, inl, inr, ◌⊎◌, ⊎_elim, true≢false}
 use Rattle.std.specs.Prelude.{◌==◌, Some, None, Decides, Result, fold, slice_get}
 use Rattle.std.specs.List.{list_all, list_any}
-use Rattle.std.proofs.lemmas.Bool.{eqb-true, eq-eqb, ltb-true}
+use Rattle.std.proofs.lemmas.Bool.{eqb-true, eq-eqb, ltb-true, cases_Bool, and_parts}
 use Rattle.std.proofs.lemmas.List.Folds.{list_any-append}
-use Rattle.world_meaning.proofs.Bools.{both_are, either}
 use Rattle.world_meaning.specs.Declarations.{is_among, is_below, is_had}
 use Rattle.world_meaning.specs.Kinds.{is_under}
 use Rattle.world_meaning.specs.declared.declared.Granted.{Granted}
@@ -54,7 +53,7 @@ in_list k ks h = let t = any_to (λ n. k == n) ks h in subst (λ (n : ℕ). IsAm
 from_rising : {X : Type 0} (among : List ℕ) (k n : ℕ) (xs : List X) → IsAmong k (rising_of among n xs) → IsAmong k among
 from_rising among k n [] m = elim m [ ]
 from_rising among k n (x ∷ xs) m =
-    elim (either (is_among n among)) [
+    elim (cases_Bool (is_among n among)) [
       | inl is ↦
           let here : IsAmong k (n ∷ rising_of among (n + 1) xs) = rw is at m in
           ⊎_elim (λ same. subst (λ (j : ℕ). IsAmong j among) (sym same) (in_list n among is)) (λ later. from_rising among k (n + 1) xs later) here
@@ -74,7 +73,7 @@ rising_any test among xs below =
 given_any : (test : ℕ → Bool) (property : ℕ) (givens : List Given) → list_any test (kinds_given property givens) ≡ list_any (λ (given : Given). (given.property == property) && test given.kind) givens
 given_any test property [] = refl
 given_any test property (given ∷ givens) =
-    elim (either (given.property == property)) [
+    elim (cases_Bool (given.property == property)) [
       | inl is ↦ rw is (ap (λ (b : Bool). test given.kind || b) (given_any test property givens))
       | inr isnt ↦ rw isnt (given_any test property givens)
     ]
@@ -151,13 +150,13 @@ granted_at claims property g e =
 
 bases_below : (bases : List (List ℕ)) (property : ℕ) → list_all (λ base. list_all (is_below 10) base) bases ≡ true → list_all (is_below 10) (kinds_in (slice_get bases property)) ≡ true
 bases_below [] property h = refl
-bases_below (base ∷ bases) zero h = (both_are (list_all (is_below 10) base) (list_all (λ base. list_all (is_below 10) base) bases) h).0
-bases_below (base ∷ bases) (suc i) h = bases_below bases i (both_are (list_all (is_below 10) base) (list_all (λ base. list_all (is_below 10) base) bases) h).1
+bases_below (base ∷ bases) zero h = (and_parts (list_all (is_below 10) base) (list_all (λ base. list_all (is_below 10) base) bases) h).0
+bases_below (base ∷ bases) (suc i) h = bases_below bases i (and_parts (list_all (is_below 10) base) (list_all (λ base. list_all (is_below 10) base) bases) h).1
 
 all_below : (ks : List ℕ) (k : ℕ) → list_all (is_below 10) ks ≡ true → IsAmong k ks → k < 10
 all_below [] k h m = elim m [ ]
-all_below (n ∷ ks) k h (inl same) = omega (arith, same, ltb-true n 10 (both_are (is_below 10 n) (list_all (is_below 10) ks) h).0)
-all_below (n ∷ ks) k h (inr later) = all_below ks k (both_are (is_below 10 n) (list_all (is_below 10) ks) h).1 later
+all_below (n ∷ ks) k h (inl same) = omega (arith, same, ltb-true n 10 (and_parts (is_below 10 n) (list_all (is_below 10) ks) h).0)
+all_below (n ∷ ks) k h (inr later) = all_below ks k (and_parts (is_below 10 n) (list_all (is_below 10) ks) h).1 later
 
 built_in_below : list_all (λ base. list_all (is_below 10) base) built_in_bases ≡ true
 unfolding built_in_bases
@@ -178,7 +177,7 @@ given_kind property k (given ∷ givens) m =
   where
     of_one : IsAmong k (kind_given property given) → given.kind ≡ k
     of_one here =
-        elim (either (given.property == property)) [
+        elim (cases_Bool (given.property == property)) [
           | inl is ↦ let one : IsAmong k (given.kind ∷ []) = rw is at here in ⊎_elim (λ same. sym same) (λ none. absurd none) one
           | inr isnt ↦ let one : IsAmong k [] = rw isnt at here in absurd one
         ]
@@ -186,7 +185,7 @@ given_kind property k (given ∷ givens) m =
 module _ (names : List (List ℕ)) (properties : List (List ℕ)) (most : ℕ) (many : length names ≤ most) where
   known_kind : (name : List ℕ) → (has_name names name ≡ false → ⊥) → number_in names name < most
   known_kind name known =
-      elim (either (has_name names name)) [
+      elim (cases_Bool (has_name names name)) [
         | inl is ↦ omega (arith, many, number_there names name is)
         | inr isnt ↦ absurd (known isnt)
       ]

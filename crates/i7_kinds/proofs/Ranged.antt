@@ -2,7 +2,7 @@
 use Rattle.std.proofs.Common.{◌≡◌, ℕ, ℤ, pos, ◌+◌, true, List, [], ◌∷◌, Option, refl, inl, inr}
 use Rattle.std.specs.Prelude.{Some, None, ◌==◌, ◌&&◌, bytes_eq, fold, slice_get}
 use Rattle.std.specs.List.{list_all}
-use Rattle.world_meaning.proofs.Bools.{both, either}
+use Rattle.std.proofs.lemmas.Bool.{cases_Bool, and_from}
 use Rattle.world_meaning.specs.Declarations.{is_had, is_number}
 use Rattle.world_meaning.specs.declared.declared.Granted.{Granted}
 use Rattle.i7_claims.specs.Firsts.{first_of}
@@ -34,7 +34,7 @@ AreRangedValues values = (o p : ℕ) → IsRangedAt (values o p)
 slot_ranged : (slot : Slot) (value : Value) (o p : ℕ) (before : Option Value) → IsRangedValue value → IsRangedAt before → IsRangedAt (first_of before (given_slot slot value o p))
 slot_ranged slot value o p (Some first) h k = k
 slot_ranged slot value o p None h k =
-    elim (either ((slot.bearer == o) && (slot.property == p))) [
+    elim (cases_Bool ((slot.bearer == o) && (slot.property == p))) [
       | inl is ↦ rw is h
       | inr isnt ↦ rw isnt tt
     ]
@@ -50,7 +50,7 @@ told_ranged values (Some t) all h o p = slot_ranged t.slot t.value o p (values o
 fact_ranged : (b : Bearer) (s : Scope) (f : Fact) → IsRangedFact f → IsRangedTold (told_by b s f)
 fact_ranged Objects s (Has h) r = r
 fact_ranged Kinds s (Usually u) r =
-    elim (either (has_name s.kinds u.kind)) [
+    elim (cases_Bool (has_name s.kinds u.kind)) [
       | inl is ↦ rw is r
       | inr isnt ↦ rw isnt tt
     ]
@@ -92,14 +92,14 @@ numbers_in_range m o kind n [] values usuals = refl
 numbers_in_range m o kind n (number ∷ numbers) values usuals =
     let later = numbers_in_range m o kind (n + 1) numbers values usuals in
     let usual = amount_ranged (usual_of m.parents m.usuals kind n) (pos 0) (usual_from_ranged m.parents m.parents m.usuals kind n usuals) refl in
-    elim (either (is_had m.parents kind number)) [
-      | inl is ↦ rw is (both (is_number (begins_with m o kind n)) _ (amount_ranged (m.values o n) _ (values o n) usual) later)
+    elim (cases_Bool (is_had m.parents kind number)) [
+      | inl is ↦ rw is (and_from (is_number (begins_with m o kind n)) _ (amount_ranged (m.values o n) _ (values o n) usual) later)
       | inr isnt ↦ rw isnt later
     ]
 
 in_ranged : (name : List ℕ) (f : Fact) (other : ℤ) → IsRangedFact f → is_number other ≡ true → is_number (start_in name f other) ≡ true
 in_ranged name (Starts v) other h k =
-    elim (either (bytes_eq name v.variable)) [
+    elim (cases_Bool (bytes_eq name v.variable)) [
       | inl is ↦ rw is h
       | inr isnt ↦ rw isnt k
     ]
@@ -111,4 +111,4 @@ start_ranged (c ∷ claims) name h = in_ranged name c.fact (start_of claims name
 
 pub starts_in_range : (claims : List Claim) (names : List (List ℕ)) → AreRanged claims → list_all is_number (starts_of claims names) ≡ true
 starts_in_range claims [] h = refl
-starts_in_range claims (name ∷ names) h = both (is_number (start_of claims name)) (list_all is_number (starts_of claims names)) (start_ranged claims name h) (starts_in_range claims names h)
+starts_in_range claims (name ∷ names) h = and_from (is_number (start_of claims name)) (list_all is_number (starts_of claims names)) (start_ranged claims name h) (starts_in_range claims names h)

@@ -1,9 +1,9 @@
 -- Where no kind is unknown and none closes a cycle, each kind lies under a root.
-use Rattle.std.proofs.Common.{◌≡◌, ℕ, zero, suc, ◌≤◌, ◌<◌, Bool, true, false, eqb, ◌||◌, List, [], ◌∷◌, ◌++◌, length, Option, refl, sym, ap, ◌∙◌, subst, arith, inl, inr, ◌⊎◌, ⊎_elim, true≢false, append-nil, append_assoc}
-use Rattle.std.specs.Prelude.{Some, None, bytes_eq, flat_map, fold, not, slice_get}
+use Rattle.std.proofs.Common.{◌≡◌, ℕ, zero, suc, ◌≤◌, ◌<◌, true, false, eqb, List, [], ◌∷◌, ◌++◌, length, Option, refl, sym, ap, ◌∙◌, subst, arith, inl, inr, ◌⊎◌, ⊎_elim, true≢false, append-nil, append_assoc}
+use Rattle.std.specs.Prelude.{Some, None, bytes_eq, flat_map, fold, slice_get}
 use Rattle.std.specs.List.{list_all, position_or_len}
-use Rattle.std.proofs.lemmas.Bool.{eqb-true, eq-eqb, lt-ltb}
-use Rattle.world_meaning.proofs.Bools.{both, either}
+use Rattle.std.proofs.lemmas.Bool.{eqb-true, eq-eqb, lt-ltb, cases_Bool, and_from, not-false, or_left, or_right}
+use Rattle.world_meaning.proofs.Options.{get_front, get_within}
 use Rattle.world_meaning.proofs.Climbs.{climbs_decide}
 use Rattle.world_meaning.specs.Declarations.{is_rooted}
 use Rattle.world_meaning.specs.Kinds.{Under, itself, above, built_in_parents, is_under, is_under_one}
@@ -20,11 +20,6 @@ use Rattle.i7_kinds.proofs.KindScans.{kind_names_counted, parents_are_kinds}
 
 -- ---- what was there stays
 
-get_front : {X : Type 0} (xs ys : List X) (i : ℕ) (v : X) → slice_get xs i ≡ Some v → slice_get (xs ++ ys) i ≡ Some v
-get_front [] ys i v h = absurd cc
-get_front (x ∷ xs) ys zero v h = h
-get_front (x ∷ xs) ys (suc i) v h = get_front xs ys i v h
-
 get_last : {X : Type 0} (xs : List X) (v : X) → slice_get (xs ++ v ∷ []) (length xs) ≡ Some v
 get_last [] v = refl
 get_last (x ∷ xs) v = get_last xs v
@@ -34,11 +29,6 @@ get_old [] v zero w h = let same : v ≡ w = cc in inl (refl, same)
 get_old [] v (suc i) w h = absurd cc
 get_old (x ∷ xs) v zero w h = inr h
 get_old (x ∷ xs) v (suc i) w h = ⊎_elim (λ here. inl (ap suc here.0, here.1)) (λ old. inr old) (get_old xs v i w h)
-
-get_there : {X : Type 0} (xs : List X) (i : ℕ) → i < length xs → (v : X) × (slice_get xs i ≡ Some v)
-get_there [] i h = absurd (omega (arith, h))
-get_there (x ∷ xs) zero h = (x, refl)
-get_there (x ∷ xs) (suc i) h = get_there xs i (omega (arith, h))
 
 more : (S T : List (Option ℕ)) (x e : ℕ) → Under S x e → Under (S ++ T) x e
 more S T x e itself = itself
@@ -69,7 +59,7 @@ ends_step : (S : List (Option ℕ)) (p : ℕ) → HasEnds S → (Under S p (leng
 ends_step S p ends open_ended x =
     let t = ends x in
     let s = ends p in
-    elim (either (eqb t.0 (length S))) [
+    elim (cases_Bool (eqb t.0 (length S))) [
       | inl is ↦ (s.0, through S p x t.0 s.0 t.1 (eqb-true t.0 (length S) is) s.1, still_none S p s.0 s.2 (λ same. open_ended (subst (λ (e : ℕ). Under S p e) same s.1)))
       | inr isnt ↦ (t.0, more S (Some p ∷ []) x t.0 t.1, still_none S p t.0 t.2 (λ same. true≢false (sym (eq-eqb t.0 (length S) same) ∙ isnt)))
     ]
@@ -136,7 +126,7 @@ roots_built_in (suc (suc (suc (suc (suc (suc (suc (suc (suc (suc x)))))))))) h =
 place_there : (keys : List (List ℕ)) (key : List ℕ) → has_name keys key ≡ true → position_or_len (bytes_eq key) keys < length keys
 place_there [] key h = absurd cc
 place_there (k ∷ keys) key h =
-    elim (either (bytes_eq key k)) [
+    elim (cases_Bool (bytes_eq key k)) [
       | inl is ↦ rw is (omega arith)
       | inr isnt ↦ let later : has_name keys key ≡ true = rw isnt at h in rw isnt (omega (arith, place_there keys key later))
     ]
@@ -153,12 +143,8 @@ AreBelow n S = (i q : ℕ) → slice_get S i ≡ Some (Some q) → q < n
 below_step : (n : ℕ) (S : List (Option ℕ)) (p : ℕ) → p < n → AreBelow n S → AreBelow n (S ++ Some p ∷ [])
 below_step n S p lt below i q h = ⊎_elim (λ here. let same : p ≡ q = cc in subst (λ (o : ℕ). o < n) same lt) (λ old. below i q old) (get_old S (Some p) i (Some q) h)
 
-known : (b : Bool) → not b ≡ false → b ≡ true
-known true h = refl
-known false h = absurd cc
-
 below_fact : (names : List (List ℕ)) (n : ℕ) (f : Fact) (S : List (Option ℕ)) → length names ≤ n → is_unknown names f ≡ false → AreBelow n S → AreBelow n (with_parent names S f)
-below_fact names n (Lies l) S few h below = below_step n S (number_in names l.parent) (omega (arith, few, number_there names l.parent (known (has_name names l.parent) h))) below
+below_fact names n (Lies l) S few h below = below_step n S (number_in names l.parent) (omega (arith, few, number_there names l.parent (not-false (has_name names l.parent) h))) below
 below_fact names n _ S few h below = below
 
 below_claims : (names : List (List ℕ)) (n : ℕ) (claims : List Claim) (S : List (Option ℕ)) → length names ≤ n → lowest shows_unknown same_names names claims None ≡ None → AreBelow n S → AreBelow n (fold (with_parent_of names) S claims)
@@ -187,18 +173,10 @@ under_below n S x e below lt (above {parent = p} h u) = under_below n S p e belo
 
 -- ---- all of it
 
-or_first : (a b : Bool) → a ≡ true → (a || b) ≡ true
-or_first true b h = refl
-or_first false b h = absurd cc
-
-or_second : (a b : Bool) → b ≡ true → (a || b) ≡ true
-or_second true b h = refl
-or_second false b h = h
-
 root_of : (S : List (Option ℕ)) (x e : ℕ) → e ≤ 2 → is_under S x e ≡ true → is_under_one S ROOTS x ≡ true
-root_of S x zero le h = or_first (is_under S x 0) _ h
-root_of S x (suc zero) le h = or_second (is_under S x 0) _ (or_first (is_under S x 1) _ h)
-root_of S x (suc (suc zero)) le h = or_second (is_under S x 0) _ (or_second (is_under S x 1) _ (or_first (is_under S x 2) _ h))
+root_of S x zero le h = or_left (is_under S x 0) _ h
+root_of S x (suc zero) le h = or_right (is_under S x 0) _ (or_left (is_under S x 1) _ h)
+root_of S x (suc (suc zero)) le h = or_right (is_under S x 0) _ (or_right (is_under S x 1) _ (or_left (is_under S x 2) _ h))
 root_of S x (suc (suc (suc e))) le h = absurd (omega (arith, le))
 
 no_entry : (S : List (Option ℕ)) (e : ℕ) (v : Option ℕ) → NoneAbove S e → slice_get S e ≡ Some v → slice_get S e ≡ Some None
@@ -210,7 +188,7 @@ rooted : (S : List (Option ℕ)) → HasEnds S → RootsAlone S → AreBelow (le
 rooted S ends roots below x lt =
     let t = ends x in
     let inside = under_below (length S) S x t.0 below lt t.1 in
-    let entry = get_there S t.0 inside in
+    let entry = get_within S t.0 inside in
     root_of S x t.0 (roots t.0 (no_entry S t.0 entry.0 t.2 entry.1)) ((climbs_decide S x t.0).1 t.1)
 
 abbrev pub author_in : List (List ℕ) → Fact → List (Option ℕ)
@@ -238,7 +216,7 @@ authors_behind claims = fold_authors (kind_names claims) claims built_in_parents
 
 rooted_fact : (names : List (List ℕ)) (S : List (Option ℕ)) (f : Fact) (others : List (Option ℕ)) → length names ≤ length S → ((x : ℕ) → x < length S → is_under_one S ROOTS x ≡ true) → is_unknown names f ≡ false → list_all (is_rooted S) others ≡ true → list_all (is_rooted S) (author_in names f ++ others) ≡ true
 rooted_fact names S (Lies l) others few all h rest =
-    both (is_under_one S ROOTS (number_in names l.parent)) (list_all (is_rooted S) others) (all (number_in names l.parent) (omega (arith, few, number_there names l.parent (known (has_name names l.parent) h)))) rest
+    and_from (is_under_one S ROOTS (number_in names l.parent)) (list_all (is_rooted S) others) (all (number_in names l.parent) (omega (arith, few, number_there names l.parent (not-false (has_name names l.parent) h)))) rest
 rooted_fact names S _ others few all h rest = rest
 
 rooted_claims : (names : List (List ℕ)) (S : List (Option ℕ)) (claims : List Claim) → length names ≤ length S → ((x : ℕ) → x < length S → is_under_one S ROOTS x ≡ true) → lowest shows_unknown same_names names claims None ≡ None → list_all (is_rooted S) (authors names claims) ≡ true

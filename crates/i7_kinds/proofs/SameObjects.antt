@@ -3,7 +3,8 @@ use Rattle.std.proofs.Common.{◌≡◌, ℕ, zero, suc, ◌+◌, Bool, true, fa
 use Rattle.std.specs.Prelude.{Some, bytes_eq, fold, slice_get}
 use Rattle.std.proofs.lemmas.List.Folds.{list_any-append}
 use Rattle.std.proofs.lemmas.Slice.Eq.{bytes_eq-Decides}
-use Rattle.world_meaning.proofs.Bools.{either}
+use Rattle.std.proofs.lemmas.Bool.{or_cases, or_left, or_right, cases_Bool}
+use Rattle.std.proofs.Math.Bool.{or-false}
 use Rattle.world_meaning.specs.declared.tale.Object.{Object}
 use Rattle.i7_sentences.specs.declared.name.Name.{Name}
 use Rattle.i7_sentences.specs.declared.sentence.Assertion.{Assertion}
@@ -17,7 +18,6 @@ use Rattle.i7_kinds.specs.KindsMeant.{IsSaid, OrderIsNothingToObjects, is_claimi
 use Rattle.i7_kinds.specs.Knowns.{knowns_of}
 use Rattle.i7_kinds.specs.Tales.{Made, entries_of, made_of, object_as, object_of, objects_of, scope_of}
 use Rattle.i7_kinds.specs.declared.entries.Entry.{Entry}
-use Rattle.i7_kinds.proofs.DoorScans.{or_either, or_first, or_second}
 use Rattle.i7_kinds.proofs.NamesOnce.{at_number, is_there, same_some}
 use Rattle.i7_kinds.proofs.ObjectsNamed.{entry_keys, key_at, key_in, keyed, told_of, unrefused_tale}
 
@@ -31,10 +31,6 @@ IsKeyOf key (name ∷ names) = (key ≡ key_of name.text) ⊎ IsKeyOf key names
 abbrev Mentions : List Sentence → List ℕ → Type 0
 Mentions sentences key = (said : Assertion) × IsSaid sentences said × IsKeyOf key (names_in said)
 
-or_none : (b : Bool) → (b || false) ≡ b
-or_none true = refl
-or_none false = refl
-
 old_or : (a b : Bool) → (b ≡ true → a ≡ true) → a ≡ (a || b)
 old_or true b h = refl
 old_or false true h = h refl
@@ -42,13 +38,13 @@ old_or false false h = refl
 
 key_more : (named : Named) (at : NameAt) (key : List ℕ) → has_name (with_name named at).keys key ≡ (has_name named.keys key || bytes_eq key (key_at at))
 key_more named at key =
-    elim (either (has_key named.keys (key_at at))) [
+    elim (cases_Bool (has_key named.keys (key_at at))) [
       | inl is ↦
           let same : has_name (with_name named at).keys key ≡ has_name named.keys key = rw is refl in
           same ∙ old_or (has_name named.keys key) (bytes_eq key (key_at at)) (λ e. ap (has_name named.keys) ((bytes_eq-Decides key (key_at at)).0 e) ∙ is)
       | inr isnt ↦
           let pushed : has_name (with_name named at).keys key ≡ has_name (named.keys ++ key_at at ∷ []) key = rw isnt refl in
-          pushed ∙ list_any-append (bytes_eq key) named.keys (key_at at ∷ []) ∙ ap (λ (b : Bool). has_name named.keys key || b) (or_none (bytes_eq key (key_at at)))
+          pushed ∙ list_any-append (bytes_eq key) named.keys (key_at at ∷ []) ∙ ap (λ (b : Bool). has_name named.keys key || b) (or-false (bytes_eq key (key_at at)))
     ]
 
 key_from_names : (names : List Name) (line : ℕ) (named : Named) (key : List ℕ) → has_name (fold with_name named (map (λ name. record { name = name; line = line }) names)).keys key ≡ true
@@ -58,12 +54,12 @@ key_from_names (name ∷ names) line named key h =
     let at : NameAt = record { name = name; line = line } in
     ⊎_elim
     (λ now. ⊎_elim (λ old. inl old) (λ here. inr (inl ((bytes_eq-Decides key (key_at at)).0 here)))
-    (or_either (has_name named.keys key) (bytes_eq key (key_at at)) (sym (key_more named at key) ∙ now)))
+    (or_cases (has_name named.keys key) (bytes_eq key (key_at at)) (sym (key_more named at key) ∙ now)))
     (λ later. inr (inr later))
     (key_from_names names line (with_name named at) key h)
 
 key_stays_name : (named : Named) (at : NameAt) (key : List ℕ) → has_name named.keys key ≡ true → has_name (with_name named at).keys key ≡ true
-key_stays_name named at key h = key_more named at key ∙ or_first (has_name named.keys key) (bytes_eq key (key_at at)) h
+key_stays_name named at key h = key_more named at key ∙ or_left (has_name named.keys key) (bytes_eq key (key_at at)) h
 
 key_stays_names : (names : List NameAt) (named : Named) (key : List ℕ) → has_name named.keys key ≡ true → has_name (fold with_name named names).keys key ≡ true
 key_stays_names [] named key h = h
@@ -75,7 +71,7 @@ key_of_names [] line named key h = absurd h
 key_of_names (name ∷ names) line named key (inl here) =
     let at : NameAt = record { name = name; line = line } in
     key_stays_names (map (λ name. record { name = name; line = line }) names) (with_name named at) key
-    (key_more named at key ∙ or_second (has_name named.keys key) (bytes_eq key (key_at at)) ((bytes_eq-Decides key (key_at at)).1 here))
+    (key_more named at key ∙ or_right (has_name named.keys key) (bytes_eq key (key_at at)) ((bytes_eq-Decides key (key_at at)).1 here))
 key_of_names (name ∷ names) line named key (inr later) = key_of_names names line (with_name named (record { name = name; line = line })) key later
 
 key_from : (sentences : List Sentence) (named : Named) (key : List ℕ) → has_name (fold with_names_of named sentences).keys key ≡ true → (has_name named.keys key ≡ true) ⊎ Mentions sentences key

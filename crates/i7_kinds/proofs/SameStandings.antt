@@ -1,8 +1,8 @@
 -- What names stand for by the declarations of a source in which no name stands for two things is the same in whatever order.
 use Rattle.std.proofs.Common.{◌≡◌, ℕ, Bool, true, false, List, [], ◌∷◌, ◌++◌, Option, refl, sym, ap, ◌∙◌, subst, inl, inr, ◌⊎◌, ⊎_elim}
-use Rattle.std.specs.Prelude.{Some, None, bytes_eq, flat_map, fold, not, if◌then◌else◌}
+use Rattle.std.specs.Prelude.{Some, None, bytes_eq, flat_map, fold, if◌then◌else◌}
 use Rattle.std.proofs.lemmas.Slice.Eq.{bytes_eq-Decides}
-use Rattle.world_meaning.proofs.Bools.{either}
+use Rattle.std.proofs.lemmas.Bool.{cases_Bool, not-false}
 use Rattle.i7_sentences.specs.declared.sentence.Sentence.{Sentence}
 use Rattle.i7_claims.specs.Claims.{claims_in, claims_of, declares_in, known_by}
 use Rattle.i7_claims.specs.Firsts.{first_of, given}
@@ -121,13 +121,9 @@ stays (c ∷ claims) known name s h = stays claims (with_claim known c) name s (
 abbrev Suited : Option Standing → Standing → Type 0
 Suited found said = (s : Standing) × (found ≡ Some s) × ((s ≡ said) ⊎ (suits s said ≡ true))
 
-not_false : (b : Bool) → not b ≡ false → b ≡ true
-not_false true h = refl
-not_false false h = absurd cc
-
 suited_now : (found : Option Standing) (said : Standing) → clashes found said ≡ false → Suited (first_of found (Some said)) said
 suited_now None said h = (said, refl, inl refl)
-suited_now (Some s) said h = (s, refl, inr (not_false (suits s said) h))
+suited_now (Some s) said h = (s, refl, inr (not-false (suits s said) h))
 
 suited_here : (known : Standings) (f : Fact) (n : Naming) → f ≡ Stands n → is_twice known f ≡ false → Suited (with_fact known f n.name) n.standing
 suited_here known f n same h =
@@ -148,7 +144,7 @@ given_from : (found : Option Standing) (key : List ℕ) (value : Standing) (name
     → (found ≡ Some s) ⊎ ((key ≡ name) × (value ≡ s))
 given_from (Some x) key value name s h = inl h
 given_from None key value name s h =
-    elim (either (bytes_eq key name)) [
+    elim (cases_Bool (bytes_eq key name)) [
       | inl is ↦ let there : Some value ≡ Some s = rw is at h in inr ((bytes_eq-Decides key name).0 is, same_some there)
       | inr isnt ↦ let none : None ≡ Some s = rw isnt at h in absurd cc
     ]

@@ -1,7 +1,7 @@
 -- The exits of the objects of a tale are as the sentences say that mean the tale.
 use Rattle.std.proofs.Common.{◌≡◌, ℕ, ◌+◌, ◌-◌, zero, suc, List, [], ◌∷◌, Option, refl, sym, ap, ◌∙◌, subst, arith, inl, inr, ⊎_elim, true≢false}
 use Rattle.std.specs.Prelude.{Some, None, Result, slice_get}
-use Rattle.world_meaning.proofs.Bools.{either}
+use Rattle.std.proofs.lemmas.Bool.{cases_Bool}
 use Rattle.world_meaning.proofs.Climbs.{climbs_decide}
 use Rattle.world_meaning.specs.Directions.{direction_number}
 use Rattle.world_meaning.specs.Kinds.{Under, is_under, room_kind}
@@ -137,7 +137,7 @@ module _ (parents : List (Option ℕ)) (sentences : List Sentence) (none : IsSho
 
   has_exits : HasExits sentences tale o object
   has_exits =
-      elim (either (is_under parents object.kind room_kind)) [
+      elim (cases_Bool (is_under parents object.kind room_kind)) [
         | inl is ↦
             let ways : object.exits ≡ exits_of (stated_by sentences) o = exits_are ∙ (rw is refl) in
             record {

@@ -1,6 +1,7 @@
 -- What lies under what among the kinds of a source.
-use Rattle.std.proofs.Common.{◌≡◌, ℕ, Bool, true, false, List, ◌++◌, Option, refl, sym, ◌∙◌, subst, inl, inr, ◌⊎◌, ⊎_elim, true≢false}
+use Rattle.std.proofs.Common.{◌≡◌, ℕ, true, false, List, ◌++◌, Option, refl, sym, ◌∙◌, subst, inl, inr, ◌⊎◌, ⊎_elim, true≢false}
 use Rattle.std.specs.Prelude.{Some, slice_get}
+use Rattle.std.proofs.lemmas.Bool.{false_from_ne_true}
 use Rattle.world_meaning.proofs.Climbs.{climbs_decide}
 use Rattle.world_meaning.specs.Kinds.{Under, itself, above, built_in_parents, is_under}
 
@@ -26,12 +27,8 @@ pub not_both : (S : List (Option ℕ)) (d i j : ℕ) → Apart S i j → Under S
 not_both S d i j apart u v =
     ⊎_elim (λ w. true≢false (sym ((climbs_decide S i j).1 w) ∙ apart.0)) (λ w. true≢false (sym ((climbs_decide S j i).1 w) ∙ apart.1)) (comparable S d i j u v)
 
-false_if : (b : Bool) → (b ≡ true → ⊥) → b ≡ false
-false_if true h = absurd (h refl)
-false_if false h = refl
-
 pub isnt_under : (S : List (Option ℕ)) (d i j : ℕ) → Apart S i j → Under S d i → is_under S d j ≡ false
-isnt_under S d i j apart u = false_if (is_under S d j) (λ h. not_both S d i j apart u ((climbs_decide S d j).0 h))
+isnt_under S d i j apart u = false_from_ne_true (is_under S d j) (λ h. not_both S d i j apart u ((climbs_decide S d j).0 h))
 
 -- ---- the built-in kinds
 

@@ -1,6 +1,8 @@
 -- Kinds lie under each other by their names as they do by their numbers.
-use Rattle.std.proofs.Common.{◌≡◌, ℕ, Bool, true, false, List, [], ◌∷◌, ◌++◌, Option, refl, sym, ap, ◌∙◌, subst, inl, inr, ⊎_elim}
-use Rattle.std.specs.Prelude.{Some, None, not, slice_get}
+use Rattle.std.proofs.Common.{◌≡◌, ℕ, false, List, [], ◌∷◌, ◌++◌, Option, refl, sym, ap, ◌∙◌, subst, inl, inr, ⊎_elim}
+use Rattle.std.specs.Prelude.{Some, None, slice_get}
+use Rattle.std.proofs.lemmas.Bool.{not-false}
+use Rattle.world_meaning.proofs.Options.{get_front}
 use Rattle.world_meaning.specs.Kinds.{Under, itself as no_step, above as step, built_in_parents}
 use Rattle.i7_claims.specs.KindNames.{kind_names}
 use Rattle.i7_claims.specs.Numbers.{has_name, number_in}
@@ -13,7 +15,7 @@ use Rattle.i7_claims.proofs.Lowest.{none_shown}
 use Rattle.i7_kinds.specs.KindClaims.{is_unknown, kind_cycle, parents_of, same_names, shows_unknown, unknown_kind}
 use Rattle.i7_kinds.specs.KindsMeant.{IsAbove, IsClaimed, LiesUnder, above, itself}
 use Rattle.i7_kinds.proofs.KindPlaces.{AreNew, AtOnePlace, author_kinds, as_many, behind, claim_at, claimed_at, front_or_behind, in_table, kinds_behind, kinds_once}
-use Rattle.i7_kinds.proofs.NamesOnce.{at_number, get_front, number_is, one_value, same_some}
+use Rattle.i7_kinds.proofs.NamesOnce.{at_number, number_is, one_value, same_some}
 use Rattle.i7_kinds.proofs.Rooted.{HasEnds, authors, authors_behind, kinds_end}
 use Rattle.i7_kinds.proofs.UnderKinds.{trans}
 
@@ -47,10 +49,6 @@ under_each_other S ends a b no_step v = refl
 under_each_other S ends a b (step {parent = p} h u) v = absurd (none_returns S ends a (p, h, trans S p b a u v))
 
 -- ---- what the scan for unknown kinds leaves
-
-known : (b : Bool) → not b ≡ false → b ≡ true
-known true h = refl
-known false h = absurd cc
 
 pub none_unknown : (names : List (List ℕ)) (claims : List Claim) (f : Fact) → unknown_kind names claims ≡ None → IsClaimed claims f → is_unknown names f ≡ false
 none_unknown names [] f none h = absurd h
@@ -110,7 +108,7 @@ module _ (claims : List Claim) (new : AreNew built_in_kinds claims) (unknown : u
   named_by_claim i p j h beside =
       let N = kind_names claims in
       let t = claim_at N claims j (Some p) h in
-      let there : has_name N t.said.parent ≡ true = known (has_name N t.said.parent) (none_unknown N claims (Lies t.said) unknown t.claimed) in
+      let there : has_name N t.said.parent ≡ true = not-false (has_name N t.said.parent) (none_unknown N claims (Lies t.said) unknown t.claimed) in
       let number : p ≡ number_in N t.said.parent = same_some t.under in (
         t.said.kind,
         t.said.parent,

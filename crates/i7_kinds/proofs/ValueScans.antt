@@ -2,8 +2,7 @@
 use Rattle.std.proofs.Common.{◌≡◌, ◌≢◌, ℕ, ℤ, pos, negsuc, Bool, true, false, cond, not, List, Option, refl, ap, sym, subst, inl, inr}
 use Rattle.std.specs.Prelude.{◌==◌, Some, None, Decides, is_some, option_copied}
 use Rattle.std.specs.Borrow.{Bor}
-use Rattle.std.proofs.lemmas.Bool.{eqb-true, eq-eqb}
-use Rattle.world_meaning.proofs.Bools.{both_are, either}
+use Rattle.std.proofs.lemmas.Bool.{eqb-true, eq-eqb, cases_Bool, and_parts}
 use Rattle.i7_kinds.specs.Knowns.{Scope}
 use Rattle.i7_claims.specs.Scans.{IsLowest, ShownBy}
 use Rattle.i7_kinds.specs.Values.{IsContrary, IsOther, Values, is_contrary, is_other, is_same, is_same_number, no_values, shows_contrary, slot_eq, told_by, value_in, value_twice, values_by, with_slot, with_value_of}
@@ -19,7 +18,7 @@ use Rattle.i7_claims.proofs.NameScans.{never}
 
 slot_sound : (a b : Slot) → slot_eq a b ≡ true → a ≡ b
 slot_sound a b same =
-    let both = both_are (a.bearer == b.bearer) (a.property == b.property) same in
+    let both = and_parts (a.bearer == b.bearer) (a.property == b.property) same in
     λ i. record { bearer = eqb-true a.bearer b.bearer both.0 i; property = eqb-true a.property b.property both.1 i }
 
 -- what is said first of a slot is kept
@@ -58,7 +57,7 @@ same_itself (Amount a) = same_number_itself a
 
 other_not_same : (first value : Value) → first ≢ value → not (is_same first value) ≡ true
 other_not_same first value h =
-    elim (either (is_same first value)) [
+    elim (cases_Bool (is_same first value)) [
       | inl is ↦ absurd (h (same_values first value is))
       | inr isnt ↦ rw isnt refl
     ]

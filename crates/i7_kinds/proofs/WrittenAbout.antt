@@ -1,8 +1,7 @@
 -- The sentence in which a description stands is about the object that has it.
 use Rattle.std.proofs.Common.{◌≡◌, ℕ, ◌+◌, zero, suc, Bool, true, List, [], ◌∷◌, ◌++◌, refl, sym, ap, ◌∙◌, subst, arith, Ok, inl, inr}
 use Rattle.std.specs.Prelude.{◌==◌, Option, None, Some, find, map, option_map, slice_get}
-use Rattle.std.proofs.lemmas.Bool.{eqb-true}
-use Rattle.world_meaning.proofs.Bools.{either}
+use Rattle.std.proofs.lemmas.Bool.{eqb-true, cases_Bool}
 use Rattle.world_meaning.specs.Kinds.{Under, room_kind}
 use Rattle.world_meaning.specs.Tale.{description_in, description_of as told_description}
 use Rattle.world_meaning.specs.declared.fault.Fault.{Fault}
@@ -122,7 +121,7 @@ module _ (parents : List (Option ℕ)) (knowns : List Known) (named : Named) (ta
 found_is : {X : Type 0} (test : X → Bool) (xs : List X) (x : X) → find test xs ≡ Some x → IsAmong x xs × (test x ≡ true)
 found_is test [] x e = absurd cc
 found_is test (y ∷ ys) x e =
-    elim (either (test y)) [
+    elim (cases_Bool (test y)) [
       | inl is ↦ let here : Some y ≡ Some x = rw is at e in let same : y ≡ x = cc in (inl (sym same), ap test (sym same) ∙ is)
       | inr isnt ↦ let later : find test ys ≡ Some x = rw isnt at e in let t = found_is test ys x later in (inr t.0, t.1)
     ]

@@ -4,7 +4,7 @@ use Rattle.std.specs.Prelude.{◌==◌, Some, None, Decides, fold, option_map, s
 use Rattle.std.specs.List.{Any, list_any}
 use Rattle.std.proofs.lemmas.Bool.Decides.{Decides-and, Decides-eqb, Decides-like, Decides-not, Decides-or}
 use Rattle.std.proofs.lemmas.List.Folds.{Any-from_list_any, list_any-from_Any}
-use Rattle.world_meaning.proofs.Bools.{either}
+use Rattle.std.proofs.lemmas.Bool.{cases_Bool}
 use Rattle.world_meaning.proofs.Climbs.{climbs_decide}
 use Rattle.world_meaning.specs.Kinds.{Under, is_under, room_kind}
 use Rattle.world_meaning.specs.Placing.{can_be_held, can_hold, keeps_player}
@@ -95,7 +95,7 @@ module _ (parents : List (Option ℕ)) (knowns : List Known) where
       → wrong_after parents knowns before statements ≡ option_map line_of_statement (first_passed (λ state s. is_wrong parents knowns state s.said) then_about before statements)
   wrong_passed before [] = refl
   wrong_passed before (s ∷ statements) =
-      elim (either (is_wrong parents knowns before s.said)) [
+      elim (cases_Bool (is_wrong parents knowns before s.said)) [
         | inl is ↦ rw is refl
         | inr isnt ↦ rw isnt (wrong_passed (subject_of s.said) statements)
       ]

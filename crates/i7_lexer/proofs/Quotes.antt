@@ -1,7 +1,7 @@
 -- The end of a text: the first quote.
 use Rattle.std.proofs.Common.{◌≡◌, ℕ, ◌+◌, ◌-◌, suc, Bool, true, false, not, eqb, cond, List, [], ◌∷◌, ◌++◌, length, Some, None, refl, ap, length-append, arith}
 use Rattle.std.specs.List.{list_all}
-use Rattle.std.proofs.lemmas.Bool.{eqb-true}
+use Rattle.std.proofs.lemmas.Bool.{eqb-true, not-true}
 use Rattle.std.proofs.lemmas.List.{take_at}
 use Rattle.i7_lexer.specs.Scans.{behind_quote, front_of}
 use Rattle.i7_lexer.proofs.Runs.{and_left, and_right}
@@ -42,18 +42,14 @@ pub unquoted : (bytes : List ℕ) → behind_quote bytes ≡ None → no_quote b
 unquoted [] h = refl
 unquoted (b ∷ bytes) h = unquoted_by b bytes (eqb b 34) refl (unquoted bytes) h
 
-no_quote_first : (v : Bool) → not v ≡ true → v ≡ false
-no_quote_first true h = cc
-no_quote_first false h = refl
-
 pub behind_quote_at : (inner rest : List ℕ) → no_quote inner ≡ true → behind_quote (inner ++ 34 ∷ rest) ≡ Some rest
 behind_quote_at [] rest h = refl
 behind_quote_at (b ∷ inner) rest h =
-    let first : eqb b 34 ≡ false = no_quote_first (eqb b 34) (and_left _ (no_quote inner) h) in
+    let first : eqb b 34 ≡ false = not-true (eqb b 34) (and_left _ (no_quote inner) h) in
     rw first (behind_quote_at inner rest (and_right (not (eqb b 34)) _ h))
 
 pub behind_quote_none : (bytes : List ℕ) → no_quote bytes ≡ true → behind_quote bytes ≡ None
 behind_quote_none [] h = refl
 behind_quote_none (b ∷ bytes) h =
-    let first : eqb b 34 ≡ false = no_quote_first (eqb b 34) (and_left _ (no_quote bytes) h) in
+    let first : eqb b 34 ≡ false = not-true (eqb b 34) (and_left _ (no_quote bytes) h) in
     rw first (behind_quote_none bytes (and_right (not (eqb b 34)) _ h))

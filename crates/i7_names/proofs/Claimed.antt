@@ -2,7 +2,7 @@
 use Rattle.std.proofs.Common.{◌≡◌, ℕ, ◌-◌, ◌==◌, length, Bool, true, false, ◌&&◌, List, [], ◌∷◌, ◌++◌, refl, sym, ap, ◌∙◌, subst}
 use Rattle.std.specs.Prelude.{Option, None, Some, bytes_eq, codes, fold, if◌then◌else◌}
 use Rattle.std.proofs.lemmas.Slice.Eq.{bytes_eq-Decides}
-use Rattle.world_meaning.proofs.Bools.{both_are}
+use Rattle.std.proofs.lemmas.Bool.{and_parts}
 use Rattle.world_meaning.specs.Spelling.{lowered}
 use Rattle.i7_sentences.specs.declared.sentence.Sentence.{Sentence}
 use Rattle.i7_conditions.specs.Meanings.{Meanings}
@@ -37,7 +37,7 @@ small_by_test : (xs : List Naming) → are_small xs ≡ true → AreSmall xs
 unfolding are_small
 small_by_test [] h = tt
 small_by_test (x ∷ xs) h =
-    let parts = both_are (bytes_eq (lowered x.name) x.name) (are_small xs) h in
+    let parts = and_parts (bytes_eq (lowered x.name) x.name) (are_small xs) h in
     ((bytes_eq-Decides (lowered x.name) x.name).0 parts.0, small_by_test xs parts.1)
 
 built_in_small : AreSmall built_in_namings

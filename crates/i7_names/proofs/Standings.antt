@@ -3,7 +3,7 @@ use Rattle.std.proofs.Common.{◌≡◌, ◌≢◌, ℕ, Bool, true, false, not,
 use Rattle.std.specs.Prelude.{Option, Some, None, bytes_eq, fold, if◌then◌else◌}
 use Rattle.std.specs.Option.{option_or}
 use Rattle.std.proofs.lemmas.Slice.Eq.{bytes_eq-Decides}
-use Rattle.world_meaning.proofs.Bools.{both, both_are, either}
+use Rattle.std.proofs.lemmas.Bool.{cases_Bool, and_from, and_parts, not-false, not-true}
 use Rattle.world_meaning.specs.Spelling.{lowered}
 use Rattle.i7_conditions.specs.declared.meaning.Meaning.{Meaning}
 use Rattle.i7_claims.specs.Firsts.{first_of, given}
@@ -55,14 +55,6 @@ suited n name known stands.Number h = number_suited n name known h
 suited n name known stands.Object h = object_suited n name known h
 suited n name known _ h = absurd cc
 
-not_false : (b : Bool) → not b ≡ false → b ≡ true
-not_false true h = refl
-not_false false h = absurd cc
-
-not_true : (b : Bool) → not b ≡ true → b ≡ false
-not_true true h = absurd cc
-not_true false h = refl
-
 -- each naming suits what is known before it
 unfoldable pub fits : Standings → List Naming → Bool
 fits known [] = true
@@ -72,14 +64,14 @@ pub fits_append : (xs ys : List Naming) (known : Standings) → fits known xs �
 unfolding fits
 fits_append [] ys known h k = k
 fits_append (x ∷ xs) ys known h k =
-    let parts = both_are (not (clashes (known x.name) x.standing)) (fits (with_naming known x) xs) h in
-    both _ _ parts.0 (fits_append xs ys (with_naming known x) parts.1 k)
+    let parts = and_parts (not (clashes (known x.name) x.standing)) (fits (with_naming known x) xs) h in
+    and_from _ _ parts.0 (fits_append xs ys (with_naming known x) parts.1 k)
 
 -- ---- a source in which no name stands for two things
 
 fact_fits : (f : Fact) (after : List Naming) (known : Standings) → is_twice known f ≡ false → fits (with_fact known f) after ≡ true → fits known (namings_in f ++ after) ≡ true
 unfolding fits
-fact_fits (Stands x) after known h k = both _ _ (ap not h) k
+fact_fits (Stands x) after known h k = and_from _ _ (ap not h) k
 fact_fits _ after known h k = k
 
 pub claims_fit : (claims : List Claim) (known : Standings) → lowest shows_twice with_claim known claims None ≡ None → fits known (namings_of claims) ≡ true
@@ -105,7 +97,7 @@ or_same (Some x) = refl
 -- the name itself
 here : (n : Numbering) (name : List ℕ) (found : Option Standing) (said : Standing) → clashes found said ≡ false → option_or (meaning_of n name found) (meaning_as n name said) ≡ meaning_of n name (first_of found (Some said))
 here n name None said h = refl
-here n name (Some known) said h = ap (option_or (meaning_as n name known)) (sym (suited n name known said (not_false (suits known said) h))) ∙ or_same (meaning_as n name known)
+here n name (Some known) said h = ap (option_or (meaning_as n name known)) (sym (suited n name known said (not-false (suits known said) h))) ∙ or_same (meaning_as n name known)
 
 same_either : {X : Type 0} (b : Bool) (x : X) → (if b then x else x) ≡ x
 same_either true x = refl
@@ -119,9 +111,9 @@ added known key name (Some meaning) = refl
 
 turned : (a b : List ℕ) → bytes_eq a b ≡ bytes_eq b a
 turned a b =
-    elim (either (bytes_eq a b)) [
+    elim (cases_Bool (bytes_eq a b)) [
       | inl is ↦ is ∙ sym ((bytes_eq-Decides b a).1 (sym ((bytes_eq-Decides a b).0 is)))
-      | inr isnt ↦ elim (either (bytes_eq b a)) [
+      | inr isnt ↦ elim (cases_Bool (bytes_eq b a)) [
         | inl is ↦ (bytes_eq-Decides a b).1 (sym ((bytes_eq-Decides b a).0 is)) ∙ sym is
         | inr other ↦ isnt ∙ sym other
       ]
@@ -130,7 +122,7 @@ turned a b =
 at_name : (n : Numbering) (found : Option Standing) (x : Naming) (name : List ℕ) → (x.name ≡ name → clashes found x.standing ≡ false)
     → option_or (meaning_of n name found) (if bytes_eq x.name name then meaning_as n x.name x.standing else None) ≡ meaning_of n name (first_of found (given bytes_eq x.name x.standing name))
 at_name n found x name fit =
-    elim (either (bytes_eq x.name name)) [
+    elim (cases_Bool (bytes_eq x.name name)) [
       | inl is ↦ let same : x.name ≡ name = (bytes_eq-Decides x.name name).0 is in
           rw is (ap (λ (key : List ℕ). option_or (meaning_of n name found) (meaning_as n key x.standing)) same ∙ here n name found x.standing (fit same))
       | inr isnt ↦ rw isnt (or_none (meaning_of n name found) ∙ ap (meaning_of n name) (sym (first_none found)))
@@ -149,14 +141,14 @@ pub all_agree : (n : Numbering) (xs : List Naming) (standings : Standings) (know
 unfolding fits
 all_agree n [] standings known h small fit = h
 all_agree n (x ∷ xs) standings known h small fit =
-    let parts = both_are (not (clashes (standings x.name) x.standing)) (fits (with_naming standings x) xs) fit in
-    all_agree n xs (with_naming standings x) (meant.with_naming n known x) (one_agrees n standings known x h small.0 (not_true (clashes (standings x.name) x.standing) parts.0)) small.1 parts.1
+    let parts = and_parts (not (clashes (standings x.name) x.standing)) (fits (with_naming standings x) xs) fit in
+    all_agree n xs (with_naming standings x) (meant.with_naming n known x) (one_agrees n standings known x h small.0 (not-true (clashes (standings x.name) x.standing) parts.0)) small.1 parts.1
 
 -- ---- each naming tells
 
 told_now : (n : Numbering) (name : List ℕ) (found : Option Standing) (said : Standing) (later : Option Standing) → clashes found said ≡ false → meaning_of n name (first_of (first_of found (Some said)) later) ≡ meaning_as n name said
 told_now n name None said later h = refl
-told_now n name (Some known) said later h = suited n name known said (not_false (suits known said) h)
+told_now n name (Some known) said later h = suited n name known said (not-false (suits known said) h)
 
 itself : (key : List ℕ) (standing : Standing) → given bytes_eq key standing key ≡ Some standing
 itself key standing = rw ((bytes_eq-Decides key key).1 refl) refl
@@ -165,19 +157,19 @@ pub each_tells : (n : Numbering) (xs : List Naming) (standings : Standings) → 
 unfolding fits
 each_tells n [] standings fit x among = absurd among
 each_tells n (y ∷ ys) standings fit x (inl same) =
-    let parts = both_are (not (clashes (standings y.name) y.standing)) (fits (with_naming standings y) ys) fit in
+    let parts = and_parts (not (clashes (standings y.name) y.standing)) (fits (with_naming standings y) ys) fit in
     subst (λ (z : Naming). meaning_of n z.name (fold with_naming standings (y ∷ ys) z.name) ≡ meaning_as n z.name z.standing) (sym same)
     (ap (meaning_of n y.name) (fold_naming ys (with_naming standings y) y.name ∙ ap (λ (s : Option Standing). first_of (first_of (standings y.name) s) (standing_in ys y.name)) (itself y.name y.standing))
-    ∙ told_now n y.name (standings y.name) y.standing (standing_in ys y.name) (not_true (clashes (standings y.name) y.standing) parts.0))
+    ∙ told_now n y.name (standings y.name) y.standing (standing_in ys y.name) (not-true (clashes (standings y.name) y.standing) parts.0))
 each_tells n (y ∷ ys) standings fit x (inr among) =
-    let parts = both_are (not (clashes (standings y.name) y.standing)) (fits (with_naming standings y) ys) fit in
+    let parts = and_parts (not (clashes (standings y.name) y.standing)) (fits (with_naming standings y) ys) fit in
     each_tells n ys (with_naming standings y) parts.1 x among
 
 -- a name of which nothing is said
 pub unsaid : (xs : List Naming) (name : List ℕ) → ((x : Naming) → IsAmong x xs → x.name ≢ name) → standing_in xs name ≡ None
 unsaid [] name h = refl
 unsaid (x ∷ xs) name h =
-    elim (either (bytes_eq x.name name)) [
+    elim (cases_Bool (bytes_eq x.name name)) [
       | inl is ↦ absurd (h x (inl refl) ((bytes_eq-Decides x.name name).0 is))
       | inr isnt ↦ rw isnt (unsaid xs name (λ y among. h y (inr among)))
     ]

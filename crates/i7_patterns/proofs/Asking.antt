@@ -4,7 +4,7 @@ use Rattle.std.specs.Prelude.{Option, Some, None, is_some}
 use Rattle.std.specs.List.{slice_get}
 use Rattle.std.specs.Option.{option_map}
 use Rattle.std.proofs.lemmas.Option.{slice_get_within}
-use Rattle.world_meaning.proofs.Bools.{either}
+use Rattle.std.proofs.lemmas.Bool.{cases_Bool}
 use Rattle.world_meaning.specs.declared.tale.Object.{Object}
 use Rattle.play_meaning.specs.Rules.{Aspect}
 use Rattle.i7_actions.specs.Trying.{GoesBefore}
@@ -77,8 +77,8 @@ pattern_given actions s words =
 judged_as : {A : Type 0} (Means : A → Type 0) (is_right over : A → Bool) (found : Option A) → IsGiven Means found → IsAsked Means is_right over (judged is_right over found)
 judged_as Means is_right over None h = h
 judged_as Means is_right over (Some x) h =
-    elim (either (is_right x)) [
-      | inl right ↦ elim (either (over x)) [
+    elim (cases_Bool (is_right x)) [
+      | inl right ↦ elim (cases_Bool (over x)) [
         | inl long ↦ rw (right, long) (x, h, right, long)
         | inr short ↦ rw (right, short) (h, right, short)
       ]

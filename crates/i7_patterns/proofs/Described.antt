@@ -2,7 +2,7 @@
 use Rattle.std.proofs.Common.{◌≡◌, true, false, List, refl, sym, ap, ◌∙◌, inl, inr}
 use Rattle.std.specs.Prelude.{Option, Some, None}
 use Rattle.std.specs.List.{list_all}
-use Rattle.world_meaning.proofs.Bools.{either}
+use Rattle.std.proofs.lemmas.Bool.{cases_Bool}
 use Rattle.play_meaning.specs.Rules.{Aspect}
 use Rattle.play_meaning.specs.Trees.{Object, The, Noun, SecondNoun, Location, Nothing, Turning, RoomFrom, DoorFrom}
 use Rattle.i7_actions.specs.NounForms.{noun_said}
@@ -55,7 +55,7 @@ found_as s words Unread h = λ x asks. h (The asks.0) asks.1
 front_as : (s : Scope) (words : List Word) (front : Option Front) → IsFrontFound s (without_article words) front → IsGiven (AsksKind s words) (kind_asked front)
 front_as s words None h = λ x asks. h (asks.adjectives, asks.kind, meant_is_cut s (without_article words) asks.adjectives asks.kind asks.meant)
 front_as s words (Some front) h =
-    elim (either (list_all is_either_or front.adjectives)) [
+    elim (cases_Bool (list_all is_either_or front.adjectives)) [
       | inl all ↦ rw all (record { adjectives = front.adjectives; kind = front.kind; meant = h; either_or = all; asked = refl })
       | inr some ↦ rw some (λ x asks.
           let same = same_cut s (without_article words) front.adjectives asks.adjectives front.kind asks.kind h asks.meant in
@@ -75,7 +75,7 @@ one_given s words =
 
 nothing_given : (words : List Word) → IsGiven (AsksNothing words) (nothing_asked words)
 nothing_given words =
-    elim (either (is_something words)) [
+    elim (cases_Bool (is_something words)) [
       | inl is ↦ rw is (is, refl)
       | inr isnt ↦ rw isnt (λ x asks. let both : false ≡ true = sym isnt ∙ asks.0 in absurd cc)
     ]

@@ -3,8 +3,7 @@ use Rattle.std.proofs.Common.{◌≡◌, ℕ, suc, ◌+◌, ◌<◌, ◌≤◌, 
 use Rattle.std.specs.Prelude.{Option, Some, None, nat_lt, is_some, true}
 use Rattle.std.specs.Option.{option_or}
 use Rattle.std.proofs.lemmas.List.{length-drop}
-use Rattle.std.proofs.lemmas.Bool.{ltb-true, ltb-false}
-use Rattle.world_meaning.proofs.Bools.{either}
+use Rattle.std.proofs.lemmas.Bool.{ltb-true, ltb-false, cases_Bool}
 use Rattle.i7_conditions.specs.Readings.{FirstOf}
 use Rattle.i7_conditions.specs.Words.{Word}
 use Rattle.i7_conditions.proofs.Counting.{drop_next, left_behind}
@@ -23,7 +22,7 @@ given_as One Other to back None h = λ x means. h x (back x means)
 pub or_given : {A : Type 0} (First Second : A → Type 0) (a b : Option A) → IsGiven First a → IsGiven Second b → IsGiven (FirstOf First Second) (option_or a b)
 or_given First Second (Some x) b h k = inl h
 or_given First Second None (Some y) h k = inr (h, k)
-or_given First Second None None h k = λ x either. elim either [
+or_given First Second None None h k = λ x cases_Bool. elim cases_Bool [
   | inl first ↦ h x first
   | inr second ↦ k x second.1
 ]
@@ -54,7 +53,7 @@ here Stands start x h = record { n = start; from = omega arith; stands = h; lowe
 
 not_at : {A : Type 0} (Stands : ℕ → A → Type 0) (start n : ℕ) → Never Stands start → start ≤ n → ((start + 1 ≤ n) → Never Stands n) → Never Stands n
 not_at Stands start n never le later x h =
-    elim (either (nat_lt start n)) [
+    elim (cases_Bool (nat_lt start n)) [
       | inl lt ↦ later (omega (arith, ltb-true _ _ lt)) x h
       | inr ge ↦ let same : n ≡ start = omega (arith, le, ltb-false _ _ ge) in never x (subst (λ (m : ℕ). Stands m x) same h)
     ]

@@ -2,7 +2,7 @@
 use Rattle.std.proofs.Common.{◌≡◌, ℕ, ◌≤◌, true, false, List, [], ◌∷◌, length, take, drop, refl, sym, ◌∙◌, subst, arith, inl, inr}
 use Rattle.std.specs.Prelude.{Option, Some, None}
 use Rattle.std.specs.Option.{option_map}
-use Rattle.world_meaning.proofs.Bools.{either}
+use Rattle.std.proofs.lemmas.Bool.{cases_Bool}
 use Rattle.play_meaning.specs.Rules.{Anything, Aspect}
 use Rattle.i7_actions.specs.Parts.{behind, first_part, is_name, second_part}
 use Rattle.i7_actions.specs.declared.action.Action.{Action}
@@ -94,7 +94,7 @@ by_front s count name words (Some rest) e =
 
 alone_given : (name words : List Word) → IsSearched (IsAlone name words) (alone_asked name words)
 alone_given name words =
-    elim (either (is_name name words)) [
+    elim (cases_Bool (is_name name words)) [
       | inl is ↦ rw is (record { n = 0; stands = (is, refl, refl); lowest = λ m lt nouns alone. absurd (omega (arith, lt)) })
       | inr isnt ↦ rw isnt (λ n nouns alone. let both : false ≡ true = sym isnt ∙ alone.0 in absurd cc)
     ]

@@ -2,7 +2,7 @@
 use Rattle.std.proofs.Common.{◌≡◌, ℕ, zero, suc, ◌≤◌, true, false, List, [], ◌∷◌, length, take, drop, refl, sym, ap, ◌∙◌, subst, inl, inr}
 use Rattle.std.specs.Prelude.{Option, Some, None, is_some}
 use Rattle.std.specs.List.{position_or_len}
-use Rattle.world_meaning.proofs.Bools.{either}
+use Rattle.std.proofs.lemmas.Bool.{cases_Bool}
 use Rattle.world_meaning.specs.Spelling.{is_spelled}
 use Rattle.play_meaning.specs.Rules.{Anything, Aspect}
 use Rattle.i7_actions.specs.Parts.{behind, first_part, is_at_end, is_it}
@@ -32,7 +32,7 @@ in_given s word words is = given_as (AsksOne s words) (AsksPlace s (word ∷ wor
 pub place_given : (s : Scope) (words : List Word) → IsGiven (AsksPlace s words) (place_asked s words)
 place_given s [] = refl
 place_given s (word ∷ words) =
-    elim (either (is_in word)) [
+    elim (cases_Bool (is_in word)) [
       | inl is ↦ rw is (in_given s word words is)
       | inr isnt ↦ rw isnt (λ x asks. not_in s word words x isnt asks)
     ]
@@ -59,7 +59,7 @@ with_place s a words rest n le e place h =
 at_given : (s : Scope) (a : Action) (words : List Word) (n : ℕ) (rest : List Word) → n ≤ length words → drop n words ≡ rest → IsGiven (AsksAt s a words n) (aspects_at s a words n rest)
 at_given s a words n [] le e = with_place s a words [] n le e (Some Anything) refl
 at_given s a words n (word ∷ rest) le e =
-    elim (either (is_in word)) [
+    elim (cases_Bool (is_in word)) [
       | inl is ↦ rw is (with_place s a words (word ∷ rest) n le e (one_asked s rest) (in_given s word rest is))
       | inr isnt ↦ rw isnt (λ x asks. not_in s word rest x.place isnt (subst (λ (rest : List Word). AsksPlace s rest x.place) e asks.place))
     ]
@@ -71,7 +71,7 @@ begins_more [] words n e = refl
 begins_more (wanted ∷ part) words zero e = absurd cc
 begins_more (wanted ∷ part) [] (suc n) e = absurd cc
 begins_more (wanted ∷ part) (word ∷ words) (suc n) e =
-    elim (either (is_spelled word wanted)) [
+    elim (cases_Bool (is_spelled word wanted)) [
       | inl is ↦ let rest : begins part (take n words) ≡ true = rw is at e in rw is (begins_more part words n rest)
       | inr isnt ↦ let none : false ≡ true = rw isnt at e in absurd cc
     ]
@@ -81,7 +81,7 @@ begins_less part words zero e = refl
 begins_less [] words (suc n) e = refl
 begins_less (wanted ∷ part) [] (suc n) e = absurd cc
 begins_less (wanted ∷ part) (word ∷ words) (suc n) e =
-    elim (either (is_spelled word wanted)) [
+    elim (cases_Bool (is_spelled word wanted)) [
       | inl is ↦ let rest : begins part words ≡ true = rw is at e in rw is (begins_less part words n rest)
       | inr isnt ↦ let none : false ≡ true = rw isnt at e in absurd cc
     ]
@@ -107,7 +107,7 @@ never_begins s a words isnt n x asks =
 pub aspects_given : (s : Scope) (a : Action) (words : List Word) → IsSearched (AsksAt s a words) (aspects_asked s a words)
 unfolding aspects_asked
 aspects_given s a words =
-    elim (either (begins (first_part a.name) words)) [
+    elim (cases_Bool (begins (first_part a.name) words)) [
       | inl is ↦ rw is (searched (AsksAt s a words) (aspects_at s a words) words (at_given s a words) (λ n x asks. asks.within))
       | inr isnt ↦ rw isnt (never_begins s a words isnt)
     ]

@@ -3,10 +3,9 @@ use Rattle.std.proofs.Common.{◌≡◌, ℕ, ◌+◌, ◌<◌, Bool, true, fals
 use Rattle.std.specs.Prelude.{◌&&◌, ◌||◌, Option, Some, None, codes, if◌then◌else◌, nat_le, nat_lt}
 use Rattle.std.specs.List.{list_all}
 use Rattle.std.specs.Option.{option_or}
-use Rattle.std.proofs.lemmas.Bool.{lt-ltb}
+use Rattle.std.proofs.lemmas.Bool.{lt-ltb, and_from, and_parts}
 use Rattle.std.proofs.lemmas.Grind.{common_steps}
 use Rattle.std.proofs.lemmas.Option.{slice_get_within}
-use Rattle.world_meaning.proofs.Bools.{both, both_are}
 use Rattle.world_meaning.specs.Spelling.{is_spelled}
 use Rattle.play_meaning.specs.Meant.{adjective_meant, denied_if, quality_meant}
 use Rattle.play_meaning.specs.Patterns.{Pattern}
@@ -143,11 +142,11 @@ module _ (z : Counts) (s : Scope) (there : AreThere z s.meanings s.plurals) wher
   cut_there : (words : List Word) (adjectives : List Adjective) (kind : ℕ) → IsMeant s words adjectives kind → list_all is_either_or adjectives ≡ true → IsCutThere adjectives kind
   cut_there words [] kind (IsMeant.kind named) all = record { kind_is = kind_there words kind named; all_are = refl }
   cut_there words (a ∷ others) kind (IsMeant.more n none named shortest rest) all =
-      let parts = both_are (is_either_or a) (list_all is_either_or others) all in
+      let parts = and_parts (is_either_or a) (list_all is_either_or others) all in
       let behind = cut_there (drop n words) others kind rest parts.1 in
       record {
         kind_is = behind.kind_is;
-        all_are = both (is_quality_of z (adjective_meant a)) (list_all (is_quality_of z) (map adjective_meant others)) (quality_asked a.quality a.denied (adjective_there (take n words) a named) parts.0) behind.all_are;
+        all_are = and_from (is_quality_of z (adjective_meant a)) (list_all (is_quality_of z) (map adjective_meant others)) (quality_asked a.quality a.denied (adjective_there (take n words) a named) parts.0) behind.all_are;
       }
 
   few : (n : ℕ) → nat_lt 9 n ≡ false → nat_le n 9 ≡ true
@@ -159,8 +158,8 @@ module _ (z : Counts) (s : Scope) (there : AreThere z s.meanings s.plurals) wher
       let all = map adjective_meant asks.adjectives in
       let within : is_long (OfKind asks.kind all) ≡ false = ap is_long (sym asks.asked) ∙ short in
       ap (is_aspect_of z) asks.asked
-      ∙ both (nat_lt asks.kind z.kinds) (nat_le (length all) 9 && list_all (is_quality_of z) all) (lt-ltb asks.kind z.kinds cut.kind_is)
-      (both (nat_le (length all) 9) (list_all (is_quality_of z) all) (few (length all) within) cut.all_are)
+      ∙ and_from (nat_lt asks.kind z.kinds) (nat_le (length all) 9 && list_all (is_quality_of z) all) (lt-ltb asks.kind z.kinds cut.kind_is)
+      (and_from (nat_le (length all) 9) (list_all (is_quality_of z) all) (few (length all) within) cut.all_are)
 
   -- ---- objects
 

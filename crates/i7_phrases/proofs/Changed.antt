@@ -1,7 +1,7 @@
 -- What phrases that change the world are found to do is what they do.
 use Rattle.std.proofs.Common.{◌≡◌, ℕ, Bool, true, false, ◌||◌, List, refl, sym, ap, ◌∙◌, subst, inl, inr}
 use Rattle.std.specs.Prelude.{Option, Some, None}
-use Rattle.world_meaning.proofs.Bools.{either}
+use Rattle.std.proofs.lemmas.Bool.{cases_Bool}
 use Rattle.world_meaning.specs.declared.place.Rel.{Rel}
 use Rattle.world_meaning.specs.declared.place.Rel.TheVariants.{Carried, Worn}
 use Rattle.i7_sentences.specs.declared.phrase_form.NowVerb.{NowVerb}
@@ -94,7 +94,7 @@ away_if s subject behind Unread is h = λ p takes. h p takes.1
 
 away_found : (s : Scope) (subject behind : List Word) → IsFoundAs (TakesAway s subject behind) phrase_is_over (away_said s subject behind)
 away_found s subject behind =
-    elim (either (is_nowhere behind)) [
+    elim (cases_Bool (is_nowhere behind)) [
       | inl is ↦ rw is (away_if s subject behind (one tree.NowNowhere (object_said s subject)) is (one_found tree.NowNowhere (Means s subject) is_deep phrase_is_over (λ o. refl) (object_said s subject) (object_found s subject)))
       | inr isnt ↦ rw isnt (λ p takes. let is = takes.0 in absurd cc)
     ]

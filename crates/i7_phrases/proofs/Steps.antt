@@ -1,7 +1,8 @@
 -- Each piece of a text that is read leaves ahead what its other pieces say.
-use Rattle.std.proofs.Common.{◌≡◌, ℕ, ◌-◌, ◌<◌, ◌≤◌, Bool, true, false, ◌||◌, List, [], ◌∷◌, ◌++◌, length, take, drop, get_or, refl, sym, ap, ◌∙◌, subst, arith}
+use Rattle.std.proofs.Common.{◌≡◌, ℕ, ◌-◌, ◌<◌, ◌≤◌, Bool, ◌||◌, List, [], ◌∷◌, ◌++◌, length, take, drop, get_or, refl, sym, ap, ◌∙◌, subst, arith}
 use Rattle.std.specs.Prelude.{Option, None, Some}
 use Rattle.std.proofs.lemmas.Grind.{common_steps}
+use Rattle.std.proofs.Math.Bool.{or_assoc}
 use Rattle.i7_sentences.specs.declared.text_piece.TextPiece.{TextPiece}
 use Rattle.i7_sentences.specs.declared.text_piece.TextPiece.TheVariants as text
 use Rattle.play_meaning.specs.Trees as tree
@@ -31,10 +32,6 @@ parts_further [] p t = refl
 parts_further (q ∷ ps) p t = ap (part_then q) (parts_further ps p t)
 
 -- ---- limits
-
-or_assoc : (a b c : Bool) → ((a || b) || c) ≡ (a || (b || c))
-or_assoc true b c = refl
-or_assoc false b c = refl
 
 over_said : (p : Piece) (t : tree.Text) → text_is_over (said_then p t) ≡ (piece_is_over p || text_is_over t)
 over_said (Bytes bytes) t = refl

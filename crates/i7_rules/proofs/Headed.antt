@@ -1,6 +1,7 @@
 -- What is found of rules is what they are, by what is found of their heads and of their bodies.
-use Rattle.std.proofs.Common.{◌≡◌, ◌+◌, ◌*◌, ℕ, Bool, true, false, List, [], refl, sym, subst, ◌∙◌, inl, inr}
-use Rattle.std.specs.Prelude.{◌||◌, Option, None, Some, reverse}
+use Rattle.std.proofs.Common.{◌≡◌, ◌+◌, ◌*◌, ℕ, List, [], refl, sym, subst, ◌∙◌, inl, inr}
+use Rattle.std.specs.Prelude.{Option, None, Some, reverse}
+use Rattle.std.proofs.lemmas.Bool.{or_from, or_left, or_right}
 use Rattle.i7_sentences.specs.declared.rule.Rule.{Rule}
 use Rattle.i7_sentences.specs.declared.rule.RuleBook.{RuleBook}
 use Rattle.i7_sentences.specs.declared.rule.RuleBook.TheVariants as named
@@ -93,31 +94,19 @@ book_known k rule book number e h = subst (IsGiven (IsBook k rule.book)) e h
 
 -- ---- heads
 
-none_over : (a b : Bool) → a ≡ false → b ≡ false → (a || b) ≡ false
-none_over true b e f = e
-none_over false b e f = f
-
-first_over : (a b : Bool) → a ≡ true → (a || b) ≡ true
-first_over true b e = refl
-first_over false b e = let never : ⊥ = cc in absurd never
-
-second_over : (a b : Bool) → b ≡ true → (a || b) ≡ true
-second_over true b e = refl
-second_over false b e = e
-
 module _ (k : Known) (rule : Rule) (book : ℕ) (is : IsBook k rule.book book) where
   heads : (about : Pattern) (condition : Option Condition) → IsAbout k rule about → IsAsked k rule.condition condition → IsHead k rule (head_of book about condition)
   heads about condition a c = record { book = is; about = a; condition = c; listed = refl }
 
   headed_so : (about : Asked Pattern) (asked : Found (Option Condition)) → IsFound (IsAbout k rule) (is_in_rooms k) pattern_is_over about → IsFoundAs (IsAsked k rule.condition) is_asked_over asked
       → IsFound (IsHead k rule) (head_is_right k) head_is_over (headed book about asked)
-  headed_so (Read p) (sought.Read c) a h = (heads p c a.0 h.0, a.1, none_over (pattern_is_over p) (is_asked_over c) a.2 h.1)
+  headed_so (Read p) (sought.Read c) a h = (heads p c a.0 h.0, a.1, or_from (pattern_is_over p) (is_asked_over c) a.2 h.1)
   headed_so WrongPlace (sought.Read c) a h = (head_of book a.0 c, heads a.0 c a.1 h.0, a.2)
-  headed_so TooMany (sought.Read c) a h = (head_of book a.0 c, heads a.0 c a.1 h.0, a.2, first_over (pattern_is_over a.0) (is_asked_over c) a.3)
+  headed_so TooMany (sought.Read c) a h = (head_of book a.0 c, heads a.0 c a.1 h.0, a.2, or_left (pattern_is_over a.0) (is_asked_over c) a.3)
   headed_so Unread (sought.Read c) a h = λ head heads. a head.about heads.about
-  headed_so (Read p) sought.TooMany a h = (head_of book p h.0, heads p h.0 a.0 h.1, a.1, second_over (pattern_is_over p) (is_asked_over h.0) h.2)
+  headed_so (Read p) sought.TooMany a h = (head_of book p h.0, heads p h.0 a.0 h.1, a.1, or_right (pattern_is_over p) (is_asked_over h.0) h.2)
   headed_so WrongPlace sought.TooMany a h = (head_of book a.0 h.0, heads a.0 h.0 a.1 h.1, a.2)
-  headed_so TooMany sought.TooMany a h = (head_of book a.0 h.0, heads a.0 h.0 a.1 h.1, a.2, second_over (pattern_is_over a.0) (is_asked_over h.0) h.2)
+  headed_so TooMany sought.TooMany a h = (head_of book a.0 h.0, heads a.0 h.0 a.1 h.1, a.2, or_right (pattern_is_over a.0) (is_asked_over h.0) h.2)
   headed_so Unread sought.TooMany a h = λ head heads. a head.about heads.about
   headed_so (Read p) sought.Unread a h = λ head heads. h head.condition heads.condition
   headed_so WrongPlace sought.Unread a h = λ head heads. h head.condition heads.condition

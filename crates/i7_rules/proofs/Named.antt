@@ -4,7 +4,7 @@ use Rattle.std.specs.Prelude.{Option, None, Some, bytes_eq, fold, if◌then◌el
 use Rattle.std.specs.List.{list_any}
 use Rattle.std.proofs.lemmas.List.Folds.{list_any-append}
 use Rattle.std.proofs.lemmas.Slice.Eq.{bytes_eq-Decides}
-use Rattle.world_meaning.proofs.Bools.{either}
+use Rattle.std.proofs.lemmas.Bool.{cases_Bool}
 use Rattle.object_words.specs.Mentions.{mention}
 use Rattle.i7_sentences.specs.Lowest.{lower_of}
 use Rattle.i7_rules.specs.RuleList.{RuleAt, and_name, name_of, names_of, placed, standard_names}
@@ -34,7 +34,7 @@ or_moved false true c = refl
 or_moved false false c = refl
 
 mention_has : (names : List (List ℕ)) (name other : List ℕ) → has (mention names name) other ≡ has (name ∷ names) other
-mention_has names name other = elim (either (has names name)) [
+mention_has names name other = elim (cases_Bool (has names name)) [
   | inl is ↦ rw is (or_has (bytes_eq other name) (has names other) (λ same. ap (has names) ((bytes_eq-Decides other name).0 same) ∙ is))
   | inr isnt ↦ rw isnt (list_any-append (bytes_eq other) names (name ∷ []) ∙ or_turned (bytes_eq other name) (has names other))
 ]

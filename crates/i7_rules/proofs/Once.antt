@@ -1,7 +1,7 @@
 -- A phrase states one thing at most where it stands.
 use Rattle.std.proofs.Common.{◌≡◌, ℕ, true, List, refl, sym, ap, ◌∙◌, inl, inr}
 use Rattle.std.specs.Prelude.{None, Some}
-use Rattle.world_meaning.proofs.Bools.{either}
+use Rattle.std.proofs.lemmas.Bool.{cases_Bool}
 use Rattle.i7_sentences.specs.declared.rule.RulePhrase.{RulePhrase}
 use Rattle.i7_sentences.specs.declared.spoken.Spoken.{Spoken}
 use Rattle.i7_sentences.specs.declared.spoken.Spoken.TheVariants as spoken
@@ -41,7 +41,7 @@ no_end said p is ends = let never : None ≡ Some p = sym (changes_end_nothing s
 
 change_and_end : (s : Scope) (said : Spoken) (p q : tree.Phrase) → Changes s said p → ending_of said ≡ Some q → ⊥
 change_and_end s said p q changes ends =
-    elim (either (is_change said)) [
+    elim (cases_Bool (is_change said)) [
       | inl is ↦ no_end said q is ends
       | inr isnt ↦ no_other_changes s said p isnt changes
     ]

@@ -1,6 +1,8 @@
 -- What phrases are found to be as lines of a body is what they are.
 use Rattle.std.proofs.Common.{◌≡◌, Bool, true, false, ◌||◌, List, refl, sym, ◌∙◌, subst, inl, inr}
 use Rattle.std.specs.Prelude.{Option, None, Some, option_map}
+use Rattle.std.proofs.Math.Bool.{or-false, or-true}
+use Rattle.std.proofs.lemmas.Bool.{or_left}
 use Rattle.i7_sentences.specs.declared.rule.RulePhrase.{RulePhrase}
 use Rattle.i7_sentences.specs.declared.spoken.Spoken.{Spoken}
 use Rattle.i7_sentences.specs.declared.spoken.Spoken.TheVariants as spoken
@@ -115,24 +117,12 @@ doing_stated k s p Unread found is e h = subst (IsFoundAs (States k s p) is_over
 
 -- ---- limits
 
-or_false : (b : Bool) → (b || false) ≡ b
-or_false true = refl
-or_false false = refl
-
-or_true : (b : Bool) → (b || true) ≡ true
-or_true true = refl
-or_true false = refl
-
-or_more : (a b : Bool) → a ≡ true → (a || b) ≡ true
-or_more true b e = refl
-or_more false b e = absurd cc
-
 pub limited_found : (Means : Stated → Type 0) (over : Stated → Bool) (is_ninth : Bool) (found : Found Stated) → IsFoundAs Means over found → IsFoundAs Means (λ stated. over stated || is_ninth) (limited is_ninth found)
-limited_found Means over true (Read stated) h = (stated, h.0, or_true (over stated))
-limited_found Means over true TooMany h = (h.0, h.1, or_true (over h.0))
+limited_found Means over true (Read stated) h = (stated, h.0, or-true (over stated))
+limited_found Means over true TooMany h = (h.0, h.1, or-true (over h.0))
 limited_found Means over true Unread h = h
-limited_found Means over false (Read stated) h = (h.0, or_false (over stated) ∙ h.1)
-limited_found Means over false TooMany h = (h.0, h.1, or_more (over h.0) false h.2)
+limited_found Means over false (Read stated) h = (h.0, or-false (over stated) ∙ h.1)
+limited_found Means over false TooMany h = (h.0, h.1, or_left (over h.0) false h.2)
 limited_found Means over false Unread h = h
 
 -- ---- as they are kept

@@ -2,6 +2,8 @@
 use Rattle.std.proofs.Common.{◌≡◌, Bool, true, false, List, [], ◌∷◌, ◌++◌, refl, ap, sym, ◌∙◌, subst, append_assoc}
 use Rattle.std.specs.Prelude.{not, ◌&&◌, ◌||◌, Option, Some, None, if◌then◌else◌}
 use Rattle.std.specs.List.{list_all}
+use Rattle.std.proofs.lemmas.Bool.{false≢true, and_from}
+use Rattle.std.proofs.Math.Bool.{and-true, and-false}
 use denote.Enum.Bare.{same_true}
 use Rattle.i7_lexer.specs.declared.token.Token.{Token}
 use Rattle.i7_sentences.specs.contracts.keyword.Keyword.{the_type}
@@ -16,8 +18,7 @@ use Rattle.i7_sentences.specs.declared.class.Class.{Class}
 use Rattle.i7_sentences.specs.declared.class.Class.TheVariants as class
 use Rattle.i7_sentences.specs.declared.class.State.{State}
 use Rattle.i7_sentences.specs.declared.class.State.TheVariants.{Start, Inside, Between, Beside}
-use Rattle.i7_sentences.proofs.Lists.{false-true, nil-cons}
-use Rattle.world_meaning.proofs.Bools.{both}
+use Rattle.i7_sentences.proofs.Lists.{nil-cons}
 use Rattle.i7_sentences.proofs.Ends.{and_left, and_right}
 
 -- a class whose letters are one or more such tokens
@@ -35,7 +36,7 @@ runs_inside class test is [] = refl
 runs_inside class test is (token ∷ tokens) = runs_first class test is Inside token tokens ∙ ap (λ more. test token && more) (runs_inside class test is tokens)
 
 run_of : (class : Class) (test : Token → Bool) → RunsOn class test → (tokens : List Token) → is_of class tokens ≡ true → IsRun test tokens
-run_of class test is [] taken = absurd (false-true taken)
+run_of class test is [] taken = absurd (false≢true taken)
 run_of class test is (token ∷ tokens) taken = (λ none. nil-cons token tokens (sym none), ap (λ more. test token && more) (sym (runs_inside class test is tokens)) ∙ sym (runs_first class test is Start token tokens) ∙ taken)
 
 of_run : (class : Class) (test : Token → Bool) → RunsOn class test → (tokens : List Token) → IsRun test tokens → is_of class tokens ≡ true
@@ -48,15 +49,15 @@ RunsAlone class test = (state : State) (token : Token) → step class state toke
 
 alone_more : (class : Class) (test : Token → Bool) → RunsAlone class test → (tokens : List Token) → runs class Inside tokens ≡ true → tokens ≡ []
 alone_more class test is [] taken = refl
-alone_more class test is (token ∷ tokens) taken = absurd (false-true (ap (λ next. then_runs next (λ after. runs class after tokens)) (sym (is Inside token)) ∙ taken))
+alone_more class test is (token ∷ tokens) taken = absurd (false≢true (ap (λ next. then_runs next (λ after. runs class after tokens)) (sym (is Inside token)) ∙ taken))
 
 alone_of : (class : Class) (test : Token → Bool) → RunsAlone class test → (tokens : List Token) → is_of class tokens ≡ true → IsAlone test tokens
-alone_of class test is [] taken = absurd (false-true taken)
+alone_of class test is [] taken = absurd (false≢true taken)
 alone_of class test is (token ∷ tokens) taken =
     let Goal : Bool → Type 0 = λ here. test token ≡ here → then_runs (alone_step Start here) (λ after. runs class after tokens) ≡ true → IsAlone test (token ∷ tokens)
     in (elim (test token) as Goal [
       | true ↦ λ here more. record { token = token; alone = ap (λ ts. token ∷ ts) (alone_more class test is tokens more); passes = here }
-      | false ↦ λ here more. absurd (false-true more)
+      | false ↦ λ here more. absurd (false≢true more)
     ]) refl (ap (λ next. then_runs next (λ after. runs class after tokens)) (sym (is Start token)) ∙ taken)
 
 of_alone : (class : Class) (test : Token → Bool) → RunsAlone class test → (tokens : List Token) → IsAlone test tokens → is_of class tokens ≡ true
@@ -71,7 +72,7 @@ unfolding is_name_word
 not_joint token is =
     let Goal : Bool → Type 0 = λ joint. (is_word token && not joint) ≡ true → joint ≡ false
     in (elim (is_joint token) as Goal [
-      | true ↦ λ none. absurd (false-true (and_right (is_word token) false none))
+      | true ↦ λ none. absurd (false≢true (and_right (is_word token) false none))
       | false ↦ λ none. refl
     ]) is
 
@@ -101,8 +102,8 @@ names_word token tokens is =
     ∙ (elim (is_name_word token) as Goal [ true ↦ refl | false ↦ refl ])
 
 all_more : (test : Token → Bool) (front : List Token) (token : Token) → list_all test front ≡ true → test token ≡ true → list_all test (front ++ token ∷ []) ≡ true
-all_more test [] token all is = both (test token) true is refl
-all_more test (first ∷ front) token all is = both (test first) (list_all test (front ++ token ∷ [])) (and_left (test first) (list_all test front) all) (all_more test front token (and_right (test first) (list_all test front) all) is)
+all_more test [] token all is = and_from (test token) true is refl
+all_more test (first ∷ front) token all is = and_from (test first) (list_all test (front ++ token ∷ [])) (and_left (test first) (list_all test front) all) (all_more test front token (and_right (test first) (list_all test front) all) is)
 
 listed_more : (name : List Token) (token : Token) → IsListed name → is_name_word token ≡ true → IsListed (name ++ token ∷ [])
 listed_more [] token listed is = absurd listed
@@ -117,7 +118,7 @@ names_behind name [] listed taken = subst IsNames (append_nil name) (one_name na
 names_behind name (token ∷ []) listed taken =
     let Goal : Bool → Type 0 = λ joint. is_joint token ≡ joint → IsNames (name ++ token ∷ [])
     in (elim (is_joint token) as Goal [
-      | true ↦ λ joint. absurd (false-true (sym (names_joint token [] joint) ∙ taken))
+      | true ↦ λ joint. absurd (false≢true (sym (names_joint token [] joint) ∙ taken))
       | false ↦ λ joint.
           let parts : (is_name_word token && true) ≡ true = sym (names_word token [] joint) ∙ taken in
           one_name (name ++ token ∷ []) (listed_more name token listed (and_left (is_name_word token) true parts))
@@ -134,7 +135,7 @@ names_behind name (token ∷ next ∷ tokens) listed taken =
     ]) refl
 
 names_of : (tokens : List Token) → runs class.Names Start tokens ≡ true → IsNames tokens
-names_of [] taken = absurd (false-true taken)
+names_of [] taken = absurd (false≢true taken)
 names_of (token ∷ tokens) taken =
     let parts : (is_word token && runs class.Names Inside tokens) ≡ true = sym (names_first token tokens) ∙ taken in
     names_behind (token ∷ []) tokens (and_left (is_word token) (runs class.Names Inside tokens) parts, refl) (and_right (is_word token) (runs class.Names Inside tokens) parts)
@@ -201,22 +202,14 @@ side_ends : (token : Token) (tokens : List Token) → runs class.Side Inside (to
 unfolding side_step
 side_ends token tokens = refl
 
-and_true : (a : Bool) → (a && true) ≡ a
-and_true true = refl
-and_true false = refl
-
-and_false : (a : Bool) → (a && false) ≡ false
-and_false true = refl
-and_false false = refl
-
 side_same : (tokens : List Token) → is_of class.Side tokens ≡ is_side tokens
 side_same [] = refl
 side_same (token ∷ []) = side_alone token
-side_same (token ∷ next ∷ []) = side_opens token next [] ∙ and_true (not (is_vertical token) && is_direction token && is_behind token next)
+side_same (token ∷ next ∷ []) = side_opens token next [] ∙ and-true (not (is_vertical token) && is_direction token && is_behind token next)
 side_same (token ∷ next ∷ third ∷ tokens) =
     side_opens token next (third ∷ tokens)
     ∙ ap (λ ends. (not (is_vertical token) && is_direction token && is_behind token next) && ends) (side_ends third tokens)
-    ∙ and_false (not (is_vertical token) && is_direction token && is_behind token next)
+    ∙ and-false (not (is_vertical token) && is_direction token && is_behind token next)
 
 -- the mark that ends a rule's head, and what stands behind it
 body_inside : (tokens : List Token) → runs class.Body Inside tokens ≡ true
@@ -262,7 +255,7 @@ body_same (mark ∷ token ∷ tokens) =
 
 -- `thing` tells nothing of how near it must be
 thing_signs : (found : Option Keyword) → is_same found keyword.Thing ≡ true → (is_same found keyword.Visible || is_same found keyword.Carried) ≡ false
-thing_signs None is = absurd (false-true is)
+thing_signs None is = absurd (false≢true is)
 thing_signs (Some sign) is = ap (λ s. is_same (Some s) keyword.Visible || is_same (Some s) keyword.Carried) (same_true the_type tt sign keyword.Thing is)
 
 thing_is_no_degree : (token : Token) → is_sign keyword.Thing token ≡ true → is_degree token ≡ false
@@ -290,11 +283,11 @@ asked_same [] = refl
 asked_same (thing ∷ []) = asked_alone (is_degree thing) (is_sign keyword.Thing thing) (thing_is_no_degree thing)
 asked_same (degree ∷ thing ∷ []) =
     asked_by (is_degree degree) (is_sign keyword.Thing degree) (λ after. runs class.Asked after (thing ∷ [])) refl
-    ∙ ap (λ behind. is_degree degree && behind) (run_then (is_sign keyword.Thing thing) accepts ∙ and_true (is_sign keyword.Thing thing))
+    ∙ ap (λ behind. is_degree degree && behind) (run_then (is_sign keyword.Thing thing) accepts ∙ and-true (is_sign keyword.Thing thing))
 asked_same (degree ∷ thing ∷ third ∷ tokens) =
     asked_by (is_degree degree) (is_sign keyword.Thing degree) (λ after. runs class.Asked after (thing ∷ third ∷ tokens)) refl
-    ∙ ap (λ behind. is_degree degree && behind) (run_then (is_sign keyword.Thing thing) (λ after. runs class.Asked after (third ∷ tokens)) ∙ and_false (is_sign keyword.Thing thing))
-    ∙ and_false (is_degree degree)
+    ∙ ap (λ behind. is_degree degree && behind) (run_then (is_sign keyword.Thing thing) (λ after. runs class.Asked after (third ∷ tokens)) ∙ and-false (is_sign keyword.Thing thing))
+    ∙ and-false (is_degree degree)
 
 -- what an automaton takes is of its class
 pub of_runs : (class : Class) (tokens : List Token) → is_of class tokens ≡ true → IsOf class tokens

@@ -1,8 +1,9 @@
 -- The columns tell from where pieces can fit.
 use Rattle.std.proofs.Common.{inl, inr, ◌≡◌, ℕ, zero, suc, ◌+◌, ◌-◌, Bool, true, false, List, [], ◌∷◌, ◌++◌, length, take, drop, get_or, refl, ap, sym, ◌∙◌, subst, arith, append_assoc}
-use Rattle.std.specs.Prelude.{not, ◌⊎◌, ◌&&◌, ◌||◌, Option, Some, None, is_some, option_map, if◌then◌else◌}
+use Rattle.std.specs.Prelude.{not, ◌&&◌, ◌||◌, Option, Some, None, is_some, option_map, if◌then◌else◌}
 use Rattle.std.specs.List.{list_any}
 use Rattle.std.proofs.lemmas.List.{length-append, take-append-drop}
+use Rattle.std.proofs.lemmas.Bool.{false≢true, or_cases, not-true}
 use Rattle.i7_lexer.specs.declared.token.Token.{Token}
 use Rattle.i7_sentences.specs.Keywords.{is_sign}
 use Rattle.i7_sentences.specs.Automata.{accepts, step}
@@ -13,7 +14,7 @@ use Rattle.i7_sentences.specs.declared.class.State.{State}
 use Rattle.i7_sentences.specs.declared.class.State.TheVariants.{Start, Inside, Between, Beside}
 use Rattle.i7_sentences.specs.declared.form.Piece.{Piece}
 use Rattle.i7_sentences.specs.declared.form.Piece.TheVariants.{Word, Letter}
-use Rattle.i7_sentences.proofs.Lists.{false-true, last_part, get_here, get_before}
+use Rattle.i7_sentences.proofs.Lists.{last_part, get_here, get_before}
 use Rattle.i7_sentences.proofs.Ends.{Ended, ended}
 
 pub length-column : (pieces : List Piece) (tokens : List Token) → length (column_of pieces tokens) ≡ length tokens + 1
@@ -153,7 +154,7 @@ end_later n rest tokens at_end = record {
 pub all_no : (column : List Bool) (i : ℕ) → list_any (λ yes. yes) column ≡ false → looked column i ≡ false
 all_no [] zero none = refl
 all_no [] (suc i) none = refl
-all_no (true ∷ column) i none = absurd (false-true (sym none))
+all_no (true ∷ column) i none = absurd (false≢true (sym none))
 all_no (false ∷ column) zero none = refl
 all_no (false ∷ column) (suc i) none = all_no column i none
 
@@ -167,7 +168,7 @@ none_nearest class state can tokens never =
     let Goal : Option ℕ → Type 0 = λ left. Ended class state can tokens left → is_some left ≡ false
     in (elim (nearest class state can tokens) as Goal [
       | None ↦ λ none. refl
-      | Some left ↦ λ found. absurd (false-true (sym (never found.rest (record { front = found.words; parts = found.parts })) ∙ found.can_rest))
+      | Some left ↦ λ found. absurd (false≢true (sym (never found.rest (record { front = found.words; parts = found.parts })) ∙ found.can_rest))
     ]) (ended class state can tokens)
 
 end_trans : (rest middle tokens : List Token) → IsEndOf rest middle → IsEndOf middle tokens → IsEndOf rest tokens
@@ -187,23 +188,15 @@ never_none pieces tokens never =
     let Goal : Option (List (List Token)) → Type 0 = λ found. is_some found ≡ false → found ≡ None
     in (elim (first_fit pieces tokens) as Goal [
       | None ↦ λ missing. refl
-      | Some letters ↦ λ missing. absurd (false-true (sym missing))
+      | Some letters ↦ λ missing. absurd (false≢true (sym missing))
     ]) (never tokens (record { front = []; parts = refl }))
 
-or_either : (a b : Bool) → (a || b) ≡ true → (a ≡ true) ⊎ (b ≡ true)
-or_either true b one = inl refl
-or_either false b one = inr one
-
-not_true : (a : Bool) → not a ≡ true → a ≡ false
-not_true true one = absurd (false-true one)
-not_true false one = refl
-
 pub never_is : (pieces : List Piece) (tokens : List Token) → is_never pieces tokens ≡ true → Never pieces tokens
-never_is [] tokens never = absurd (false-true never)
+never_is [] tokens never = absurd (false≢true never)
 never_is (piece ∷ pieces) tokens never =
-    elim (or_either (is_never pieces tokens) (not (list_any (λ yes. yes) (first_column (piece ∷ pieces) tokens))) never) as (λ v. Never (piece ∷ pieces) tokens) [
+    elim (or_cases (is_never pieces tokens) (not (list_any (λ yes. yes) (first_column (piece ∷ pieces) tokens))) never) as (λ v. Never (piece ∷ pieces) tokens) [
       | inl before ↦ never_more piece pieces tokens (never_is pieces tokens before)
-      | inr here ↦ never_told (piece ∷ pieces) tokens (not_true (list_any (λ yes. yes) (first_column (piece ∷ pieces) tokens)) here)
+      | inr here ↦ never_told (piece ∷ pieces) tokens (not-true (list_any (λ yes. yes) (first_column (piece ∷ pieces) tokens)) here)
     ]
 
 pub never_fits : (pieces : List Piece) (tokens : List Token) → is_never pieces tokens ≡ true → first_fit pieces tokens ≡ None

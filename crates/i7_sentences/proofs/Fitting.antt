@@ -2,6 +2,7 @@
 use Rattle.std.proofs.Common.{◌≡◌, ℕ, ◌-◌, ◌≤◌, Bool, true, false, List, [], ◌∷◌, ◌++◌, length, map, take, drop, refl, ap, sym, ◌∙◌, subst, arith}
 use Rattle.std.specs.Prelude.{nat_lt, ◌==◌, Option, Some, None, is_some, option_map, if◌then◌else◌}
 use Rattle.std.proofs.lemmas.Grind.{common_steps}
+use Rattle.std.proofs.lemmas.Bool.{false≢true}
 use Rattle.i7_lexer.specs.declared.token.Token.{Token}
 use Rattle.i7_sentences.specs.Keywords.{is_sign}
 use Rattle.i7_sentences.specs.Forms.{Fits, comes_before, are_shorter}
@@ -11,7 +12,7 @@ use Rattle.i7_sentences.specs.declared.class.Class.{Class}
 use Rattle.i7_sentences.specs.declared.class.State.TheVariants.{Start}
 use Rattle.i7_sentences.specs.declared.form.Piece.{Piece}
 use Rattle.i7_sentences.specs.declared.form.Piece.TheVariants.{Word, Letter}
-use Rattle.i7_sentences.proofs.Lists.{false-true, nil-cons, same_head, same_tail, front_part, last_part}
+use Rattle.i7_sentences.proofs.Lists.{nil-cons, same_head, same_tail, front_part, last_part}
 use Rattle.i7_sentences.proofs.Ends.{Ended, Ends, ended}
 use Rattle.i7_sentences.proofs.Automata.{of_runs, runs_of}
 
@@ -79,7 +80,7 @@ letter_fitted class pieces tokens fitted (Some left) end =
     let rest_is : drop (length tokens - left) tokens ≡ end.rest = rw (end.left_is, end.parts) (last_part end.words end.rest) in
     let Goal : Option (List (List Token)) → Type 0 = λ found. is_some found ≡ true → Fitted pieces end.rest found → Fitted (Letter class ∷ pieces) tokens (option_map (λ letters. end.words ∷ letters) found) in
     let done : Goal (first_fit pieces end.rest) = elim (first_fit pieces end.rest) as Goal [
-      | None ↦ λ can none. absurd (false-true can)
+      | None ↦ λ can none. absurd (false≢true can)
       | Some letters ↦ λ can found. letter_shortest class pieces tokens left letters end fitted found
     ] in
     rw (words_are, rest_is) (done end.can_rest (fitted end.rest))
@@ -93,6 +94,6 @@ fitted (Word keyword ∷ pieces) (token ∷ tokens) =
     let Goal : Bool → Type 0 = λ here. is_sign keyword token ≡ here → Fitted (Word keyword ∷ pieces) (token ∷ tokens) (with_taken false (token ∷ tokens) (if here then Some (length tokens) else None) (first_fit pieces))
     in elim (is_sign keyword token) as Goal [
       | true ↦ λ here. rw (last_part (token ∷ []) tokens) (word_fitted keyword pieces token tokens here (first_fit pieces tokens) (fitted pieces tokens))
-      | false ↦ λ here. λ letters fits. false-true (sym here ∙ ap (λ t. is_sign keyword t) (same_head token fits.word tokens fits.rest fits.parts) ∙ fits.is_word)
+      | false ↦ λ here. λ letters fits. false≢true (sym here ∙ ap (λ t. is_sign keyword t) (same_head token fits.word tokens fits.rest fits.parts) ∙ fits.is_word)
     ] refl
 fitted (Letter class ∷ pieces) tokens = letter_fitted class pieces tokens (λ rest. fitted pieces rest) (nearest class Start (can_fit pieces) tokens) (ended class Start (can_fit pieces) tokens)

@@ -3,10 +3,8 @@ use Rattle.std.proofs.Common.{◌≡◌, ℕ, ◌-◌, ◌<◌, Bool, true, fals
 use Rattle.std.proofs.lemmas.Grind.{common_steps}
 use Rattle.std.proofs.lemmas.List.{length-append}
 use Rattle.std.proofs.Math.Seq.{take-append_seam, drop-append_seam}
+use Rattle.std.proofs.lemmas.Bool.{false≢true}
 use Rattle.i7_sentences.specs.Forms.{comes_before}
-
-pub false-true : false ≡ true → ⊥
-false-true e = cc
 
 pub nil-cons : {X : Type 0} (x : X) (xs : List X) → [] ≡ x ∷ xs → ⊥
 nil-cons x xs e = cc
@@ -37,17 +35,17 @@ get_before xs ys i d low = grind (arith, common_steps)
 
 -- a list before one that another doesn't come before, comes before that other
 pub before_trans : (a b c : List ℕ) → comes_before a b ≡ true → comes_before c b ≡ false → comes_before a c ≡ true
-before_trans [] [] c low high = absurd (false-true low)
-before_trans [] (y ∷ b) [] low high = absurd (false-true (sym high))
+before_trans [] [] c low high = absurd (false≢true low)
+before_trans [] (y ∷ b) [] low high = absurd (false≢true (sym high))
 before_trans [] (y ∷ b) (z ∷ c) low high = refl
-before_trans (x ∷ a) [] c low high = absurd (false-true low)
-before_trans (x ∷ a) (y ∷ b) [] low high = absurd (false-true (sym high))
+before_trans (x ∷ a) [] c low high = absurd (false≢true low)
+before_trans (x ∷ a) (y ∷ b) [] low high = absurd (false≢true (sym high))
 before_trans (x ∷ a) (y ∷ b) (z ∷ c) low high = grind (arith, common_steps, before_trans a b c)
 
 pub before_once : (a b : List ℕ) → comes_before a b ≡ true → comes_before b a ≡ false
-before_once [] [] low = absurd (false-true low)
+before_once [] [] low = absurd (false≢true low)
 before_once [] (y ∷ b) low = refl
-before_once (x ∷ a) [] low = absurd (false-true low)
+before_once (x ∷ a) [] low = absurd (false≢true low)
 before_once (x ∷ a) (y ∷ b) low = grind (arith, common_steps, before_once a b)
 
 pub before_not_self : (a : List ℕ) → comes_before a a ≡ false
@@ -56,8 +54,8 @@ before_not_self (x ∷ a) = grind (arith, common_steps, before_not_self a)
 
 pub before_total : (a b : List ℕ) → comes_before a b ≡ false → comes_before b a ≡ false → a ≡ b
 before_total [] [] one other = refl
-before_total [] (y ∷ b) one other = absurd (false-true (sym one))
-before_total (x ∷ a) [] one other = absurd (false-true (sym other))
+before_total [] (y ∷ b) one other = absurd (false≢true (sym one))
+before_total (x ∷ a) [] one other = absurd (false≢true (sym other))
 before_total (x ∷ a) (y ∷ b) one other = grind (arith, common_steps, before_total a b)
 
 -- what isn't shorter than one that isn't shorter than another, isn't shorter than that

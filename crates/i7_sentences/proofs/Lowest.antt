@@ -4,14 +4,12 @@ use Rattle.std.specs.Prelude.{nat_lt, Option, Some, None, if◌then◌else◌}
 use Rattle.std.specs.List.{All}
 use Rattle.std.proofs.lemmas.Grind.{common_steps}
 use Rattle.std.proofs.lemmas.List.Elements.{All-nil, All-cons, All-head, All-tail}
+use Rattle.std.proofs.lemmas.Option.{same_Some}
 use Rattle.i7_sentences.specs.Lowest.{IsLowest, IsNowhere, lower_of, lowest}
 use Rattle.i7_sentences.proofs.Sameness.{all_there}
 
 pub none-some : {A : Type 0} (x : A) → None ≡ Some x → ⊥
 none-some x e = cc
-
-pub same_some : {A : Type 0} (x y : A) → Some x ≡ Some y → x ≡ y
-same_some x y e = cc
 
 less : (a b : ℕ) → nat_lt a b ≡ true → a ≤ b
 less a b is = grind (arith, common_steps, is)
@@ -93,7 +91,7 @@ good_first : {X : Type 0} (line_at : X → Option ℕ) (Bad : X → ℕ → Type
 good_first line_at Bad x tells none line bad = none-some line (sym none ∙ tells.told line bad)
 
 line_first : {X : Type 0} (line_at : X → Option ℕ) (Bad : X → ℕ → Type 0) (x : X) (line : ℕ) → Tells line_at Bad x → line_at x ≡ Some line → (at : ℕ) → Bad x at → line ≡ at
-line_first line_at Bad x line tells is at bad = same_some line at (sym is ∙ tells.told at bad)
+line_first line_at Bad x line tells is at bad = same_Some line at (sym is ∙ tells.told at bad)
 
 lowest_here : {X : Type 0} (line_at : X → Option ℕ) (Bad : X → ℕ → Type 0) (x : X) (xs : List X) (line : ℕ) → Tells line_at Bad x → line_at x ≡ Some line → All (NoLower Bad line) xs → IsLowest Bad (x ∷ xs) line
 lowest_here line_at Bad x xs line tells is others = record {

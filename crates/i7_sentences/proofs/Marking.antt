@@ -2,6 +2,8 @@
 use Rattle.std.proofs.Common.{◌≡◌, ℕ, zero, suc, Bool, true, false, not, List, [], ◌∷◌, get_or, refl, ap, sym, ◌∙◌}
 use Rattle.std.specs.Prelude.{◌||◌, None, slice_set, fold}
 use Rattle.std.specs.List.{list_any}
+use Rattle.std.proofs.lemmas.Bool.{false≢true}
+use Rattle.std.proofs.Math.Bool.{or-true}
 use denote.Enum.Bare.{sameb, same_true}
 use Rattle.i7_lexer.specs.declared.token.Token.{Token}
 use Rattle.i7_sentences.specs.contracts.keyword.Keyword.{the_type}
@@ -11,7 +13,6 @@ use Rattle.i7_sentences.specs.Signs.{is_marked, is_unmarked, marked, no_marks, p
 use Rattle.i7_sentences.specs.declared.keyword.Keyword.{Keyword}
 use Rattle.i7_sentences.specs.declared.form.Piece.{Piece}
 use Rattle.i7_sentences.specs.declared.form.Piece.TheVariants.{Word, Letter}
-use Rattle.i7_sentences.proofs.Lists.{false-true}
 use Rattle.i7_sentences.proofs.Missing.{absent_fits}
 
 -- what is marked stays so
@@ -40,7 +41,7 @@ marked_either true later there first second is = first refl
 marked_either false later there first second is = second is
 
 all_marked : (signs : List Keyword) (table : List Bool) (keyword : Keyword) → is_among keyword signs ≡ true → is_marked (fold marked table signs) keyword ≡ true
-all_marked [] table keyword is = absurd (false-true is)
+all_marked [] table keyword is = absurd (false≢true is)
 all_marked (sign ∷ signs) table keyword is =
     marked_either (sameb the_type sign keyword) (is_among keyword signs) (is_marked (fold marked (marked table sign) signs) keyword)
     (λ same. still_marked signs (marked table sign) keyword (ap (is_marked (marked table sign)) (sym (same_true the_type tt sign keyword same)) ∙ there table (place_of sign)))
@@ -57,13 +58,9 @@ unmarked_absent table signs are (Word keyword) is =
       | false ↦ λ mark. refl
     ]) (are keyword)
 
-or_true : (a : Bool) → (a || true) ≡ true
-or_true true = refl
-or_true false = refl
-
 or_either : (a b c d : Bool) → (a ≡ true → c ≡ true) → (b ≡ true → d ≡ true) → (a || b) ≡ true → (c || d) ≡ true
 or_either true b c d one two is = rw (one refl) refl
-or_either false b c d one two is = rw (two is) (or_true c)
+or_either false b c d one two is = rw (two is) (or-true c)
 
 absent_any : (table : List Bool) (signs : List Keyword) → AreMarked table signs → (pieces : List Piece) → list_any (is_unmarked table) pieces ≡ true → list_any (is_absent signs) pieces ≡ true
 absent_any table signs are [] is = is

@@ -3,6 +3,7 @@ use Rattle.std.proofs.Common.{◌≡◌, Bool, true, false, List, [], ◌∷◌,
 use Rattle.std.specs.Prelude.{not, ◌||◌, Option, Some, None, is_some}
 use denote.Enum.Bare.{sameb}
 use Rattle.std.specs.List.{cons_option, list_any}
+use Rattle.std.proofs.lemmas.Bool.{false≢true, or_right}
 use Rattle.i7_lexer.specs.declared.token.Token.{Token}
 use Rattle.i7_sentences.specs.Keywords.{is_among, is_same, is_sign, keyword_of, signs_of}
 use Rattle.i7_sentences.specs.Forms.{Fits}
@@ -16,7 +17,7 @@ use Rattle.i7_sentences.specs.contracts.keyword.Keyword.{the_type}
 use Rattle.i7_sentences.specs.declared.keyword.Keyword.{Keyword}
 use Rattle.i7_sentences.specs.declared.form.Piece.{Piece}
 use Rattle.i7_sentences.specs.declared.form.Piece.TheVariants.{Word, Letter}
-use Rattle.i7_sentences.proofs.Lists.{false-true, nil-cons, same_head}
+use Rattle.i7_sentences.proofs.Lists.{nil-cons, same_head}
 use Rattle.i7_sentences.proofs.Fitting.{Fitted, fitted}
 
 -- what stands nowhere among words stands nowhere behind some of them
@@ -25,7 +26,7 @@ nowhere_behind test [] rest nowhere = nowhere
 nowhere_behind test (token ∷ front) rest nowhere =
     let Goal : Bool → Type 0 = λ here. (here || list_any test (front ++ rest)) ≡ false → list_any test rest ≡ false
     in (elim (test token) as Goal [
-      | true ↦ λ none. absurd (false-true (sym none))
+      | true ↦ λ none. absurd (false≢true (sym none))
       | false ↦ λ none. nowhere_behind test front rest none
     ]) nowhere
 
@@ -60,13 +61,9 @@ or_more : (a b c : Bool) → (b ≡ true → c ≡ true) → (a || b) ≡ true �
 or_more true b c turn one = refl
 or_more false b c turn one = turn one
 
-or_last : (a b : Bool) → b ≡ true → (a || b) ≡ true
-or_last true b one = refl
-or_last false b one = one
-
 absent_missing : (pieces : List Piece) (tokens : List Token) → list_any (is_absent (signs_of tokens)) pieces ≡ true → list_any (is_missing tokens) pieces ≡ true
 absent_missing [] tokens absent = absent
-absent_missing (Letter class ∷ pieces) tokens absent = or_last (is_missing tokens (Letter class)) (list_any (is_missing tokens) pieces) (absent_missing pieces tokens absent)
+absent_missing (Letter class ∷ pieces) tokens absent = or_right (is_missing tokens (Letter class)) (list_any (is_missing tokens) pieces) (absent_missing pieces tokens absent)
 absent_missing (Word keyword ∷ pieces) tokens absent =
     or_more (not (list_any (is_sign keyword) tokens)) (list_any (is_absent (signs_of tokens)) pieces) (list_any (is_missing tokens) pieces) (absent_missing pieces tokens)
     (ap (λ here. not here || list_any (is_absent (signs_of tokens)) pieces) (sym (among_is keyword tokens)) ∙ absent)
@@ -76,12 +73,12 @@ letter_begins : (class : Class) (token : Token) (words : List Token) → is_of c
 letter_begins class token words taken =
     let Goal : Option State → Type 0 = λ next. then_runs next (λ after. runs class after words) ≡ true → is_some next ≡ true
     in (elim (step class Start token) as Goal [
-      | None ↦ λ none. absurd (false-true none)
+      | None ↦ λ none. absurd (false≢true none)
       | Some state ↦ λ some. refl
     ]) taken
 
 letter_stands : (class : Class) (tokens words rest : List Token) → tokens ≡ words ++ rest → is_of class words ≡ true → list_any (can_take (Letter class)) tokens ≡ true
-letter_stands class tokens [] rest parts taken = absurd (false-true taken)
+letter_stands class tokens [] rest parts taken = absurd (false≢true taken)
 letter_stands class tokens (first ∷ words) rest parts taken =
     ap (list_any (can_take (Letter class))) parts ∙ stands_first (Letter class) first (words ++ rest) (letter_begins class first words taken)
 
@@ -92,7 +89,7 @@ later_missing piece pieces tokens front rest parts stands missing =
     (ap (λ ts. list_any (is_missing ts) pieces) (sym parts) ∙ (ap (λ here. not here || list_any (is_missing tokens) pieces) (sym stands) ∙ missing))
 
 unfit : (pieces : List Piece) (tokens : List Token) (letters : List (List Token)) → list_any (is_missing tokens) pieces ≡ true → Fits pieces tokens letters → ⊥
-unfit [] tokens letters missing fits = false-true missing
+unfit [] tokens letters missing fits = false≢true missing
 unfit (Letter class ∷ pieces) tokens letters missing fits =
     let stands : list_any (can_take (Letter class)) tokens ≡ true = letter_stands class tokens fits.words fits.rest fits.parts (runs_of class fits.words fits.is_of_class) in
     unfit pieces fits.rest fits.others (later_missing (Letter class) pieces tokens fits.words fits.rest fits.parts stands missing) fits.behind
@@ -109,7 +106,7 @@ missing_fits pieces tokens missing =
     ]) (fitted pieces tokens)
 
 letter_taken : (class : Class) (token : Token) (tokens words rest : List Token) → token ∷ tokens ≡ words ++ rest → is_of class words ≡ true → is_some (step class Start token) ≡ true
-letter_taken class token tokens [] rest parts taken = absurd (false-true taken)
+letter_taken class token tokens [] rest parts taken = absurd (false≢true taken)
 letter_taken class token tokens (first ∷ words) rest parts taken =
     ap (λ t. is_some (step class Start t)) (same_head token first tokens (words ++ rest) parts) ∙ letter_begins class first words taken
 
@@ -120,7 +117,7 @@ begins (Word keyword ∷ pieces) (token ∷ tokens) letters fits = ap (is_sign k
 begins (Letter class ∷ pieces) [] letters fits = absurd (none_taken class fits.words fits.rest fits.parts (runs_of class fits.words fits.is_of_class))
   where
     none_taken : (class' : Class) (words rest : List Token) → [] ≡ words ++ rest → is_of class' words ≡ true → ⊥
-    none_taken class' [] rest parts taken = false-true taken
+    none_taken class' [] rest parts taken = false≢true taken
     none_taken class' (first ∷ words) rest parts taken = nil-cons first (words ++ rest) parts
 begins (Letter class ∷ pieces) (token ∷ tokens) letters fits = letter_taken class token tokens fits.words fits.rest fits.parts (runs_of class fits.words fits.is_of_class)
 
@@ -129,7 +126,7 @@ never_begins pieces tokens never =
     let Goal : Option (List (List Token)) → Type 0 = λ found. Fitted pieces tokens found → found ≡ None
     in (elim (first_fit pieces tokens) as Goal [
       | None ↦ λ none. refl
-      | Some letters ↦ λ found. absurd (false-true (sym never ∙ begins pieces tokens letters found.fits))
+      | Some letters ↦ λ found. absurd (false≢true (sym never ∙ begins pieces tokens letters found.fits))
     ]) (fitted pieces tokens)
 
 pub absent_fits : (pieces : List Piece) (tokens : List Token) (signs : List Keyword) → signs ≡ signs_of tokens → list_any (is_absent signs) pieces ≡ true → first_fit pieces tokens ≡ None

@@ -2,7 +2,7 @@
 use Rattle.std.proofs.Common.{◌≡◌, ℕ, Bool, ◌||◌, List, [], ◌∷◌, ◌++◌, refl, sym, ap, ◌∙◌, subst, append_assoc, append-nil, arith, inl, inr}
 use Rattle.std.specs.Prelude.{fold, map}
 use Rattle.std.specs.List.{AllZip, onto_first}
-use Rattle.world_meaning.proofs.Bools.{either}
+use Rattle.std.proofs.lemmas.Bool.{cases_Bool}
 use Rattle.i7_lexer.specs.Rising.{LinesRise}
 use Rattle.i7_lexer.proofs.Rising.{RiseFrom, left_out, lines_rise, map_append, rise_from}
 use Rattle.i7_lexer.specs.declared.token.Token.{Token}
@@ -31,7 +31,7 @@ cut_whole : (opens : Token → Bool) (same : Bool → Token → Token → Bool) 
     → AreSome (cut_from opens same is_open token rest) × (tokens_in (cut_from opens same is_open token rest) ≡ token ∷ rest)
 cut_whole opens same is_open token [] = (tt, refl)
 cut_whole opens same is_open token (next ∷ rest) =
-    elim (either (same is_open token next)) [
+    elim (cases_Bool (same is_open token next)) [
       | inl is ↦
           let later = cut_whole opens same (is_open || opens next) next rest in
           let t = joined_onto token (cut_from opens same (is_open || opens next) next rest) later.0 in
@@ -70,7 +70,7 @@ sentences_rise ((first ∷ more) ∷ pieces) parts lines some r =
     let parted : map token_line (tokens_in ((first ∷ more) ∷ pieces)) ++ lines ≡ map token_line (first ∷ more) ++ (token_lines pieces ++ lines) =
     ap (λ (ns : List ℕ). ns ++ lines) (map_append token_line (first ∷ more) (tokens_in pieces)) ∙ append_assoc (map token_line (first ∷ more)) (map token_line (tokens_in pieces)) lines in
     let whole : RiseOn parts (map token_line (first ∷ more) ++ (token_lines pieces ++ lines)) = subst (λ (ns : List ℕ). RiseOn parts ns) parted r in
-    elim (either (is_stop_alone (first ∷ more))) [
+    elim (cases_Bool (is_stop_alone (first ∷ more))) [
       | inl is ↦
           let same : with_sentence parts (first ∷ more) ≡ parts = rw is refl in
           subst (λ (ps : List Piece). RiseOn (fold with_sentence ps pieces) lines) (sym same)
@@ -89,7 +89,7 @@ paragraphs_rise ([] ∷ pieces) parts some r = absurd some
 paragraphs_rise ((first ∷ more) ∷ pieces) parts some r =
     let paragraph = first ∷ more in
     let whole : RiseOn parts (map token_line paragraph ++ token_lines pieces) = subst (λ (ns : List ℕ). RiseOn parts ns) (map_append token_line paragraph (tokens_in pieces)) r in
-    elim (either (is_heading paragraph)) [
+    elim (cases_Bool (is_heading paragraph)) [
       | inl is ↦
           let part : Piece = record { kind = Heading; tokens = paragraph } in
           let added : with_paragraph parts paragraph ≡ parts ++ part ∷ [] = rw is refl in

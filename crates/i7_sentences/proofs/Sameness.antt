@@ -3,12 +3,13 @@ use Rattle.std.proofs.Common.{◌≡◌, inl, inr, ◌⊎◌, List, [], ◌∷�
 use Rattle.std.specs.Prelude.{Option, Some, None}
 use Rattle.std.specs.List.{All}
 use Rattle.std.proofs.lemmas.List.Elements.{All-head, All-tail}
+use Rattle.std.proofs.lemmas.Bool.{false≢true}
 use Rattle.i7_lexer.specs.declared.token.Token.{Token}
 use Rattle.i7_sentences.specs.Forms.{Variant, Fits, IsLonger, IsNoShorter, IsShortestFit, AreUnfit, IsReading, IsUnread}
 use Rattle.i7_sentences.specs.Matching.{Found, lowest_fit}
 use Rattle.i7_sentences.specs.declared.form.Piece.{Piece}
 use Rattle.i7_sentences.specs.declared.form.Piece.TheVariants.{Word, Letter}
-use Rattle.i7_sentences.proofs.Lists.{false-true, same_head, same_tail, before_total}
+use Rattle.i7_sentences.proofs.Lists.{same_head, same_tail, before_total}
 use Rattle.i7_sentences.proofs.Fitting.{same_front}
 use Rattle.i7_sentences.proofs.Choosing.{ReadAs, read_as}
 
@@ -43,7 +44,7 @@ less : (tokens : List Token) (own : Variant) (a b : List (List Token)) (before a
 less tokens own a b before after more other v places fits later other_fits earlier =
     let here : IsLonger tokens b own = subst (IsLonger tokens b) (sym (same_head own v after (before ++ other ∷ more) places)) (All-head (IsLonger tokens b) v before earlier) in
     let there : IsNoShorter tokens a other = all_there (IsNoShorter tokens a) before other more (subst (All (IsNoShorter tokens a)) (same_tail own v after (before ++ other ∷ more) places) later) in
-    false-true (sym (there b other_fits) ∙ here a fits)
+    false≢true (sym (there b other_fits) ∙ here a fits)
 
 same_variant : (tokens : List Token) (before after before' after' : List Variant) (own other : Variant) (a b : List (List Token)) → before ++ own ∷ after ≡ before' ++ other ∷ after' → Read tokens own a before after → Read tokens other b before' after' → Same own other a b
 same_variant tokens [] after [] after' own other a b places one two =

@@ -3,11 +3,10 @@ use Rattle.std.proofs.Common.{◌≡◌, ℕ, zero, suc, Bool, true, false, List
 use Rattle.std.specs.Prelude.{◌&&◌, ◌==◌}
 use Rattle.std.specs.Char.{to_ascii_lowercase}
 use Rattle.std.specs.List.{list_all}
-use Rattle.std.proofs.lemmas.Bool.{eqb-true}
+use Rattle.std.proofs.lemmas.Bool.{eqb-true, and_parts}
 use Rattle.world_meaning.specs.Spelling.{is_spelled}
 use Rattle.i7_sentences.specs.Keywords.{Row}
 use Rattle.i7_sentences.specs.SmallRows.{are_small, begins_with, is_small, small_first}
-use Rattle.i7_sentences.proofs.Lists.{false-true}
 
 twice : (here later : Bool) → (here && (here && later)) ≡ (here && later)
 twice true later = refl
@@ -24,17 +23,13 @@ first_tells (first ∷ others) (letter ∷ more) small =
     rw (eqb-true (to_ascii_lowercase letter) letter small)
     (twice (to_ascii_lowercase first == letter) (is_spelled others more))
 
-both : (a b : Bool) → (a && b) ≡ true → (a ≡ true) × (b ≡ true)
-both true b is = (refl, is)
-both false b is = absurd (false-true is)
-
 pub small_parts : (row : Row) (rows : List Row) → are_small (row ∷ rows) ≡ true → (is_small row.spelling ≡ true) × (are_small rows ≡ true)
-small_parts row rows is = both (is_small row.spelling) (are_small rows) is
+small_parts row rows is = and_parts (is_small row.spelling) (are_small rows) is
 
 got_small : {R : Type 0} (rows_of : R → List Row) (table : List R) (i : ℕ) (d : R) → list_all are_small (map rows_of table) ≡ true → i < length table → are_small (rows_of (get_or table i d)) ≡ true
 got_small rows_of [] i d is lt = absurd (omega (arith, lt))
-got_small rows_of (first ∷ table) zero d is lt = (both (are_small (rows_of first)) (list_all are_small (map rows_of table)) is).0
-got_small rows_of (first ∷ table) (suc i) d is lt = got_small rows_of table i d (both (are_small (rows_of first)) (list_all are_small (map rows_of table)) is).1 (omega (arith, lt))
+got_small rows_of (first ∷ table) zero d is lt = (and_parts (are_small (rows_of first)) (list_all are_small (map rows_of table)) is).0
+got_small rows_of (first ∷ table) (suc i) d is lt = got_small rows_of table i d (and_parts (are_small (rows_of first)) (list_all are_small (map rows_of table)) is).1 (omega (arith, lt))
 
 pub small_at : {R : Type 0} (rows_of : R → List Row) (table : List R) (i : ℕ) (rows : R) → list_all are_small (map rows_of table) ≡ true → i < length table → rows ≡ get_or table i rows → are_small (rows_of rows) ≡ true
 small_at rows_of table i rows is lt got = ap (λ these. are_small (rows_of these)) got ∙ got_small rows_of table i rows is lt

@@ -3,6 +3,7 @@ use Rattle.std.proofs.Common.{◌≡◌, inl, inr, ℕ, Bool, true, false, not, 
 use Rattle.std.specs.Prelude.{map, Option, Some, None, is_some, if◌then◌else◌}
 use Rattle.std.specs.List.{list_all}
 use Rattle.std.proofs.lemmas.List.Folds.{list_all-append}
+use Rattle.std.proofs.lemmas.Bool.{false≢true, and_parts}
 use Rattle.world_meaning.specs.declared.direction.Direction.{Direction}
 use Rattle.world_meaning.specs.declared.direction.Direction.TheVariants.{Up, Down}
 use Rattle.world_meaning.specs.declared.place.Rel.TheVariants as Rel
@@ -32,7 +33,6 @@ use Rattle.i7_sentences.specs.declared.heard.Heard.TheVariants as heard
 use Rattle.i7_sentences.specs.declared.part.PartKind.{PartKind}
 use Rattle.i7_sentences.specs.declared.part.PartKind.TheVariants.{Title, Heading, Sentence as Said}
 use Rattle.i7_sentences.specs.declared.sentence.Assertion.{Assertion}
-use Rattle.i7_sentences.proofs.Lists.{false-true}
 use Rattle.i7_sentences.proofs.Sameness.{never_both, reading_same}
 
 abbrev Each : {X : Type 0} → (X → Type 0) → List X → Type 0
@@ -64,13 +64,8 @@ AreOf [] (letter ∷ letters) = ⊥
 AreOf (class ∷ classes) [] = ⊥
 AreOf (class ∷ classes) (letter ∷ letters) = IsFirst class letter (AreOf classes letters)
 
-both : (a b : Bool) → (a && b) ≡ true → (a ≡ true) × (b ≡ true)
-both true true is = (refl, refl)
-both true false is = absurd (false-true is)
-both false b is = absurd (false-true is)
-
 describing_parts : (xs ys tokens : List Token) → tokens ≡ xs ++ ys → AreDescribing tokens → AreDescribing xs × AreDescribing ys
-describing_parts xs ys tokens parts plain = both (list_all is_describing xs) (list_all is_describing ys) (sym (list_all-append is_describing xs ys) ∙ ap (list_all is_describing) (sym parts) ∙ plain)
+describing_parts xs ys tokens parts plain = and_parts (list_all is_describing xs) (list_all is_describing ys) (sym (list_all-append is_describing xs ys) ∙ ap (list_all is_describing) (sym parts) ∙ plain)
 
 letters_are : (pieces : List Piece) (tokens : List Token) (letters : List (List Token)) → Fits pieces tokens letters → AreDescribing tokens → AreOf (classes_of pieces) letters
 letters_are [] tokens letters fits plain = subst (AreOf []) (sym fits.1) tt
@@ -90,7 +85,7 @@ abbrev Speaks : Variant → Type 0
 Speaks variant = SpeaksOf variant.form (classes_of variant.pieces)
 
 never : {P : Type 0} → false ≡ true → P
-never e = absurd (false-true e)
+never e = absurd (false≢true e)
 
 one : (first : Class) (form : Form) → ((a : List Token) → IsOf first a → AreDescribing a → IsSaid form (a ∷ [])) → SpeaksOf form (first ∷ [])
 one first form says [] are asserts = absurd are
@@ -122,13 +117,13 @@ five first second third fourth fifth form says (a ∷ b ∷ c ∷ d ∷ e ∷ f 
 -- a text that may describe is one that does
 kind_describes : (kind : TokenKind) → is_text_kind kind ≡ true → is_describing_kind kind ≡ true → is_some (describing_text_in kind) ≡ true
 kind_describes (Text text) is plain = rw plain refl
-kind_describes (AWord word) is plain = absurd (false-true is)
-kind_describes (Mark mark) is plain = absurd (false-true is)
+kind_describes (AWord word) is plain = absurd (false≢true is)
+kind_describes (Mark mark) is plain = absurd (false≢true is)
 
 text_describes : (words : List Token) → IsOf class.Text words → AreDescribing words → is_some (describing_text words) ≡ true
 text_describes words is plain =
     ap (λ tokens. is_some (describing_text tokens)) is.alone
-    ∙ kind_describes is.token.kind is.passes (both (is_describing is.token) true (ap (list_all is_describing) (sym is.alone) ∙ plain)).0
+    ∙ kind_describes is.token.kind is.passes (and_parts (is_describing is.token) true (ap (list_all is_describing) (sym is.alone) ∙ plain)).0
 
 described_said : (text : Option (List ℕ)) → is_some text ≡ true → is_some (described text) ≡ true
 described_said None is = is
@@ -143,15 +138,15 @@ way_said subject None room first is = is
 way_said subject (Some direction) room first is = refl
 
 door_said : (door room behind : List Token) (side other : Option Direction) → is_some side ≡ true → is_some other ≡ true → is_some (door_between door (side_of side room) (side_of other behind)) ≡ true
-door_said door room behind None other is also = absurd (false-true is)
-door_said door room behind (Some side) None is also = absurd (false-true also)
+door_said door room behind None other is also = absurd (false≢true is)
+door_said door room behind (Some side) None is also = absurd (false≢true also)
 door_said door room behind (Some side) (Some other) is also = refl
 
 -- a side has a direction
 vertical_there : (above below : Bool) (named : Option Direction) → (above || below) ≡ true → is_some (if above then Some Up else (if below then Some Down else named)) ≡ true
 vertical_there true below named is = refl
 vertical_there false true named is = refl
-vertical_there false false named is = absurd (false-true is)
+vertical_there false false named is = absurd (false≢true is)
 
 named_there : (above below : Bool) (named : Option Direction) → is_some named ≡ true → is_some (if above then Some Up else (if below then Some Down else named)) ≡ true
 named_there true below named is = refl
@@ -160,12 +155,12 @@ named_there false false named is = is
 
 side_there : (words : List Token) → IsOf class.Side words → is_some (side_direction words) ≡ true
 unfolding is_vertical is_direction
-side_there [] is = absurd (false-true is)
+side_there [] is = absurd (false≢true is)
 side_there (token ∷ []) is = vertical_there (is_sign keyword.Above token) (is_sign keyword.Below token) (direction_named (word_of token)) is
 side_there (token ∷ next ∷ []) is =
-    let found = both (not (is_vertical token) && is_direction token) (is_behind token next) is in
-    named_there (is_sign keyword.Above token) (is_sign keyword.Below token) (direction_named (word_of token)) (both (not (is_vertical token)) (is_direction token) found.0).1
-side_there (token ∷ next ∷ third ∷ more) is = absurd (false-true is)
+    let found = and_parts (not (is_vertical token) && is_direction token) (is_behind token next) is in
+    named_there (is_sign keyword.Above token) (is_sign keyword.Below token) (direction_named (word_of token)) (and_parts (not (is_vertical token)) (is_direction token) found.0).1
+side_there (token ∷ next ∷ third ∷ more) is = absurd (false≢true is)
 
 actions_speak : Each Speaks (map (λ variant. record { form = variant.0; pieces = variant.1.now }) ACTION_FORMS.now)
 unfolding assertion_of
@@ -312,17 +307,17 @@ speaks tokens variant letters reading asserts plain =
 
 -- a form that asserts is no rule's
 no_rule : (form : Form) → is_asserting form ≡ true → is_rule_form form ≡ false
-no_rule form.BeforeRule asserts = absurd (false-true asserts)
-no_rule form.InsteadRule asserts = absurd (false-true asserts)
-no_rule form.CheckRule asserts = absurd (false-true asserts)
-no_rule form.CarryOutRule asserts = absurd (false-true asserts)
-no_rule form.AfterRule asserts = absurd (false-true asserts)
-no_rule form.ReportRule asserts = absurd (false-true asserts)
-no_rule form.EveryTurnRule asserts = absurd (false-true asserts)
-no_rule form.PlayBeginsRule asserts = absurd (false-true asserts)
-no_rule form.SceneBeginsRule asserts = absurd (false-true asserts)
-no_rule form.SceneEndsRule asserts = absurd (false-true asserts)
-no_rule form.OwnRule asserts = absurd (false-true asserts)
+no_rule form.BeforeRule asserts = absurd (false≢true asserts)
+no_rule form.InsteadRule asserts = absurd (false≢true asserts)
+no_rule form.CheckRule asserts = absurd (false≢true asserts)
+no_rule form.CarryOutRule asserts = absurd (false≢true asserts)
+no_rule form.AfterRule asserts = absurd (false≢true asserts)
+no_rule form.ReportRule asserts = absurd (false≢true asserts)
+no_rule form.EveryTurnRule asserts = absurd (false≢true asserts)
+no_rule form.PlayBeginsRule asserts = absurd (false≢true asserts)
+no_rule form.SceneBeginsRule asserts = absurd (false≢true asserts)
+no_rule form.SceneEndsRule asserts = absurd (false≢true asserts)
+no_rule form.OwnRule asserts = absurd (false≢true asserts)
 no_rule _ asserts = refl
 
 named_read : (line at : ℕ) (is_reserved : Bool) (said : Assertion) → named_heard line is_reserved said ≡ heard.Unread at → ⊥
@@ -330,7 +325,7 @@ named_read line at true said is = cc
 named_read line at false said is = cc
 
 plain_read : (line at : ℕ) (is_reserved : Bool) (said : Option Assertion) → is_some said ≡ true → plain_heard line is_reserved said ≡ heard.Unread at → ⊥
-plain_read line at is_reserved None there is = false-true there
+plain_read line at is_reserved None there is = false≢true there
 plain_read line at is_reserved (Some said) there is = named_read line at is_reserved said is
 
 by_form : (tokens : List Token) (variant : Variant) (letters : List (List Token)) → is_asserting variant.form ≡ true → heard_by tokens variant letters ≡ plain_heard (line_in tokens) (has_reserved_among variant.pieces letters) (assertion_of variant.form letters)

@@ -2,6 +2,7 @@
 use Rattle.std.proofs.Common.{◌≡◌, inl, inr, Bool, true, false, ℕ, List, refl, ap, sym, ◌∙◌, subst}
 use Rattle.std.specs.Prelude.{Option, Some, None, if◌then◌else◌}
 use Rattle.std.specs.List.{list_any}
+use Rattle.std.proofs.lemmas.Option.{same_Some}
 use Rattle.i7_lexer.specs.declared.token.Token.{Token}
 use Rattle.i7_sentences.specs.Cuts.{Piece}
 use Rattle.i7_sentences.specs.Forms.{IsReading, IsUnread, Variant, all_forms}
@@ -14,7 +15,7 @@ use Rattle.i7_sentences.specs.declared.heard.Heard.TheVariants as heard
 use Rattle.i7_sentences.specs.declared.part.PartKind.{PartKind}
 use Rattle.i7_sentences.specs.declared.part.PartKind.TheVariants.{Title, Heading, Sentence as Said}
 use Rattle.i7_sentences.proofs.Choosing.{ReadAs, read_as}
-use Rattle.i7_sentences.proofs.Lowest.{Tells, lowest_tells, none-some, same_some}
+use Rattle.i7_sentences.proofs.Lowest.{Tells, lowest_tells, none-some}
 use Rattle.i7_sentences.proofs.Sameness.{never_both, reading_same}
 
 -- the reading is what is found
@@ -70,13 +71,13 @@ is_heard part said says = sym (kind_heard part.kind part.tokens said says)
 
 unread_line : (said : Heard) (line : ℕ) → unread_at said ≡ Some line → said ≡ heard.Unread line
 unread_line (heard.Says said) line is = absurd (none-some line is)
-unread_line (heard.Unread at) line is = ap (λ l. heard.Unread l) (same_some at line is)
+unread_line (heard.Unread at) line is = ap (λ l. heard.Unread l) (same_Some at line is)
 unread_line (heard.Reserved at) line is = absurd (none-some line is)
 
 reserved_line : (said : Heard) (line : ℕ) → reserved_at said ≡ Some line → said ≡ heard.Reserved line
 reserved_line (heard.Says said) line is = absurd (none-some line is)
 reserved_line (heard.Unread at) line is = absurd (none-some line is)
-reserved_line (heard.Reserved at) line is = ap (λ l. heard.Reserved l) (same_some at line is)
+reserved_line (heard.Reserved at) line is = ap (λ l. heard.Reserved l) (same_Some at line is)
 
 pub tells_unread : (part : Piece) → Tells unread_in IsUnreadAt part
 tells_unread part = record {
@@ -91,7 +92,7 @@ tells_reserved part = record {
 }
 
 held : (holds : Bool) (at line : ℕ) → (if holds then Some at else None) ≡ Some line → (holds ≡ true) × (at ≡ line)
-held true at line is = (refl, same_some at line is)
+held true at line is = (refl, same_Some at line is)
 held false at line is = absurd (none-some line is)
 
 tells_stretch : (stretch : Stretch) → Tells bad_literal_in HoldsBadLiteral stretch

@@ -2,10 +2,9 @@
 use Rattle.std.proofs.Common.{◌≡◌, ℕ, suc, ◌+◌, ◌<◌, ◌≤◌, Bool, true, false, cond, ltb, eqb, List, [], ◌∷◌, ◌++◌, length, take, drop, Some, None, refl, sym, ap, ◌∙◌, arith, inl, inr}
 use Rattle.std.specs.Prelude.{position, fold, filter}
 use Rattle.std.specs.List.{position_or_len, slice_split}
-use Rattle.std.proofs.lemmas.Bool.{ltb-true, ltb-false}
+use Rattle.std.proofs.lemmas.Bool.{ltb-true, ltb-false, cases_Bool}
 use Rattle.std.proofs.Math.Dec.{eqb-suc-zero}
 use Rattle.std.proofs.lemmas.List.Splits.{slice_split-cons_yes, slice_split-cons_no}
-use Rattle.world_meaning.proofs.Bools.{either}
 use Rattle.object_words.specs.Mentions.{mention}
 use Rattle.object_words.specs.Words.{is_blank, is_word, blank_words}
 use Rattle.object_words.proofs.Folds.{fold_both}
@@ -21,7 +20,7 @@ place_of_none n false e = refl
 split_place : {A : Type 0} (p : A → Bool) (xs : List A) (k : ℕ) → k ≡ position_or_len p xs → k < length xs → slice_split p xs ≡ take k xs ∷ slice_split p (drop 1 (drop k xs))
 split_place p [] k e lt = absurd (omega arith)
 split_place p (x ∷ xs) k e lt =
-    elim (either (p x)) [
+    elim (cases_Bool (p x)) [
       | inl is ↦ let z : k ≡ 0 = rw is at e in rw (z, slice_split-cons_yes p x xs is) refl
       | inr isnt ↦
           let s : k ≡ 1 + position_or_len p xs = rw isnt at e in
@@ -32,7 +31,7 @@ split_place p (x ∷ xs) k e lt =
 split_whole : {A : Type 0} (p : A → Bool) (xs : List A) → length xs ≤ position_or_len p xs → slice_split p xs ≡ xs ∷ []
 split_whole p [] le = refl
 split_whole p (x ∷ xs) le =
-    elim (either (p x)) [
+    elim (cases_Bool (p x)) [
       | inl is ↦ let z : length (x ∷ xs) ≤ 0 = rw is at le in absurd (omega arith)
       | inr isnt ↦ let s : length (x ∷ xs) ≤ 1 + position_or_len p xs = rw isnt at le in rw (slice_split-cons_no p x xs isnt, split_whole p xs (omega arith)) refl
     ]

@@ -1,6 +1,7 @@
 -- A decision ends a consultation.
-use Rattle.std.proofs.Common.{◌≡◌, ◌∙◌, ap, ℕ, List, [], ◌∷◌, ◌++◌, refl, Ok, Err, map}
+use Rattle.std.proofs.Common.{◌≡◌, ◌∙◌, ap, ℕ, List, [], ◌∷◌, ◌++◌, Ok, Err, map}
 use Rattle.std.specs.Prelude.{Option, None, Some}
+use Rattle.std.proofs.lemmas.List.{map-append}
 use Rattle.play_meaning.specs.Attempts.{Attempt, next}
 use Rattle.play_meaning.specs.Consulting.{ask, consult, with_nouns}
 use Rattle.play_meaning.specs.Doing.{Inner}
@@ -28,15 +29,11 @@ ends_at [] others p asked outcome done decided = absurd cc
 ends_at (step ∷ steps) others p asked outcome done decided =
     by_first (first_decision steps) (first_decision (steps ++ others)) asked (λ q more. ends_at steps others q asked outcome more decided) (step p) done
 
-map_append : {A B : Type 0} (f : A → B) (xs ys : List A) → map f (xs ++ ys) ≡ map f xs ++ map f ys
-map_append f [] ys = refl
-map_append f (x ∷ xs) ys = ap (λ zs. f x ∷ zs) (map_append f xs ys)
-
 pub decision_ends : (g : Game) (inner : Inner) (book : ℕ) (now : ActionNow) (rules others : List ℕ) (p : Progress) (asked : Asked) (outcome : Outcome)
     → g.books book ≡ rules ++ others → first_decision (map (ask g inner book (with_nouns now)) rules) p ≡ Ok asked → asked.decision ≡ Some outcome
     → consult g inner book now p ≡ Ok asked
 unfolding consult
 decision_ends g inner book now rules others p asked outcome same done decided =
     ap (λ numbers. first_decision (map (ask g inner book (with_nouns now)) numbers) p) same
-    ∙ ap (λ steps. first_decision steps p) (map_append (ask g inner book (with_nouns now)) rules others)
+    ∙ ap (λ steps. first_decision steps p) (map-append (ask g inner book (with_nouns now)) rules others)
     ∙ ends_at (map (ask g inner book (with_nouns now)) rules) (map (ask g inner book (with_nouns now)) others) p asked outcome done decided

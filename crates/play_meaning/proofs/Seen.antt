@@ -1,8 +1,9 @@
 -- What is computed of sight is what is said of chains.
 use Rattle.std.proofs.Common.{◌≡◌, ◌∙◌, ap, sym, refl, subst, ◌⊎◌, inl, inr, ◌↔◌, ℕ, zero, suc, ◌+◌, ◌<◌, ◌≤◌, Bool, true, false, List, [], ◌∷◌, arith, eq-eqb, eqb-true}
-use Rattle.std.proofs.lemmas.Bool.{eqb-false}
+use Rattle.std.proofs.lemmas.Bool.{eqb-false, and_parts, and_from, or_cases, or_left, or_right, not-true, not_from_false}
 use Rattle.std.specs.Prelude.{not, ◌&&◌, ◌||◌, ◌==◌, Option, None, Some, if◌then◌else◌}
 use Rattle.std.specs.List.{list_any, range_with_len}
+use Rattle.std.proofs.lemmas.Option.{same_Some, none-some}
 use Rattle.world_meaning.specs.Chains.{Encloses, IsChain, StandsIn, top_of}
 use Rattle.world_meaning.specs.Tale.{holder_in as holder_told}
 use Rattle.world_meaning.specs.Sight.{location_of as location_in, HasLight, IsInView, IsTouchable, IsVisible, IsVisibleAs, IsVisibleThing, Root, thing, room, direction, blocks_sight, blocks_touch}
@@ -14,49 +15,15 @@ use Rattle.play_meaning.specs.Worlds.{World, chain, holder_in, is_true_of, locat
 
 -- ---- chains
 
-some_is : {A : Type 0} (a b : A) → Some a ≡ Some b → a ≡ b
-some_is a b same = cc
-
-none_isnt_some : (place : Place) → None ≡ Some place → ⊥
-none_isnt_some place same = absurd cc
-
 pub one_chain : (place : ℕ → Option Place) (o : ℕ) (xs ys : List Place) → IsChain place o xs → IsChain place o ys → xs ≡ ys
 one_chain place o [] [] first second = refl
-one_chain place o [] (y ∷ ys) first second = absurd (none_isnt_some y (sym first ∙ second.0))
-one_chain place o (x ∷ xs) [] first second = absurd (none_isnt_some x (sym second ∙ first.0))
+one_chain place o [] (y ∷ ys) first second = absurd (none-some y (sym first ∙ second.0))
+one_chain place o (x ∷ xs) [] first second = absurd (none-some x (sym second ∙ first.0))
 one_chain place o (x ∷ xs) (y ∷ ys) first second =
-    let same : x ≡ y = some_is x y (sym first.0 ∙ second.0) in
+    let same : x ≡ y = same_Some x y (sym first.0 ∙ second.0) in
     ap (λ step. step ∷ xs) same ∙ ap (λ steps. y ∷ steps) (one_chain place y.holder xs ys (subst (λ step. IsChain place step.holder xs) same first.1) second.1)
 
 -- ---- tests
-
-and_is : (a b : Bool) → (a && b) ≡ true → (a ≡ true) × (b ≡ true)
-and_is true b is = (refl, is)
-and_is false b is = absurd cc
-
-and_of : (a b : Bool) → a ≡ true → b ≡ true → (a && b) ≡ true
-and_of true b first second = second
-and_of false b first second = absurd cc
-
-or_is : (a b : Bool) → (a || b) ≡ true → (a ≡ true) ⊎ (b ≡ true)
-or_is true b is = inl refl
-or_is false b is = inr is
-
-or_left : (a b : Bool) → a ≡ true → (a || b) ≡ true
-or_left true b is = refl
-or_left false b is = absurd cc
-
-or_right : (a b : Bool) → b ≡ true → (a || b) ≡ true
-or_right true b is = refl
-or_right false b is = is
-
-not_is : (a : Bool) → not a ≡ true → a ≡ false
-not_is true is = absurd cc
-not_is false is = refl
-
-not_of : (a : Bool) → a ≡ false → not a ≡ true
-not_of true is = absurd cc
-not_of false is = refl
 
 same_is : (a : Option ℕ) (n : ℕ) → is_same a (Some n) ≡ true → a ≡ Some n
 same_is None n is = absurd cc
@@ -74,7 +41,7 @@ same_of (Some m) n is = same_number m n (some_is_number m n is)
 
 any_is : (f : ℕ → Bool) (ns : List ℕ) → list_any f ns ≡ true → (n : ℕ) × (f n ≡ true)
 any_is f [] is = absurd cc
-any_is f (n ∷ ns) is = elim (or_is (f n) (list_any f ns) is) as (λ x. (k : ℕ) × (f k ≡ true)) [
+any_is f (n ∷ ns) is = elim (or_cases (f n) (list_any f ns) is) as (λ x. (k : ℕ) × (f k ≡ true)) [
   | inl here ↦ (n, here)
   | inr later ↦ any_is f ns later
 ]
@@ -99,26 +66,26 @@ there_is s w i = ap holder_told i.player
 pub in_view_is : (s : Setting) (w : World) (o : ℕ) → IsWorldOf s w → is_in_view s w o ≡ true → IsInView (sights_of s w) o (chain w o)
 unfolding is_in_view
 in_view_is s w o i is =
-    let parts : (is_same (top_of (chain w o)) (location_of w) ≡ true) × (not (list_any (blocks_sight (sights_of s w)) (chain w o)) ≡ true) = and_is _ _ is in
+    let parts : (is_same (top_of (chain w o)) (location_of w) ≡ true) × (not (list_any (blocks_sight (sights_of s w)) (chain w o)) ≡ true) = and_parts _ _ is in
     record {
       chain = i.chains o;
       ends = same_is (top_of (chain w o)) i.room.holder (ap (is_same (top_of (chain w o))) (sym (here_is s w i)) ∙ parts.0) ∙ ap Some (sym (there_is s w i));
-      clear = not_is (list_any (blocks_sight (sights_of s w)) (chain w o)) parts.1;
+      clear = not-true (list_any (blocks_sight (sights_of s w)) (chain w o)) parts.1;
     }
 
 pub in_view_of : (s : Setting) (w : World) (o : ℕ) (steps : List Place) → IsWorldOf s w → IsInView (sights_of s w) o steps → is_in_view s w o ≡ true
 unfolding is_in_view
 in_view_of s w o steps i view =
     let same : steps ≡ chain w o = one_chain (place_of w) o steps (chain w o) view.chain (i.chains o) in
-    and_of _ _
+    and_from _ _
     (ap (is_same (top_of (chain w o))) (here_is s w i) ∙ same_of (top_of (chain w o)) i.room.holder (ap top_of (sym same) ∙ view.ends ∙ ap Some (there_is s w i)))
-    (not_of _ (ap (list_any (blocks_sight (sights_of s w))) (sym same) ∙ view.clear))
+    (not_from_false _ (ap (list_any (blocks_sight (sights_of s w))) (sym same) ∙ view.clear))
 
 -- ---- enclosing
 
 any_stands : (holder : ℕ) (steps : List Place) → list_any (is_held_by holder) steps ≡ true → StandsIn holder steps
 any_stands holder [] is = absurd cc
-any_stands holder (step ∷ steps) is = elim (or_is (holder == step.holder) (list_any (is_held_by holder) steps) is) as (λ x. StandsIn holder (step ∷ steps)) [
+any_stands holder (step ∷ steps) is = elim (or_cases (holder == step.holder) (list_any (is_held_by holder) steps) is) as (λ x. StandsIn holder (step ∷ steps)) [
   | inl here ↦ inl (eqb-true holder step.holder here)
   | inr later ↦ inr (any_stands holder steps later)
 ]
@@ -139,11 +106,11 @@ encloses_is s w holder o i = (
 
 light_to : (s : Setting) (w : World) → IsWorldOf s w → has_light s w ≡ true → HasLight (sights_of s w)
 unfolding has_light
-light_to s w i is = elim (or_is (is_true_at w lighted_flag (location_of w)) (list_any (gives_light s w) (objects_of s)) is) as (λ x. HasLight (sights_of s w)) [
+light_to s w i is = elim (or_cases (is_true_at w lighted_flag (location_of w)) (list_any (gives_light s w) (objects_of s)) is) as (λ x. HasLight (sights_of s w)) [
   | inl here ↦ inl (ap (is_true_of w lighted_flag) (there_is s w i) ∙ ap (is_true_at w lighted_flag) (sym (here_is s w i)) ∙ here)
   | inr lamp ↦
       let found : (o : ℕ) × (gives_light s w o ≡ true) = any_is (gives_light s w) (objects_of s) lamp in
-      let parts : (is_true_of w lit_flag found.0 ≡ true) × (is_in_view s w found.0 ≡ true) = and_is _ _ found.1 in
+      let parts : (is_true_of w lit_flag found.0 ≡ true) × (is_in_view s w found.0 ≡ true) = and_parts _ _ found.1 in
       inr (found.0, (parts.0, (chain w found.0, in_view_is s w found.0 i parts.1)))
 ]
 
@@ -151,7 +118,7 @@ light_from : (s : Setting) (w : World) → IsWorldOf s w → HasLight (sights_of
 unfolding has_light
 light_from s w i (inl here) = or_left _ _ (ap (is_true_at w lighted_flag) (here_is s w i) ∙ ap (is_true_of w lighted_flag) (sym (there_is s w i)) ∙ here)
 light_from s w i (inr lamp) =
-    or_right _ _ (any_of_range (gives_light s w) 0 s.count lamp.0 (omega arith) (omega (arith, i.there lit_flag lamp.0 lamp.1.0)) (and_of _ _ lamp.1.0 (in_view_of s w lamp.0 lamp.1.1.0 i lamp.1.1.1)))
+    or_right _ _ (any_of_range (gives_light s w) 0 s.count lamp.0 (omega arith) (omega (arith, i.there lit_flag lamp.0 lamp.1.0)) (and_from _ _ lamp.1.0 (in_view_of s w lamp.0 lamp.1.1.0 i lamp.1.1.1)))
 
 pub light_is : (s : Setting) (w : World) → IsWorldOf s w → (has_light s w ≡ true) ↔ HasLight (sights_of s w)
 light_is s w i = (light_to s w i, light_from s w i)
@@ -173,12 +140,12 @@ held_from s w o steps i is_chain stands = (encloses_is s w 0 o i).1 (steps, (is_
 
 thing_to : (s : Setting) (w : World) (o : ℕ) → IsWorldOf s w → is_visible_thing s w o ≡ true → IsVisibleThing (sights_of s w) o
 unfolding is_visible_thing
-thing_to s w o i is = elim (or_is ((o == 0) || by_door) by_view is) as (λ x. IsVisibleThing (sights_of s w) o) [
-  | inl first ↦ elim (or_is (o == 0) by_door first) as (λ x. IsVisibleThing (sights_of s w) o) [
+thing_to s w o i is = elim (or_cases ((o == 0) || by_door) by_view is) as (λ x. IsVisibleThing (sights_of s w) o) [
+  | inl first ↦ elim (or_cases (o == 0) by_door first) as (λ x. IsVisibleThing (sights_of s w) o) [
     | inl player ↦ inl (eqb-true o 0 player)
-    | inr door ↦ inr (inl (door_to s w o i (and_is _ _ door).0, light_to s w i (and_is _ _ door).1))
+    | inr door ↦ inr (inl (door_to s w o i (and_parts _ _ door).0, light_to s w i (and_parts _ _ door).1))
   ]
-  | inr view ↦ inr (inr (chain w o, (in_view_is s w o i (and_is _ _ view).0, lit_or_held (and_is _ _ view).1)))
+  | inr view ↦ inr (inr (chain w o, (in_view_is s w o i (and_parts _ _ view).0, lit_or_held (and_parts _ _ view).1)))
 ]
   where
     by_door : Bool
@@ -188,7 +155,7 @@ thing_to s w o i is = elim (or_is ((o == 0) || by_door) by_view is) as (λ x. Is
     by_view = is_in_view s w o && (has_light s w || encloses w 0 o)
 
     lit_or_held : (has_light s w || encloses w 0 o) ≡ true → HasLight (sights_of s w) ⊎ StandsIn 0 (chain w o)
-    lit_or_held is = elim (or_is (has_light s w) (encloses w 0 o) is) as (λ x. HasLight (sights_of s w) ⊎ StandsIn 0 (chain w o)) [
+    lit_or_held is = elim (or_cases (has_light s w) (encloses w 0 o) is) as (λ x. HasLight (sights_of s w) ⊎ StandsIn 0 (chain w o)) [
       | inl light ↦ inl (light_to s w i light)
       | inr held ↦ inr (held_to w o held)
     ]
@@ -196,8 +163,8 @@ thing_to s w o i is = elim (or_is ((o == 0) || by_door) by_view is) as (λ x. Is
 thing_from : (s : Setting) (w : World) (o : ℕ) → IsWorldOf s w → IsVisibleThing (sights_of s w) o → is_visible_thing s w o ≡ true
 unfolding is_visible_thing
 thing_from s w o i (inl player) = or_left ((o == 0) || (stands_here s o (location_of w) && has_light s w)) _ (or_left (o == 0) _ (eq-eqb o 0 player))
-thing_from s w o i (inr (inl door)) = or_left ((o == 0) || (stands_here s o (location_of w) && has_light s w)) _ (or_right (o == 0) _ (and_of _ _ (door_from s w o i door.0) (light_from s w i door.1)))
-thing_from s w o i (inr (inr view)) = or_right ((o == 0) || (stands_here s o (location_of w) && has_light s w)) _ (and_of _ _ (in_view_of s w o view.0 i view.1.0) (lit_or_held view.1.1))
+thing_from s w o i (inr (inl door)) = or_left ((o == 0) || (stands_here s o (location_of w) && has_light s w)) _ (or_right (o == 0) _ (and_from _ _ (door_from s w o i door.0) (light_from s w i door.1)))
+thing_from s w o i (inr (inr view)) = or_right ((o == 0) || (stands_here s o (location_of w) && has_light s w)) _ (and_from _ _ (in_view_of s w o view.0 i view.1.0) (lit_or_held view.1.1))
   where
     lit_or_held : HasLight (sights_of s w) ⊎ StandsIn 0 view.0 → (has_light s w || encloses w 0 o) ≡ true
     lit_or_held (inl light) = or_left (has_light s w) _ (light_from s w i light)
@@ -237,15 +204,15 @@ root_from false b c is = absurd cc
 touch_to : (s : Setting) (w : World) (o : ℕ) → IsWorldOf s w → is_touchable s w o ≡ true → IsTouchable (sights_of s w) o
 unfolding is_touchable
 touch_to s w o i is =
-    let parts : ((s.is_of o thing_kind && is_visible s w o) ≡ true) × (not (list_any (blocks_touch (sights_of s w)) (chain w o)) ≡ true) = and_is _ _ is in
-    let seen : (s.is_of o thing_kind ≡ true) × (is_visible s w o ≡ true) = and_is _ _ parts.0 in
-    (root_from _ _ _ seen.0, ((visible_is s w o i).0 seen.1, (chain w o, (i.chains o, not_is _ parts.1))))
+    let parts : ((s.is_of o thing_kind && is_visible s w o) ≡ true) × (not (list_any (blocks_touch (sights_of s w)) (chain w o)) ≡ true) = and_parts _ _ is in
+    let seen : (s.is_of o thing_kind ≡ true) × (is_visible s w o ≡ true) = and_parts _ _ parts.0 in
+    (root_from _ _ _ seen.0, ((visible_is s w o i).0 seen.1, (chain w o, (i.chains o, not-true _ parts.1))))
 
 touch_from : (s : Setting) (w : World) (o : ℕ) → IsWorldOf s w → IsTouchable (sights_of s w) o → is_touchable s w o ≡ true
 unfolding is_touchable
 touch_from s w o i t =
-    and_of _ _ (and_of _ _ (root_is _ _ _ t.0) ((visible_is s w o i).1 t.1.0))
-    (not_of _ (ap (list_any (blocks_touch (sights_of s w))) (sym (one_chain (place_of w) o t.1.1.0 (chain w o) t.1.1.1.0 (i.chains o))) ∙ t.1.1.1.1))
+    and_from _ _ (and_from _ _ (root_is _ _ _ t.0) ((visible_is s w o i).1 t.1.0))
+    (not_from_false _ (ap (list_any (blocks_touch (sights_of s w))) (sym (one_chain (place_of w) o t.1.1.0 (chain w o) t.1.1.1.0 (i.chains o))) ∙ t.1.1.1.1))
 
 pub touchable_is : (s : Setting) (w : World) (o : ℕ) → IsWorldOf s w → (is_touchable s w o ≡ true) ↔ IsTouchable (sights_of s w) o
 touchable_is s w o i = (touch_to s w o i, touch_from s w o i)

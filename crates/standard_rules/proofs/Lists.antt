@@ -2,7 +2,7 @@
 use Rattle.std.proofs.Common.{◌≡◌, ◌∙◌, ap, refl, sym, ℕ, Bool, false, List, [], ◌∷◌, Option, None, Some, inl, inr}
 use Rattle.std.specs.Prelude.{◌&&◌, filter}
 use Rattle.std.specs.List.{list_any}
-use Rattle.world_meaning.proofs.Bools.{either}
+use Rattle.std.proofs.lemmas.Bool.{cases_Bool}
 use Rattle.play_meaning.proofs.Asking.{held_at}
 use Rattle.play_meaning.specs.Machines.{holder_by}
 use Rattle.play_meaning.specs.Scripts.{scope_of}
@@ -20,14 +20,14 @@ use Rattle.world_meaning.specs.declared.place.Rel.TheVariants.{Part}
 filter_both : (p q : ℕ → Bool) (xs : List ℕ) → filter p (filter q xs) ≡ filter (λ x. p x && q x) xs
 filter_both p q [] = refl
 filter_both p q (x ∷ xs) =
-    elim (either (q x)) [
+    elim (cases_Bool (q x)) [
       | inl is ↦
-          elim (either (p x)) [
+          elim (cases_Bool (p x)) [
             | inl so ↦ rw (is, so) (ap (λ ys. x ∷ ys) (filter_both p q xs))
             | inr isnt ↦ rw (is, isnt) (filter_both p q xs)
           ]
       | inr isnt ↦
-          elim (either (p x)) [
+          elim (cases_Bool (p x)) [
             | inl so ↦ rw (isnt, so) (filter_both p q xs)
             | inr not_so ↦ rw (isnt, not_so) (filter_both p q xs)
           ]
@@ -50,7 +50,7 @@ things_seen s w now relation noun is =
 none_of_false : (p : ℕ → Bool) (xs : List ℕ) → filter (λ x. p x && false) xs ≡ []
 none_of_false p [] = refl
 none_of_false p (x ∷ xs) =
-    elim (either (p x)) [
+    elim (cases_Bool (p x)) [
       | inl is ↦ rw is (none_of_false p xs)
       | inr isnt ↦ rw isnt (none_of_false p xs)
     ]

@@ -1,7 +1,7 @@
 -- Choices and loops: jumps whose place is told when it is known.
 use Rattle.std.proofs.Common.{◌≡◌, ℕ, ◌+◌, ◌≤◌, nat_lt, Bool, true, false, List, [], ◌∷◌, ◌++◌, length, Option, None, Some, refl, sym, ap, ◌∙◌, arith, append_assoc, append-nil, length-append, is_some, slice_get}
 use Rattle.std.proofs.Math.Seq.{set-append_seam}
-use Rattle.std.proofs.lemmas.Bool.{ltb-true}
+use Rattle.std.proofs.lemmas.Bool.{ltb-true, false_from_ne_true}
 use Rattle.std.proofs.lemmas.List.Folds.{list_all-append}
 use Rattle.std.specs.List.{list_all}
 use Rattle.play_meaning.specs.Instructions.{sizes}
@@ -11,7 +11,7 @@ use Rattle.play_meaning.specs.declared.instruction.Instruction.TheVariants.{Begi
 use Rattle.story_code.specs.Emitting.{Emitting, aimed, aimed_code, aims, can_say_all, can_say_code, count_in, emitted, followed, kept_if, named, opens_few, place_in, set_if}
 use Rattle.story_code.specs.Spelling.{can_spell}
 use Rattle.story_code.specs.declared.emitting.tested.Tested.TheVariants as tested
-use Rattle.story_code.proofs.Followed.{and_first, and_second, can_say_front, emitted_seq, followed_seq, not_true, said_aimed, sizes_append}
+use Rattle.story_code.proofs.Followed.{and_first, and_second, can_say_front, emitted_seq, followed_seq, said_aimed, sizes_append}
 
 -- ---- what stands at the seam of two lists
 
@@ -198,7 +198,7 @@ module _ (first : ℕ) (e : Emitted) (condition a b : Part) where
   choice_lost : can_say_all e5 ≡ false → choice_done ≡ emitted start (choice condition a b)
   unfolding aimed
   choice_lost h5 =
-      let unsaid : can_say_all (followed first e (choice condition a b)) ≡ false = not_true _ (λ t. let no : ⊥ = cc (said_both 0 0 (sizes e4.code) (sizes e5.code) refl refl (ap can_say_all (sym chosen_is) ∙ t), h5) in no) in
+      let unsaid : can_say_all (followed first e (choice condition a b)) ≡ false = false_from_ne_true _ (λ t. let no : ⊥ = cc (said_both 0 0 (sizes e4.code) (sizes e5.code) refl refl (ap can_say_all (sym chosen_is) ∙ t), h5) in no) in
       ap (λ s. aimed (count_in taken_state.kept) (place_in other_state.kept) (aimed (count_in asked_state.kept) (place_in leapt_state.kept) s)) (lost_is h5)
       ∙ sym (not_kept first e (choice condition a b) unsaid)
 
@@ -341,7 +341,7 @@ module _ (first : ℕ) (e : Emitted) (k : ℕ) (passes : List Instruction) (body
   unfolding aimed
   loop_not_kept h1 h4 =
       let is1 = last_kept first e (one (Begin k)) h1 in
-      let unsaid : can_say_all (followed first e (loop k passes body)) ≡ false = not_true _ (λ t. let no : ⊥ = cc (said_exit (first + length b1.tests) 0 (sizes b4.code) refl (ap can_say_all (sym loop_is) ∙ t), h4) in no) in
+      let unsaid : can_say_all (followed first e (loop k passes body)) ≡ false = false_from_ne_true _ (λ t. let no : ⊥ = cc (said_exit (first + length b1.tests) 0 (sizes b4.code) refl (ap can_say_all (sym loop_is) ∙ t), h4) in no) in
       ap (λ s. let back = emitted turned_state (one (Jump (place_in s.kept))) in aimed (count_in s.kept) (place_in back.kept) back) is1
       ∙ ap (λ s. aimed (length b1.code) (place_in s.kept) s) (back_lost h4)
       ∙ sym (not_kept first e (loop k passes body) unsaid)

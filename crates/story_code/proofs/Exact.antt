@@ -4,6 +4,7 @@ use Rattle.std.specs.List.{list_all}
 use Rattle.std.proofs.Math.Seq.{drop-append_seam}
 use Rattle.std.proofs.lemmas.List.{get_or-set_other, get_or-set_same}
 use Rattle.std.proofs.lemmas.Grind.{common_steps}
+use Rattle.std.proofs.lemmas.Bool.{and_parts, false≢true}
 use Rattle.play_meaning.specs.Instructions.{Argument, BookOf, Integer, Place, StringOf, TestCode, opcode, row_of, size_of, sizes, width, widths}
 use Rattle.play_meaning.specs.SoundCodes.{Label, bare, way_of}
 use Rattle.play_meaning.specs.declared.instruction.Instruction.{Instruction}
@@ -16,7 +17,7 @@ use Rattle.story_code.specs.Passes.{Mark, all_meet, behind, if_so, is_bare_in, i
 use Rattle.story_code.specs.Soundness.{IsSoundCode}
 use Rattle.story_code.specs.Spelling.{HasNoFront, IsFront, Spells, argument_bytes, arguments_bytes, can_spell, spelled, spelling}
 use Rattle.story_code.specs.Walks.{bare_scope, checked, filled, filled_meets, fills, goal_met, met_from, scope_of, way_met}
-use Rattle.story_code.proofs.FrontLemmas.{Small, both_are, front_read}
+use Rattle.story_code.proofs.FrontLemmas.{Small, front_read}
 use Rattle.story_code.proofs.Marking.{Marked, marked}
 use Rattle.story_code.proofs.Passing.{sound_passes}
 use Rattle.story_code.proofs.Sounding.{passes_sound}
@@ -200,7 +201,7 @@ read_spelled : (n : ℕ) (code : List Instruction) → sizes code ≤ n → list
 read_spelled n [] le can = refl
 read_spelled zero (i ∷ is) le can = let no : ⊥ = omega (arith, le, size_of-positive i) in absurd no
 read_spelled (suc n) (i ∷ is) le can =
-    let c = both_are (can_spell i) (list_all can_spell is) can in
+    let c = and_parts (can_spell i) (list_all can_spell is) can in
     let le' : sizes is ≤ n = omega (arith, le, size_of-positive i) in
     let gone : drop (size_of i) (spelled i ++ spelling is) ≡ spelling is = ap (λ m. drop m (spelled i ++ spelling is)) (sym (spelled_size i)) ∙ drop-append_seam (spelled i) (spelling is) in
     ap (λ o. read_on o (λ j. read_within n (drop (size_of j) (spelled i ++ spelling is)))) (front_spelled i (spelling is) c.0)
@@ -276,9 +277,6 @@ front_exact bytes (Some i) small e =
     let behind : Small (r.args ++ r.rest) = λ k. all (suc k) in
     cut_by i bytes r.args r.rest r.cut (r.says.said (small_front r.args r.rest behind))
 
-false_true : false ≡ true → ⊥
-false_true h = cc
-
 pub checked_exact : (z : Sizes) (bytes : List ℕ) (n : ℕ) (b : Bool) → Small bytes → length bytes ≤ n → length bytes < 2 ^ 16 → b ≡ checked z bytes (replicate n 0) → IsTrue b ↔ IsSoundCode z bytes
 unfolding code_in
 checked_exact z bytes n b small short few e = (λ h. to h (code_in bytes) refl, from)
@@ -288,8 +286,8 @@ checked_exact z bytes n b small short few e = (λ h. to h (code_in bytes) refl, 
 
     to : b ≡ true → (o : Option (List Instruction)) → code_in bytes ≡ o → IsSoundCode z bytes
     to h None k =
-        let f = both_are _ _ (sym e ∙ h) in
-        absurd (false_true (ap (λ o. filled_meets z o (fills z 0 (Some (bare [])) o (replicate n 0))) (sym k) ∙ f.1))
+        let f = and_parts _ _ (sym e ∙ h) in
+        absurd (false≢true (ap (λ o. filled_meets z o (fills z 0 (Some (bare [])) o (replicate n 0))) (sym k) ∙ f.1))
     to h (Some code) k = record {
       short = few;
       code = code;

@@ -1,6 +1,7 @@
 -- The instruction at a place of a code stands in front of the bytes from there on.
 use Rattle.std.proofs.Common.{◌≡◌, ◌∙◌, ◌++◌, ap, sym, ℕ, suc, ◌+◌, ◌-◌, ◌<◌, true, inl, inr, List, [], ◌∷◌, length, drop, refl, Some, arith}
 use Rattle.std.specs.List.{list_all}
+use Rattle.std.proofs.lemmas.Bool.{and_parts}
 use Rattle.play_meaning.specs.Instructions.{at_place, size_of, sizes}
 use Rattle.play_meaning.specs.declared.instruction.Instruction.{Instruction}
 use Rattle.story_code.specs.Fronts.{front}
@@ -9,7 +10,6 @@ use Rattle.story_code.specs.Soundness.{IsSoundCode, Judged}
 use Rattle.story_code.specs.Spelling.{Spells, can_spell, spelled, spelling}
 use Rattle.play_meaning.proofs.Unstuck.{inside}
 use Rattle.story_code.proofs.Exact.{spelled_size, spelling_size, spells_in}
-use Rattle.story_code.proofs.FrontLemmas.{both_are}
 use Rattle.story_code.proofs.Places.{at_cases}
 use Rattle.story_code.proofs.SpelledFronts.{front_spelled}
 
@@ -20,7 +20,7 @@ skipped (x ∷ xs) ys m n e = let more : m ≡ suc (length xs + n) = omega (arit
 fetched_in : (code : List Instruction) → list_all can_spell code ≡ true → (place : ℕ) (i : Instruction) → at_place code place ≡ Some i → front (drop place (spelling code)) ≡ Some i
 fetched_in [] can place i at = absurd cc
 fetched_in (j ∷ js) can place i at =
-    let can_both = both_are (can_spell j) (list_all can_spell js) can in
+    let can_both = and_parts (can_spell j) (list_all can_spell js) can in
     elim (at_cases j js place i at) [
       | inl f ↦ ap (λ p. front (drop p (spelled j ++ spelling js))) f.0 ∙ front_spelled j (spelling js) can_both.0 ∙ ap Some f.1
       | inr f ↦

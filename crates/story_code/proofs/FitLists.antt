@@ -3,6 +3,7 @@ use Rattle.std.proofs.Common.{◌≡◌, ◌∙◌, refl, sym, ap, ℕ, zero, su
 use Rattle.std.proofs.lemmas.List.{take_all}
 use Rattle.std.proofs.Math.ListN.{drop_of_length-le}
 use Rattle.std.specs.List.{list_all}
+use Rattle.std.proofs.Math.Bool.{and-true}
 use Rattle.play_meaning.specs.Composed.{if_meant, repeat_meant}
 use Rattle.play_meaning.specs.Meant.{body_meant, branches_meant, by_operator, clause_meant, condition_meant, conjunction_meant, description_meant, joined_meant, not_if, parts_meant, phrase_meant, piece_meant, pieces_meant, said_meant, term_meant}
 use Rattle.play_meaning.specs.Trees as tree
@@ -34,10 +35,6 @@ none_first a b r is not_so = ap (λ x. x && b) (sym not_so ∙ is)
 pub then_next : (a b r : Bool) → r ≡ a → r ≡ true → b ≡ (a && b)
 then_next a b r is so = ap (λ x. x && b) (sym so ∙ is)
 
-and_nothing : (a : Bool) → (a && true) ≡ a
-and_nothing true = refl
-and_nothing false = refl
-
 pub operator_fits : (z : Counts) (k : ℕ) (operator : Operator) (a b : tree.Number) (room : ℕ) → number_fits z k (by_operator operator a b) room ≡ (number_fits z k a room && number_fits z k b (room - 1))
 unfolding number_fits
 operator_fits z k Plus a b room = refl
@@ -63,7 +60,7 @@ not_fits z k false c room = refl
 pub clauses_tell : (z : Counts) (k : ℕ) (first : tree.Condition) (rest : List Clause) (room : ℕ)
     → condition_fits z k (fold (λ all clause. tree.And all (clause_meant clause)) first rest) room ≡ (condition_fits z k first room && list_all (λ c. condition_fits z k (clause_meant c) (room - 1)) rest)
 unfolding condition_fits
-clauses_tell z k first [] room = sym (and_nothing (condition_fits z k first room))
+clauses_tell z k first [] room = sym (and-true (condition_fits z k first room))
 clauses_tell z k first (clause ∷ rest) room =
     clauses_tell z k (tree.And first (clause_meant clause)) rest room
     ∙ and_assoc (condition_fits z k first room) (condition_fits z k (clause_meant clause) (room - 1)) (list_all (λ c. condition_fits z k (clause_meant c) (room - 1)) rest)
@@ -71,7 +68,7 @@ clauses_tell z k first (clause ∷ rest) room =
 pub conjunctions_tell : (z : Counts) (k : ℕ) (first : tree.Condition) (rest : List Conjunction) (room : ℕ)
     → condition_fits z k (fold (λ any conjunction. tree.Or any (conjunction_meant conjunction)) first rest) room ≡ (condition_fits z k first room && list_all (λ c. condition_fits z k (conjunction_meant c) (room - 1)) rest)
 unfolding condition_fits
-conjunctions_tell z k first [] room = sym (and_nothing (condition_fits z k first room))
+conjunctions_tell z k first [] room = sym (and-true (condition_fits z k first room))
 conjunctions_tell z k first (conjunction ∷ rest) room =
     conjunctions_tell z k (tree.Or first (conjunction_meant conjunction)) rest room
     ∙ and_assoc (condition_fits z k first room) (condition_fits z k (conjunction_meant conjunction) (room - 1)) (list_all (λ c. condition_fits z k (conjunction_meant c) (room - 1)) rest)
@@ -147,7 +144,7 @@ pub branches_tell : (z : Counts) (string : List ℕ → ℕ) (k : ℕ) (branches
 unfolding body_fits phrase_fits
 branches_tell z string k [] others = refl
 branches_tell z string k (branch ∷ branches) others =
-    and_nothing _ ∙ ap (λ b. condition_fits z k (condition_meant branch.condition) 64 && (body_fits z string k (body_meant branch.phrases.items) && b)) (branches_tell z string k branches others)
+    and-true _ ∙ ap (λ b. condition_fits z k (condition_meant branch.condition) 64 && (body_fits z string k (body_meant branch.phrases.items) && b)) (branches_tell z string k branches others)
     ∙ sym (four (condition_fits z k (condition_meant branch.condition) 64) (body_fits z string k (body_meant branch.phrases.items)) (list_all (branch_fits z string k) branches) (body_fits z string k others))
   where
     four : (a b c d : Bool) → (((a && b) && c) && d) ≡ (a && (b && (c && d)))

@@ -5,6 +5,7 @@ use Rattle.std.proofs.Math.Bool.{and-true}
 use Rattle.std.proofs.lemmas.List.{take_all}
 use Rattle.std.specs.List.{list_all}
 use Rattle.std.proofs.lemmas.List.Folds.{list_all-append}
+use Rattle.std.proofs.lemmas.Bool.{false_from_ne_true}
 use Rattle.play_meaning.specs.Instructions.{size_of, sizes}
 use Rattle.play_meaning.specs.Translation.{Emitted, Part, behind, nothing, one, seq, testing, these}
 use Rattle.play_meaning.specs.declared.instruction.Instruction.{Instruction}
@@ -66,16 +67,12 @@ followed_seq first e a b =
     ap (behind (behind e ea)) (ap (λ m. b m (sizes (e.code ++ ea.code))) n ∙ ap (b (first + length e.tests + length ea.tests)) p)
     ∙ behind_behind e ea (b (first + length e.tests + length ea.tests) (sizes e.code + sizes ea.code))
 
-pub not_true : (x : Bool) → (x ≡ true → ⊥) → x ≡ false
-not_true true h = absurd (h refl)
-not_true false h = refl
-
 kept_front : (first : ℕ) (a b : Part) (e : Emitted) (x : Bool) → can_say_all (followed first e a) ≡ x → followed_if first b (kept_if x (followed first e a)) ≡ followed_if first (seq a b) (Some e)
 kept_front first a b e true h = ap (λ all. kept_if (can_say_all all) all) (followed_seq first e a b)
 kept_front first a b e false h =
     let front = followed first e a in
     let all = followed first front b in
-    let short : can_say_all all ≡ false = not_true _ (λ t. let no : ⊥ = cc (can_say_front front (b (first + length front.tests) (sizes front.code)) t, h) in no) in
+    let short : can_say_all all ≡ false = false_from_ne_true _ (λ t. let no : ⊥ = cc (can_say_front front (b (first + length front.tests) (sizes front.code)) t, h) in no) in
     ap (λ x. kept_if x all) (sym short) ∙ ap (λ all. kept_if (can_say_all all) all) (followed_seq first e a b)
 
 kept_seq : (first : ℕ) (a b : Part) (kept : Option Emitted) → followed_if first b (followed_if first a kept) ≡ followed_if first (seq a b) kept
@@ -256,7 +253,7 @@ pub said_stop : (place : ℕ) (rest all : List Instruction) (d : Instruction) �
 said_stop place [] all d l so_far found = absurd (omega arith)
 said_stop place (i ∷ is) all d l so_far found =
     let stop : can_say_code (so_far.done ++ i ∷ []) ≡ false = one_more 65536 so_far.done i so_far.said ∙ ap (λ p. may_stand p i) (sym so_far.at) ∙ if_none _ (may_stand place i) found in
-    sym (not_true _ (λ t. let no : ⊥ = cc (can_say_shorter (so_far.done ++ i ∷ []) is (ap can_say_code (append_assoc so_far.done (i ∷ []) is ∙ so_far.whole) ∙ t), stop) in no))
+    sym (false_from_ne_true _ (λ t. let no : ⊥ = cc (can_say_shorter (so_far.done ++ i ∷ []) is (ap can_say_code (append_assoc so_far.done (i ∷ []) is ∙ so_far.whole) ∙ t), stop) in no))
 
 -- ---- tests
 
@@ -307,7 +304,7 @@ cant_name n (tested.Names naming k) h = same_flag _ h
 cant_name n (tested.Next k) h = ap (λ x. x && true) h
 
 unnamed : (code : List Instruction) (i : Instruction) → can_spell i ≡ false → can_say_code (code ++ i ∷ []) ≡ false
-unnamed code i h = not_true _ (λ t. let no : ⊥ = cc (all_end code i (and_first _ _ (and_second (nat_lt (sizes (code ++ i ∷ [])) 65536) _ t)), h) in no)
+unnamed code i h = false_from_ne_true _ (λ t. let no : ⊥ = cc (all_end code i (and_first _ _ (and_second (nat_lt (sizes (code ++ i ∷ [])) 65536) _ t)), h) in no)
   where
     all_end : (code : List Instruction) (i : Instruction) → list_all can_spell (code ++ i ∷ []) ≡ true → can_spell i ≡ true
     all_end code i t = and_first (can_spell i) true (and_second (list_all can_spell code) _ (sym (list_all-append can_spell code (i ∷ [])) ∙ t))

@@ -16,6 +16,7 @@ use borrow.Author.Differences.{fits_in}
 use mir.Val.{Fits}
 use mir.ValLaws.{of_z_fits, to_z-Fits, to_z-of_z}
 use Rattle.std.proofs.lemmas.Int.{of_z-to_z}
+use Rattle.std.proofs.lemmas.Bool.{and_parts}
 use Rattle.story_code.specs.Spelling.{arguments_bytes, is_integer, can_say, can_spell, choice_number, form_number, side_number}
 use Rattle.story_code.specs.Passes.{is_nil}
 use Rattle.story_code.specs.Fronts.{by_byte, by_relation, by_word, choice_of, common_in, count_in, first_related, first_with, flag_in, form_of, front, front_by, has_byte, has_relation, has_word, integer_in, name_in, names_in, next_in, plain_ones, relation_of, set_flag_in, side_of, try_in, with_byte, with_relation, with_word, word_of}
@@ -54,10 +55,6 @@ word_bytes high low h l = sym (be_bytes_2 (high ∷ low ∷ []) (word_of high lo
     small (suc zero) = l
     small (suc (suc k)) = omega arith
 
-pub both_are : (a b : Bool) → (a && b) ≡ true → (a ≡ true) × (b ≡ true)
-both_are true b h = (refl, h)
-both_are false b h = let no : ⊥ = cc in absurd no
-
 -- ---- lists of instructions that are read alike
 
 abbrev AllAre : (Instruction → Type 0) → List Instruction → Type 0
@@ -81,7 +78,7 @@ read_by b i args rest h = record { args = args; rest = rest; cut = ap (λ n. n �
 -- those that have no arguments
 bare_ones : (is : List Instruction) → list_all (λ i. is_nil (row_of i).arguments) is ≡ true → AllAre (λ i. Says i []) is
 bare_ones [] h = tt
-bare_ones (i ∷ is) h = (no_arguments (row_of i).arguments refl (both_are (is_nil (row_of i).arguments) _ h).0, bare_ones is (both_are (is_nil (row_of i).arguments) _ h).1)
+bare_ones (i ∷ is) h = (no_arguments (row_of i).arguments refl (and_parts (is_nil (row_of i).arguments) _ h).0, bare_ones is (and_parts (is_nil (row_of i).arguments) _ h).1)
   where
     no_arguments : (args : List Argument) → (row_of i).arguments ≡ args → is_nil args ≡ true → Says i []
     no_arguments [] e h = says i [] (ap widths (sym e)) (ap arguments_bytes (sym e)) (ap (list_all can_say) e)

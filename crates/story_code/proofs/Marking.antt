@@ -1,6 +1,7 @@
 -- A code that passes is sound.
-use Rattle.std.proofs.Common.{◌≡◌, ◌⊎◌, inl, inr, ℕ, ◌+◌, ◌<◌, ◌≤◌, ◌==◌, Bool, true, false, not, nat_lt, if◌then◌else◌, List, [], ◌∷◌, length, Option, Some, None, refl, sym, ap, ◌∙◌, arith}
+use Rattle.std.proofs.Common.{◌≡◌, ◌⊎◌, inl, inr, ℕ, ◌+◌, ◌<◌, ◌≤◌, ◌==◌, Bool, true, false, nat_lt, if◌then◌else◌, List, [], ◌∷◌, length, Option, Some, None, refl, sym, ap, ◌∙◌, arith}
 use Rattle.std.proofs.lemmas.Grind.{common_steps}
+use Rattle.std.proofs.lemmas.Bool.{and_parts, not-true}
 use Rattle.play_meaning.specs.Instructions.{at_place, size_of, sizes}
 use Rattle.play_meaning.specs.SoundCodes.{Label, bare, way_of}
 use Rattle.play_meaning.specs.declared.instruction.Instruction.{Instruction}
@@ -12,7 +13,6 @@ use Rattle.story_code.specs.declared.sizes.Sizes.{Sizes}
 use Rattle.play_meaning.specs.Operands.{may_hold, names_what_is_there, operands_behind}
 use Rattle.play_meaning.specs.SoundCodes.{loops_around}
 use Rattle.story_code.specs.Passes.{Mark, behind, closed_at, ends_well, if_so, is_allowed, is_nil, left_behind, look, marks_from, opened_by, stands_at, way_behind, with_mark}
-use Rattle.story_code.proofs.FrontLemmas.{both_are}
 use Rattle.story_code.proofs.Places.{at_past}
 use Rattle.story_code.proofs.WalkLemmas.{size_of-positive}
 
@@ -39,10 +39,6 @@ pub nil_is : {A : Type 0} (xs : List A) → is_nil xs ≡ true → xs ≡ []
 nil_is [] h = refl
 nil_is (x ∷ xs) h = let no : ⊥ = cc in absurd no
 
-pub not_is : (b : Bool) → not b ≡ true → b ≡ false
-not_is true h = let no : ⊥ = cc in absurd no
-not_is false h = refl
-
 pub eq_is : (a b : ℕ) → (a == b) ≡ true → a ≡ b
 eq_is a b h = grind (arith, common_steps, h)
 
@@ -55,13 +51,13 @@ none_some c h = cc
 closed_is : (to here : ℕ) (ls : List OpenLoop) (l : Label) → closed_at to here ls ≡ Some l → (outer : List OpenLoop) × ((ls ≡ record { head = to; exit = here } ∷ outer) × (l ≡ bare outer))
 closed_is to here [] l h = let no : ⊥ = cc in absurd no
 closed_is to here (o ∷ outer) l h =
-    let a = so_is _ (bare outer) l h in let b = both_are _ _ a.0 in
+    let a = so_is _ (bare outer) l h in let b = and_parts _ _ a.0 in
     (outer, (ap (λ n. record { head = n; exit = o.exit } ∷ outer) (eq_is _ _ b.0) ∙ ap (λ n. record { head = to; exit = n } ∷ outer) (eq_is _ _ b.1), a.1))
 
 stands_is : (p exit : ℕ) (ls : List OpenLoop) → stands_at p exit ls ≡ true → (outer : List OpenLoop) × (ls ≡ record { head = p; exit = exit } ∷ outer)
 stands_is p exit [] h = let no : ⊥ = cc in absurd no
 stands_is p exit (o ∷ outer) h =
-    let b = both_are _ _ h in
+    let b = and_parts _ _ h in
     (outer, ap (λ n. record { head = n; exit = o.exit } ∷ outer) (eq_is _ _ b.0) ∙ ap (λ n. record { head = p; exit = n } ∷ outer) (eq_is _ _ b.1))
 
 opened_is : (w : Way) (q : ℕ) (ls : List OpenLoop) (l : Label) → opened_by w q ls ≡ Some l → (exit : ℕ) × ((w ≡ Turns exit) × (l ≡ bare (record { head = q; exit = exit } ∷ ls)))
@@ -78,16 +74,16 @@ leap_is p q to ls rest l false false e n h =
     inr (le, (c.0, (c.1.0, (n, c.1.1))))
 
 passed : (w : Way) (p q : ℕ) (ks : List Sort) (ls : List OpenLoop) (rest : List Instruction) (l : Label) → way_behind w p q ks ls rest ≡ Some l → Passed w p q ks ls rest l
-passed Straight p q ks ls rest l h = let a = so_is _ (record { operands = ks; loops = ls }) l h in (not_is _ a.0, a.1)
-passed (Branch to) p q ks ls rest l h = let a = so_is _ (bare ls) l h in let b = both_are _ _ a.0 in let c = both_are _ _ b.1 in (nil_is ks b.0, (lt_is _ _ c.0, (not_is _ c.1, a.1)))
+passed Straight p q ks ls rest l h = let a = so_is _ (record { operands = ks; loops = ls }) l h in (not-true _ a.0, a.1)
+passed (Branch to) p q ks ls rest l h = let a = so_is _ (bare ls) l h in let b = and_parts _ _ a.0 in let c = and_parts _ _ b.1 in (nil_is ks b.0, (lt_is _ _ c.0, (not-true _ c.1, a.1)))
 passed (Leap to) p q ks ls rest l h = let a = if_is _ _ l h in (nil_is ks a.0, leap_is p q to ls rest l _ _ refl refl a.1)
 passed Opens p q ks ls [] l h = absurd (none_some l (if_is (is_nil ks) None l h).1)
 passed Opens p q ks ls (n ∷ more) l h =
     let a = if_is _ _ l h in let b = opened_is (way_of n) q ls l a.1 in
     (nil_is ks a.0, (n, (more, (b.0, (refl, (b.1.0, b.1.1))))))
 passed (Turns exit) p q ks ls rest l h =
-    let a = so_is _ (bare ls) l h in let b = both_are _ _ a.0 in let c = both_are _ _ b.1 in let d = stands_is p exit ls c.0 in
-    (nil_is ks b.0, (d.0, (d.1, (not_is _ c.1, a.1))))
+    let a = so_is _ (bare ls) l h in let b = and_parts _ _ a.0 in let c = and_parts _ _ b.1 in let d = stands_is p exit ls c.0 in
+    (nil_is ks b.0, (d.0, (d.1, (not-true _ c.1, a.1))))
 passed Ends p q ks ls rest l h = let e : l ≡ bare ls = cc in e
 
 -- one step
@@ -108,8 +104,8 @@ step_is : (z : Sizes) (p : ℕ) (i : Instruction) (rest : List Instruction) (l l
 unfolding behind is_allowed
 step_is z p i rest l l' h =
     let a = if_is _ _ l' h in
-    let b = both_are _ _ a.0 in
-    let c = both_are _ _ b.0 in
+    let b = and_parts _ _ a.0 in
+    let c = and_parts _ _ b.0 in
     step_by z p i rest l l' (operands_behind z.counts i l.operands) c.0 c.1 b.1 refl a.1
 
 -- the marks, step by step

@@ -1,6 +1,7 @@
 -- Sound code passes.
 use Rattle.std.proofs.Common.{◌≡◌, ◌⊎◌, inl, inr, ℕ, ◌+◌, ◌-◌, ◌<◌, ◌≤◌, ◌==◌, Bool, true, false, ◌&&◌, not, nat_lt, if◌then◌else◌, List, [], ◌∷◌, length, Some, None, refl, sym, ap, ◌∙◌, subst, arith}
 use Rattle.std.proofs.lemmas.Grind.{common_steps}
+use Rattle.std.proofs.lemmas.Bool.{not-true}
 use Rattle.play_meaning.specs.Instructions.{at_place, size_of, sizes}
 use Rattle.play_meaning.specs.SoundCodes.{bare, way_of}
 use Rattle.play_meaning.specs.declared.instruction.Instruction.{Instruction}
@@ -27,10 +28,6 @@ same_loop-refl (a ∷ outer) = eq_same a.head
 
 closed_own : (p q : ℕ) (outer : List OpenLoop) → closed_at p q (record { head = p; exit = q } ∷ outer) ≡ Some (bare outer)
 closed_own p q outer = ap (λ b. if_so (b && (q == q)) (bare outer)) (eq_same p) ∙ ap (λ b. if_so b (bare outer)) (eq_same q)
-
-not_not : (b : Bool) → not b ≡ true → b ≡ false
-not_not true h = let no : ⊥ = cc in absurd no
-not_not false h = refl
 
 some_same : (a b : Instruction) → Some a ≡ Some b → a ≡ b
 some_same a b h = cc
@@ -63,7 +60,7 @@ module _ (z : Sizes) (whole : List Instruction) (s : IsSound z.counts z.role who
   leap_passes p q to ls rest e (inr f) =
       let lt : nat_lt p to ≡ false = grind (arith, common_steps, f.0) in
       let more = has_more q rest f.1.1.1.0.0 f.1.1.1.0.1 e in
-      let some : is_nil rest ≡ false = not_not (is_nil rest) more in
+      let some : is_nil rest ≡ false = not-true (is_nil rest) more in
       ap (λ b. if b then Some (bare ls) else (if is_nil rest then None else closed_at to q ls)) lt
       ∙ ap (λ b. if b then None else closed_at to q ls) some ∙ ap (closed_at to q) f.1.1.0 ∙ closed_own to q f.1.0 ∙ ap Some (sym f.1.1.1.1)
 

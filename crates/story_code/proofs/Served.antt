@@ -2,6 +2,7 @@
 use Rattle.std.proofs.Common.{◌≡◌, ◌∙◌, ap, sym, subst, ℕ, zero, suc, ◌+◌, ◌<◌, ◌≤◌, Bool, true, false, ◌==◌, nat_lt, List, [], ◌∷◌, length, refl, Option, Some, None, ℤ, arith}
 use Rattle.std.specs.Prelude.{◌&&◌, MatchOption, if◌then◌else◌, is_some, slice_get}
 use Rattle.std.proofs.lemmas.Bool.{and_parts, eqb-true, ltb-true}
+use Rattle.std.proofs.lemmas.Option.{same_Some}
 use Rattle.play_meaning.specs.declared.instruction.Instruction.TheVariants as code
 use Rattle.play_meaning.specs.Instructions.{at_place, sizes}
 use Rattle.play_meaning.specs.Machines.{Frame, Goes, State, does}
@@ -18,9 +19,6 @@ use Rattle.play_meaning.specs.declared.operand.Sort.TheVariants.{Number, NumberO
 use Rattle.play_meaning.proofs.States.{ahead, finds, keeps, within}
 use Rattle.story_code.specs.Runs.{AreSoundTogether, IsFetched, IsNamedTest, IsStanding, IsTestAt, LeadsOn, LoopsSuit, MayRead, NamesItsTest, Standing, code_at, code_told, gives_one}
 use Rattle.story_code.specs.Soundness.{Judged}
-
-pub some_is : {A : Type 0} (x y : A) → Some x ≡ Some y → x ≡ y
-some_is x y e = cc
 
 -- a number is given whatever it serves as
 num_given : (z : Counts) (n : ℤ) → is_some (gives z (code.Num n)) ≡ true
@@ -246,7 +244,7 @@ blank = record { places = []; flags = []; numbers = []; variables = []; scenes =
 pub fetched_by : (judged : List Judged) (s : Standing) (may : IsStanding judged s) (j : Judged) (result : Option Instruction) → AreSoundTogether judged → length s.loops ≤ 9
     → slice_get judged s.code ≡ Some j → sizes (code_told j) < 65536 → ((i : Instruction) → at_place (code_told j) s.place ≡ Some i → result ≡ Some i) → MatchOption result ⊥ (IsFetched judged s)
 fetched_by judged s may j result together nine there short reads =
-    let same : may.code ≡ j = some_is may.code j (sym may.there ∙ there) in
+    let same : may.code ≡ j = same_Some may.code j (sym may.there ∙ there) in
     let stands = (may.stands (fresh blank)).place in
     let got : result ≡ Some stands.0 = reads stands.0 (ap (λ (k : Judged). at_place (code_told k) s.place) (sym same) ∙ stands.1) in
     subst (λ o. MatchOption o ⊥ (IsFetched judged s)) (sym got)

@@ -1,6 +1,7 @@
 -- Of a code that passes, what was marked is known at each place.
 use Rattle.std.proofs.Common.{◌≡◌, inl, inr, ℕ, ◌+◌, ◌-◌, ◌≤◌, ◌==◌, Bool, true, false, nat_lt, if◌then◌else◌, List, [], ◌∷◌, length, Option, Some, None, refl, sym, ap, ◌∙◌, subst, arith}
 use Rattle.std.proofs.lemmas.Grind.{common_steps}
+use Rattle.std.proofs.lemmas.Bool.{and_parts, not-true}
 use Rattle.play_meaning.specs.Instructions.{at_place, size_of, sizes}
 use Rattle.play_meaning.specs.SoundCodes.{Label, bare, way_of}
 use Rattle.play_meaning.specs.declared.instruction.Instruction.{Instruction}
@@ -15,8 +16,7 @@ use Rattle.play_meaning.specs.declared.instruction.Instruction.TheVariants.{Answ
 use Rattle.play_meaning.specs.declared.operand.Use.{Use}
 use Rattle.play_meaning.specs.declared.operand.Use.TheVariants.{Body, Describing, Test}
 use Rattle.story_code.specs.Passes.{Mark, all_meet, ends_well, is_bare_in, is_nil, look, marks_from, met, passes, same_loop, way_meets}
-use Rattle.story_code.proofs.FrontLemmas.{both_are}
-use Rattle.story_code.proofs.Marking.{Marked, Passed, Step, eq_is, look_past, look_place, marked, nil_is, none_some, not_is}
+use Rattle.story_code.proofs.Marking.{Marked, Passed, Step, eq_is, look_past, look_place, marked, nil_is, none_some}
 use Rattle.story_code.proofs.Places.{at_cases, at_past}
 use Rattle.story_code.proofs.WalkLemmas.{size_of-positive}
 
@@ -35,7 +35,7 @@ module _ (z : Sizes) (whole : List Instruction) (all : List Mark) where
     views = λ q le. viewed q le;
     found = λ r. found r;
     ends = omega (arith, s.ends);
-    meets = (both_are _ _ (ap (all_meet all) (sym s.marks.1.1.1.0) ∙ s.meets)).1;
+    meets = (and_parts _ _ (ap (all_meet all) (sym s.marks.1.1.1.0) ∙ s.meets)).1;
   }
     where
       viewed : (q : ℕ) → p + size_of i ≤ q → look all q ≡ look s.marks.1.0 q
@@ -51,7 +51,7 @@ module _ (z : Sizes) (whole : List Instruction) (all : List Mark) where
           ap (at_place whole) e ∙ s.found (size_of i + r) ∙ at_past i is (size_of i + r) r refl
 
   meets_here : (p : ℕ) (l : Label) (i : Instruction) (is : List Instruction) (ms : List Mark) (s : Standing p l (i ∷ is) ms) → way_meets (way_of i) all p l.loops ≡ true
-  meets_here p l i is ms s = (both_are _ _ (ap (all_meet all) (sym s.marks.1.1.1.0) ∙ s.meets)).0
+  meets_here p l i is ms s = (and_parts _ _ (ap (all_meet all) (sym s.marks.1.1.1.0) ∙ s.meets)).0
 
   abbrev Here : ℕ → Label → Type 0
   Here p l = ((i : Instruction) × (at_place whole p ≡ Some i)) × (look all p ≡ Some l)
@@ -190,7 +190,7 @@ module _ (z : Sizes) (whole : List Instruction) (all : List Mark) where
   goal_is : (q : ℕ) (ls : List OpenLoop) (found : Option Label) → look all q ≡ found → is_bare_in ls found ≡ true → ((l : Label) → look all q ≡ Some l → ((i : Instruction) × (at_place whole q ≡ Some i)) × Opened l.loops) → Opened ls → LeadsTo known q (bare ls)
   goal_is q ls None e h more o = let no : ⊥ = cc in absurd no
   goal_is q ls (Some l) e h more o =
-      let b = both_are _ _ h in
+      let b = and_parts _ _ h in
       let m = more l e in
       let same : l.loops ≡ ls = one_path l.loops ls m.1 o b.1 in
       (m.0, ap label_or e ∙ ap (λ k. record { operands = k; loops = l.loops }) (nil_is l.operands b.0) ∙ ap bare same)
@@ -290,4 +290,4 @@ sound_by z whole (Some all) h e m = record {
 
 pub passes_sound : (z : Sizes) (whole : List Instruction) → passes z whole ≡ true → IsSound z.counts z.role whole
 unfolding passes
-passes_sound z whole h = let b = both_are _ _ h in sound_by z whole (marks_from z 0 (Some (bare [])) whole) (not_is _ b.0) refl b.1
+passes_sound z whole h = let b = and_parts _ _ h in sound_by z whole (marks_from z 0 (Some (bare [])) whole) (not-true _ b.0) refl b.1

@@ -3,6 +3,7 @@ use Rattle.std.proofs.Common.{◌≡◌, ℕ, ◌<◌, ◌^◌, nat_lt, true, fa
 use Rattle.std.proofs.lemmas.Grind.{common_steps}
 use Rattle.std.proofs.lemmas.Nat.{from_be_bytes-to_be_bytes_2}
 use Rattle.std.specs.Int.{w16, from_be_bytes, to_be_bytes}
+use Rattle.std.proofs.lemmas.Bool.{and_parts}
 use Rattle.world_meaning.specs.declared.place.Rel.TheVariants.{In, On, Carried, Worn, Part}
 use Rattle.play_meaning.specs.declared.instruction.Asked.TheVariants.{IsFirst, IsNotFirst, IsNotSecond, IsSecond}
 use Rattle.play_meaning.specs.declared.instruction.Instruction.{Instruction}
@@ -10,14 +11,14 @@ use Rattle.play_meaning.specs.declared.instruction.Instruction.TheVariants.{Add,
 use Rattle.play_meaning.specs.declared.naming.Naming.TheVariants.{CapitalDefinite, CapitalIndefinite, Definite, Indefinite, Plain}
 use Rattle.story_code.specs.Spelling.{can_spell, spelled}
 use Rattle.story_code.specs.Fronts.{common_in, front, front_by}
-use Rattle.story_code.proofs.FrontLemmas.{both_are, integer_back}
+use Rattle.story_code.proofs.FrontLemmas.{integer_back}
 
 word_back : (n : ℕ) → nat_lt n 65536 ≡ true → from_be_bytes w16 (to_be_bytes w16 n) ≡ n
 word_back n h = let lt : n < 2 ^ 16 = grind (arith, common_steps, h) in from_be_bytes-to_be_bytes_2 n lt
 
 pub front_spelled : (i : Instruction) (rest : List ℕ) → can_spell i ≡ true → front (spelled i ++ rest) ≡ Some i
 unfolding front_by common_in
-front_spelled (Num n) rest h = ap (λ z. Some (Num z)) (integer_back n (both_are _ _ h).0)
+front_spelled (Num n) rest h = ap (λ z. Some (Num z)) (integer_back n (and_parts _ _ h).0)
 front_spelled Turns rest h = refl
 front_spelled Add rest h = refl
 front_spelled Sub rest h = refl
@@ -55,11 +56,11 @@ front_spelled (Happens n) rest h = refl
 front_spelled (SetProp n) rest h = refl
 front_spelled (SetVar n) rest h = refl
 front_spelled (Begin n) rest h = refl
-front_spelled (Say n) rest h = ap (λ w. Some (Say w)) (word_back n (both_are _ _ h).0)
-front_spelled (Follow n) rest h = ap (λ w. Some (Follow w)) (word_back n (both_are _ _ h).0)
-front_spelled (IfZero n) rest h = ap (λ w. Some (IfZero w)) (word_back n (both_are _ _ h).0)
-front_spelled (Jump n) rest h = ap (λ w. Some (Jump w)) (word_back n (both_are _ _ h).0)
-front_spelled (EndStory n) rest h = ap (λ w. Some (EndStory w)) (word_back n (both_are _ _ h).0)
+front_spelled (Say n) rest h = ap (λ w. Some (Say w)) (word_back n (and_parts _ _ h).0)
+front_spelled (Follow n) rest h = ap (λ w. Some (Follow w)) (word_back n (and_parts _ _ h).0)
+front_spelled (IfZero n) rest h = ap (λ w. Some (IfZero w)) (word_back n (and_parts _ _ h).0)
+front_spelled (Jump n) rest h = ap (λ w. Some (Jump w)) (word_back n (and_parts _ _ h).0)
+front_spelled (EndStory n) rest h = ap (λ w. Some (EndStory w)) (word_back n (and_parts _ _ h).0)
 front_spelled (Held In) rest h = refl
 front_spelled (Held On) rest h = refl
 front_spelled (Held Carried) rest h = refl
@@ -88,12 +89,12 @@ front_spelled (Name Definite) rest h = refl
 front_spelled (Name CapitalDefinite) rest h = refl
 front_spelled (Name Indefinite) rest h = refl
 front_spelled (Name CapitalIndefinite) rest h = refl
-front_spelled (Names Plain k n) rest h = ap (λ w. Some (Names Plain k w)) (word_back n (both_are _ _ h).0)
-front_spelled (Names Definite k n) rest h = ap (λ w. Some (Names Definite k w)) (word_back n (both_are _ _ h).0)
-front_spelled (Names CapitalDefinite k n) rest h = ap (λ w. Some (Names CapitalDefinite k w)) (word_back n (both_are _ _ h).0)
-front_spelled (Names Indefinite k n) rest h = ap (λ w. Some (Names Indefinite k w)) (word_back n (both_are _ _ h).0)
-front_spelled (Names CapitalIndefinite k n) rest h = ap (λ w. Some (Names CapitalIndefinite k w)) (word_back n (both_are _ _ h).0)
-front_spelled (Count k n) rest h = ap (λ w. Some (Count k w)) (word_back n (both_are _ _ h).0)
+front_spelled (Names Plain k n) rest h = ap (λ w. Some (Names Plain k w)) (word_back n (and_parts _ _ h).0)
+front_spelled (Names Definite k n) rest h = ap (λ w. Some (Names Definite k w)) (word_back n (and_parts _ _ h).0)
+front_spelled (Names CapitalDefinite k n) rest h = ap (λ w. Some (Names CapitalDefinite k w)) (word_back n (and_parts _ _ h).0)
+front_spelled (Names Indefinite k n) rest h = ap (λ w. Some (Names Indefinite k w)) (word_back n (and_parts _ _ h).0)
+front_spelled (Names CapitalIndefinite k n) rest h = ap (λ w. Some (Names CapitalIndefinite k w)) (word_back n (and_parts _ _ h).0)
+front_spelled (Count k n) rest h = ap (λ w. Some (Count k w)) (word_back n (and_parts _ _ h).0)
 front_spelled (Next k test exit) rest h =
-    let p = both_are (nat_lt test 65536) _ h in
-    ap (λ w. Some (Next k w (from_be_bytes w16 (to_be_bytes w16 exit)))) (word_back test p.0) ∙ ap (λ w. Some (Next k test w)) (word_back exit (both_are _ _ p.1).0)
+    let p = and_parts (nat_lt test 65536) _ h in
+    ap (λ w. Some (Next k w (from_be_bytes w16 (to_be_bytes w16 exit)))) (word_back test p.0) ∙ ap (λ w. Some (Next k test w)) (word_back exit (and_parts _ _ p.1).0)

@@ -2,7 +2,8 @@
 use Rattle.std.proofs.Common.{◌≡◌, ◌∙◌, ap, sym, subst, ℕ, ◌+◌, ◌-◌, ◌<◌, ◌≤◌, Bool, true, false, ◌==◌, nat_lt, ◌⊎◌, List, [], ◌∷◌, length, drop, refl, Option, Some, None, inl, inr, arith}
 use Rattle.std.specs.List.{list_all}
 use Rattle.std.specs.Prelude.{◌&&◌, IsTrue, slice_get}
-use Rattle.std.proofs.lemmas.Bool.{and_parts, eq-eqb, eqb-true, lt-ltb, ltb-false, ltb-true}
+use Rattle.std.proofs.lemmas.Bool.{and_parts, eq-eqb, eqb-true, lt-ltb, ltb-false, ltb-true, and_from}
+use Rattle.std.proofs.lemmas.Option.{same_Some}
 use Rattle.play_meaning.specs.Instructions.{at_place, size_of}
 use Rattle.play_meaning.specs.declared.instruction.Instruction.{Instruction}
 use Rattle.play_meaning.specs.declared.operand.Use.{Use}
@@ -16,7 +17,6 @@ use Rattle.story_code.proofs.Answered.{there_long}
 use Rattle.story_code.proofs.Exact.{spells_in}
 use Rattle.story_code.proofs.Fetched.{told}
 use Rattle.story_code.proofs.Places.{at_cases, at_past}
-use Rattle.story_code.proofs.Served.{some_is}
 use Rattle.story_code.proofs.WalkLemmas.{code_is_none, code_splits}
 
 eqb-refl : (n : ℕ) → (n == n) ≡ true
@@ -31,9 +31,6 @@ or_equal m n less = by (nat_lt m n) refl
     by : (b : Bool) → nat_lt m n ≡ b → (m < n) ⊎ (m ≡ n)
     by true is = inl (ltb-true m n is)
     by false is = inr (omega (arith, less, ltb-false m n is))
-
-both_true : (a b : Bool) → a ≡ true → b ≡ true → (a && b) ≡ true
-both_true a b is also = ap (λ x. x && b) is ∙ also
 
 -- ---- the walk over a code's bytes
 
@@ -118,7 +115,7 @@ module _ (judged : List Judged) where
     each_named : (code : List Instruction) → ((place : ℕ) (i : Instruction) → at_place code place ≡ Some i → NamesItsTest judged i) → list_all (names_its_test judged) code ≡ true
     each_named [] tests = refl
     each_named (i ∷ is) tests =
-        both_true (names_its_test judged i) (list_all (names_its_test judged) is) (tests_are (test_named i) (tests 0 i refl))
+        and_from (names_its_test judged i) (list_all (names_its_test judged) is) (tests_are (test_named i) (tests 0 i refl))
         (each_named is (λ place k at. tests (size_of i + place) k (at_past i is (size_of i + place) place refl ∙ at)))
 
     pub one_of_is : IsOneOf judged n j → is_one_of judged n j ≡ true
@@ -126,8 +123,8 @@ module _ (judged : List Judged) where
         let spelled = spells_in j.bytes one.sound.code one.sound.spells in
         let same : code_told j ≡ one.sound.code = told j one.sound in
         let names : name_their_tests judged (code_in j.bytes) ≡ true = ap named_in spelled ∙ each_named one.sound.code (λ place i at. one.tests place i (ap (λ code. at_place code place) same ∙ at)) in
-        both_true _ _ (lt-ltb j.sizes.counts.objects 65536 one.few)
-        (both_true _ _ (ap (λ k. k == n) one.own ∙ eqb-refl n) (both_true _ _ (ap (λ k. k == length judged) one.all ∙ eqb-refl (length judged)) names))
+        and_from _ _ (lt-ltb j.sizes.counts.objects 65536 one.few)
+        (and_from _ _ (ap (λ k. k == n) one.own ∙ eqb-refl n) (and_from _ _ (ap (λ k. k == length judged) one.all ∙ eqb-refl (length judged)) names))
 
   -- ---- one by one
 
@@ -154,6 +151,6 @@ module _ (judged : List Judged) where
   pub one_found : (n : ℕ) (j : Judged) (b : Bool) → slice_get judged n ≡ Some j → IsSoundCode j.sizes j.bytes → b ≡ is_one_of judged n j
       → (IsTrue b → (k : Judged) → slice_get judged n ≡ Some k → IsOneOf judged n k) × (((k : Judged) → slice_get judged n ≡ Some k → IsOneOf judged n k) → IsTrue b)
   one_found n j b there sound is = (
-    λ is_so k at. subst (λ x. IsOneOf judged n x) (some_is j k (sym there ∙ at)) (one_of n j sound (sym is ∙ is_so)),
+    λ is_so k at. subst (λ x. IsOneOf judged n x) (same_Some j k (sym there ∙ at)) (one_of n j sound (sym is ∙ is_so)),
     λ one. is ∙ one_of_is n j (one j there),
   )

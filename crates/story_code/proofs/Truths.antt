@@ -1,8 +1,4 @@
 -- Truths that are joined to nothing more.
-use Rattle.std.proofs.Common.{◌≡◌, Bool, true, false, ◌&&◌, refl}
+use Rattle.std.proofs.Math.Bool.{and-true}
 
-pub and_true : (b : Bool) → (b && true) ≡ b
-and_true true = refl
-and_true false = refl
-
-pub ruleset truth_steps = (and_true)
+pub ruleset truth_steps = (and-true)

@@ -1,12 +1,11 @@
 -- A story file holds the tale that sentences mean.
-use Rattle.std.proofs.Common.{◌≡◌, ℕ, ◌+◌, ◌-◌, ◌<◌, ◌≤◌, Bool, true, false, cond, not, ◌&&◌, ◌||◌, ltb, leb, eqb, List, [], ◌∷◌, ◌++◌, length, map, Option, Some, None, Ok, refl, sym, ap, subst, ◌∙◌, arith, inl, inr, true≢false}
+use Rattle.std.proofs.Common.{◌≡◌, ℕ, ◌+◌, ◌-◌, ◌<◌, ◌≤◌, Bool, true, false, cond, not, ◌&&◌, ◌||◌, ltb, leb, eqb, List, [], ◌∷◌, ◌++◌, length, map, Option, Some, None, Ok, refl, sym, ap, subst, ◌∙◌, arith, inl, inr}
 use Rattle.std.specs.Prelude.{find, is_none, slice_get}
 use Rattle.std.specs.List.{list_all}
 use Rattle.std.specs.Option.{option_map}
-use Rattle.std.proofs.lemmas.Bool.{ltb-false, lt-ltb, le-leb, ne_eqb}
+use Rattle.std.proofs.lemmas.Bool.{ltb-false, lt-ltb, le-leb, ne_eqb, cases_Bool, and_from, and_parts, or_parts, or_from, not-true}
 use Rattle.std.proofs.lemmas.List.{length-map}
 use Rattle.std.proofs.lemmas.Option.{slice_get_past}
-use Rattle.world_meaning.proofs.Bools.{both, both_are, either}
 use Rattle.world_meaning.specs.Chains.{IsTree}
 use Rattle.world_meaning.specs.Declarations.{is_below as is_kind_below, is_rooted, is_well_declared}
 use Rattle.world_meaning.specs.Directions.{all_directions}
@@ -63,10 +62,6 @@ use Rattle.story_file.proofs.MadePlaces.{all_suited, all_whole, direction_is, di
 use Rattle.story_format.specs.Holding.{has_few_words, has_short_texts, is_short, is_short_or_none, IsHeld}
 use Rattle.story_format.specs.Making.{worded, worded_from}
 
-none_or : (a b : Bool) → (a || b) ≡ false → (a ≡ false) × (b ≡ false)
-none_or true b h = absurd cc
-none_or false b h = (refl, h)
-
 -- ---- ways lead between rooms
 
 abbrev is_door_or_none : List (Option ℕ) → List Known → Option ℕ → Bool
@@ -91,10 +86,6 @@ nothing_wrong : (wrong : Bool) (line : ℕ) (later : Option ℕ) → cond wrong 
 nothing_wrong true line later h = absurd cc
 nothing_wrong false line later h = (refl, h)
 
-neither : (a b : Bool) → a ≡ false → b ≡ false → (a || b) ≡ false
-neither true b h k = absurd (true≢false h)
-neither false b h k = k
-
 module _ (parents : List (Option ℕ)) (knowns : List Known) (whole : (o : ℕ) → is_parted_at knowns o ≡ false) where
   abbrev are_of_rooms : NumberedSentence → Bool
   are_of_rooms statement = is_of_rooms parents knowns statement.said
@@ -107,13 +98,13 @@ module _ (parents : List (Option ℕ)) (knowns : List Known) (whole : (o : ℕ) 
   between before (numbered.Way way) h = judged (is_parted_at knowns way.subject) (is_parted_at knowns way.room) (is_of parents knowns 1 way.subject && is_of parents knowns 1 way.room) (whole way.subject) (whole way.room) h
   between before (numbered.Door d) h =
       judged (is_parted_at knowns d.door) (is_parted_at knowns d.first.room || is_parted_at knowns d.second.room) (is_of_rooms parents knowns (numbered.Door d))
-      (whole d.door) (neither (is_parted_at knowns d.first.room) (is_parted_at knowns d.second.room) (whole d.first.room) (whole d.second.room)) h
+      (whole d.door) (or_from (is_parted_at knowns d.first.room) (is_parted_at knowns d.second.room) (whole d.first.room) (whole d.second.room)) h
 
   all_of_rooms : (before : Option ℕ) (statements : List NumberedSentence) → wrong_after parents knowns before statements ≡ None → list_all are_of_rooms statements ≡ true
   all_of_rooms before [] h = refl
   all_of_rooms before (statement ∷ statements) h =
       let t = nothing_wrong (is_wrong parents knowns before statement.said) statement.line (wrong_after parents knowns (subject_of statement.said) statements) h in
-      both (are_of_rooms statement) (list_all are_of_rooms statements) (between before statement.said t.0) (all_of_rooms (subject_of statement.said) statements t.1)
+      and_from (are_of_rooms statement) (list_all are_of_rooms statements) (between before statement.said t.0) (all_of_rooms (subject_of statement.said) statements t.1)
 
   -- each exit is led to a room, by a door or none
   abbrev LeadRight : List Lead → Type 0
@@ -121,13 +112,13 @@ module _ (parents : List (Option ℕ)) (knowns : List Known) (whole : (o : ℕ) 
 
   lead_right : (lead : Lead) (leads : List Lead) (room direction : ℕ) → is_right parents knowns (Some lead.target) ≡ true → is_right parents knowns (first_target leads room direction) ≡ true → is_right parents knowns (first_target (lead ∷ leads) room direction) ≡ true
   lead_right lead leads room direction h k =
-      elim (either (is_exit room direction lead)) [
+      elim (cases_Bool (is_exit room direction lead)) [
         | inl is ↦ rw is h
         | inr isnt ↦ rw isnt k
       ]
 
   plain_right : (room : ℕ) → is_of parents knowns 1 room ≡ true → (is_of parents knowns 1 room && true) ≡ true
-  plain_right room h = both (is_of parents knowns 1 room) true h refl
+  plain_right room h = and_from (is_of parents knowns 1 room) true h refl
 
   stated_one : (fact : Numbered) (leads : List Lead) → is_of_rooms parents knowns fact ≡ true → LeadRight leads → LeadRight (stated_in fact ++ leads)
   stated_one numbered.Aside leads h k room direction = k room direction
@@ -135,12 +126,12 @@ module _ (parents : List (Option ℕ)) (knowns : List Known) (whole : (o : ℕ) 
   stated_one (numbered.Describes o text) leads h k room direction = k room direction
   stated_one (numbered.Being o) leads h k room direction = k room direction
   stated_one (numbered.Way way) leads h k room direction =
-      lead_right (way_there way) leads room direction (plain_right way.subject (both_are (is_of parents knowns 1 way.subject) (is_of parents knowns 1 way.room) h).0) (k room direction)
+      lead_right (way_there way) leads room direction (plain_right way.subject (and_parts (is_of parents knowns 1 way.subject) (is_of parents knowns 1 way.room) h).0) (k room direction)
   stated_one (numbered.Door d) leads h k room direction =
-      let t = both_are (is_of parents knowns 3 d.door) (is_of parents knowns 1 d.first.room && is_of parents knowns 1 d.second.room) h in
-      let u = both_are (is_of parents knowns 1 d.first.room) (is_of parents knowns 1 d.second.room) t.1 in
-      lead_right (way_through d.door d.first d.second) (way_through d.door d.second d.first ∷ leads) room direction (both (is_of parents knowns 1 d.second.room) (is_of parents knowns 3 d.door) u.1 t.0)
-      (lead_right (way_through d.door d.second d.first) leads room direction (both (is_of parents knowns 1 d.first.room) (is_of parents knowns 3 d.door) u.0 t.0) (k room direction))
+      let t = and_parts (is_of parents knowns 3 d.door) (is_of parents knowns 1 d.first.room && is_of parents knowns 1 d.second.room) h in
+      let u = and_parts (is_of parents knowns 1 d.first.room) (is_of parents knowns 1 d.second.room) t.1 in
+      lead_right (way_through d.door d.first d.second) (way_through d.door d.second d.first ∷ leads) room direction (and_from (is_of parents knowns 1 d.second.room) (is_of parents knowns 3 d.door) u.1 t.0)
+      (lead_right (way_through d.door d.second d.first) leads room direction (and_from (is_of parents knowns 1 d.first.room) (is_of parents knowns 3 d.door) u.0 t.0) (k room direction))
 
   implied_one : (fact : Numbered) (leads : List Lead) → is_of_rooms parents knowns fact ≡ true → LeadRight leads → LeadRight (implied_in fact ++ leads)
   implied_one numbered.Aside leads h k room direction = k room direction
@@ -148,19 +139,19 @@ module _ (parents : List (Option ℕ)) (knowns : List Known) (whole : (o : ℕ) 
   implied_one (numbered.Describes o text) leads h k room direction = k room direction
   implied_one (numbered.Being o) leads h k room direction = k room direction
   implied_one (numbered.Way way) leads h k room direction =
-      lead_right (way_back way) leads room direction (plain_right way.room (both_are (is_of parents knowns 1 way.subject) (is_of parents knowns 1 way.room) h).1) (k room direction)
+      lead_right (way_back way) leads room direction (plain_right way.room (and_parts (is_of parents knowns 1 way.subject) (is_of parents knowns 1 way.room) h).1) (k room direction)
   implied_one (numbered.Door d) leads h k room direction = k room direction
 
   stated_right : (statements : List NumberedSentence) → list_all are_of_rooms statements ≡ true → LeadRight (stated_leads statements)
   stated_right [] h room direction = refl
   stated_right (statement ∷ statements) h room direction =
-      let t = both_are (are_of_rooms statement) (list_all are_of_rooms statements) h in
+      let t = and_parts (are_of_rooms statement) (list_all are_of_rooms statements) h in
       stated_one statement.said (stated_leads statements) t.0 (stated_right statements t.1) room direction
 
   implied_right : (statements : List NumberedSentence) → list_all are_of_rooms statements ≡ true → LeadRight (implied_leads statements)
   implied_right [] h room direction = refl
   implied_right (statement ∷ statements) h room direction =
-      let t = both_are (are_of_rooms statement) (list_all are_of_rooms statements) h in
+      let t = and_parts (are_of_rooms statement) (list_all are_of_rooms statements) h in
       implied_one statement.said (implied_leads statements) t.0 (implied_right statements t.1) room direction
 
   either_right : (a b : Option Target) → is_right parents knowns a ≡ true → is_right parents knowns b ≡ true → is_right parents knowns (first_of a b) ≡ true
@@ -180,8 +171,8 @@ module _ (parents : List (Option ℕ)) (knowns : List Known) (whole : (o : ℕ) 
   unfolding sorts_of
   leads_right None h = refl
   leads_right (Some target) h =
-      let t = both_are (is_of parents knowns 1 target.room) (is_door_or_none parents knowns target.door) h in
-      both (is_at (under_each parents (kinds_of knowns) 1) target.room) (is_at_or_none (under_each parents (kinds_of knowns) 3) target.door) (told parents knowns 1 target.room ∙ t.0) (door_right target.door t.1)
+      let t = and_parts (is_of parents knowns 1 target.room) (is_door_or_none parents knowns target.door) h in
+      and_from (is_at (under_each parents (kinds_of knowns) 1) target.room) (is_at_or_none (under_each parents (kinds_of knowns) 3) target.door) (told parents knowns 1 target.room ∙ t.0) (door_right target.door t.1)
 
   lead_to_rooms : (statements : List NumberedSentence) → wrong_kind parents knowns statements ≡ None → LeadToRooms (sorts_of parents (kinds_of knowns)) statements
   lead_to_rooms statements h room direction = leads_right (target_of statements room direction) (targets_right statements h room direction)
@@ -191,30 +182,26 @@ module _ (parents : List (Option ℕ)) (knowns : List Known) (whole : (o : ℕ) 
 none_found : {A : Type 0} (p : A → Bool) (xs : List A) → find p xs ≡ None → list_all (λ x. not (p x)) xs ≡ true
 none_found p [] h = refl
 none_found p (x ∷ xs) h =
-    elim (either (p x)) [
+    elim (cases_Bool (p x)) [
       | inl is ↦ let z : Some x ≡ None = rw is at h in absurd cc
-      | inr isnt ↦ let later : find p xs ≡ None = rw isnt at h in both (not (p x)) (list_all (λ x. not (p x)) xs) (ap not isnt) (none_found p xs later)
+      | inr isnt ↦ let later : find p xs ≡ None = rw isnt at h in and_from (not (p x)) (list_all (λ x. not (p x)) xs) (ap not isnt) (none_found p xs later)
     ]
 
 found_passes : {A : Type 0} (p q : A → Bool) (xs : List A) (x : A) → list_all q xs ≡ true → find p xs ≡ Some x → q x ≡ true
 found_passes p q [] x h e = absurd cc
 found_passes p q (y ∷ ys) x h e =
-    let t = both_are (q y) (list_all q ys) h in
-    elim (either (p y)) [
+    let t = and_parts (q y) (list_all q ys) h in
+    elim (cases_Bool (p y)) [
       | inl is ↦ let same : Some y ≡ Some x = rw is at e in let this : y ≡ x = cc in subst (λ z. q z ≡ true) this t.0
       | inr isnt ↦ let later : find p ys ≡ Some x = rw isnt at e in found_passes p q ys x t.1 later
     ]
-
-not_is : (b : Bool) → not b ≡ true → b ≡ false
-not_is true h = absurd cc
-not_is false h = refl
 
 short_if : (text : List ℕ) → ltb 65535 (length text) ≡ false → is_short text ≡ true
 short_if text h = lt-ltb _ _ (omega (arith, ltb-false _ _ h))
 
 text_short : (p : Described → Bool) (ds : List Described) (found : Option Described) → list_all (λ d. not (has_long_text d)) ds ≡ true → find p ds ≡ found → is_short_or_none (option_map (λ d. d.text) found) ≡ true
 text_short p ds None h e = refl
-text_short p ds (Some d) h e = short_if d.text (not_is (has_long_text d) (found_passes p (λ d. not (has_long_text d)) ds d h e))
+text_short p ds (Some d) h e = short_if d.text (not-true (has_long_text d) (found_passes p (λ d. not (has_long_text d)) ds d h e))
 
 description_short : (ds : List Described) (o : ℕ) → list_all (λ d. not (has_long_text d)) ds ≡ true → is_short_or_none (description_of ds o) ≡ true
 description_short ds o h = text_short (λ d. eqb d.object o) ds (find (λ d. eqb d.object o) ds) h refl
@@ -223,7 +210,7 @@ abbrev has_short_name : NameAt → Bool
 has_short_name at = not (has_long_name at)
 
 name_short : (name : List ℕ) → is_too_long name ≡ false → is_short name ≡ true
-name_short name h = short_if name (none_or (ltb 65535 (length name)) (ltb 32 (length (words_for 13 name))) h).0
+name_short name h = short_if name (or_parts (ltb 65535 (length name)) (ltb 32 (length (words_for 13 name))) h).0
 
 abbrev has_short_entry : Entry → Bool
 has_short_entry entry = is_short entry.name
@@ -231,8 +218,8 @@ has_short_entry entry = is_short entry.name
 authors_short : (mentions : List NameAt) → list_all has_short_name mentions ≡ true → list_all has_short_entry (map author_entry mentions) ≡ true
 authors_short [] h = refl
 authors_short (at ∷ mentions) h =
-    let t = both_are (has_short_name at) (list_all has_short_name mentions) h in
-    both (is_short at.name.text) (list_all has_short_entry (map author_entry mentions)) (name_short at.name.text (not_is (has_long_name at) t.0)) (authors_short mentions t.1)
+    let t = and_parts (has_short_name at) (list_all has_short_name mentions) h in
+    and_from (is_short at.name.text) (list_all has_short_entry (map author_entry mentions)) (name_short at.name.text (not-true (has_long_name at) t.0)) (authors_short mentions t.1)
 
 entries_short : (mentions : List NameAt) → list_all has_short_name mentions ≡ true → list_all has_short_entry (entries_of mentions) ≡ true
 unfolding entries_of
@@ -242,8 +229,8 @@ objects_short : (m : Made) (o : ℕ) (entries : List Entry) → list_all has_sho
 unfolding object_as
 objects_short m o [] h k = refl
 objects_short m o (entry ∷ entries) h k =
-    let t = both_are (has_short_entry entry) (list_all has_short_entry entries) h in
-    both (has_short_texts (object_of m o entry)) (list_all has_short_texts (objects_of m (o + 1) entries)) (both (is_short entry.name) (is_short_or_none (description_of m.descriptions o)) t.0 (description_short m.descriptions o k)) (objects_short m (o + 1) entries t.1 k)
+    let t = and_parts (has_short_entry entry) (list_all has_short_entry entries) h in
+    and_from (has_short_texts (object_of m o entry)) (list_all has_short_texts (objects_of m (o + 1) entries)) (and_from (is_short entry.name) (is_short_or_none (description_of m.descriptions o)) t.0 (description_short m.descriptions o k)) (objects_short m (o + 1) entries t.1 k)
 
 texts_held : (m : Made) (mentions : List NameAt) → list_all has_short_name mentions ≡ true → list_all (λ d. not (has_long_text d)) m.descriptions ≡ true → list_all has_short_texts (objects_of m 0 (entries_of mentions)) ≡ true
 texts_held m mentions h k = objects_short m 0 (entries_of mentions) (entries_short mentions h) k
@@ -269,9 +256,9 @@ authors_few : (m : Made) (o : ℕ) (mentions : List NameAt) → 13 ≤ o → lis
 unfolding object_as
 authors_few m o [] le h = refl
 authors_few m o (at ∷ mentions) le h =
-    let t = both_are (has_short_name at) (list_all has_short_name mentions) h in
-    let few : leb (length (words_for 13 at.name.text)) 32 ≡ true = few_if (length (words_for 13 at.name.text)) (none_or (ltb 65535 (length at.name.text)) (ltb 32 (length (words_for 13 at.name.text))) (not_is (has_long_name at) t.0)).1 in
-    both (leb (length (words_for o at.name.text)) 32) (list_all has_few_words (worded_from (o + 1) (objects_of m (o + 1) (map author_entry mentions)))) (ap (λ (ws : List (List ℕ)). leb (length ws) 32) (same_words o at.name.text le) ∙ few)
+    let t = and_parts (has_short_name at) (list_all has_short_name mentions) h in
+    let few : leb (length (words_for 13 at.name.text)) 32 ≡ true = few_if (length (words_for 13 at.name.text)) (or_parts (ltb 65535 (length at.name.text)) (ltb 32 (length (words_for 13 at.name.text))) (not-true (has_long_name at) t.0)).1 in
+    and_from (leb (length (words_for o at.name.text)) 32) (list_all has_few_words (worded_from (o + 1) (objects_of m (o + 1) (map author_entry mentions)))) (ap (λ (ws : List (List ℕ)). leb (length ws) 32) (same_words o at.name.text le) ∙ few)
     (authors_few m (o + 1) mentions (omega (arith, le)) t.1)
 
 words_held : (m : Made) (mentions : List NameAt) → list_all has_short_name mentions ≡ true → list_all has_few_words (worded (objects_of m 0 (entries_of mentions))) ≡ true
@@ -323,9 +310,9 @@ made_with declared parents knowns places values usuals descriptions statements =
 stands : (kinds : Kinds) (rooms : List Bool) (place : Option Place) → ((o : ℕ) → kinds.is_room o ≡ is_at rooms o) → IsSuited kinds 0 place → is_none place ≡ false → stands_in_room rooms place ≡ true
 stands kinds rooms None told h k = absurd cc
 stands kinds rooms (Some place) told h k =
-    let t = both_are (can_be_held kinds 0 && can_hold kinds place.relation place.holder) (keeps_player kinds 0 place) h in
-    let u = both_are (is_in place.relation) (kinds.is_room place.holder) t.1 in
-    both (is_in place.relation) (is_at rooms place.holder) u.0 (sym (told place.holder) ∙ u.1)
+    let t = and_parts (can_be_held kinds 0 && can_hold kinds place.relation place.holder) (keeps_player kinds 0 place) h in
+    let u = and_parts (is_in place.relation) (kinds.is_room place.holder) t.1 in
+    and_from (is_in place.relation) (is_at rooms place.holder) u.0 (sym (told place.holder) ∙ u.1)
 
 put_there : (places : Places) (place : Place) → 1 ≤ length places → is_none (place_at (put places 0 place) 0) ≡ false
 put_there [] place le = absurd (omega (arith, le))

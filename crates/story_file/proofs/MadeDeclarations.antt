@@ -2,8 +2,7 @@
 use Rattle.std.proofs.Common.{◌≡◌, ℕ, ℤ, suc, ◌+◌, ◌≤◌, Bool, true, ◌&&◌, cond, eqb, leb, List, [], ◌∷◌, ◌++◌, length, Option, refl, sym, ap, arith, ◌∙◌, inl, inr}
 use Rattle.std.specs.List.{list_all}
 use Rattle.std.specs.Prelude.{count_by, fold, slice_get}
-use Rattle.std.proofs.lemmas.Bool.{eq-eqb, le-leb}
-use Rattle.world_meaning.proofs.Bools.{both, both_are, either}
+use Rattle.std.proofs.lemmas.Bool.{eq-eqb, le-leb, cases_Bool, and_from, and_parts}
 use Rattle.world_meaning.specs.Declarations.{is_had, is_had_at, are_right_grants, are_right_kinds, are_rising, begin_with_kinds, count_of_numbers, has_properties, has_property, is_number, is_rooted, is_well_declared, suits_kind}
 use Rattle.world_meaning.specs.declared.declared.Declared.{Declared}
 use Rattle.world_meaning.specs.declared.declared.Granted.{Granted}
@@ -90,9 +89,9 @@ declared_held b few few_properties few_numbers few_variables few_scenes few_rule
     let n = length (kinds_with b) in
     let names = built_in_either_ors ++ b.properties in
     let many = kinds_many b in
-    let flags : are_right_grants n (flags_with b) ≡ true = both (leb (length (flags_with b)) 100) _ (le-leb _ _ (omega (arith, few_properties, flags_counted (kinds_with b) many b.givens 0 built_in_bases names))) (flags_right (kinds_with b) many b.givens 0 built_in_bases names) in
+    let flags : are_right_grants n (flags_with b) ≡ true = and_from (leb (length (flags_with b)) 100) _ (le-leb _ _ (omega (arith, few_properties, flags_counted (kinds_with b) many b.givens 0 built_in_bases names))) (flags_right (kinds_with b) many b.givens 0 built_in_bases names) in
     let first = length (flags_with b) in
-    let numbers : are_right_grants n (numbers_with b) ≡ true = both (leb (length (numbers_with b)) 100) _ (le-leb _ _ (omega (arith, few_numbers, flags_counted (kinds_with b) many b.givens first [] b.numbers))) (flags_right (kinds_with b) many b.givens first [] b.numbers) in
+    let numbers : are_right_grants n (numbers_with b) ≡ true = and_from (leb (length (numbers_with b)) 100) _ (le-leb _ _ (omega (arith, few_numbers, flags_counted (kinds_with b) many b.givens first [] b.numbers))) (flags_right (kinds_with b) many b.givens first [] b.numbers) in
     rw (kinds_right b.kinds few roots, begin_built_in (kinds_with b) many b.givens b.properties, flags, numbers, le-leb (length b.starts) 100 few_variables, ranged, le-leb (length b.scenes) 50 few_scenes) (le-leb b.rulebooks 100 few_rulebooks)
 
 -- ---- what an object begins with
@@ -103,8 +102,8 @@ unfolding are_rising
 properties_rise m o kind next n truths [] le = refl
 properties_rise m o kind next n truths (flag ∷ flags) le =
     let others = properties_from m o kind (n + 1) (other_bases truths) flags in
-    elim (either (begins m o kind n (first_base truths) && is_had m.parents kind flag)) [
-      | inl is ↦ rw is (both (leb next n) (are_rising (n + 1) others) (le-leb next n le) (properties_rise m o kind (n + 1) (n + 1) (other_bases truths) flags (omega arith)))
+    elim (cases_Bool (begins m o kind n (first_base truths) && is_had m.parents kind flag)) [
+      | inl is ↦ rw is (and_from (leb next n) (are_rising (n + 1) others) (le-leb next n le) (properties_rise m o kind (n + 1) (n + 1) (other_bases truths) flags (omega arith)))
       | inr isnt ↦ rw isnt (properties_rise m o kind next (n + 1) (other_bases truths) flags (omega (arith, le)))
     ]
 
@@ -114,10 +113,10 @@ properties_had : (m : Made) (all : List Granted) (o kind n : ℕ) (truths : List
 properties_had m all o kind n truths [] same = refl
 properties_had m all o kind n truths (flag ∷ flags) same =
     let later = properties_had m all o kind (n + 1) (other_bases truths) flags (λ i j e. same (suc i) j (omega (arith, e))) in
-    elim (either (begins m o kind n (first_base truths) && is_had m.parents kind flag)) [
+    elim (cases_Bool (begins m o kind n (first_base truths) && is_had m.parents kind flag)) [
       | inl is ↦
-          let has : has_property m.parents all kind n ≡ true = ap (is_had_at m.parents kind) (same 0 n (omega arith)) ∙ (both_are (begins m o kind n (first_base truths)) (is_had m.parents kind flag) is).1 in
-          rw is (both (has_property m.parents all kind n) _ has later)
+          let has : has_property m.parents all kind n ≡ true = ap (is_had_at m.parents kind) (same 0 n (omega arith)) ∙ (and_parts (begins m o kind n (first_base truths)) (is_had m.parents kind flag) is).1 in
+          rw is (and_from (has_property m.parents all kind n) _ has later)
       | inr isnt ↦ rw isnt later
     ]
 
@@ -125,7 +124,7 @@ properties_had m all o kind n truths (flag ∷ flags) same =
 counted_from : (m : Made) (o kind n k : ℕ) (numbers : List Granted) → length (numbers_from m o kind n numbers) + k ≡ fold (λ (count : ℕ) (number : Granted). count + cond (is_had m.parents kind number) 1 0) k numbers
 counted_from m o kind n k [] = omega arith
 counted_from m o kind n k (number ∷ numbers) =
-    elim (either (is_had m.parents kind number)) [
+    elim (cases_Bool (is_had m.parents kind number)) [
       | inl is ↦ let later = counted_from m o kind (n + 1) (k + 1) numbers in rw is (omega (arith, later))
       | inr isnt ↦ let later = counted_from m o kind (n + 1) (k + 0) numbers in rw isnt (omega (arith, later))
     ]
@@ -148,17 +147,17 @@ unfolding suits_kind has_properties count_of_numbers object_as
 object_suits b m kind o entry same =
     let found = properties_from m o kind 0 built_in_truths m.flags in
     let has = λ (S : List (Option ℕ)) (flags : List Granted). are_rising 0 found && list_all (has_property S flags kind) found in
-    let here : has m.parents m.flags ≡ true = both (are_rising 0 found) _ (properties_rise m o kind 0 0 built_in_truths m.flags (omega arith)) (properties_had m m.flags o kind 0 built_in_truths m.flags (λ i j e. let at : j ≡ i = omega (arith, e) in ap (slice_get m.flags) at)) in
+    let here : has m.parents m.flags ≡ true = and_from (are_rising 0 found) _ (properties_rise m o kind 0 0 built_in_truths m.flags (omega arith)) (properties_had m m.flags o kind 0 built_in_truths m.flags (λ i j e. let at : j ≡ i = omega (arith, e) in ap (slice_get m.flags) at)) in
     let there : has (kinds_with b) (flags_with b) ≡ true = sym (λ i. has (same.parents i) (same.flags i)) ∙ here in
     let numbers = numbers_from m o kind (length m.flags) m.numbers in
     let count = λ (S : List (Option ℕ)) (granted : List Granted). eqb (length numbers) (count_by (is_had S kind) granted) in
     let counted : count m.parents m.numbers ≡ true = eq-eqb _ _ (numbers_counted m o kind (length m.flags) m.numbers) in
     let as_many : count (kinds_with b) (numbers_with b) ≡ true = sym (λ i. count (same.parents i) (same.numbers i)) ∙ counted in
-    both (has (kinds_with b) (flags_with b) && count (kinds_with b) (numbers_with b)) (list_all is_number numbers)
-    (both (has (kinds_with b) (flags_with b)) (count (kinds_with b) (numbers_with b)) there as_many)
+    and_from (has (kinds_with b) (flags_with b) && count (kinds_with b) (numbers_with b)) (list_all is_number numbers)
+    (and_from (has (kinds_with b) (flags_with b)) (count (kinds_with b) (numbers_with b)) there as_many)
     (numbers_in_range m o kind (length m.flags) m.numbers same.values same.usuals)
 
 pub suited_held : (b : Behind) (m : Made) (o : ℕ) (entries : List Entry) → IsOf b m → list_all (suits_kind (declared_with b)) (objects_of m o entries) ≡ true
 suited_held b m o [] same = refl
 suited_held b m o (entry ∷ entries) same =
-    both (suits_kind (declared_with b) (object_of m o entry)) (list_all (suits_kind (declared_with b)) (objects_of m (o + 1) entries)) (object_suits b m (kind_at m.kinds o) o entry same) (suited_held b m (o + 1) entries same)
+    and_from (suits_kind (declared_with b) (object_of m o entry)) (list_all (suits_kind (declared_with b)) (objects_of m (o + 1) entries)) (object_suits b m (kind_at m.kinds o) o entry same) (suited_held b m (o + 1) entries same)

@@ -2,8 +2,7 @@
 use Rattle.std.proofs.Common.{◌≡◌, ℕ, zero, suc, ◌+◌, ◌<◌, ◌≤◌, Bool, true, ltb, leb, List, [], ◌∷◌, ◌++◌, length, map, Option, Some, None, refl, sym, ap, subst, arith, inl, inr}
 use Rattle.std.specs.Prelude.{take}
 use Rattle.std.specs.List.{list_all}
-use Rattle.std.proofs.lemmas.Bool.{lt-ltb, le-leb}
-use Rattle.world_meaning.proofs.Bools.{both, both_are, either}
+use Rattle.std.proofs.lemmas.Bool.{lt-ltb, le-leb, cases_Bool, and_from, and_parts}
 use Rattle.world_meaning.specs.Declarations.{is_below as is_kind_below}
 use Rattle.world_meaning.specs.Directions.{all_directions, direction_number}
 use Rattle.world_meaning.specs.Kinds.{is_under}
@@ -78,19 +77,19 @@ kinds_counted (known ∷ knowns) = ap suc (kinds_counted knowns)
 
 pub kinds_held : (n : ℕ) (kinds : List ℕ) → ((o : ℕ) → kind_at kinds o < n) → list_all (is_kind_below n) kinds ≡ true
 kinds_held n [] h = refl
-kinds_held n (kind ∷ kinds) h = both (ltb kind n) (list_all (is_kind_below n) kinds) (lt-ltb kind n (h 0)) (kinds_held n kinds (λ o. h (suc o)))
+kinds_held n (kind ∷ kinds) h = and_from (ltb kind n) (list_all (is_kind_below n) kinds) (lt-ltb kind n (h 0)) (kinds_held n kinds (λ o. h (suc o)))
 
 -- ---- each is where it may be
 
 well_placed : (kinds : Kinds) (o : ℕ) (place : Option Place) → IsSuited kinds o place → is_well_placed kinds o place ≡ true
 well_placed kinds o None h = refl
-well_placed kinds o (Some place) h = (both_are (is_well_placed kinds o (Some place)) _ h).0
+well_placed kinds o (Some place) h = (and_parts (is_well_placed kinds o (Some place)) _ h).0
 
 placed_from : (kinds : Kinds) (o : ℕ) (places : Places) → ((i j : ℕ) → o + i ≡ j → IsSuited kinds j (place_at places i)) → are_well_placed kinds o places ≡ true
 unfolding are_well_placed
 placed_from kinds o [] h = refl
 placed_from kinds o (place ∷ places) h =
-    both (is_well_placed kinds o place) (are_well_placed kinds (o + 1) places) (well_placed kinds o place (h 0 o (omega arith))) (placed_from kinds (o + 1) places (λ i j q. h (suc i) j (omega (arith, q))))
+    and_from (is_well_placed kinds o place) (are_well_placed kinds (o + 1) places) (well_placed kinds o place (h 0 o (omega arith))) (placed_from kinds (o + 1) places (λ i j q. h (suc i) j (omega (arith, q))))
 
 pub all_placed : (kinds : Kinds) (places : Places) → AreSuited kinds places → are_well_placed kinds 0 places ≡ true
 all_placed kinds places h = placed_from kinds 0 places (λ i j q. let same : i ≡ j = omega (arith, q) in subst (λ (x : ℕ). IsSuited kinds x (place_at places i)) same (h i))
@@ -99,7 +98,7 @@ all_placed kinds places h = placed_from kinds 0 places (λ i j q. let same : i �
 
 ways_lead : (sorts : Sorts) (targets : Direction → Option Target) (ds : List Direction) → ((d : Direction) → leads sorts (way_to (targets d)) ≡ true) → list_all (leads sorts) (map (λ d. way_to (targets d)) ds) ≡ true
 ways_lead sorts targets [] h = refl
-ways_lead sorts targets (d ∷ ds) h = both (leads sorts (way_to (targets d))) (list_all (leads sorts) (map (λ d. way_to (targets d)) ds)) (h d) (ways_lead sorts targets ds h)
+ways_lead sorts targets (d ∷ ds) h = and_from (leads sorts (way_to (targets d))) (list_all (leads sorts) (map (λ d. way_to (targets d)) ds)) (h d) (ways_lead sorts targets ds h)
 
 -- to rooms, perhaps by doors
 abbrev pub LeadToRooms : Sorts → List NumberedSentence → Type 0
@@ -112,7 +111,7 @@ exits_lead sorts statements o h = ways_lead sorts (λ d. target_of statements o 
 object_leads : (m : Made) (sorts : Sorts) (kind o : ℕ) (entry : Entry) → LeadToRooms sorts m.statements → has_right_exits m.parents sorts (object_as m kind o entry) ≡ true
 unfolding has_right_exits object_as
 object_leads m sorts kind o entry h =
-    elim (either (is_under m.parents kind 1)) [
+    elim (cases_Bool (is_under m.parents kind 1)) [
       | inl is ↦ rw is (exits_lead sorts m.statements o h)
       | inr isnt ↦ rw isnt refl
     ]
@@ -120,7 +119,7 @@ object_leads m sorts kind o entry h =
 pub all_lead : (m : Made) (sorts : Sorts) (o : ℕ) (entries : List Entry) → LeadToRooms sorts m.statements → list_all (has_right_exits m.parents sorts) (objects_of m o entries) ≡ true
 all_lead m sorts o [] h = refl
 all_lead m sorts o (entry ∷ entries) h =
-    both (has_right_exits m.parents sorts (object_of m o entry)) (list_all (has_right_exits m.parents sorts) (objects_of m (o + 1) entries)) (object_leads m sorts (kind_at m.kinds o) o entry h) (all_lead m sorts (o + 1) entries h)
+    and_from (has_right_exits m.parents sorts (object_of m o entry)) (list_all (has_right_exits m.parents sorts) (objects_of m (o + 1) entries)) (object_leads m sorts (kind_at m.kinds o) o entry h) (all_lead m sorts (o + 1) entries h)
 
 -- ---- the objects that stand first
 

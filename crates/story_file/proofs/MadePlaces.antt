@@ -1,7 +1,7 @@
 -- Where objects are known whole, the player and the directions are what they must be, and each place is allowed.
 use Rattle.std.proofs.Common.{◌≡◌, ℕ, zero, suc, ◌+◌, ◌<◌, ◌≤◌, Bool, true, false, not, ◌&&◌, ◌||◌, List, [], ◌∷◌, length, drop, Option, Some, None, refl, sym, ap, ◌∙◌, subst, arith, inl, inr, true≢false}
 use Rattle.std.specs.Prelude.{slice_get}
-use Rattle.world_meaning.proofs.Bools.{both, either}
+use Rattle.std.proofs.lemmas.Bool.{cases_Bool, and_from}
 use Rattle.world_meaning.proofs.Climbs.{climbs_decide}
 use Rattle.world_meaning.specs.Chains.{IsTree}
 use Rattle.world_meaning.specs.Kinds.{Under, built_in_parents, is_under}
@@ -48,7 +48,7 @@ here_room parents all o room known same there is =
 room_there : (parents : List (Option ℕ)) (all : List Known) (o room : ℕ) (knowns : List Known) → room_from parents o knowns ≡ Some room → ((i j : ℕ) → o + i ≡ j → slice_get all j ≡ slice_get knowns i) → is_of parents all 1 room ≡ true
 room_there parents all o room [] h k = absurd cc
 room_there parents all o room (known ∷ knowns) h k =
-    elim (either (is_under parents (kind_of known) 1)) [
+    elim (cases_Bool (is_under parents (kind_of known) 1)) [
       | inl is ↦ let here : Some o ≡ Some room = rw is at h in let same : o ≡ room = cc in here_room parents all o room known same (k 0 o (omega arith)) is
       | inr isnt ↦ let later : room_from parents (o + 1) knowns ≡ Some room = rw isnt at h in room_there parents all (o + 1) room knowns later (λ i j q. k (suc i) j (omega (arith, q)))
     ]
@@ -95,10 +95,6 @@ direction_base (suc (suc (suc (suc (suc (suc (suc (suc (suc (suc (suc (suc (suc 
 abbrev pub place_in_room : ℕ → Place
 place_in_room room = record { relation = In; holder = room }
 
-or_first : (a b : Bool) → a ≡ true → (a || b) ≡ true
-or_first true b h = refl
-or_first false b h = absurd cc
-
 suits_player : (held room container : Bool) → held ≡ true → room ≡ true → ((held && (room || container)) && (false || (true && room))) ≡ true
 suits_player true true container h k = refl
 suits_player true false container h k = absurd cc
@@ -120,7 +116,7 @@ module _ (others : List (Option ℕ)) (n : ℕ) (knowns : List Known) (count : �
       let up : Under S kind 0 = trans S kind 6 0 player_under ((climbs_decide S 6 0).0 (person_is_thing others)) in
       let thing : is_of S knowns 0 0 ≡ true = is_of_at S knowns 0 0 (omega (arith, counted)) ∙ (climbs_decide S kind 0).1 up in
       let door : is_of S knowns 3 0 ≡ false = is_of_at S knowns 3 0 (omega (arith, counted)) ∙ isnt_under S kind 6 3 (person_and_door others) player_under in
-      both (is_of S knowns 0 0) (not (is_of S knowns 3 0)) thing (ap not door)
+      and_from (is_of S knowns 0 0) (not (is_of S knowns 3 0)) thing (ap not door)
 
   direction_under : (o : ℕ) → 1 ≤ o → o ≤ 12 → Under S (kind_of (known_at knowns o)) 2
   direction_under o le ge =

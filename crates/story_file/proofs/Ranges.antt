@@ -2,9 +2,8 @@
 use Rattle.std.proofs.Common.{◌≡◌, ℕ, zero, suc, Bool, true, false, ◌≤◌, ◌-ℤ◌, ℤ, pos, negsuc, List, [], ◌∷◌, Option, Some, None, min, refl, ap, sym, subst, arith, inl, inr}
 use Rattle.std.specs.Prelude.{if◌then◌else◌, map, nat_le}
 use Rattle.std.specs.List.{AllZip, cons_option, list_all}
-use Rattle.std.proofs.lemmas.Bool.{lt-ltb}
+use Rattle.std.proofs.lemmas.Bool.{lt-ltb, cases_Bool, and_from}
 use Rattle.std.proofs.lemmas.Int.{ints}
-use Rattle.world_meaning.proofs.Bools.{both, either}
 use Rattle.world_meaning.specs.Declarations.{is_number}
 use Rattle.world_meaning.specs.declared.direction.Direction.{Direction}
 use Rattle.world_meaning.specs.declared.needs.Needs.{Needs}
@@ -62,7 +61,7 @@ least a b = omega arith
 
 literal_ranged : (word : List ℕ) → is_number (literal_of word) ≡ true
 literal_ranged word =
-    elim (either (is_negative word)) [
+    elim (cases_Bool (is_negative word)) [
       | inl is ↦ rw is (below (min (magnitude (digits_of word)) 2147483648) (least (magnitude (digits_of word)) 2147483648))
       | inr isnt ↦ rw isnt (above (min (magnitude (digits_of word)) 2147483647) (least (magnitude (digits_of word)) 2147483647))
     ]
@@ -229,7 +228,7 @@ needs_of actions = map (λ action. action.said.needs) actions
 
 one_more : (found : Option ActionAt) (more : List ActionAt) → HasFirstNoun found → list_all has_first_noun (needs_of more) ≡ true → list_all has_first_noun (needs_of (cons_option found more)) ≡ true
 one_more None more first all = all
-one_more (Some action) more first all = both (has_first_noun action.said.needs) (list_all has_first_noun (needs_of more)) first all
+one_more (Some action) more first all = and_from (has_first_noun action.said.needs) (list_all has_first_noun (needs_of more)) first all
 
 first_nouns_each : (sentences : List Sentence) → AreWellSaid sentences → list_all has_first_noun (needs_of (actions_declared sentences)) ≡ true
 first_nouns_each [] well = refl

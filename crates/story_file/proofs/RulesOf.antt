@@ -1,13 +1,13 @@
 -- The rules of sentences that mean a tale are few, stand in its books, and ask for what is there.
-use Rattle.std.proofs.Common.{◌+◌, ◌≡◌, ◌∙◌, ap, refl, subst, sym, ℕ, zero, suc, ◌<◌, ◌≤◌, Bool, true, ◌&&◌, List, [], ◌∷◌, ◌++◌, length, map, Some, arith, inl, inr}
-use Rattle.std.specs.Prelude.{None, Option, nat_le, nat_lt, reverse, slice_get}
+use Rattle.std.proofs.Common.{◌+◌, ◌≡◌, ◌∙◌, ap, refl, subst, sym, ℕ, suc, ◌<◌, ◌≤◌, Bool, true, ◌&&◌, List, [], ◌∷◌, ◌++◌, length, map, Some, arith, inl, inr}
+use Rattle.std.specs.Prelude.{None, Option, nat_le, nat_lt, reverse}
 use Rattle.std.specs.List.{AllZip, list_all}
-use Rattle.std.proofs.lemmas.Bool.{cases_lt, lt-ltb}
+use Rattle.std.proofs.lemmas.Bool.{cases_lt, lt-ltb, and_from, and_parts}
 use Rattle.std.proofs.lemmas.Grind.{reverse_onto}
 use Rattle.std.proofs.lemmas.List.{length-append, length-map, length-reverse, length-take, reverse-reverse}
 use Rattle.std.proofs.lemmas.List.Elements.{All-head, All-tail}
 use Rattle.std.proofs.lemmas.List.Folds.{list_all-append}
-use Rattle.world_meaning.proofs.Bools.{both, both_are}
+use Rattle.std.proofs.lemmas.Option.{slice_get_within}
 use Rattle.world_meaning.specs.declared.declared.Declared.{Declared}
 use Rattle.world_meaning.specs.declared.tale.Tale.{Tale}
 use Rattle.play_meaning.specs.Patterns.{pattern_meant, rule_meant}
@@ -92,16 +92,11 @@ few_told k rules told are = omega (arith, few_placed k rules are.within, as_many
 
 -- ---- each stands in a book
 
-there_below : {A : Type 0} (xs : List A) (n : ℕ) (x : A) → slice_get xs n ≡ Some x → n < length xs
-there_below [] n x there = absurd cc
-there_below (y ∷ xs) zero x there = omega arith
-there_below (y ∷ xs) (suc n) x there = omega (arith, there_below xs n x there)
-
 pub list_all_back : {A : Type 0} (p : A → Bool) (xs : List A) → list_all p xs ≡ true → list_all p (reverse xs) ≡ true
 list_all_back p [] all = refl
 list_all_back p (x ∷ xs) all =
-    let t = both_are (p x) (list_all p xs) all in
-    ap (list_all p) (reverse_onto xs x []) ∙ list_all-append p (reverse xs) (x ∷ []) ∙ both (list_all p (reverse xs)) (p x && true) (list_all_back p xs t.1) (both (p x) true t.0 refl)
+    let t = and_parts (p x) (list_all p xs) all in
+    ap (list_all p) (reverse_onto xs x []) ∙ list_all-append p (reverse xs) (x ∷ []) ∙ and_from (list_all p (reverse xs)) (p x && true) (list_all_back p xs t.1) (and_from (p x) true t.0 refl)
 
 -- ---- what is asked for is there, as a story file has it
 
@@ -154,7 +149,7 @@ module _ (k : Known) (d : Declared) (y : Counts) (there : AreThere y k.meanings 
   book_below named.PlayBegins number is = omega (arith, is)
   book_below (named.SceneBegins words) number is = omega (arith, is.2, scene_there k y there words is.0 is.1, happen)
   book_below (named.SceneEnds words) number is = omega (arith, is.2, scene_there k y there words is.0 is.1, happen)
-  book_below (named.Own words) number is = omega (arith, is.numbered, there_below k.rulebooks is.k is.name is.at, books, scenes)
+  book_below (named.Own words) number is = omega (arith, is.numbered, slice_get_within k.rulebooks is.k is.name is.at, books, scenes)
 
   -- of a book that there is, about what there is
   abbrev is_of_tale : ℕ → SourceRule → Bool
@@ -186,7 +181,7 @@ module _ (k : Known) (d : Declared) (y : Counts) (there : AreThere y k.meanings 
   all_of objects counted [] (one ∷ told) each = absurd each
   all_of objects counted (rule ∷ rules) [] each = absurd each
   all_of objects counted (rule ∷ rules) (one ∷ told) each =
-      both (is_of_tale objects one) (list_all (is_of_tale objects) told) (told_of objects counted rule one each.0) (all_of objects counted rules told each.1)
+      and_from (is_of_tale objects one) (list_all (is_of_tale objects) told) (told_of objects counted rule one each.0) (all_of objects counted rules told each.1)
 
   tested : (objects : ℕ) (told : List SourceRule) → list_all (is_of (named_by d objects)) (map (λ one. rule_meant one.rule) told) ≡ list_all (is_of_tale objects) told
   tested objects [] = refl

@@ -1,9 +1,8 @@
 -- What rules are about stands in their entries, rightly, and there is room for it.
 use Rattle.std.proofs.Common.{◌≡◌, ◌∙◌, ap, refl, ℕ, ◌<◌, ◌≤◌, true, false, ◌&&◌, ltb, leb, eqb, List, [], ◌∷◌, length, map, Option, Some, None, arith}
 use Rattle.std.specs.List.{list_all}
-use Rattle.std.proofs.lemmas.Bool.{lt-ltb, ltb-true, leb-true, ne_eqb}
+use Rattle.std.proofs.lemmas.Bool.{lt-ltb, ltb-true, leb-true, ne_eqb, or_right, and_from, and_parts}
 use Rattle.std.proofs.lemmas.List.{length-map}
-use Rattle.world_meaning.proofs.Bools.{both, both_are}
 use Rattle.world_meaning.specs.Declarations.{is_well_declared}
 use Rattle.world_meaning.specs.declared.declared.Declared.{Declared}
 use Rattle.play_meaning.specs.Rules.{Anything, Aspect, Exactly, OfKind, Rule}
@@ -16,7 +15,6 @@ use Rattle.story_format.specs.RuleChecks.{is_number_or_none, is_right_aspect, is
 use Rattle.story_format.specs.RuleMaking.{aspect_entry, entry_with, number_or_none, side_of}
 use Rattle.story_format.specs.declared.rule_entry.RuleBody.{RuleBody}
 use Rattle.story_format.proofs.DeclaredLemmas.{declared_parts, few_grants, few_kinds}
-use Rattle.story_format.proofs.Known.{or_right}
 
 -- ---- the parts of what a rule is about
 
@@ -36,11 +34,11 @@ named_parts z rule h =
     let noun = is_asked z rule.noun in
     let second = is_asked z rule.second in
     let place = is_asked z rule.place in
-    let a = both_are (book && action && noun && second && place) (is_there z.scenes rule.scene) h in
-    let b = both_are (book && action && noun && second) place a.0 in
-    let c = both_are (book && action && noun) second b.0 in
-    let d = both_are (book && action) noun c.0 in
-    let e = both_are book action d.0 in
+    let a = and_parts (book && action && noun && second && place) (is_there z.scenes rule.scene) h in
+    let b = and_parts (book && action && noun && second) place a.0 in
+    let c = and_parts (book && action && noun) second b.0 in
+    let d = and_parts (book && action) noun c.0 in
+    let e = and_parts book action d.0 in
     record { book = ltb-true _ _ e.0; action = e.1; noun = d.1; second = c.1; place = b.1; scene = a.1 }
 
 -- ---- they are right
@@ -67,19 +65,19 @@ side_right flags Touchable h = absurd cc
 sides_right : (flags : ℕ) (qs : List Adjective) → list_all (is_property flags) qs ≡ true → list_all (is_right_side flags) (map side_of qs) ≡ true
 sides_right flags [] h = refl
 sides_right flags (a ∷ qs) h =
-    let t = both_are (is_property flags a) (list_all (is_property flags) qs) h in
-    both (is_right_side flags (side_of a)) (list_all (is_right_side flags) (map side_of qs)) (side_right flags a t.0) (sides_right flags qs t.1)
+    let t = and_parts (is_property flags a) (list_all (is_property flags) qs) h in
+    and_from (is_right_side flags (side_of a)) (list_all (is_right_side flags) (map side_of qs)) (side_right flags a t.0) (sides_right flags qs t.1)
 
 pub aspect_right : (z : Counts) (a : Aspect) → is_asked (named_of z) a ≡ true → is_right_aspect z (aspect_entry a) ≡ true
 unfolding is_right_aspect
 aspect_right z Anything h = refl
 aspect_right z (Exactly o) h = h
 aspect_right z (OfKind kind qs) h =
-    let t = both_are (ltb kind z.kinds) (leb (length qs) 9 && list_all (is_property z.flags) qs) h in
-    let u = both_are (leb (length qs) 9) (list_all (is_property z.flags) qs) t.1 in
+    let t = and_parts (ltb kind z.kinds) (leb (length qs) 9 && list_all (is_property z.flags) qs) h in
+    let u = and_parts (leb (length qs) 9) (list_all (is_property z.flags) qs) t.1 in
     let few : leb (length (map side_of qs)) 9 ≡ true = ap (λ n. leb n 9) (length-map qs side_of) ∙ u.0 in
-    both (ltb kind z.kinds) (leb (length (map side_of qs)) 9 && list_all (is_right_side z.flags) (map side_of qs)) t.0
-    (both (leb (length (map side_of qs)) 9) (list_all (is_right_side z.flags) (map side_of qs)) few (sides_right z.flags qs u.1))
+    and_from (ltb kind z.kinds) (leb (length (map side_of qs)) 9 && list_all (is_right_side z.flags) (map side_of qs)) t.0
+    (and_from (leb (length (map side_of qs)) 9) (list_all (is_right_side z.flags) (map side_of qs)) few (sides_right z.flags qs u.1))
 
 -- ---- there is room for them
 
@@ -118,16 +116,16 @@ side_fits flags Touchable le h = absurd cc
 sides_fit : (flags : ℕ) (qs : List Adjective) → flags ≤ 256 → list_all (is_property flags) qs ≡ true → list_all side_layout.format.fits (map side_of qs) ≡ true
 sides_fit flags [] le h = refl
 sides_fit flags (a ∷ qs) le h =
-    let t = both_are (is_property flags a) (list_all (is_property flags) qs) h in
-    both (side_layout.format.fits (side_of a)) (list_all side_layout.format.fits (map side_of qs)) (side_fits flags a le t.0) (sides_fit flags qs le t.1)
+    let t = and_parts (is_property flags a) (list_all (is_property flags) qs) h in
+    and_from (side_layout.format.fits (side_of a)) (list_all side_layout.format.fits (map side_of qs)) (side_fits flags a le t.0) (sides_fit flags qs le t.1)
 
 pub aspect_fits : (z : Named) (a : Aspect) → IsSmall z → is_asked z a ≡ true → aspect_layout.format.fits (aspect_entry a) ≡ true
 unfolding aspect_layout kind_aspect_layout
 aspect_fits z Anything small h = refl
 aspect_fits z (Exactly o) small h = let low : o < z.objects = ltb-true _ _ h in lt-ltb _ _ (omega (arith, low, small.objects))
 aspect_fits z (OfKind kind qs) small h =
-    let t = both_are (ltb kind z.kinds) (leb (length qs) 9 && list_all (is_property z.flags) qs) h in
-    let u = both_are (leb (length qs) 9) (list_all (is_property z.flags) qs) t.1 in
+    let t = and_parts (ltb kind z.kinds) (leb (length qs) 9 && list_all (is_property z.flags) qs) h in
+    let u = and_parts (leb (length qs) 9) (list_all (is_property z.flags) qs) t.1 in
     let low : kind < z.kinds = ltb-true _ _ t.0 in
     let few : length qs ≤ 9 = leb-true _ _ u.0 in
     let count : ltb (length (map side_of qs)) 256 ≡ true = lt-ltb _ _ (omega (arith, length-map qs side_of, few)) in
@@ -156,15 +154,15 @@ side_told flags Touchable h = absurd cc
 sides_told : (flags : ℕ) (qs : List Adjective) → list_all (is_property flags) qs ≡ true → map asked_by (map side_of qs) ≡ map Some qs
 sides_told flags [] h = refl
 sides_told flags (a ∷ qs) h =
-    let t = both_are (is_property flags a) (list_all (is_property flags) qs) h in
+    let t = and_parts (is_property flags a) (list_all (is_property flags) qs) h in
     λ i. side_told flags a t.0 i ∷ sides_told flags qs t.1 i
 
 aspect_told : (z : Named) (a : Aspect) → is_asked z a ≡ true → AsksSo (aspect_entry a) a
 aspect_told z Anything h = tt
 aspect_told z (Exactly o) h = refl
 aspect_told z (OfKind kind qs) h =
-    let t = both_are (ltb kind z.kinds) (leb (length qs) 9 && list_all (is_property z.flags) qs) h in
-    let u = both_are (leb (length qs) 9) (list_all (is_property z.flags) qs) t.1 in
+    let t = and_parts (ltb kind z.kinds) (leb (length qs) 9 && list_all (is_property z.flags) qs) h in
+    let u = and_parts (leb (length qs) 9) (list_all (is_property z.flags) qs) t.1 in
     (refl, sides_told z.flags qs u.1)
 
 pub entry_about : (z : Named) (rule : Rule) (condition : ℕ) (body : RuleBody) → IsSmall z → is_of z rule ≡ true → IsAbout (entry_with rule condition body) rule

@@ -2,10 +2,9 @@
 use Rattle.std.proofs.Common.{◌≡◌, ◌∙◌, refl, ℕ, ◌+◌, ◌≤◌, Bool, true, false, ◌&&◌, ◌||◌, ltb, leb, eqb, List, [], ◌∷◌, ◌++◌, length, map, Some, arith, length-append}
 use Rattle.std.specs.Prelude.{count_by}
 use Rattle.std.specs.List.{AllZip, list_all}
-use Rattle.std.proofs.lemmas.Bool.{le-leb, lt-ltb}
+use Rattle.std.proofs.lemmas.Bool.{le-leb, lt-ltb, and_from, and_parts}
 use Rattle.std.proofs.lemmas.List.{length-map}
 use Rattle.std.proofs.lemmas.List.Folds.{list_all-append}
-use Rattle.world_meaning.proofs.Bools.{both, both_are}
 use Rattle.world_meaning.specs.declared.needs.Needs.{Needs}
 use Rattle.world_meaning.specs.declared.needs.Slot.{Slot}
 use Rattle.world_meaning.specs.declared.needs.Slot.TheVariants.{Absent, Visible, Touched, Carried}
@@ -60,8 +59,8 @@ entry_right needs h = rw (nouns_right needs.noun needs.second h) (marks_right ne
 entries_right : (actions : List Needs) → list_all has_first_noun actions ≡ true → list_all is_right_action (map action_entry actions) ≡ true
 entries_right [] h = refl
 entries_right (needs ∷ actions) h =
-    let t = both_are (has_first_noun needs) (list_all has_first_noun actions) h in
-    both (is_right_action (action_entry needs)) (list_all is_right_action (map action_entry actions)) (entry_right needs t.0) (entries_right actions t.1)
+    let t = and_parts (has_first_noun needs) (list_all has_first_noun actions) h in
+    and_from (is_right_action (action_entry needs)) (list_all is_right_action (map action_entry actions)) (entry_right needs t.0) (entries_right actions t.1)
 
 standard_first : list_all has_first_noun standard_needs ≡ true
 unfolding standard_needs
@@ -74,7 +73,7 @@ begin_so actions = refl
 each_right : (actions : List Needs) → list_all has_first_noun actions ≡ true → list_all is_right_action (action_entries actions) ≡ true
 unfolding action_entries
 each_right actions h =
-    entries_right (standard_needs ++ actions) (list_all-append has_first_noun standard_needs actions ∙ both (list_all has_first_noun standard_needs) (list_all has_first_noun actions) standard_first h)
+    entries_right (standard_needs ++ actions) (list_all-append has_first_noun standard_needs actions ∙ and_from (list_all has_first_noun standard_needs) (list_all has_first_noun actions) standard_first h)
 
 pub actions_right : (actions : List Needs) → length actions ≤ 184 → list_all has_first_noun actions ≡ true → are_right_actions (action_entries actions) ≡ true
 unfolding are_right_actions
@@ -120,7 +119,7 @@ entry_fits needs = rw (count_fits needs.noun needs.second, need_fits needs.noun,
 
 entries_fit : (actions : List Needs) → list_all action_layout.format.fits (map action_entry actions) ≡ true
 entries_fit [] = refl
-entries_fit (needs ∷ actions) = both (action_layout.format.fits (action_entry needs)) (list_all action_layout.format.fits (map action_entry actions)) (entry_fits needs) (entries_fit actions)
+entries_fit (needs ∷ actions) = and_from (action_layout.format.fits (action_entry needs)) (list_all action_layout.format.fits (map action_entry actions)) (entry_fits needs) (entries_fit actions)
 
 pub actions_fit : (actions : List Needs) → list_all action_layout.format.fits (action_entries actions) ≡ true
 unfolding action_entries

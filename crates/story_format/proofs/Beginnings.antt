@@ -1,9 +1,8 @@
 -- Where a story's objects begin: each holder is there, no chain is endless, and the player is directly in a room.
-use Rattle.std.proofs.Common.{◌≡◌, ◌∙◌, sym, ap, refl, ℕ, zero, suc, ◌+◌, ◌<◌, ◌≤◌, Bool, true, false, ◌||◌, leb, ltb, eqb, List, [], ◌∷◌, length, take, Option, Some, arith, ◌⊎◌, inl, inr, ⊎_elim}
+use Rattle.std.proofs.Common.{◌≡◌, ◌∙◌, sym, ap, ℕ, zero, suc, ◌+◌, ◌<◌, ◌≤◌, Bool, true, leb, ltb, eqb, List, [], ◌∷◌, length, take, Option, Some, arith, ◌⊎◌, ⊎_elim}
 use Rattle.std.specs.Prelude.{codes, slice_get}
-use Rattle.std.proofs.lemmas.Bool.{eqb-true, leb-true}
+use Rattle.std.proofs.lemmas.Bool.{eqb-true, leb-true, and_parts, or_cases}
 use Rattle.std.proofs.lemmas.List.{length-map}
-use Rattle.world_meaning.proofs.Bools.{both_are}
 use Rattle.world_meaning.proofs.Ends.{walks_decide}
 use Rattle.world_meaning.specs.Chains.{IsTree}
 use Rattle.world_meaning.specs.Directions.{all_directions}
@@ -43,7 +42,7 @@ stories_few t story = frame_few t (frame_of t story.right)
 
 stand_parts : (t : Tables) → stand_rightly t ≡ true → (are_well_placed (kinds_told (sorts_in t)) 0 (places_in t.objects) ≡ true) × (have_ends (places_in t.objects) ≡ true)
 unfolding stand_rightly
-stand_parts t right = both_are (are_well_placed (kinds_told (sorts_in t)) 0 (places_in t.objects)) (have_ends (places_in t.objects)) right
+stand_parts t right = and_parts (are_well_placed (kinds_told (sorts_in t)) 0 (places_in t.objects)) (have_ends (places_in t.objects)) right
 
 pub stories_tree : (t : Tables) → IsStory t → IsTree (place_at (places_in t.objects))
 stories_tree t story = (walks_decide (places_in t.objects)).0 (stand_parts t (stands t story.right)).1
@@ -56,8 +55,8 @@ unfolding are_well_placed
 well_at kinds o [] i n place h e there = absurd cc
 well_at kinds o (p ∷ ps) zero n place h e there =
     let same : o ≡ n = omega (arith, e) in
-    ap (is_well_placed kinds n) (sym there) ∙ ap (λ (k : ℕ). is_well_placed kinds k p) (sym same) ∙ (both_are (is_well_placed kinds o p) (are_well_placed kinds (o + 1) ps) h).0
-well_at kinds o (p ∷ ps) (suc i) n place h e there = well_at kinds (o + 1) ps i n place (both_are (is_well_placed kinds o p) (are_well_placed kinds (o + 1) ps) h).1 (omega (arith, e)) there
+    ap (is_well_placed kinds n) (sym there) ∙ ap (λ (k : ℕ). is_well_placed kinds k p) (sym same) ∙ (and_parts (is_well_placed kinds o p) (are_well_placed kinds (o + 1) ps) h).0
+well_at kinds o (p ∷ ps) (suc i) n place h e there = well_at kinds (o + 1) ps i n place (and_parts (is_well_placed kinds o p) (are_well_placed kinds (o + 1) ps) h).1 (omega (arith, e)) there
 
 at_there : (told : List Bool) (o : ℕ) → is_at told o ≡ true → o < length told
 at_there [] o h = absurd cc
@@ -70,13 +69,9 @@ told_there t other o h =
     let told : length (under_each t.world.kinds (kinds_in t.objects) other) ≡ length (kinds_in t.objects) = length-map (kinds_in t.objects) (λ (kind : ℕ). is_under t.world.kinds kind other) in
     omega (arith, at_there (under_each t.world.kinds (kinds_in t.objects) other) o h, kinds, told)
 
-or_is : (a b : Bool) → (a || b) ≡ true → (a ≡ true) ⊎ (b ≡ true)
-or_is true b is = inl refl
-or_is false b is = inr is
-
 holds_there : (t : Tables) (relation : Rel) (holder : ℕ) → can_hold (kinds_told (sorts_in t)) relation holder ≡ true → holder < length t.objects
 unfolding sorts_of
-holds_there t In holder h = ⊎_elim (told_there t 1 holder) (told_there t 4 holder) (or_is _ _ h)
+holds_there t In holder h = ⊎_elim (told_there t 1 holder) (told_there t 4 holder) (or_cases _ _ h)
 holds_there t On holder h = told_there t 5 holder h
 holds_there t Carried holder h = told_there t 6 holder h
 holds_there t Worn holder h = told_there t 6 holder h
@@ -86,7 +81,7 @@ pub holders_there : (t : Tables) (thing : ℕ) (place : Place) → IsStory t →
 holders_there t thing place story there =
     let kinds : Kinds = kinds_told (sorts_in t) in
     let well : is_well_placed kinds thing (Some place) ≡ true = well_at kinds 0 (places_in t.objects) thing thing place (stand_parts t (stands t story.right)).0 (omega arith) there in
-    holds_there t place.relation place.holder (both_are (can_be_held kinds thing) (can_hold kinds place.relation place.holder) well).1
+    holds_there t place.relation place.holder (and_parts (can_be_held kinds thing) (can_hold kinds place.relation place.holder) well).1
 
 -- ---- the player
 

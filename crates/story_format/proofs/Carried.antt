@@ -2,12 +2,12 @@
 use Rattle.std.proofs.Common.{◌≡◌, ℕ, zero, suc, ◌+◌, ◌-◌, ◌<◌, ◌==◌, Bool, true, false, cond, eqb, List, [], ◌∷◌, ◌++◌, length, map, take, drop, Option, Some, None, refl, sym, subst, ap, ◌∙◌, arith, inl, inr, if◌then◌else◌}
 use Rattle.std.specs.Prelude.{min, slice_get, is_none, is_some}
 use Rattle.std.specs.List.{AllByRecursion, AllZip, list_all, flat_map}
-use Rattle.std.proofs.lemmas.Bool.{ne_eqb}
+use Rattle.std.proofs.lemmas.Bool.{ne_eqb, cases_Bool, and_parts}
 use Rattle.std.proofs.lemmas.List.{length-append, length-map}
 use Rattle.std.proofs.lemmas.List.Folds.{list_all-append}
 use Rattle.std.specs.Option.{option_map}
-use Rattle.std.proofs.lemmas.Option.{get_or_from_slice_get, slice_get-map}
-use Rattle.world_meaning.proofs.Bools.{both_are, either}
+use Rattle.std.proofs.lemmas.Option.{get_or_from_slice_get, slice_get-map, same_Some}
+use Rattle.world_meaning.proofs.Options.{get_within, get_front, none_is}
 use Rattle.world_meaning.specs.Tale.{description_in as told_description, name_in as told_name, holder_in as told_holder, place_in as told_place, room_beyond, way_in as told_way}
 use Rattle.world_meaning.specs.Kinds.{is_under}
 use Rattle.world_meaning.specs.WellMade.{are_closed, begin_rightly, has_right_exits, is_closed, sorts_in, stands_in_room}
@@ -46,7 +46,7 @@ use Rattle.story_format.specs.Holding.{counts_in, named_in, AreHeld, IsHeld}
 use Rattle.story_format.specs.RuleMaking.{rule_entries, rules_of, standard_entries}
 use Rattle.story_format.specs.Making.{Worded, code_count, code_number, codes_in, described_in, entries_of, entry_of, entry_strings, place_holder, story_rules, strings_of, strings_said, tables_of, tables_with, text_in, text_of, ways_of, worded, worded_at, worded_from, world_of}
 use Rattle.story_format.specs.Placed.{is_room_entry}
-use Rattle.story_format.proofs.StoryLemmas.{all_at, few_begin, get_dropped, get_front, get_within, parts, player_parts}
+use Rattle.story_format.proofs.StoryLemmas.{all_at, few_begin, get_dropped, parts, player_parts}
 use Rattle.story_format.proofs.Known.{found_by_number, is_known, said_known}
 use Rattle.story_format.proofs.OrderLemmas.{at_most_one}
 use Rattle.story_format.proofs.RuleLemmas.{origins_in}
@@ -68,16 +68,16 @@ names_carried : (strings : List (List ℕ)) (ws : List Worded) (next o : ℕ) �
 unfolding entries_of entry_of entry_strings
 names_carried strings [] next o h few = refl
 names_carried strings (w ∷ ws) next zero h few =
-    let t = both_are (knows strings w) (list_all (knows strings) ws) h in
-    text_back strings w.object.name (both_are (is_known strings w.object.name) (list_all (is_known strings) w.words) t.0).0 few
-names_carried strings (w ∷ ws) next (suc o) h few = names_carried strings ws (next + code_count w.object.description) o (both_are (knows strings w) (list_all (knows strings) ws) h).1 few
+    let t = and_parts (knows strings w) (list_all (knows strings) ws) h in
+    text_back strings w.object.name (and_parts (is_known strings w.object.name) (list_all (is_known strings) w.words) t.0).0 few
+names_carried strings (w ∷ ws) next (suc o) h few = names_carried strings ws (next + code_count w.object.description) o (and_parts (knows strings w) (list_all (knows strings) ws) h).1 few
 
 -- ---- words
 
 words_back : (strings texts : List (List ℕ)) → list_all (is_known strings) texts ≡ true → length strings < 65535 → map (text_at strings) (map (number_in strings) texts) ≡ texts
 words_back strings [] h few = refl
 words_back strings (text ∷ texts) h few =
-    let t = both_are (is_known strings text) (list_all (is_known strings) texts) h in
+    let t = and_parts (is_known strings text) (list_all (is_known strings) texts) h in
     λ i. text_back strings text t.0 few i ∷ words_back strings texts t.1 few i
 
 words_carried : (strings : List (List ℕ)) (objects : List Object) (from next o : ℕ) → list_all (knows strings) (worded_from from objects) ≡ true → length strings < 65535
@@ -85,12 +85,12 @@ words_carried : (strings : List (List ℕ)) (objects : List Object) (from next o
 unfolding entries_of entry_of entry_strings
 words_carried strings [] from next o h few = refl
 words_carried strings (object ∷ objects) from next zero h few =
-    let t = both_are (knows strings (worded_at from object)) (list_all (knows strings) (worded_from (from + 1) objects)) h in
-    let known = (both_are (is_known strings object.name) (list_all (is_known strings) (words_for from object.name)) t.0).1 in
+    let t = and_parts (knows strings (worded_at from object)) (list_all (knows strings) (worded_from (from + 1) objects)) h in
+    let known = (and_parts (is_known strings object.name) (list_all (is_known strings) (words_for from object.name)) t.0).1 in
     let here : from ≡ from + 0 = omega arith in
     words_back strings (words_for from object.name) known few ∙ ap (λ n. words_for n object.name) here
 words_carried strings (object ∷ objects) from next (suc o) h few =
-    let t = both_are (knows strings (worded_at from object)) (list_all (knows strings) (worded_from (from + 1) objects)) h in
+    let t = and_parts (knows strings (worded_at from object)) (list_all (knows strings) (worded_from (from + 1) objects)) h in
     let there : (from + 1) + o ≡ from + suc o = omega arith in
     words_carried strings objects (from + 1) (next + code_count object.description) o t.1 few ∙ ap (λ n. told_words n (slice_get objects o)) there
 
@@ -161,7 +161,7 @@ origin_known : (strings : List (List ℕ)) (origins : List Origin) (n : ℕ) (or
 origin_known strings [] n origin h at = absurd cc
 origin_known strings (one ∷ origins) n origin h at =
     let known = is_known strings in
-    let t = both_are (list_all known (strings_of_origin one)) (list_all known (strings_said origins)) (sym (list_all-append known (strings_of_origin one) (strings_said origins)) ∙ h) in
+    let t = and_parts (list_all known (strings_of_origin one)) (list_all known (strings_said origins)) (sym (list_all-append known (strings_of_origin one) (strings_said origins)) ∙ h) in
     by n at t.0 (λ m later. origin_known strings origins m origin t.1 later)
   where
     by : (n : ℕ) → slice_get (one ∷ origins) n ≡ Some origin → list_all (is_known strings) (strings_of_origin one) ≡ true
@@ -171,7 +171,7 @@ origin_known strings (one ∷ origins) n origin h at =
 
 strings_stand : (strings xs : List (List ℕ)) → list_all (is_known strings) xs ≡ true → length strings < 65535 → AllByRecursion (λ bytes. text_at strings (number_in strings bytes) ≡ bytes) xs
 strings_stand strings [] h few = tt
-strings_stand strings (x ∷ xs) h few = let t = both_are (is_known strings x) (list_all (is_known strings) xs) h in (text_back strings x t.0 few, strings_stand strings xs t.1 few)
+strings_stand strings (x ∷ xs) h few = let t = and_parts (is_known strings x) (list_all (is_known strings) xs) h in (text_back strings x t.0 few, strings_stand strings xs t.1 few)
 
 origins_stand : (ws : List Worded) (origins : List Origin) → length (strings_of ws origins) < 65535 → (n : ℕ) (origin : Origin) → slice_get origins n ≡ Some origin
     → AllByRecursion (λ bytes. text_at (strings_of ws origins) (number_in (strings_of ws origins) bytes) ≡ bytes) (strings_of_origin origin)
@@ -192,20 +192,13 @@ module _ (z : Counts) (c : Codes) (string : List ℕ → ℕ) (texts : List Text
 
 -- ---- ways
 
-none_is : {A : Type 0} (o : Option A) → is_none o ≡ true → o ≡ None
-none_is None e = refl
-none_is (Some x) e = absurd cc
-
 closed_beyond : (ws : List Way) (i : ℕ) → list_all is_closed ws ≡ true → room_beyond (slice_get ws i) ≡ None
 closed_beyond [] i h = refl
-closed_beyond (w ∷ ws) zero h = let t = both_are (is_closed w) (list_all is_closed ws) h in none_is w.room (both_are (is_none w.room) (is_none w.door) t.0).0
-closed_beyond (w ∷ ws) (suc i) h = closed_beyond ws i (both_are (is_closed w) (list_all is_closed ws) h).1
+closed_beyond (w ∷ ws) zero h = let t = and_parts (is_closed w) (list_all is_closed ws) h in none_is w.room (and_parts (is_none w.room) (is_none w.door) t.0).0
+closed_beyond (w ∷ ws) (suc i) h = closed_beyond ws i (and_parts (is_closed w) (list_all is_closed ws) h).1
 
 closed_way : (object : Object) (direction : ℕ) → are_closed object.exits ≡ true → told_way (Some object) direction ≡ None
 closed_way object direction h = closed_beyond object.exits.ways (direction - 1) h
-
-some_is : {A : Type 0} (x y : A) → Some x ≡ Some y → x ≡ y
-some_is x y e = cc
 
 abbrev is_room_of : List (Option ℕ) → Option Worded → Bool
 is_room_of parents None = false
@@ -223,13 +216,13 @@ ways_there : (parents : List (Option ℕ)) (strings : List (List ℕ)) (ws : Lis
 unfolding entries_of
 ways_there parents strings [] next o w e room = absurd cc
 ways_there parents strings (x ∷ ws) next zero w e room =
-    let same : x ≡ w = some_is x w e in
+    let same : x ≡ w = same_Some x w e in
     let here : is_under parents x.object.kind 1 ≡ true = ap (λ (y : Worded). is_under parents y.object.kind 1) same ∙ room in
     rw here (ap (λ (y : Worded). Some y.object.exits) same)
 ways_there parents strings (x ∷ ws) next (suc o) w e room =
     let after = next + code_count x.object.description in
     let later = ways_there parents strings ws after o w e room in
-    elim (either (is_under parents x.object.kind 1)) [
+    elim (cases_Bool (is_under parents x.object.kind 1)) [
       | inl is ↦ rw (is, counted_more (is_room_entry parents) (entry_of strings next x) (take o (entries_of strings after ws)) (entry_room parents strings next x ∙ is)) later
       | inr isnt ↦ rw (isnt, counted_same (is_room_entry parents) (entry_of strings next x) (take o (entries_of strings after ws)) (entry_room parents strings next x ∙ isnt)) later
     ]
@@ -243,7 +236,7 @@ pub exits_found : (parents : List (Option ℕ)) (strings : List (List ℕ)) (ws 
 exits_found parents strings ws o None e = rw (room_same parents strings ws 0 o ∙ ap (is_room_of parents) e) refl
 exits_found parents strings ws o (Some w) e =
     let room : is_room_in parents (slice_get (entries_of strings 0 ws) o) ≡ is_under parents w.object.kind 1 = room_same parents strings ws 0 o ∙ ap (is_room_of parents) e in
-    elim (either (is_under parents w.object.kind 1)) [
+    elim (cases_Bool (is_under parents w.object.kind 1)) [
       | inl is ↦ rw (room, is, ways_there parents strings ws 0 o w e is) refl
       | inr isnt ↦ rw (room, isnt) refl
     ]
@@ -258,7 +251,7 @@ ways_found parents sorts strings ws o direction None e h = rw (exits_found paren
 ways_found parents sorts strings ws o direction (Some w) e h =
     let object : slice_get (objects_in ws) o ≡ Some w.object = object_found ws o (Some w) e in
     let right : has_right_exits parents sorts w.object ≡ true = all_at (has_right_exits parents sorts) (objects_in ws) o w.object h object in
-    elim (either (is_under parents w.object.kind 1)) [
+    elim (cases_Bool (is_under parents w.object.kind 1)) [
       | inl is ↦ rw (exits_found parents strings ws o (Some w) e, is, object) refl
       | inr isnt ↦ let closed : are_closed w.object.exits ≡ true = rw isnt at right in rw (exits_found parents strings ws o (Some w) e, isnt, object) (sym (closed_way w.object direction closed))
     ]

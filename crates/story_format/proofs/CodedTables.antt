@@ -2,8 +2,7 @@
 use Rattle.std.proofs.Common.{◌≡◌, ◌∙◌, ◌<◌, ap, refl, sym, subst, ℕ, Bool, true, false, ◌&&◌, nat_lt, List, [], ◌∷◌, length, arith}
 use Rattle.std.specs.Prelude.{OnOk, Result, Ok, Err, map}
 use Rattle.std.specs.List.{list_all}
-use Rattle.std.proofs.lemmas.Bool.{and_parts, lt-ltb, ltb-true}
-use Rattle.world_meaning.proofs.Bools.{both}
+use Rattle.std.proofs.lemmas.Bool.{and_parts, lt-ltb, ltb-true, and_from}
 use Rattle.world_meaning.specs.declared.tale.Tale.{Tale}
 use Rattle.object_words.specs.Mentions.{number_in}
 use Rattle.play_meaning.specs.Rules.{Rule}
@@ -55,7 +54,7 @@ module _ (t : Tale) (texts : List Text) (listings : List ListingSentence) (rules
         let strings = strings_of (worded t.objects) (origins_of texts rules) in
         let names : list_all has_short_texts t.objects ≡ true = held.texts in
         let short = strings_short (worded t.objects) (origins_of texts rules) (ap (list_all has_short_texts) (objects_back 0 t.objects) ∙ names) (all_good_words 0 t.objects names) short_said in
-        let room : (nat_lt (length strings) 65535 && list_all is_short strings) ≡ true = both (nat_lt (length strings) 65535) (list_all is_short strings) (lt-ltb (length strings) 65535 few) short in
+        let room : (nat_lt (length strings) 65535 && list_all is_short strings) ≡ true = and_from (nat_lt (length strings) 65535) (list_all is_short strings) (lt-ltb (length strings) 65535 few) short in
         let never : true ≡ false = sym room ∙ ap (λ l. nat_lt (length l) 65535 && list_all is_short l) (sym all_are) ∙ sym told ∙ no_room in
         absurd cc
 

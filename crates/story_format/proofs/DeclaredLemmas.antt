@@ -3,11 +3,10 @@ use Rattle.std.proofs.Common.{◌≡◌, ℕ, ◌+◌, ◌<◌, ◌≤◌, Bool,
 use Rattle.std.specs.Prelude.{count_by, slice_get, ℤ, pos, negsuc}
 use Rattle.std.specs.List.{list_all}
 use Rattle.std.specs.Int.{w32, cast_unsigned}
-use Rattle.std.proofs.lemmas.Bool.{eqb-true, leb-true, lt-ltb, ltb-true}
+use Rattle.std.proofs.lemmas.Bool.{eqb-true, leb-true, lt-ltb, ltb-true, cases_Bool, and_from, and_parts}
 use Rattle.std.proofs.lemmas.List.Folds.{list_all-append}
 use Rattle.std.proofs.lemmas.List.Sums.{sum_by-cons}
 use Rattle.std.proofs.lemmas.Option.{slice_get_within}
-use Rattle.world_meaning.proofs.Bools.{both, both_are, either}
 use Rattle.world_meaning.specs.Declarations.{are_right_grants, are_right_kinds, are_rising, begin_with_kinds, begin_with_properties, count_of_numbers, has_properties, has_property, is_below, is_had, is_had_at, is_number, is_right_grant, is_rooted, is_same_kind, is_well_declared}
 use Rattle.world_meaning.specs.Declarations.{suits_kind as object_suits}
 use Rattle.world_meaning.specs.Kinds.{built_in_parents, climb_on, climbs, is_under, is_under_one}
@@ -43,11 +42,11 @@ declared_parts d h =
     let numbers = are_right_grants (length d.kinds) d.numbers in
     let few = leb (length d.variables) 100 in
     let are_numbers = list_all is_number d.variables in
-    let r = both_are (kinds && first && flags && numbers && few && are_numbers && leb (length d.scenes) 50) (leb d.rulebooks 100) h in
-    let s = both_are (kinds && first && flags && numbers && few && are_numbers) (leb (length d.scenes) 50) r.0 in
-    let a = both_are (kinds && first && flags && numbers && few) are_numbers s.0 in
-    let b = both_are (kinds && first && flags && numbers) few a.0 in
-    let c = both_are (kinds && first && flags) numbers b.0 in
+    let r = and_parts (kinds && first && flags && numbers && few && are_numbers && leb (length d.scenes) 50) (leb d.rulebooks 100) h in
+    let s = and_parts (kinds && first && flags && numbers && few && are_numbers) (leb (length d.scenes) 50) r.0 in
+    let a = and_parts (kinds && first && flags && numbers && few) are_numbers s.0 in
+    let b = and_parts (kinds && first && flags && numbers) few a.0 in
+    let c = and_parts (kinds && first && flags) numbers b.0 in
     let e = three kinds first flags c.0 in
     record { kinds = e.0; first = e.1; flags = e.2; numbers = c.1; few = b.1; variables = a.1; scenes = leb-true _ _ s.1; rulebooks = leb-true _ _ r.1 }
 
@@ -67,7 +66,7 @@ climb_below parents climb k m (Some above) e h = inr (slice_get_within parents k
 under_below : (left parents : List (Option ℕ)) (k m : ℕ) → climbs left parents k m ≡ true → (k ≡ m) ⊎ (k < length parents)
 under_below [] parents k m h = inl (eqb-true k m h)
 under_below (x ∷ left) parents k m h =
-    elim (either (eqb k m)) [
+    elim (cases_Bool (eqb k m)) [
       | inl is ↦ inl (eqb-true k m is)
       | inr isnt ↦
           let up : climb_on (λ p. climbs left parents p m) (slice_get parents k) ≡ true = rw isnt at h in
@@ -81,9 +80,9 @@ under_small parents k m h = under_below parents parents k m h
 one_small : (parents : List (Option ℕ)) (others : List ℕ) (k : ℕ) → length parents ≤ 100 → list_all (is_below 100) others ≡ true → is_under_one parents others k ≡ true → k < 100
 one_small parents [] k few small h = absurd cc
 one_small parents (m ∷ others) k few small h =
-    let t = both_are (is_below 100 m) (list_all (is_below 100) others) small in
+    let t = and_parts (is_below 100 m) (list_all (is_below 100) others) small in
     let lt : m < 100 = ltb-true _ _ t.0 in
-    elim (either (is_under parents k m)) [
+    elim (cases_Bool (is_under parents k m)) [
       | inl is ↦
           elim (under_small parents k m is) [
             | inl same ↦ omega (arith, same, lt)
@@ -107,7 +106,7 @@ unfolding begin_with_kinds
 begun xs [] h = refl
 begun [] (y ∷ ys) h = absurd cc
 begun (x ∷ xs) (y ∷ ys) h =
-    let t = both_are (is_same_kind x y) (begin_with_kinds xs ys) h in
+    let t = and_parts (is_same_kind x y) (begin_with_kinds xs ys) h in
     ap (λ k. k ∷ xs) (same_kind x y t.0) ∙ ap (λ (ks : List (Option ℕ)). y ∷ ks) (begun xs ys t.1)
 
 ten : length built_in_parents ≡ 10
@@ -129,7 +128,7 @@ kinds_fit parents h =
     let few : length parents ≤ 100 = leb-true _ _ t.0 in
     let split : parents ≡ built_in_parents ++ drop 10 parents = begun parents built_in_parents t.1 ∙ ap (λ n. built_in_parents ++ drop n parents) ten in
     ap (list_all (fits_optional 255)) split ∙ list_all-append (fits_optional 255) built_in_parents (drop 10 parents)
-    ∙ both (list_all (fits_optional 255) built_in_parents) (list_all (fits_optional 255) (drop 10 parents)) built_in_fit (all_weaker (is_rooted parents) (fits_optional 255) (rooted_fits parents few) (drop 10 parents) t.2)
+    ∙ and_from (list_all (fits_optional 255) built_in_parents) (list_all (fits_optional 255) (drop 10 parents)) built_in_fit (all_weaker (is_rooted parents) (fits_optional 255) (rooted_fits parents few) (drop 10 parents) t.2)
 
 -- ---- so have the kinds of a property
 
@@ -137,8 +136,8 @@ pub rising_short : (count next : ℕ) (ns : List ℕ) → next ≤ count → are
 unfolding are_rising
 rising_short count next [] le h k = omega (arith, le)
 rising_short count next (n ∷ ns) le h k =
-    let t = both_are (leb next n) (are_rising (n + 1) ns) h in
-    let u = both_are (is_below count n) (list_all (is_below count) ns) k in
+    let t = and_parts (leb next n) (are_rising (n + 1) ns) h in
+    let u = and_parts (is_below count n) (list_all (is_below count) ns) k in
     let below : n < count = ltb-true _ _ u.0 in
     let above : next ≤ n = leb-true _ _ t.0 in
     omega (arith, above, rising_short count (n + 1) ns (omega (arith, below)) t.1 u.1)
@@ -151,11 +150,11 @@ byte_if count le n h = let lt : n < count = ltb-true _ _ h in lt-ltb _ _ (omega 
 
 pub rising_bytes : (count : ℕ) (ns : List ℕ) → count ≤ 100 → are_rising 0 ns ≡ true → list_all (is_below count) ns ≡ true → are_bytes ns ≡ true
 rising_bytes count ns le h k =
-    both (ltb (length ns) 256) (list_all (λ n. ltb n 256) ns) (lt-ltb _ _ (omega (arith, le, rising_short count 0 ns (omega arith) h k))) (all_weaker (is_below count) (λ n. ltb n 256) (byte_if count le) ns k)
+    and_from (ltb (length ns) 256) (list_all (λ n. ltb n 256) ns) (lt-ltb _ _ (omega (arith, le, rising_short count 0 ns (omega arith) h k))) (all_weaker (is_below count) (λ n. ltb n 256) (byte_if count le) ns k)
 
 grant_fits : (kinds : ℕ) → kinds ≤ 100 → (g : Granted) → is_right_grant kinds g ≡ true → granted_layout.format.fits g ≡ true
 unfolding granted_layout
-grant_fits kinds le g h = let t = both_are (are_rising 0 g.kinds) (list_all (is_below kinds) g.kinds) h in rising_bytes kinds g.kinds le t.0 t.1
+grant_fits kinds le g h = let t = and_parts (are_rising 0 g.kinds) (list_all (is_below kinds) g.kinds) h in rising_bytes kinds g.kinds le t.0 t.1
 
 -- ---- so have numbers
 
@@ -169,11 +168,11 @@ number_fits (negsuc n) h = lt-ltb _ _ (omega arith)
 variable_fits : (zs : List ℤ) → list_all is_number zs ≡ true → list_all variable_layout.format.fits (map variable_of zs) ≡ true
 unfolding variable_layout
 variable_fits [] h = refl
-variable_fits (z ∷ zs) h = let t = both_are (is_number z) (list_all is_number zs) h in both (variable_layout.format.fits (variable_of z)) (list_all variable_layout.format.fits (map variable_of zs)) (number_fits z t.0) (variable_fits zs t.1)
+variable_fits (z ∷ zs) h = let t = and_parts (is_number z) (list_all is_number zs) h in and_from (variable_layout.format.fits (variable_of z)) (list_all variable_layout.format.fits (map variable_of zs)) (number_fits z t.0) (variable_fits zs t.1)
 
 numbers_fit : (zs : List ℤ) → list_all is_number zs ≡ true → list_all is_word (numbers_of zs) ≡ true
 numbers_fit [] h = refl
-numbers_fit (z ∷ zs) h = let t = both_are (is_number z) (list_all is_number zs) h in both (is_word (cast_unsigned w32 z)) (list_all is_word (numbers_of zs)) (number_fits z t.0) (numbers_fit zs t.1)
+numbers_fit (z ∷ zs) h = let t = and_parts (is_number z) (list_all is_number zs) h in and_from (is_word (cast_unsigned w32 z)) (list_all is_word (numbers_of zs)) (number_fits z t.0) (numbers_fit zs t.1)
 
 -- ---- so have tables 2 to 5
 
@@ -181,11 +180,11 @@ few_fit : (n : ℕ) → n ≤ 100 → ltb n 65536 ≡ true
 few_fit n le = lt-ltb _ _ (omega (arith, le))
 
 pub few_grants : (kinds : ℕ) (granted : List Granted) → are_right_grants kinds granted ≡ true → length granted ≤ 100
-few_grants kinds granted h = leb-true _ _ (both_are (leb (length granted) 100) (list_all (is_right_grant kinds) granted) h).0
+few_grants kinds granted h = leb-true _ _ (and_parts (leb (length granted) 100) (list_all (is_right_grant kinds) granted) h).0
 
 grants_fit : (kinds : ℕ) (granted : List Granted) → kinds ≤ 100 → are_right_grants kinds granted ≡ true → (ltb (length granted) 65536 ≡ true) × (list_all granted_layout.format.fits granted ≡ true)
 grants_fit kinds granted le h =
-    let t = both_are (leb (length granted) 100) (list_all (is_right_grant kinds) granted) h in
+    let t = and_parts (leb (length granted) 100) (list_all (is_right_grant kinds) granted) h in
     (few_fit (length granted) (leb-true _ _ t.0), all_weaker (is_right_grant kinds) granted_layout.format.fits (grant_fits kinds le) granted t.1)
 
 pub world_fits : (d : Declared) → is_well_declared d ≡ true → world_layout.format.fits (world_of d) ≡ true
@@ -215,9 +214,9 @@ pub all_suit : (d : Declared) (strings : List (List ℕ)) (objects : List Object
 unfolding entries_of
 all_suit d strings [] o next h = refl
 all_suit d strings (object ∷ objects) o next h =
-    let t = both_are (object_suits d object) (list_all (object_suits d) objects) h in
+    let t = and_parts (object_suits d object) (list_all (object_suits d) objects) h in
     let w = worded_at o object in
-    both (suits_kind (world_of d) (entry_of strings next w)) (list_all (suits_kind (world_of d)) (entries_of strings (next + code_count w.object.description) (worded_from (o + 1) objects))) (entry_suits d strings next w t.0)
+    and_from (suits_kind (world_of d) (entry_of strings next w)) (list_all (suits_kind (world_of d)) (entries_of strings (next + code_count w.object.description) (worded_from (o + 1) objects))) (entry_suits d strings next w t.0)
     (all_suit d strings objects (o + 1) (next + code_count w.object.description) t.1)
 
 -- ---- which has room in its bytes
@@ -232,7 +231,7 @@ had_below parents flags kind n (Some g) e h = lt-ltb _ _ (slice_get_within flags
 properties_fit : (parents : List (Option ℕ)) (flags : List Granted) (kind : ℕ) (properties : List ℕ) → length flags ≤ 100 → has_properties parents flags kind properties ≡ true → are_bytes properties ≡ true
 unfolding has_properties
 properties_fit parents flags kind properties le h =
-    let t = both_are (are_rising 0 properties) (list_all (has_property parents flags kind) properties) h in
+    let t = and_parts (are_rising 0 properties) (list_all (has_property parents flags kind) properties) h in
     let below = all_weaker (has_property parents flags kind) (is_below (length flags)) (λ n k. had_below parents flags kind n (slice_get flags n) refl k) properties t.1 in
     rising_bytes (length flags) properties le t.0 below
 
@@ -252,8 +251,8 @@ own_fits : (d : Declared) → is_well_declared d ≡ true → (o : Object) → o
 own_fits d h o k =
     let p = declared_parts d h in
     let q = own_parts d o k in
-    let flags : length d.flags ≤ 100 = leb-true _ _ (both_are (leb (length d.flags) 100) (list_all (is_right_grant (length d.kinds)) d.flags) p.flags).0 in
-    let numbers : length d.numbers ≤ 100 = leb-true _ _ (both_are (leb (length d.numbers) 100) (list_all (is_right_grant (length d.kinds)) d.numbers) p.numbers).0 in
+    let flags : length d.flags ≤ 100 = leb-true _ _ (and_parts (leb (length d.flags) 100) (list_all (is_right_grant (length d.kinds)) d.flags) p.flags).0 in
+    let numbers : length d.numbers ≤ 100 = leb-true _ _ (and_parts (leb (length d.numbers) 100) (list_all (is_right_grant (length d.kinds)) d.numbers) p.numbers).0 in
     let same : length o.numbers ≡ count_of_numbers d.kinds d.numbers o.kind = eqb-true _ _ q.1 in
     let few : ltb (length (numbers_of o.numbers)) 256 ≡ true = lt-ltb _ _ (omega (arith, same, numbers, numbers_few d.kinds d.numbers o.kind, length_mapped (cast_unsigned w32) o.numbers)) in
     rw (properties_fit d.kinds d.flags o.kind o.properties flags q.0, few) (numbers_fit o.numbers q.2)

@@ -3,7 +3,7 @@ use Rattle.std.proofs.Common.{◌≡◌, ℕ, suc, ◌+◌, Bool, true, false, c
 use Rattle.std.specs.Prelude.{is_some, count_by}
 use Rattle.std.specs.List.{list_all, flat_map}
 use Rattle.std.proofs.lemmas.List.Sums.{sum_by-cons}
-use Rattle.world_meaning.proofs.Bools.{both, both_are, either}
+use Rattle.std.proofs.lemmas.Bool.{cases_Bool, and_from, and_parts}
 use Rattle.world_meaning.specs.declared.place.Rel.{Rel}
 use Rattle.world_meaning.specs.declared.place.Rel.TheVariants as relations
 use Rattle.world_meaning.specs.declared.place.Place.{Place}
@@ -64,7 +64,7 @@ unfolding entries_of
 rooms_counted parents strings [] next = refl
 rooms_counted parents strings (w ∷ ws) next =
     let later = next + code_count w.object.description in
-    elim (either (is_under parents w.object.kind 1)) [
+    elim (cases_Bool (is_under parents w.object.kind 1)) [
       | inl is ↦ rw (is, rooms_counted parents strings ws later, counted_more (is_room_entry parents) (entry_of strings next w) (entries_of strings later ws) (entry_room parents strings next w ∙ is)) refl
       | inr isnt ↦ rw (isnt, rooms_counted parents strings ws later, counted_same (is_room_entry parents) (entry_of strings next w) (entries_of strings later ws) (entry_room parents strings next w ∙ isnt)) refl
     ]
@@ -73,9 +73,9 @@ pub rooms_lead : (parents : List (Option ℕ)) (sorts : Sorts) (ws : List Worded
 unfolding has_right_exits
 rooms_lead parents sorts [] h = refl
 rooms_lead parents sorts (w ∷ ws) h =
-    let t = both_are (has_right_exits parents sorts w.object) (list_all (has_right_exits parents sorts) (objects_in ws)) h in
-    elim (either (is_under parents w.object.kind 1)) [
-      | inl is ↦ let leads : lead_rightly sorts w.object.exits ≡ true = rw is at t.0 in rw is (both (lead_rightly sorts w.object.exits) (list_all (lead_rightly sorts) (flat_map (ways_of parents) ws)) leads (rooms_lead parents sorts ws t.1))
+    let t = and_parts (has_right_exits parents sorts w.object) (list_all (has_right_exits parents sorts) (objects_in ws)) h in
+    elim (cases_Bool (is_under parents w.object.kind 1)) [
+      | inl is ↦ let leads : lead_rightly sorts w.object.exits ≡ true = rw is at t.0 in rw is (and_from (lead_rightly sorts w.object.exits) (list_all (lead_rightly sorts) (flat_map (ways_of parents) ws)) leads (rooms_lead parents sorts ws t.1))
       | inr isnt ↦ rw isnt (rooms_lead parents sorts ws t.1)
     ]
 

@@ -3,10 +3,9 @@ use Rattle.std.proofs.Common.{◌≡◌, ◌≢◌, ℕ, ◌+◌, ◌<◌, Bool,
 use Rattle.std.specs.Str.{bytes_eq}
 use Rattle.std.specs.Int.{w16, to_be_bytes}
 use Rattle.std.proofs.Math.Dec.{eqb-suc-zero}
-use Rattle.std.proofs.lemmas.Bool.{lt-ltb, ne_eqb}
+use Rattle.std.proofs.lemmas.Bool.{lt-ltb, ne_eqb, cases_Bool}
 use Rattle.std.proofs.lemmas.List.{length-append}
 use Rattle.std.proofs.lemmas.Slice.Eq.{bytes_eq-Decides}
-use Rattle.world_meaning.proofs.Bools.{either}
 use Rattle.story_format.specs.declared.fault.LoadFault.{LoadFault}
 use Rattle.story_format.specs.declared.fault.LoadFault.TheVariants.{BadMagic, BadVersion, Truncated, TooLong, BadTable, BadCode, BadOrder, Memory}
 use Rattle.story_format.specs.declared.tables.Tables.{Tables}
@@ -29,7 +28,7 @@ fault_told (Ok t) = cond (are_right t) BadCode BadTable
 no_magic_read : (bytes : List ℕ) → take 4 bytes ≢ magic → tables_read bytes ≡ Err BadMagic
 unfolding body_read
 no_magic_read bytes other =
-    elim (either (bytes_eq (take 4 bytes) magic)) [
+    elim (cases_Bool (bytes_eq (take 4 bytes) magic)) [
       | inl is ↦ absurd (other ((bytes_eq-Decides (take 4 bytes) magic).0 is))
       | inr isnt ↦ rw isnt refl
     ]

@@ -3,10 +3,9 @@ use Rattle.std.proofs.Common.{◌≡◌, ℕ, zero, suc, ◌+◌, ◌*◌, ◌<�
 use Rattle.std.specs.Prelude.{fold}
 use Rattle.std.specs.List.{list_any, list_all, flat_map}
 use Rattle.std.specs.Str.{bytes_eq}
-use Rattle.std.proofs.lemmas.Bool.{lt-ltb, ltb-true, leb-true}
+use Rattle.std.proofs.lemmas.Bool.{lt-ltb, ltb-true, leb-true, cases_Bool, and_from, and_parts}
 use Rattle.std.proofs.lemmas.List.{length-append}
 use Rattle.std.proofs.lemmas.List.Folds.{list_all-append}
-use Rattle.world_meaning.proofs.Bools.{both, both_are, either}
 use Rattle.world_meaning.specs.declared.article.Article.{Article}
 use Rattle.world_meaning.specs.declared.article.Article.TheVariants as articles
 use Rattle.world_meaning.specs.declared.place.Rel.{Rel}
@@ -46,7 +45,7 @@ no_longer : (xs seen : List (List ℕ)) → length (fold mention seen xs) ≤ le
 no_longer [] seen = omega arith
 no_longer (x ∷ xs) seen =
     let later = no_longer xs (mention seen x) in
-    elim (either (list_any (bytes_eq x) seen)) [
+    elim (cases_Bool (list_any (bytes_eq x) seen)) [
       | inl is ↦ omega (arith, later, ap length (mention_old seen x is))
       | inr isnt ↦ omega (arith, later, ap length (mention_new seen x isnt), length-append seen (x ∷ []))
     ]
@@ -55,7 +54,7 @@ named_few : (ws : List Worded) → list_all has_few_words ws ≡ true → length
 unfolding entry_strings
 named_few [] h = omega arith
 named_few (w ∷ ws) h =
-    let t = both_are (has_few_words w) (list_all has_few_words ws) h in
+    let t = and_parts (has_few_words w) (list_all has_few_words ws) h in
     let le : length w.words ≤ 32 = leb-true _ _ t.0 in
     let later = named_few ws t.1 in
     omega (arith, le, later, length-append w.words (flat_map entry_strings ws))
@@ -70,23 +69,23 @@ few_strings ws origins h =
 -- ---- each string is short
 
 words_short : (ws : List (List ℕ)) → list_all is_good ws ≡ true → list_all is_short ws ≡ true
-words_short ws h = all_weaker is_good is_short (λ word k. (both_are _ (is_short word) k).1) ws h
+words_short ws h = all_weaker is_good is_short (λ word k. (and_parts _ (is_short word) k).1) ws h
 
 names_short : (ws : List Worded) → list_all has_short_texts (objects_in ws) ≡ true → list_all good_words ws ≡ true → list_all is_short (flat_map entry_strings ws) ≡ true
 unfolding entry_strings
 names_short [] h k = refl
 names_short (w ∷ ws) h k =
-    let t = both_are (has_short_texts w.object) (list_all has_short_texts (objects_in ws)) h in
-    let u = both_are (is_short w.object.name) (is_short_or_none w.object.description) t.0 in
-    let v = both_are (good_words w) (list_all good_words ws) k in
-    both (is_short w.object.name) (list_all is_short (w.words ++ flat_map entry_strings ws)) u.0
-    (list_all-append is_short w.words (flat_map entry_strings ws) ∙ both (list_all is_short w.words) (list_all is_short (flat_map entry_strings ws)) (words_short w.words v.0) (names_short ws t.1 v.1))
+    let t = and_parts (has_short_texts w.object) (list_all has_short_texts (objects_in ws)) h in
+    let u = and_parts (is_short w.object.name) (is_short_or_none w.object.description) t.0 in
+    let v = and_parts (good_words w) (list_all good_words ws) k in
+    and_from (is_short w.object.name) (list_all is_short (w.words ++ flat_map entry_strings ws)) u.0
+    (list_all-append is_short w.words (flat_map entry_strings ws) ∙ and_from (list_all is_short w.words) (list_all is_short (flat_map entry_strings ws)) (words_short w.words v.0) (names_short ws t.1 v.1))
 
 pub strings_short : (ws : List Worded) (origins : List Origin) → list_all has_short_texts (objects_in ws) ≡ true → list_all good_words ws ≡ true → list_all is_short (strings_said origins) ≡ true → list_all is_short (strings_of ws origins) ≡ true
 unfolding strings_of
 strings_short ws origins h k short =
     all_mentioned is_short (flat_map entry_strings ws ++ strings_said origins) [] refl
-    (list_all-append is_short (flat_map entry_strings ws) (strings_said origins) ∙ both (list_all is_short (flat_map entry_strings ws)) (list_all is_short (strings_said origins)) (names_short ws h k) short)
+    (list_all-append is_short (flat_map entry_strings ws) (strings_said origins) ∙ and_from (list_all is_short (flat_map entry_strings ws)) (list_all is_short (strings_said origins)) (names_short ws h k) short)
 
 -- ---- each entry has room
 
@@ -100,7 +99,7 @@ named_small strings x = lt-ltb _ _ (number_small _)
 
 all_named_small : (strings xs : List (List ℕ)) → list_all (λ n. ltb n 65536) (map (number_in strings) xs) ≡ true
 all_named_small strings [] = refl
-all_named_small strings (x ∷ xs) = both (ltb (number_in strings x) 65536) (list_all (λ n. ltb n 65536) (map (number_in strings) xs)) (named_small strings x) (all_named_small strings xs)
+all_named_small strings (x ∷ xs) = and_from (ltb (number_in strings x) 65536) (list_all (λ n. ltb n 65536) (map (number_in strings) xs)) (named_small strings x) (all_named_small strings xs)
 
 article_fits : (a : Article) → ltb (article_number a) 256 ≡ true
 article_fits articles.None = refl
@@ -136,7 +135,7 @@ told_below parents (kind ∷ kinds) other (suc o) h = omega (arith, told_below p
 holder_below : (parents : List (Option ℕ)) (kinds : List ℕ) (relation : Rel) (holder : ℕ) → can_hold (kinds_told (sorts_of parents kinds)) relation holder ≡ true → holder < length kinds
 unfolding sorts_of
 holder_below parents kinds relations.In holder h =
-    elim (either (is_at (under_each parents kinds 1) holder)) [
+    elim (cases_Bool (is_at (under_each parents kinds 1) holder)) [
       | inl is ↦ told_below parents kinds 1 holder is
       | inr isnt ↦ let box : is_at (under_each parents kinds 4) holder ≡ true = rw isnt at h in told_below parents kinds 4 holder box
     ]
@@ -149,7 +148,7 @@ place_fits : (parents : List (Option ℕ)) (kinds : List ℕ) (o : ℕ) (p : Opt
 place_fits parents kinds o None le h = refl
 place_fits parents kinds o (Some place) le h =
     let all = kinds_told (sorts_of parents kinds) in
-    let t = both_are (can_be_held all o) (can_hold all place.relation place.holder) h in
+    let t = and_parts (can_be_held all o) (can_hold all place.relation place.holder) h in
     lt-ltb _ _ (omega (arith, le, holder_below parents kinds place.relation place.holder t.1))
 
 places_fit : (parents : List (Option ℕ)) (kinds : List ℕ) (o : ℕ) (places : List (Option Place)) → length kinds ≤ 1000 → are_well_placed (kinds_told (sorts_of parents kinds)) o places ≡ true → list_all (λ p. ltb (place_holder p) 65536) places ≡ true
@@ -157,8 +156,8 @@ unfolding are_well_placed
 places_fit parents kinds o [] le h = refl
 places_fit parents kinds o (p ∷ places) le h =
     let all = kinds_told (sorts_of parents kinds) in
-    let t = both_are (is_well_placed all o p) (are_well_placed all (o + 1) places) h in
-    both (ltb (place_holder p) 65536) (list_all (λ q. ltb (place_holder q) 65536) places) (place_fits parents kinds o p le t.0) (places_fit parents kinds (o + 1) places le t.1)
+    let t = and_parts (is_well_placed all o p) (are_well_placed all (o + 1) places) h in
+    and_from (ltb (place_holder p) 65536) (list_all (λ q. ltb (place_holder q) 65536) places) (place_fits parents kinds o p le t.0) (places_fit parents kinds (o + 1) places le t.1)
 
 kind_fits : (n : ℕ) → n ≤ 100 → (kind : ℕ) → is_below n kind ≡ true → ltb kind 256 ≡ true
 kind_fits n le kind h = let lt : kind < n = ltb-true _ _ h in lt-ltb _ _ (omega (arith, lt, le))
@@ -175,9 +174,9 @@ objects_fit d objects made =
 entry_fits : (strings : List (List ℕ)) (next : ℕ) (w : Worded) → has_few_words w ≡ true → fits_object w.object ≡ true → fits_own w.object ≡ true → entry_layout.format.fits (entry_of strings next w) ≡ true
 unfolding entry_layout entry_of
 entry_fits strings next w few h k =
-    let t = both_are (ltb w.object.kind 256) (ltb (place_holder w.object.place) 65536) h in
+    let t = and_parts (ltb w.object.kind 256) (ltb (place_holder w.object.place) 65536) h in
     let v = three (are_bytes w.object.properties) (ltb (length (numbers_of w.object.numbers)) 256) (list_all is_word (numbers_of w.object.numbers)) k in
-    let u = both_are (ltb (length w.object.properties) 256) (list_all (λ n. ltb n 256) w.object.properties) v.0 in
+    let u = and_parts (ltb (length w.object.properties) 256) (list_all (λ n. ltb n 256) w.object.properties) v.0 in
     let le : length w.words ≤ 32 = leb-true _ _ few in
     let count : ltb (length (map (number_in strings) w.words)) 256 ≡ true = lt-ltb _ _ (omega (arith, le, length_mapped (number_in strings) w.words)) in
     rw (t.0, named_small strings w.object.name, article_fits w.object.article, code_fits next w.object.description, count, all_named_small strings w.words, relation_fits w.object.place, t.1, u.0, u.1, v.1) v.2
@@ -186,10 +185,10 @@ entries_fit : (strings : List (List ℕ)) (next : ℕ) (ws : List Worded) → li
 unfolding entries_of
 entries_fit strings next [] few h k = refl
 entries_fit strings next (w ∷ ws) few h k =
-    let t = both_are (has_few_words w) (list_all has_few_words ws) few in
-    let u = both_are (fits_object w.object) (list_all fits_object (objects_in ws)) h in
-    let v = both_are (fits_own w.object) (list_all fits_own (objects_in ws)) k in
-    both (entry_layout.format.fits (entry_of strings next w)) (list_all entry_layout.format.fits (entries_of strings (next + code_count w.object.description) ws)) (entry_fits strings next w t.0 u.0 v.0) (entries_fit strings (next + code_count w.object.description) ws t.1 u.1 v.1)
+    let t = and_parts (has_few_words w) (list_all has_few_words ws) few in
+    let u = and_parts (fits_object w.object) (list_all fits_object (objects_in ws)) h in
+    let v = and_parts (fits_own w.object) (list_all fits_own (objects_in ws)) k in
+    and_from (entry_layout.format.fits (entry_of strings next w)) (list_all entry_layout.format.fits (entries_of strings (next + code_count w.object.description) ws)) (entry_fits strings next w t.0 u.0 v.0) (entries_fit strings (next + code_count w.object.description) ws t.1 u.1 v.1)
 
 -- ---- each way has room
 
@@ -200,19 +199,19 @@ beyond_fits parents kinds other (Some o) le h = lt-ltb _ _ (omega (arith, told_b
 way_fits : (parents : List (Option ℕ)) (kinds : List ℕ) → length kinds ≤ 1000 → (w : Way) → leads (sorts_of parents kinds) w ≡ true → way_layout.format.fits w ≡ true
 unfolding way_layout sorts_of
 way_fits parents kinds le w h =
-    let t = both_are (is_at_or_none (under_each parents kinds 1) w.room) (is_at_or_none (under_each parents kinds 3) w.door) h in
-    both (fits_optional 65535 w.room) (fits_optional 65535 w.door) (beyond_fits parents kinds 1 w.room le t.0) (beyond_fits parents kinds 3 w.door le t.1)
+    let t = and_parts (is_at_or_none (under_each parents kinds 1) w.room) (is_at_or_none (under_each parents kinds 3) w.door) h in
+    and_from (fits_optional 65535 w.room) (fits_optional 65535 w.door) (beyond_fits parents kinds 1 w.room le t.0) (beyond_fits parents kinds 3 w.door le t.1)
 
 exits_fit : (parents : List (Option ℕ)) (kinds : List ℕ) → length kinds ≤ 1000 → (e : Exits) → lead_rightly (sorts_of parents kinds) e ≡ true → exits_layout.format.fits e ≡ true
 unfolding exits_layout lead_rightly
 exits_fit parents kinds le e h =
-    let t = both_are (eqb (length e.ways) 12) (list_all (leads (sorts_of parents kinds)) e.ways) h in
-    both (eqb (length e.ways) 12) (list_all way_layout.format.fits e.ways) t.0 (all_weaker (leads (sorts_of parents kinds)) way_layout.format.fits (way_fits parents kinds le) e.ways t.1)
+    let t = and_parts (eqb (length e.ways) 12) (list_all (leads (sorts_of parents kinds)) e.ways) h in
+    and_from (eqb (length e.ways) 12) (list_all way_layout.format.fits e.ways) t.0 (all_weaker (leads (sorts_of parents kinds)) way_layout.format.fits (way_fits parents kinds le) e.ways t.1)
 
 ways_few : (parents : List (Option ℕ)) (ws : List Worded) → length (flat_map (ways_of parents) ws) ≤ length ws
 ways_few parents [] = omega arith
 ways_few parents (w ∷ ws) =
-    elim (either (is_under parents w.object.kind 1)) [
+    elim (cases_Bool (is_under parents w.object.kind 1)) [
       | inl is ↦ rw is (omega (arith, ways_few parents ws))
       | inr isnt ↦ rw isnt (omega (arith, ways_few parents ws))
     ]

@@ -3,9 +3,8 @@ use Rattle.std.proofs.Common.{◌≡◌, ℕ, zero, suc, ◌+◌, ◌<◌, ◌�
 use Rattle.std.specs.Prelude.{count_by, slice_get}
 use Rattle.std.specs.List.{list_all}
 use Rattle.std.specs.Option.{option_map}
-use Rattle.std.proofs.lemmas.Bool.{ltb-true}
+use Rattle.std.proofs.lemmas.Bool.{ltb-true, cases_Bool, and_parts}
 use Rattle.std.proofs.lemmas.Option.{slice_get-map}
-use Rattle.world_meaning.proofs.Bools.{both_are, either}
 use Rattle.world_meaning.specs.Declarations.{are_right_kinds, are_right_grants, are_rising, begin_with_properties, count_of_numbers, has_properties, has_property, is_had, is_had_at}
 use Rattle.world_meaning.specs.Properties.{built_in_properties}
 use Rattle.world_meaning.specs.Sorts.{is_at}
@@ -49,7 +48,7 @@ counted_told parents [] kind lt = refl
 counted_told parents (g ∷ numbers) kind lt =
     let later = counted_told parents numbers kind lt in
     let told : List Bool → Bool = λ had. is_at had kind in
-    elim (either (is_had parents kind g)) [
+    elim (cases_Bool (is_had parents kind g)) [
       | inl is ↦ counted_more told (had_by parents g) (all_had parents numbers) (told_by parents g kind lt ∙ is) ∙ ap suc later ∙ sym (counted_more (is_had parents kind) g numbers is)
       | inr isnt ↦ counted_same told (had_by parents g) (all_had parents numbers) (told_by parents g kind lt ∙ isnt) ∙ later ∙ sym (counted_same (is_had parents kind) g numbers isnt)
     ]
@@ -69,13 +68,13 @@ entry_kind sizes e h =
     let article = leb e.article 3 in
     let code = eqb e.description 65535 || ltb e.description sizes.codes in
     let few = leb (length e.words) 32 in
-    let t = both_are (kind && article && code && few && are_different e.words) (is_place e) h in
+    let t = and_parts (kind && article && code && few && are_different e.words) (is_place e) h in
     ltb-true _ _ (last_of_five kind article code few (are_different e.words) t.0).0
 
 pub all_told : (sizes : Sizes) (w : WorldTables) (es : List Entry) → sizes.kinds ≡ length w.kinds → list_all (is_right_entry sizes) es ≡ true → list_all (suits_told (all_had w.kinds w.flags) (all_had w.kinds w.numbers)) es ≡ list_all (suits_kind w) es
 all_told sizes w [] same h = refl
 all_told sizes w (e ∷ es) same h =
-    let t = both_are (is_right_entry sizes e) (list_all (is_right_entry sizes) es) h in
+    let t = and_parts (is_right_entry sizes e) (list_all (is_right_entry sizes) es) h in
     let told = suits_told (all_had w.kinds w.flags) (all_had w.kinds w.numbers) in
     ap (λ b. b && list_all told es) (one_told w e (omega (arith, same, entry_kind sizes e t.0))) ∙ ap (λ b. suits_kind w e && b) (all_told sizes w es same t.1)
 

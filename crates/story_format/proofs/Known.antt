@@ -1,13 +1,11 @@
 -- The strings of a tale hold what its objects name and say.
-use Rattle.std.proofs.Common.{◌≡◌, ℕ, suc, ◌+◌, ◌<◌, Bool, true, false, ◌||◌, ltb, List, [], ◌∷◌, ◌++◌, length, Some, refl, sym, ap, ◌∙◌, arith, inl, inr}
+use Rattle.std.proofs.Common.{◌≡◌, ℕ, suc, ◌+◌, ◌<◌, Bool, true, ltb, List, [], ◌∷◌, ◌++◌, length, Some, refl, sym, ap, ◌∙◌, arith, inl, inr}
 use Rattle.std.specs.Prelude.{slice_get, min, fold}
 use Rattle.std.specs.List.{list_any, list_all, flat_map, position_or_len}
 use Rattle.std.specs.Str.{bytes_eq}
-use Rattle.std.proofs.lemmas.Bool.{lt-ltb}
+use Rattle.std.proofs.lemmas.Bool.{lt-ltb, cases_Bool, and_from, and_parts, or_right}
 use Rattle.std.proofs.lemmas.List.Folds.{list_any-append}
 use Rattle.std.proofs.lemmas.Slice.Eq.{bytes_eq-Decides}
-use Rattle.world_meaning.proofs.Bools.{either}
-use Rattle.world_meaning.proofs.Bools.{both, both_are}
 use Rattle.code_table.specs.Origins.{Origin}
 use Rattle.object_words.specs.Mentions.{mention, number_in}
 use Rattle.story_format.specs.Making.{Worded, entry_strings, strings_of, strings_said}
@@ -23,7 +21,7 @@ pub passes_at : (strings : List (List ℕ)) (text : List ℕ) → list_any (byte
     → (position_or_len (bytes_eq text) strings < length strings) × (slice_get strings (position_or_len (bytes_eq text) strings) ≡ Some text)
 passes_at [] text h = absurd cc
 passes_at (s ∷ ss) text h =
-    elim (either (bytes_eq text s)) [
+    elim (cases_Bool (bytes_eq text s)) [
       | inl is ↦ rw is (omega arith, ap (λ (t : List ℕ). Some t) (sym (same_texts text s is)))
       | inr isnt ↦
           let later : list_any (bytes_eq text) ss ≡ true = rw isnt at h in
@@ -42,14 +40,14 @@ found_by_number strings text h few =
 
 any_kept : (seen : List (List ℕ)) (text string : List ℕ) → list_any (bytes_eq text) seen ≡ true → list_any (bytes_eq text) (mention seen string) ≡ true
 any_kept seen text string h =
-    elim (either (list_any (bytes_eq string) seen)) [
+    elim (cases_Bool (list_any (bytes_eq string) seen)) [
       | inl is ↦ rw is h
       | inr isnt ↦ rw (isnt, list_any-append (bytes_eq text) seen (string ∷ []), h) refl
     ]
 
 any_added : (seen : List (List ℕ)) (string : List ℕ) → list_any (bytes_eq string) (mention seen string) ≡ true
 any_added seen string =
-    elim (either (list_any (bytes_eq string) seen)) [
+    elim (cases_Bool (list_any (bytes_eq string) seen)) [
       | inl is ↦ rw is is
       | inr isnt ↦ rw (isnt, list_any-append (bytes_eq string) seen (string ∷ []), isnt, text_is_itself string) refl
     ]
@@ -61,17 +59,13 @@ fold_keeps (s ∷ ss) seen text h = fold_keeps ss (mention seen s) text (any_kep
 pub fold_finds : (strings seen : List (List ℕ)) (text : List ℕ) → list_any (bytes_eq text) strings ≡ true → list_any (bytes_eq text) (fold mention seen strings) ≡ true
 fold_finds [] seen text h = absurd cc
 fold_finds (s ∷ ss) seen text h =
-    elim (either (bytes_eq text s)) [
+    elim (cases_Bool (bytes_eq text s)) [
       | inl is ↦ fold_keeps ss (mention seen s) text (rw (same_texts text s is) (any_added seen s))
       | inr isnt ↦ let later : list_any (bytes_eq text) ss ≡ true = rw isnt at h in fold_finds ss (mention seen s) text later
     ]
 
 pub any_left : (p : List ℕ → Bool) (xs ys : List (List ℕ)) → list_any p xs ≡ true → list_any p (xs ++ ys) ≡ true
 any_left p xs ys h = rw (list_any-append p xs ys, h) refl
-
-pub or_right : (a b : Bool) → b ≡ true → (a || b) ≡ true
-or_right true b e = refl
-or_right false b e = e
 
 pub any_right : (p : List ℕ → Bool) (xs ys : List (List ℕ)) → list_any p ys ≡ true → list_any p (xs ++ ys) ≡ true
 any_right p xs ys h = rw (list_any-append p xs ys) (or_right (list_any p xs) (list_any p ys) h)
@@ -84,14 +78,14 @@ is_known strings text = list_any (bytes_eq text) strings
 pub texts_known : (whole strings : List (List ℕ)) → ((text : List ℕ) → list_any (bytes_eq text) strings ≡ true → is_known whole text ≡ true) → list_all (is_known whole) strings ≡ true
 texts_known whole [] f = refl
 texts_known whole (s ∷ ss) f =
-    both (is_known whole s) (list_all (is_known whole) ss) (f s (rw (text_is_itself s) refl)) (texts_known whole ss (λ text h. f text (or_right (bytes_eq text s) (list_any (bytes_eq text) ss) h)))
+    and_from (is_known whole s) (list_all (is_known whole) ss) (f s (rw (text_is_itself s) refl)) (texts_known whole ss (λ text h. f text (or_right (bytes_eq text s) (list_any (bytes_eq text) ss) h)))
 
 -- a known text is what all strings are
 pub known_too : (p : List ℕ → Bool) (strings : List (List ℕ)) (text : List ℕ) → is_known strings text ≡ true → list_all p strings ≡ true → p text ≡ true
 known_too p [] text known h = absurd cc
 known_too p (s ∷ ss) text known h =
-    let t = both_are (p s) (list_all p ss) h in
-    elim (either (bytes_eq text s)) [
+    let t = and_parts (p s) (list_all p ss) h in
+    elim (cases_Bool (bytes_eq text s)) [
       | inl is ↦ ap p (same_texts text s is) ∙ t.0
       | inr isnt ↦ let later : list_any (bytes_eq text) ss ≡ true = rw isnt at known in known_too p ss text later t.1
     ]
@@ -99,8 +93,8 @@ known_too p (s ∷ ss) text known h =
 pub all_known_too : (p : List ℕ → Bool) (strings texts : List (List ℕ)) → list_all (is_known strings) texts ≡ true → list_all p strings ≡ true → list_all p texts ≡ true
 all_known_too p strings [] known h = refl
 all_known_too p strings (x ∷ texts) known h =
-    let t = both_are (is_known strings x) (list_all (is_known strings) texts) known in
-    both (p x) (list_all p texts) (known_too p strings x t.0 h) (all_known_too p strings texts t.1 h)
+    let t = and_parts (is_known strings x) (list_all (is_known strings) texts) known in
+    and_from (p x) (list_all p texts) (known_too p strings x t.0 h) (all_known_too p strings texts t.1 h)
 
 -- the strings of a story are those that its descriptions and rules say, too
 pub said_known : (ws : List Worded) (origins : List Origin) → list_all (is_known (strings_of ws origins)) (strings_said origins) ≡ true

@@ -2,9 +2,9 @@
 use Rattle.std.proofs.Common.{◌≡◌, ◌∙◌, ap, sym, ℕ, zero, suc, ◌<◌, Bool, true, false, ◌&&◌, eqb, leb, ltb, List, length, map, inl, inr, refl, arith}
 use Rattle.std.specs.Prelude.{None, Option, Some, ◌||◌, replicate, slice_get}
 use Rattle.std.specs.List.{flat_map, list_all}
-use Rattle.std.proofs.lemmas.Bool.{ltb-true}
+use Rattle.std.proofs.lemmas.Bool.{ltb-true, cases_Bool, and_parts}
 use Rattle.std.proofs.lemmas.Simd.{map-map}
-use Rattle.world_meaning.proofs.Bools.{both_are, either}
+use Rattle.world_meaning.proofs.Options.{get_front}
 use Rattle.play_meaning.specs.Codes.{Codes}
 use Rattle.play_meaning.specs.declared.operand.Use.TheVariants.{Describing}
 use Rattle.code_table.proofs.Together.{head_there, sound_together}
@@ -24,7 +24,7 @@ use Rattle.story_format.specs.declared.tables.Tables.{Tables}
 use Rattle.story_format.proofs.Naming.{named_within}
 use Rattle.story_format.proofs.RoomLemmas.{right_parts}
 use Rattle.story_format.proofs.RuleLemmas.{turn_parted}
-use Rattle.story_format.proofs.StoryLemmas.{all_at, get_front, last_of_five, three}
+use Rattle.story_format.proofs.StoryLemmas.{all_at, last_of_five, three}
 
 pub loaded_sound : (t : Tables) (judged : List Judged) → AreCodesOf t judged → AreSoundTogether judged
 unfolding counts_of
@@ -43,7 +43,7 @@ entry_within sizes e h isnt =
     let article = leb e.article 3 in
     let code = eqb e.description 65535 || ltb e.description sizes.codes in
     let few = leb (length e.words) 32 in
-    let t = both_are (kind && article && code && few && are_different e.words) (is_place e) h in
+    let t = and_parts (kind && article && code && few && are_different e.words) (is_place e) h in
     ltb-true _ _ (other_is (eqb e.description 65535) (ltb e.description sizes.codes) (last_of_five kind article code few (are_different e.words) t.0).2 isnt)
 
 entries_right : (t : Tables) → are_right t ≡ true → list_all (is_right_entry (sizes_of t)) t.objects ≡ true
@@ -60,7 +60,7 @@ entries_right t right =
 pub code_within : (t : Tables) (entry : Option Entry) (o n : ℕ) → are_right t ≡ true → slice_get t.objects o ≡ entry → description_code_in entry ≡ Some n → n < length t.codes
 code_within t None o n right at is = absurd cc
 code_within t (Some e) o n right at is =
-    elim (either (eqb e.description 65535)) [
+    elim (cases_Bool (eqb e.description 65535)) [
       | inl none ↦ let wrong : None ≡ Some n = rw none at is in absurd cc
       | inr isnt ↦
           let same : Some e.description ≡ Some n = rw isnt at is in

@@ -1,8 +1,8 @@
 -- The codes of a story that was loaded answer its rules' conditions, and do what its rules do.
 use Rattle.std.proofs.Common.{◌≡◌, ◌∙◌, ap, sym, refl, ℕ, zero, suc, ◌+◌, true, cond, eqb, List, [], ◌∷◌, ◌++◌, length, Option, Some, None, inl, inr, arith}
 use Rattle.std.specs.Prelude.{replicate, slice_get}
-use Rattle.std.proofs.lemmas.Bool.{eqb-true}
-use Rattle.world_meaning.proofs.Bools.{both_are, either}
+use Rattle.std.proofs.lemmas.Bool.{eqb-true, cases_Bool, and_parts}
+use Rattle.world_meaning.proofs.Options.{get_front}
 use Rattle.play_meaning.specs.declared.operand.Use.{Use}
 use Rattle.play_meaning.specs.declared.operand.Use.TheVariants.{Body, Describing, Test}
 use Rattle.code_table.proofs.Together.{head_there}
@@ -19,7 +19,7 @@ use Rattle.story_format.specs.declared.rule_entry.RuleBody.TheVariants.{Code, St
 use Rattle.story_format.specs.declared.rule_entry.RuleEntry.{RuleEntry}
 use Rattle.story_format.specs.declared.tables.Tables.{Tables}
 use Rattle.story_format.proofs.RuleLemmas.{length_replicated, turn_parted, uses_counted_one}
-use Rattle.story_format.proofs.StoryLemmas.{behind_there, get_front}
+use Rattle.story_format.proofs.StoryLemmas.{behind_there}
 
 -- a code that rules name, behind so many, has this use
 record IsUsed (next : ℕ) (uses : List Use) (n : ℕ) (role : Use) : Type 0 where
@@ -42,13 +42,13 @@ roles condition = cond (eqb condition 65535) [] (Test 0 ∷ [])
 condition_used : (next : ℕ) (r : RuleEntry) (n : ℕ) → are_in_turn next (codes_in_rule r) ≡ true → condition_in (Some r) ≡ Some n → IsUsed next (uses_in_rule r) n (Test 0)
 unfolding are_in_turn
 condition_used next r n turn is =
-    elim (either (eqb r.condition 65535)) [
+    elim (cases_Bool (eqb r.condition 65535)) [
       | inl none ↦ let wrong : None ≡ Some n = rw none at is in absurd cc
       | inr some ↦
           let same : Some r.condition ≡ Some n = rw some at is in
           let one : r.condition ≡ n = cc in
           let named : are_in_turn next (r.condition ∷ code_of_body r.body) ≡ true = rw some at turn in
-          let here : r.condition ≡ next = eqb-true r.condition next (both_are (eqb r.condition next) (are_in_turn (next + 1) (code_of_body r.body)) named).0 in
+          let here : r.condition ≡ next = eqb-true r.condition next (and_parts (eqb r.condition next) (are_in_turn (next + 1) (code_of_body r.body)) named).0 in
           record { place = 0; number = omega (arith, one, here); used = rw some refl }
     ]
 
@@ -56,14 +56,14 @@ body_alone : (next : ℕ) (b : RuleBody) (n : ℕ) → are_in_turn next (code_of
 unfolding are_in_turn
 body_alone next (Code m) n turn is =
     let one : m ≡ n = cc in
-    let here : m ≡ next = eqb-true m next (both_are (eqb m next) true turn).0 in
+    let here : m ≡ next = eqb-true m next (and_parts (eqb m next) true turn).0 in
     record { place = 0; number = omega (arith, one, here); used = refl }
 body_alone next (Standard m) n turn is = absurd cc
 body_alone next (Unknown m) n turn is = absurd cc
 
 same_length : (condition : ℕ) → length (roles condition) ≡ length (numbers condition)
 same_length condition =
-    elim (either (eqb condition 65535)) [
+    elim (cases_Bool (eqb condition 65535)) [
       | inl none ↦ rw none refl
       | inr some ↦ rw some refl
     ]

@@ -1,6 +1,7 @@
 -- Reading values one after the other, as a loop does.
 use Rattle.std.proofs.Common.{◌≡◌, ℕ, zero, suc, ◌-◌, ◌+◌, ◌≤◌, ◌<◌, length, List, [], ◌∷◌, ◌++◌, Option, Some, None, refl, sym, ap, ◌∙◌, append_assoc, arith}
 use Rattle.std.proofs.lemmas.List.{append-nil}
+use Rattle.std.proofs.lemmas.Option.{same_Some}
 use Rattle.story_format.specs.Formats.{and_then, get_many, skip_many}
 
 -- what was read before, and what is still read
@@ -35,14 +36,10 @@ is_done get front count i bytes total le so_far =
     let one : with_front front (get_many get (count - i) bytes) ≡ Some (front, bytes) = rw k (ap (λ xs. Some (xs, bytes)) (append-nil front)) in
     sym one ∙ so_far
 
--- as many values as were asked for
-some_is : {A : Type 0} (x y : A) → Some x ≡ Some y → x ≡ y
-some_is x y e = cc
-
 length_of_rest : {A : Type 0} (n : ℕ) (x : A) (found : Option (List A × List ℕ)) (p : List A × List ℕ) → ((q : List A × List ℕ) → Some q ≡ found → n ≡ length q.0)
     → Some p ≡ and_then found (λ ys after. Some (x ∷ ys, after)) → suc n ≡ length p.0
 length_of_rest n x None p known e = absurd cc
-length_of_rest n x (Some y) p known e = rw (some_is p (x ∷ y.0, y.1) e) (ap suc (known y refl))
+length_of_rest n x (Some y) p known e = rw (same_Some p (x ∷ y.0, y.1) e) (ap suc (known y refl))
 
 length_of_first : {A : Type 0} (get : List ℕ → Option (A × List ℕ)) (n : ℕ) (found : Option (A × List ℕ)) (p : List A × List ℕ) → ((bytes : List ℕ) (q : List A × List ℕ) → Some q ≡ get_many get n bytes → n ≡ length q.0)
     → Some p ≡ and_then found (λ x after. and_then (get_many get n after) (λ ys behind. Some (x ∷ ys, behind))) → suc n ≡ length p.0
@@ -51,7 +48,7 @@ length_of_first get n (Some x) p known e = length_of_rest n x.0 (get_many get n 
 
 pub many_length : {A : Type 0} (get : List ℕ → Option (A × List ℕ)) (n : ℕ) (bytes : List ℕ) (p : List A × List ℕ) → Some p ≡ get_many get n bytes → n ≡ length p.0
 unfolding get_many
-many_length {A} get zero bytes p e = rw (some_is p ([], bytes) e) refl
+many_length {A} get zero bytes p e = rw (same_Some p ([], bytes) e) refl
 many_length {A} get (suc n) bytes p e = length_of_first get n (get bytes) p (many_length get n) e
 
 -- ---- skipping

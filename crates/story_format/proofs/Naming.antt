@@ -1,8 +1,7 @@
 -- Objects that name codes in turn.
 use Rattle.std.proofs.Common.{◌≡◌, ◌∙◌, ap, refl, ℕ, zero, suc, ◌+◌, ◌<◌, true, false, eqb, List, [], ◌∷◌, length, Some, None, inl, inr, arith}
 use Rattle.std.specs.Prelude.{slice_get}
-use Rattle.std.proofs.lemmas.Bool.{eqb-true}
-use Rattle.world_meaning.proofs.Bools.{both_are, either}
+use Rattle.std.proofs.lemmas.Bool.{eqb-true, cases_Bool, and_parts}
 use Rattle.story_format.specs.Checks.{codes_named}
 use Rattle.story_format.specs.Facts.{description_code_in}
 use Rattle.story_format.specs.Soundness.{are_in_turn}
@@ -16,11 +15,11 @@ pub data IsNextOf (next : ℕ) (e : Entry) (es : List Entry) : Type 0 where
 pub next_of : (next : ℕ) (e : Entry) (es : List Entry) → are_in_turn next (codes_named (e ∷ es)) ≡ true → IsNextOf next e es
 unfolding are_in_turn
 next_of next e es h =
-    elim (either (eqb e.description 65535)) [
+    elim (cases_Bool (eqb e.description 65535)) [
       | inl is ↦ plain is (eqb-true _ _ is) (rw is refl) (rw is at h)
       | inr isnt ↦
           let named : are_in_turn next (e.description ∷ codes_named es) ≡ true = rw isnt at h in
-          let t = both_are (eqb e.description next) (are_in_turn (next + 1) (codes_named es)) named in
+          let t = and_parts (eqb e.description next) (are_in_turn (next + 1) (codes_named es)) named in
           let here : e.description ≡ next = eqb-true _ _ t.0 in
           let all : codes_named (e ∷ es) ≡ e.description ∷ codes_named es = rw isnt refl in
           described isnt here (all ∙ ap (λ n. n ∷ codes_named es) here) t.1

@@ -2,8 +2,8 @@
 use Rattle.std.proofs.Common.{◌≡◌, ◌∙◌, ap, sym, refl, ℕ, zero, suc, ◌<◌, Bool, true, false, not, ◌&&◌, ltb, eqb, List, [], ◌∷◌, length, inl, inr, arith}
 use Rattle.std.specs.Prelude.{replicate, slice_index_or, slice_set}
 use Rattle.std.specs.List.{list_all}
-use Rattle.std.proofs.lemmas.Bool.{eqb-true, eqb-false, ltb-true, ne_eqb}
-use Rattle.world_meaning.proofs.Bools.{both_are, either}
+use Rattle.std.proofs.lemmas.Bool.{eqb-true, eqb-false, ltb-true, ne_eqb, cases_Bool, and_parts}
+use Rattle.std.proofs.Math.Bool.{and-false, and-true}
 use Rattle.world_meaning.specs.Declarations.{is_among}
 use Rattle.story_format.specs.Once.{are_unmarked}
 use Rattle.story_format.specs.Sizes.{are_different}
@@ -30,19 +30,15 @@ set_other (x ∷ marks) (suc n) (suc m) h = set_other marks n m (ne_eqb n m (λ 
 abbrev none_marked : List Bool → List ℕ → Bool
 none_marked marks ns = list_all (λ n. not (slice_index_or marks n false)) ns
 
-and_false : (a : Bool) → (a && false) ≡ false
-and_false true = refl
-and_false false = refl
-
 swapped : (a b c : Bool) → (a && (b && c)) ≡ (b && (a && c))
 swapped true b c = refl
-swapped false b c = sym (and_false b)
+swapped false b c = sym (and-false b)
 
 -- a number that is marked too
 none_marked_too : (marks : List Bool) (n : ℕ) (ns : List ℕ) → n < length marks → none_marked (slice_set marks n true) ns ≡ (not (is_among n ns) && none_marked marks ns)
 none_marked_too marks n [] lt = refl
 none_marked_too marks n (m ∷ ns) lt =
-    elim (either (eqb n m)) [
+    elim (cases_Bool (eqb n m)) [
       | inl same ↦
           let here : slice_index_or (slice_set marks n true) m false ≡ true = ap (λ k. slice_index_or (slice_set marks n true) k false) (sym (eqb-true n m same)) ∙ set_same marks n lt in
           rw (here, same) refl
@@ -62,9 +58,9 @@ marked_scan : (marks : List Bool) (ns : List ℕ) → list_all (λ n. ltb n (len
 unfolding are_unmarked are_different
 marked_scan marks [] h = refl
 marked_scan marks (n ∷ ns) h =
-    let t = both_are (ltb n (length marks)) (list_all (λ m. ltb m (length marks)) ns) h in
-    elim (either (slice_index_or marks n false)) [
-      | inl marked ↦ rw marked (sym (and_false (not (is_among n ns) && are_different ns)))
+    let t = and_parts (ltb n (length marks)) (list_all (λ m. ltb m (length marks)) ns) h in
+    elim (cases_Bool (slice_index_or marks n false)) [
+      | inl marked ↦ rw marked (sym (and-false (not (is_among n ns) && are_different ns)))
       | inr unmarked ↦
           let below : list_all (λ m. ltb m (length (slice_set marks n true))) ns ≡ true = ap (λ k. list_all (λ m. ltb m k) ns) (set_length marks n) ∙ t.1 in
           rw unmarked (
@@ -82,10 +78,6 @@ none_at_first : (count : ℕ) (ns : List ℕ) → none_marked (replicate count f
 none_at_first count [] = refl
 none_at_first count (n ∷ ns) = rw (unmarked_at count n) (none_at_first count ns)
 
-and_true : (a : Bool) → (a && true) ≡ a
-and_true true = refl
-and_true false = refl
-
 as_long : (count : ℕ) → length (replicate count false) ≡ count
 as_long zero = refl
 as_long (suc count) = ap suc (as_long count)
@@ -93,4 +85,4 @@ as_long (suc count) = ap suc (as_long count)
 pub unmarked_are_different : (count : ℕ) (ns : List ℕ) → list_all (λ n. ltb n count) ns ≡ true → are_unmarked (replicate count false) ns ≡ are_different ns
 unmarked_are_different count ns h =
     marked_scan (replicate count false) ns (ap (λ k. list_all (λ n. ltb n k) ns) (as_long count) ∙ h)
-    ∙ ap (λ b. are_different ns && b) (none_at_first count ns) ∙ and_true (are_different ns)
+    ∙ ap (λ b. are_different ns && b) (none_at_first count ns) ∙ and-true (are_different ns)

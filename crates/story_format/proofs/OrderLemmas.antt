@@ -3,9 +3,8 @@ use Rattle.std.proofs.Common.{◌≡◌, ℕ, ◌+◌, ◌<◌, ◌≤◌, true,
 use Rattle.std.specs.Prelude.{min, max, fold, filter}
 use Rattle.std.specs.List.{list_any, flat_map, position_or_len}
 use Rattle.std.specs.Str.{bytes_eq}
-use Rattle.std.proofs.lemmas.Bool.{lt-ltb, ne_eqb, eq-eqb, eqb-true, le-leb}
-use Rattle.std.proofs.lemmas.List.{length-append, append-nil}
-use Rattle.world_meaning.proofs.Bools.{both, both_are, either}
+use Rattle.std.proofs.lemmas.Bool.{lt-ltb, ne_eqb, eq-eqb, eqb-true, le-leb, cases_Bool, and_from, and_parts}
+use Rattle.std.proofs.lemmas.List.{length-append, append-nil, map-append}
 use Rattle.code_table.specs.Origins.{Origin}
 use Rattle.object_words.specs.Mentions.{mention, first_mentions, number_in}
 use Rattle.story_format.specs.Making.{Worded, code_count, code_number, codes_in, entry_of, entry_strings, entries_of, strings_of, strings_said}
@@ -27,7 +26,7 @@ mention_old seen x h = rw h refl
 
 rebuilt_step : (seen : List (List ℕ)) (x : List ℕ) → first_mentions seen ≡ seen → first_mentions (mention seen x) ≡ mention seen x
 rebuilt_step seen x h =
-    elim (either (list_any (bytes_eq x) seen)) [
+    elim (cases_Bool (list_any (bytes_eq x) seen)) [
       | inl is ↦ ap first_mentions (mention_old seen x is) ∙ h ∙ sym (mention_old seen x is)
       | inr isnt ↦ ap first_mentions (mention_new seen x isnt) ∙ fold_both mention [] seen (x ∷ []) ∙ ap (λ (s : List (List ℕ)). mention s x) h
     ]
@@ -46,7 +45,7 @@ pub grows : (strings seen : List (List ℕ)) → (more : List (List ℕ)) × (fo
 grows [] seen = ([], sym (append-nil seen))
 grows (x ∷ strings) seen =
     let t = grows strings (mention seen x) in
-    elim (either (list_any (bytes_eq x) seen)) [
+    elim (cases_Bool (list_any (bytes_eq x) seen)) [
       | inl is ↦ (t.0, t.1 ∙ ap (λ (s : List (List ℕ)). s ++ t.0) (mention_old seen x is))
       | inr isnt ↦ (x ∷ t.0, t.1 ∙ ap (λ (s : List (List ℕ)). s ++ t.0) (mention_new seen x isnt) ∙ append_assoc seen (x ∷ []) t.0)
     ]
@@ -54,7 +53,7 @@ grows (x ∷ strings) seen =
 pub place_in_front : (seen more : List (List ℕ)) (x : List ℕ) → list_any (bytes_eq x) seen ≡ true → position_or_len (bytes_eq x) (seen ++ more) ≡ position_or_len (bytes_eq x) seen
 place_in_front [] more x h = absurd cc
 place_in_front (s ∷ ss) more x h =
-    elim (either (bytes_eq x s)) [
+    elim (cases_Bool (bytes_eq x s)) [
       | inl is ↦ rw is refl
       | inr isnt ↦ let later : list_any (bytes_eq x) ss ≡ true = rw isnt at h in rw (isnt, place_in_front ss more x later) refl
     ]
@@ -62,7 +61,7 @@ place_in_front (s ∷ ss) more x h =
 pub place_behind : (seen more : List (List ℕ)) (x : List ℕ) → list_any (bytes_eq x) seen ≡ false → position_or_len (bytes_eq x) (seen ++ x ∷ more) ≡ length seen
 place_behind [] more x h = rw (text_is_itself x) refl
 place_behind (s ∷ ss) more x h =
-    elim (either (bytes_eq x s)) [
+    elim (cases_Bool (bytes_eq x s)) [
       | inl is ↦ let z : true ≡ false = rw is at h in absurd cc
       | inr isnt ↦ let later : list_any (bytes_eq x) ss ≡ false = rw isnt at h in rw (isnt, place_behind ss more x later) (omega arith)
     ]
@@ -78,7 +77,7 @@ all_ordered : (whole named seen : List (List ℕ)) → whole ≡ fold mention se
 all_ordered whole [] seen e few = ap Some (ap length (sym e))
 all_ordered whole (x ∷ named) seen e few =
     let t = grows named (mention seen x) in
-    elim (either (list_any (bytes_eq x) seen)) [
+    elim (cases_Bool (list_any (bytes_eq x) seen)) [
       | inl is ↦
           let split : whole ≡ seen ++ t.0 = e ∙ t.1 ∙ ap (λ (s : List (List ℕ)). s ++ t.0) (mention_old seen x is) in
           let inside = (passes_at seen x is).0 in
@@ -99,16 +98,12 @@ all_ordered whole (x ∷ named) seen e few =
           rw (low, next) (all_ordered whole named (seen ++ x ∷ []) (e ∙ ap (λ (s : List (List ℕ)). fold mention s named) (mention_new seen x isnt)) few)
     ]
 
-map_both : {A B : Type 0} (f : A → B) (xs ys : List A) → map f (xs ++ ys) ≡ map f xs ++ map f ys
-map_both f [] ys = refl
-map_both f (x ∷ xs) ys = ap (λ (zs : List _). f x ∷ zs) (map_both f xs ys)
-
 pub numbers_named : (strings : List (List ℕ)) (next : ℕ) (ws : List Worded) → flat_map strings_named (entries_of strings next ws) ≡ map (number_in strings) (flat_map entry_strings ws)
 unfolding entries_of entry_of entry_strings
 numbers_named strings next [] = refl
 numbers_named strings next (w ∷ ws) =
     ap (λ (later : List ℕ). number_in strings w.object.name ∷ (map (number_in strings) (w.words) ++ later)) (numbers_named strings (next + code_count w.object.description) ws)
-    ∙ ap (λ (later : List ℕ). number_in strings w.object.name ∷ later) (sym (map_both (number_in strings) (w.words) (flat_map entry_strings ws)))
+    ∙ ap (λ (later : List ℕ). number_in strings w.object.name ∷ later) (sym (map-append (number_in strings) (w.words) (flat_map entry_strings ws)))
 
 pub strings_all_named : (ws : List Worded) (origins : List Origin) → length (strings_of ws origins) < 65535 → counted_on 0 (map (number_in (strings_of ws origins)) (flat_map entry_strings ws ++ strings_said origins)) ≡ Some (length (strings_of ws origins))
 unfolding strings_of
@@ -120,12 +115,12 @@ unfolding are_named_in_order
 in_order_in_front [] ms count next h = refl
 in_order_in_front (n ∷ ns) ms count next h =
     let t = counted_rest count next n (ns ++ ms) h in
-    both (leb n next) (are_named_in_order (max next (n + 1)) ns) (le-leb _ _ t.0) (in_order_in_front ns ms count (max next (n + 1)) t.1)
+    and_from (leb n next) (are_named_in_order (max next (n + 1)) ns) (le-leb _ _ t.0) (in_order_in_front ns ms count (max next (n + 1)) t.1)
 
 pub strings_in_order : (ws : List Worded) (origins : List Origin) → length (strings_of ws origins) < 65535 → are_named_in_order 0 (flat_map strings_named (entries_of (strings_of ws origins) 0 ws)) ≡ true
 strings_in_order ws origins few =
     let strings = strings_of ws origins in
-    let parts = map_both (number_in strings) (flat_map entry_strings ws) (strings_said origins) in
+    let parts = map-append (number_in strings) (flat_map entry_strings ws) (strings_said origins) in
     ap (are_named_in_order 0) (numbers_named strings 0 ws)
     ∙ in_order_in_front (map (number_in strings) (flat_map entry_strings ws)) (map (number_in strings) (strings_said origins)) (length strings) 0 (sym (ap (counted_on 0) parts) ∙ strings_all_named ws origins few)
 
@@ -180,8 +175,8 @@ pub in_turn_in_order : (ns : List ℕ) (next : ℕ) → are_in_turn next ns ≡ 
 unfolding are_named_in_order are_in_turn
 in_turn_in_order [] next h = refl
 in_turn_in_order (n ∷ ns) next h =
-    let t = both_are (eqb n next) (are_in_turn (next + 1) ns) h in
+    let t = and_parts (eqb n next) (are_in_turn (next + 1) ns) h in
     let here : n ≡ next = eqb-true n next t.0 in
     let low : leb n next ≡ true = le-leb _ _ (omega (arith, here)) in
     let up : max next (n + 1) ≡ next + 1 = omega (arith, here) in
-    both (leb n next) (are_named_in_order (max next (n + 1)) ns) low (ap (λ k. are_named_in_order k ns) up ∙ in_turn_in_order ns (next + 1) t.1)
+    and_from (leb n next) (are_named_in_order (max next (n + 1)) ns) low (ap (λ k. are_named_in_order k ns) up ∙ in_turn_in_order ns (next + 1) t.1)

@@ -2,12 +2,11 @@
 use Rattle.std.proofs.Common.{◌≡◌, ◌∙◌, ap, sym, subst, refl, ℕ, zero, suc, ◌+◌, ◌<◌, ◌≤◌, Bool, true, false, cond, not, ltb, eqb, List, [], ◌∷◌, ◌++◌, length, map, Some, None, inl, inr, arith, length-append}
 use Rattle.std.specs.Prelude.{slice_get}
 use Rattle.std.specs.List.{AllZip, list_all, range_with_len}
-use Rattle.std.proofs.lemmas.Bool.{eqb-true, eq-eqb, ltb-true, ltb-false, lt-ltb, ne_eqb}
+use Rattle.std.proofs.lemmas.Bool.{eqb-true, eq-eqb, ltb-true, ltb-false, lt-ltb, ne_eqb, cases_Bool, and_from, and_parts}
 use Rattle.std.proofs.lemmas.List.{length-map}
 use Rattle.std.proofs.lemmas.List.Folds.{list_all-append}
 use Rattle.std.proofs.lemmas.List.FromFn.{length-map-range_with_len}
 use Rattle.std.proofs.lemmas.Option.{slice_get_past}
-use Rattle.world_meaning.proofs.Bools.{both, both_are, either}
 use Rattle.world_meaning.specs.Declarations.{is_among}
 use Rattle.world_meaning.specs.declared.tale.Tale.{Tale}
 use Rattle.play_meaning.specs.Order.{book_of, is_before, is_of_book, listed_from, put_in, sorted, times}
@@ -43,19 +42,19 @@ stands_first n ns = let same : eqb n n ≡ true = eq-eqb n n refl in rw same (om
 
 stands_behind : (k n : ℕ) (ns : List ℕ) → times k ns ≤ times k (n ∷ ns)
 stands_behind k n ns =
-    elim (either (eqb n k)) [
+    elim (cases_Bool (eqb n k)) [
       | inl same ↦ rw same (omega arith)
       | inr other ↦ rw other (omega arith)
     ]
 
 all_standing : (p : ℕ → Bool) (ns : List ℕ) → ((k : ℕ) → 1 ≤ times k ns → p k ≡ true) → list_all p ns ≡ true
 all_standing p [] so = refl
-all_standing p (n ∷ ns) so = both (p n) (list_all p ns) (so n (stands_first n ns)) (all_standing p ns (λ k there. so k (omega (arith, there, stands_behind k n ns))))
+all_standing p (n ∷ ns) so = and_from (p n) (list_all p ns) (so n (stands_first n ns)) (all_standing p ns (λ k there. so k (omega (arith, there, stands_behind k n ns))))
 
 among_stands : (k : ℕ) (ns : List ℕ) → is_among k ns ≡ true → 1 ≤ times k ns
 among_stands k [] h = absurd cc
 among_stands k (n ∷ ns) h =
-    elim (either (eqb k n)) [
+    elim (cases_Bool (eqb k n)) [
       | inl same ↦ subst (λ m. 1 ≤ times k (m ∷ ns)) (eqb-true k n same) (stands_first k ns)
       | inr other ↦ let later : is_among k ns ≡ true = rw other at h in omega (arith, among_stands k ns later, stands_behind k n ns)
     ]
@@ -67,8 +66,8 @@ once_different : (ns : List ℕ) → ((k : ℕ) → times k ns ≤ 1) → are_di
 unfolding are_different
 once_different [] once = refl
 once_different (n ∷ ns) once =
-    both (not (is_among n ns)) (are_different ns) (
-    elim (either (is_among n ns)) [
+    and_from (not (is_among n ns)) (are_different ns) (
+    elim (cases_Bool (is_among n ns)) [
       | inl again ↦ absurd (omega (arith, among_stands n ns again, twice_first n ns, once n))
       | inr alone ↦ ap not alone
     ]
@@ -104,7 +103,7 @@ own_entry : (entries : List RuleEntry) (rules : List Rule) (book k : ℕ) → Ha
 own_entry [] [] book k same h = absurd cc
 own_entry [] (rule ∷ rules) book k same h = absurd same
 own_entry (entry ∷ entries) [] book k same h = absurd same
-own_entry (entry ∷ entries) (rule ∷ rules) book zero same h = ap (λ n. eqb n book) same.0 ∙ (both_are (eqb rule.book book) _ h).0
+own_entry (entry ∷ entries) (rule ∷ rules) book zero same h = ap (λ n. eqb n book) same.0 ∙ (and_parts (eqb rule.book book) _ h).0
 own_entry (entry ∷ entries) (rule ∷ rules) book (suc k) same h = own_entry entries rules book k same.1 h
 
 -- ---- all books
@@ -116,7 +115,7 @@ module _ (s : Setting) (rules : List Rule) where
   pub there : (count : ℕ) → length rules ≡ count → (books : List ℕ) → list_all (lists_what_is_there count) (map (listing s rules) books) ≡ true
   there count many [] = refl
   there count many (book ∷ books) =
-      both (lists_what_is_there count (listing s rules book)) (list_all (lists_what_is_there count) (map (listing s rules) books))
+      and_from (lists_what_is_there count (listing s rules book)) (list_all (lists_what_is_there count) (map (listing s rules) books))
       (all_standing (λ rule. ltb rule count) (book_of s rules book) (λ k stands. lt-ltb k count (omega (arith, many, found_below book k rules (stands_so s rules book k stands)))))
       (there count many books)
 
@@ -124,8 +123,8 @@ module _ (s : Setting) (rules : List Rule) where
   unfolding list_their_own lists_its_own
   own entries same first zero = refl
   own entries same first (suc count) =
-      both (lists_its_own entries first (listing s rules first)) (list_their_own entries (first + 1) (map (listing s rules) (range_with_len (first + 1) count)))
-      (both (are_different (book_of s rules first)) (list_all (λ rule. is_of first (slice_get entries rule)) (book_of s rules first)) (numbers_once s rules first)
+      and_from (lists_its_own entries first (listing s rules first)) (list_their_own entries (first + 1) (map (listing s rules) (range_with_len (first + 1) count)))
+      (and_from (are_different (book_of s rules first)) (list_all (λ rule. is_of first (slice_get entries rule)) (book_of s rules first)) (numbers_once s rules first)
       (all_standing (λ rule. is_of first (slice_get entries rule)) (book_of s rules first) (λ k stands. own_entry entries rules first k same (stands_so s rules first k stands))))
       (own entries same (first + 1) count)
 
@@ -134,7 +133,7 @@ module _ (s : Setting) (rules : List Rule) where
 put_length : (before : ℕ → ℕ → Bool) (n : ℕ) (ns : List ℕ) → length (put_in before n ns) ≡ suc (length ns)
 put_length before n [] = refl
 put_length before n (m ∷ ns) =
-    elim (either (before n m)) [
+    elim (cases_Bool (before n m)) [
       | inl first ↦ rw first refl
       | inr later ↦ rw later (ap suc (put_length before n ns))
     ]
@@ -146,7 +145,7 @@ sorted_length before (n ∷ ns) = put_length before n (sorted before ns) ∙ ap 
 listed_length : (book n : ℕ) (rules : List Rule) → length (listed_from book n rules) ≤ length rules
 listed_length book n [] = omega arith
 listed_length book n (rule ∷ rules) =
-    elim (either (is_of_book book (Some rule))) [
+    elim (cases_Bool (is_of_book book (Some rule))) [
       | inl is ↦ rw is (omega (arith, listed_length book (n + 1) rules))
       | inr isnt ↦ rw isnt (omega (arith, listed_length book (n + 1) rules))
     ]
@@ -158,21 +157,21 @@ book_length s rules book = omega (arith, sorted_length (is_before s rules) (list
 all_small : (bound : ℕ) (ns : List ℕ) → bound ≤ 65536 → list_all (λ n. ltb n bound) ns ≡ true → list_all (λ n. ltb n 65536) ns ≡ true
 all_small bound [] le h = refl
 all_small bound (n ∷ ns) le h =
-    let t = both_are (ltb n bound) (list_all (λ m. ltb m bound) ns) h in
-    both (ltb n 65536) (list_all (λ m. ltb m 65536) ns) (lt-ltb n 65536 (omega (arith, ltb-true n bound t.0, le))) (all_small bound ns le t.1)
+    let t = and_parts (ltb n bound) (list_all (λ m. ltb m bound) ns) h in
+    and_from (ltb n 65536) (list_all (λ m. ltb m 65536) ns) (lt-ltb n 65536 (omega (arith, ltb-true n bound t.0, le))) (all_small bound ns le t.1)
 
 module _ (s : Setting) (rules : List Rule) (count : ℕ) (many : length rules ≡ count) (few : count ≤ 2000) where
   pub fit : (books : List ℕ) → list_all book_layout.format.fits (map (listing s rules) books) ≡ true
   unfolding book_layout
   fit [] = refl
   fit (book ∷ books) =
-      both (book_layout.format.fits (listing s rules book)) (list_all book_layout.format.fits (map (listing s rules) books)) one (fit books)
+      and_from (book_layout.format.fits (listing s rules book)) (list_all book_layout.format.fits (map (listing s rules) books)) one (fit books)
     where
       below : list_all (λ rule. ltb rule count) (book_of s rules book) ≡ true
-      below = (both_are (lists_what_is_there count (listing s rules book)) true (there s rules count many (book ∷ []))).0
+      below = (and_parts (lists_what_is_there count (listing s rules book)) true (there s rules count many (book ∷ []))).0
 
       one : book_layout.format.fits (listing s rules book) ≡ true
-      one = both (ltb (length (book_of s rules book)) 65536) (list_all (λ n. ltb n 65536) (book_of s rules book)) (lt-ltb _ _ (omega (arith, book_length s rules book, many, few))) (all_small count (book_of s rules book) (omega (arith, few)) below)
+      one = and_from (ltb (length (book_of s rules book)) 65536) (list_all (λ n. ltb n 65536) (book_of s rules book)) (lt-ltb _ _ (omega (arith, book_length s rules book, many, few))) (all_small count (book_of s rules book) (omega (arith, few)) below)
 
 -- ---- of a tale
 
@@ -218,20 +217,20 @@ module _ (t : Tale) (listings : List ListingSentence) (rules : List Rule) where
 standard_within : (rules : List Rule) (count : ℕ) → 8 ≤ count → list_all is_bare rules ≡ true → list_all (λ rule. ltb rule.book count) rules ≡ true
 standard_within [] count le h = refl
 standard_within (rule ∷ rules) count le h =
-    let t = both_are (is_bare rule) (list_all is_bare rules) h in
-    both (ltb rule.book count) (list_all (λ (r : Rule). ltb r.book count) rules) (lt-ltb _ _ (omega (arith, ltb-true rule.book 8 (bare_is rule t.0).book, le))) (standard_within rules count le t.1)
+    let t = and_parts (is_bare rule) (list_all is_bare rules) h in
+    and_from (ltb rule.book count) (list_all (λ (r : Rule). ltb r.book count) rules) (lt-ltb _ _ (omega (arith, ltb-true rule.book 8 (bare_is rule t.0).book, le))) (standard_within rules count le t.1)
 
 author_within : (z : Named) (rules : List Rule) → list_all (of_named z) rules ≡ true → list_all (λ rule. ltb rule.book z.books) rules ≡ true
 author_within z [] h = refl
 author_within z (rule ∷ rules) h =
-    let t = both_are (of_named z rule) (list_all (of_named z) rules) h in
-    both (ltb rule.book z.books) (list_all (λ (r : Rule). ltb r.book z.books) rules) (lt-ltb _ _ (named_parts z rule t.0).book) (author_within z rules t.1)
+    let t = and_parts (of_named z rule) (list_all (of_named z) rules) h in
+    and_from (ltb rule.book z.books) (list_all (λ (r : Rule). ltb r.book z.books) rules) (lt-ltb _ _ (named_parts z rule t.0).book) (author_within z rules t.1)
 
 pub all_within : (z : Named) (listings : List ListingSentence) (rules : List Rule) → 8 ≤ z.books → list_all (of_named z) rules ≡ true → list_all (λ rule. ltb rule.book z.books) (story_rules listings rules) ≡ true
 all_within z listings rules le h =
     all_listed (λ (rule : Rule). ltb rule.book z.books) (λ rule l. refl) listings 0 (standard_rules ++ rules)
     ∙ list_all-append (λ (rule : Rule). ltb rule.book z.books) standard_rules rules
-    ∙ both (list_all (λ (rule : Rule). ltb rule.book z.books) standard_rules) (list_all (λ (rule : Rule). ltb rule.book z.books) rules) (standard_within standard_rules z.books le all_bare) (author_within z rules h)
+    ∙ and_from (list_all (λ (rule : Rule). ltb rule.book z.books) standard_rules) (list_all (λ (rule : Rule). ltb rule.book z.books) rules) (standard_within standard_rules z.books le all_bare) (author_within z rules h)
 
 -- ---- what a book of a number lists
 
@@ -246,7 +245,7 @@ listed_past f first count k le = slice_get_past (map f (range_with_len first cou
 listed_none : (book n count : ℕ) (rules : List Rule) → count ≤ book → list_all (λ rule. ltb rule.book count) rules ≡ true → listed_from book n rules ≡ []
 listed_none book n count [] le h = refl
 listed_none book n count (rule ∷ rules) le h =
-    let t = both_are (ltb rule.book count) (list_all (λ (r : Rule). ltb r.book count) rules) h in
+    let t = and_parts (ltb rule.book count) (list_all (λ (r : Rule). ltb r.book count) rules) h in
     let other : eqb rule.book book ≡ false = ne_eqb rule.book book (λ e. omega (arith, e, ltb-true rule.book count t.0, le)) in
     rw other (listed_none book (n + 1) count rules le t.1)
 
@@ -260,7 +259,7 @@ unfolding books_of
 books_listed t listings rules within book =
     let count = book_count t.declared in
     let f = listing (setting_of t) (story_rules listings rules) in
-    elim (either (ltb book count)) [
+    elim (cases_Bool (ltb book count)) [
       | inl is ↦ ap rules_in (listed_within f 0 count book book (ltb-true book count is) (omega arith))
       | inr isnt ↦ ap rules_in (listed_past f 0 count book (ltb-false book count isnt)) ∙ sym (none_of (setting_of t) (story_rules listings rules) book count (ltb-false book count isnt) within)
     ]
@@ -270,8 +269,8 @@ books_listed t listings rules within book =
 pub below_if_own : (rules : List RuleEntry) (book : ℕ) (ns : List ℕ) → list_all (λ rule. is_of book (slice_get rules rule)) ns ≡ true → list_all (λ n. ltb n (length rules)) ns ≡ true
 below_if_own rules book [] h = refl
 below_if_own rules book (n ∷ ns) h =
-    let t = both_are (is_of book (slice_get rules n)) (list_all (λ rule. is_of book (slice_get rules rule)) ns) h in
-    both (ltb n (length rules)) (list_all (λ m. ltb m (length rules)) ns) (lt-ltb n (length rules) (there_below rules n t.0)) (below_if_own rules book ns t.1)
+    let t = and_parts (is_of book (slice_get rules n)) (list_all (λ rule. is_of book (slice_get rules rule)) ns) h in
+    and_from (ltb n (length rules)) (list_all (λ m. ltb m (length rules)) ns) (lt-ltb n (length rules) (there_below rules n t.0)) (below_if_own rules book ns t.1)
   where
     there_below : (entries : List RuleEntry) (k : ℕ) → is_of book (slice_get entries k) ≡ true → k < length entries
     there_below [] k h = absurd cc

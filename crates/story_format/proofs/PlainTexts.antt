@@ -2,9 +2,8 @@
 use Rattle.std.proofs.Common.{◌≡◌, ◌∙◌, ap, sym, refl, ℕ, suc, ◌+◌, ◌<◌, ◌≤◌, true, List, [], ◌∷◌, length, Option, Some, None, arith}
 use Rattle.std.specs.Prelude.{map}
 use Rattle.std.specs.List.{AllByRecursion, flat_map, list_all}
-use Rattle.std.proofs.lemmas.Bool.{lt-ltb}
+use Rattle.std.proofs.lemmas.Bool.{lt-ltb, and_parts}
 use Rattle.std.proofs.lemmas.List.{length-append, length-map}
-use Rattle.world_meaning.proofs.Bools.{both_are}
 use Rattle.object_words.specs.Mentions.{number_in, number_or_none}
 use Rattle.play_meaning.specs.StandardRules.{plain}
 use Rattle.play_meaning.specs.TranslatedScripts.{emitted_in_turn}
@@ -81,7 +80,7 @@ within strings text known few =
 all_within : (strings xs : List (List ℕ)) (count : ℕ) → count ≡ length strings → list_all (is_known strings) xs ≡ true → length strings < 65535 → AllByRecursion (λ x. number_in strings x < count) xs
 all_within strings [] count is known few = tt
 all_within strings (x ∷ xs) count is known few =
-    let t = both_are (is_known strings x) (list_all (is_known strings) xs) known in
+    let t = and_parts (is_known strings x) (list_all (is_known strings) xs) known in
     (omega (arith, within strings x t.0 few, is), all_within strings xs count is t.1 few)
 
 -- ---- all of it

@@ -3,10 +3,10 @@ use Rattle.std.proofs.Common.{◌≡◌, ◌≢◌, ℕ, ◌+◌, ◌<◌, ◌�
 use Rattle.std.specs.Str.{bytes_eq}
 use Rattle.std.specs.Int.{w16, to_be_bytes, from_be_bytes}
 use Rattle.std.proofs.Math.Dec.{eqb-suc-zero}
-use Rattle.std.proofs.lemmas.Bool.{ltb-true, lt-ltb, ne_eqb, eq-eqb, eqb-true, eqb-false}
+use Rattle.std.proofs.lemmas.Bool.{ltb-true, lt-ltb, ne_eqb, eq-eqb, eqb-true, eqb-false, cases_Bool}
 use Rattle.std.proofs.lemmas.List.{append-nil, length-append, length-drop, take-append-drop}
 use Rattle.std.proofs.lemmas.Slice.Eq.{bytes_eq-Decides}
-use Rattle.world_meaning.proofs.Bools.{either}
+use Rattle.std.proofs.lemmas.Option.{same_Some}
 use Rattle.story_format.specs.declared.fault.LoadFault.{LoadFault}
 use Rattle.story_format.specs.declared.fault.LoadFault.TheVariants.{BadMagic, BadVersion, Truncated, TooLong, BadTable, BadCode, BadOrder, Memory}
 use Rattle.story_format.specs.declared.tables.Tables.{Tables}
@@ -29,9 +29,6 @@ read_whole t rest fits = ap (λ (o : Option (ℕ × List ℕ)). tables_in (body_
 pub ok_is : {A : Type 0} (x y : A) → (let left : Result A LoadFault = Ok x in let right : Result A LoadFault = Ok y in left ≡ right) → x ≡ y
 ok_is x y e = cc
 
-pub some_is : {A : Type 0} (x y : A) → Some x ≡ Some y → x ≡ y
-some_is x y e = cc
-
 -- ---- what skipping tells
 
 pub cut_by_skip : (found : Option (Tables × List ℕ)) → None ≡ behind found → whole found ≡ Err Truncated
@@ -41,13 +38,13 @@ cut_by_skip (Some x) e = absurd cc
 pub long_by_skip : (found : Option (Tables × List ℕ)) (rest : List ℕ) → 1 ≤ length rest → Some rest ≡ behind found → whole found ≡ Err TooLong
 long_by_skip None rest le e = absurd cc
 long_by_skip (Some x) rest le e =
-    let same : rest ≡ x.1 = some_is rest x.1 e in
+    let same : rest ≡ x.1 = same_Some rest x.1 e in
     let some : eqb (length x.1) 0 ≡ false = ne_eqb (length x.1) 0 (λ k. omega (arith, k, le, ap length same)) in
     rw some refl
 
 nothing_behind : (rest : List ℕ) (x : Tables × List ℕ) → length rest < 1 → Some rest ≡ behind (Some x) → whole (Some x) ≡ Ok x.0
 nothing_behind rest x lt e =
-    let same : rest ≡ x.1 = some_is rest x.1 e in
+    let same : rest ≡ x.1 = same_Some rest x.1 e in
     let none : eqb (length x.1) 0 ≡ true = eq-eqb (length x.1) 0 (omega (arith, lt, ap length same)) in
     rw none refl
 
@@ -58,7 +55,7 @@ whole_by_skip (Some x) rest lt e = (x.0, nothing_behind rest x lt e)
 pub read_by_skip : (found : Option (Tables × List ℕ)) (rest : List ℕ) (t : Tables) (more : List ℕ) → length rest < 1 → Some rest ≡ behind found → Some (t, more) ≡ found → whole found ≡ Ok t
 read_by_skip None rest t more lt e k = absurd cc
 read_by_skip (Some x) rest t more lt e k =
-    let same : x ≡ (t, more) = some_is x (t, more) (sym k) in
+    let same : x ≡ (t, more) = same_Some x (t, more) (sym k) in
     nothing_behind rest x lt e ∙ ap (λ (p : Tables × List ℕ). let read : Result Tables LoadFault = Ok p.0 in read) same
 
 -- ---- what reading says of the bytes
@@ -98,7 +95,7 @@ stage_of_version bytes fits e (Some (version, body)) k =
     let p = number16_lawful.takes (drop 4 bytes) version body (IsBytes-drop 4 bytes fits) k in
     let lt : version < 65536 = ltb-true _ _ p.1 in
     let parts : bytes ≡ magic ++ (to_be_bytes w16 version ++ body) = magic_in_front bytes e ∙ ap (λ (rest : List ℕ). magic ++ rest) p.0.parts in
-    elim (either (eqb version 1)) [
+    elim (cases_Bool (eqb version 1)) [
       | inl is ↦
           let one : version ≡ 1 = eqb-true version 1 is in
           let front : bytes ≡ head ++ body = parts ∙ ap (λ v. magic ++ (to_be_bytes w16 v ++ body)) one in
@@ -109,7 +106,7 @@ stage_of_version bytes fits e (Some (version, body)) k =
 stage_of : (bytes : List ℕ) → IsBytes bytes → Stage bytes (tables_read bytes)
 unfolding body_read
 stage_of bytes fits =
-    elim (either (bytes_eq (take 4 bytes) magic)) [
+    elim (cases_Bool (bytes_eq (take 4 bytes) magic)) [
       | inl is ↦ rw is (stage_of_version bytes fits is ((number w16).get (drop 4 bytes)) refl)
       | inr isnt ↦ rw isnt (no_magic (λ e. let k : bytes_eq (take 4 bytes) magic ≡ true = (bytes_eq-Decides (take 4 bytes) magic).1 e in let z : false ≡ true = sym isnt ∙ k in absurd cc))
     ]
@@ -214,11 +211,11 @@ only_memory bytes t fault h e = sym (given_ok fault t (subst (FaultGiven fault) 
 
 story_or_fault : (bytes : List ℕ) (t : Tables) → IsBytes bytes → tables_read bytes ≡ Ok t → ((t : Tables) × Spells bytes t) ⊎ ((fault : LoadFault) × (fault ≢ Memory) × IsRefused fault bytes)
 story_or_fault bytes t fits e =
-    elim (either (are_right t)) [
+    elim (cases_Bool (are_right t)) [
       | inl right ↦
           elim (sound_or_not t (codes_are_bytes bytes t [] fits (tables_stand bytes t fits e).1)) [
             | inl sound ↦
-                elim (either (are_ordered t)) [
+                elim (cases_Bool (are_ordered t)) [
                   | inl ordered ↦ inl (t, story_there bytes t fits e right sound ordered)
                   | inr disordered ↦ inr (BadOrder, λ e. absurd cc, order_fault bytes t fits e right sound disordered)
                 ]
@@ -245,13 +242,13 @@ same_tables : (t u : Tables) (rest : List ℕ) → tables_layout.format.fits t �
 same_tables t u rest f g e =
     let first : tables_layout.format.get (tables_layout.format.put t) ≡ Some (t, []) = ap tables_layout.format.get (sym (append-nil (tables_layout.format.put t))) ∙ tables_layout.lawful.again t [] f in
     let second = ap tables_layout.format.get e ∙ tables_layout.lawful.again u rest g in
-    sym (ap (λ (p : Tables × List ℕ). p.1) (some_is (t, []) (u, rest) (sym first ∙ second)))
+    sym (ap (λ (p : Tables × List ℕ). p.1) (same_Some (t, []) (u, rest) (sym first ∙ second)))
 
 pub same_version : (version : ℕ) (rest body : List ℕ) → version < 65536 → to_be_bytes w16 version ++ rest ≡ to_be_bytes w16 1 ++ body → version ≡ 1
 same_version version rest body lt e =
     let first = number16_lawful.again version rest (lt-ltb version 65536 lt) in
     let second = ap (number w16).get e ∙ number16_lawful.again 1 body refl in
-    ap (λ (p : ℕ × List ℕ). p.0) (some_is (version, rest) (1, body) (sym first ∙ second))
+    ap (λ (p : ℕ × List ℕ). p.0) (same_Some (version, rest) (1, body) (sym first ∙ second))
 
 pub not_refused : (bytes : List ℕ) (t : Tables) (fault : LoadFault) → Spells bytes t → IsRefused fault bytes → fault ≡ Memory
 not_refused bytes t BadMagic h r = absurd (r (ap (take 4) (h.spelled)))

@@ -1,8 +1,8 @@
 -- What a story's tables say of each rule and each scene is right, and its first actions are those that every story has.
-use Rattle.std.proofs.Common.{◌≡◌, ℕ, Bool, true, ◌&&◌, leb, ltb, eqb, List, [], length, Some}
+use Rattle.std.proofs.Common.{◌≡◌, ℕ, Bool, true, ◌&&◌, leb, ltb, eqb, [], length, Some}
 use Rattle.std.specs.Prelude.{slice_get}
 use Rattle.std.specs.List.{list_all}
-use Rattle.world_meaning.proofs.Bools.{both_are}
+use Rattle.std.proofs.lemmas.Bool.{and_parts}
 use Rattle.play_meaning.specs.declared.operand.Counts.{Counts}
 use Rattle.story_format.specs.Checks.{are_distinct, are_right, are_right_objects, are_right_ways, is_right_frame, stand_rightly}
 use Rattle.story_format.specs.Counts.{counts_of}
@@ -32,7 +32,7 @@ parts t right =
     let p =
     last_of_five (are_right_scenes r.scenes) (are_right_books (length r.scenes) (length r.rules) r.books) (are_right_actions r.actions) (eqb (length r.grammar) 0)
     (leb (length r.rules) 2000 && list_all (is_right_rule (counts_of t)) r.rules) right in
-    record { scenes = p.0; actions = p.2; rules = (both_are (leb (length r.rules) 2000) (list_all (is_right_rule (counts_of t)) r.rules) p.4).1 }
+    record { scenes = p.0; actions = p.2; rules = (and_parts (leb (length r.rules) 2000) (list_all (is_right_rule (counts_of t)) r.rules) p.4).1 }
 
 parts_of : (t : Tables) → IsStory t → Parts t
 parts_of t story = parts t (rules_right t story.right)
@@ -43,14 +43,14 @@ rule_right t story n rule there = all_at (is_right_rule (counts_of t)) t.rules.r
 body_of_right : (z : Counts) (r : RuleEntry) → is_right_rule z r ≡ true → is_right_body z.codes r.body ≡ true
 unfolding is_right_rule
 body_of_right z r right =
-    (both_are (ltb r.book z.books && is_number_or_none 255 z.actions r.action && is_right_aspect z r.noun && is_right_aspect z r.second && is_right_aspect z r.place
+    (and_parts (ltb r.book z.books && is_number_or_none 255 z.actions r.action && is_right_aspect z r.noun && is_right_aspect z r.second && is_right_aspect z r.place
     && is_number_or_none 255 z.scenes r.scene && is_number_or_none 65535 z.codes r.condition) (is_right_body z.codes r.body) right).1
 
 pub body_right : (t : Tables) → IsStory t → (n : ℕ) (rule : RuleEntry) → slice_get t.rules.rules n ≡ Some rule → is_right_body (counts_of t).codes rule.body ≡ true
 body_right t story n rule there = body_of_right (counts_of t) rule (rule_right t story n rule there)
 
 pub scenes_right : (t : Tables) → IsStory t → list_all is_right_scene t.rules.scenes ≡ true
-scenes_right t story = (both_are (leb (length t.rules.scenes) 50) (list_all is_right_scene t.rules.scenes) (parts_of t story).scenes).1
+scenes_right t story = (and_parts (leb (length t.rules.scenes) 50) (list_all is_right_scene t.rules.scenes) (parts_of t story).scenes).1
 
 pub actions_begin : (t : Tables) → IsStory t → begin_with_actions t.rules.actions (action_entries []) ≡ true
 unfolding are_right_actions
@@ -59,4 +59,4 @@ actions_begin t story =
     (three_of (leb (length actions) 200) (begin_with_actions actions (action_entries [])) (list_all is_right_action actions) (parts_of t story).actions)
   where
     three_of : (a b c : Bool) → (a && b && c) ≡ true → b ≡ true
-    three_of a b c h = (both_are a b (both_are (a && b) c h).0).1
+    three_of a b c h = (and_parts a b (and_parts (a && b) c h).0).1

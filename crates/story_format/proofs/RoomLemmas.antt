@@ -2,7 +2,7 @@
 use Rattle.std.proofs.Common.{◌≡◌, ℕ, ◌-◌, Bool, true, ◌&&◌, leb, eqb, List, [], ◌∷◌, length, map, take, Option, Some, None, refl, inl, inr}
 use Rattle.std.specs.Prelude.{slice_get, codes, count_by}
 use Rattle.std.specs.List.{list_all, flat_map}
-use Rattle.world_meaning.proofs.Bools.{both_are, either}
+use Rattle.std.proofs.lemmas.Bool.{cases_Bool, and_parts}
 use Rattle.world_meaning.specs.Directions.{all_directions}
 use Rattle.world_meaning.specs.Kinds.{is_under}
 use Rattle.world_meaning.specs.Sorts.{is_at}
@@ -57,23 +57,23 @@ story_starts t story = start_room t.strings t.world.kinds (sorts_in t).rooms t.o
 
 beyond_room : (sorts : Sorts) (ways : List Way) (found : Option Way) (i : ℕ) → slice_get ways i ≡ found → list_all (leads sorts) ways ≡ true → is_at_or_none sorts.rooms (room_beyond found) ≡ true
 beyond_room sorts ways None i e h = refl
-beyond_room sorts ways (Some way) i e h = (both_are (is_at_or_none sorts.rooms way.room) (is_at_or_none sorts.doors way.door) (all_at (leads sorts) ways i way h e)).0
+beyond_room sorts ways (Some way) i e h = (and_parts (is_at_or_none sorts.rooms way.room) (is_at_or_none sorts.doors way.door) (all_at (leads sorts) ways i way h e)).0
 
 exits_room : (sorts : Sorts) (ways : List Exits) (found : Option Exits) (i direction : ℕ) → slice_get ways i ≡ found → list_all (lead_rightly sorts) ways ≡ true → is_at_or_none sorts.rooms (way_in found direction) ≡ true
 unfolding lead_rightly
 exits_room sorts ways None i direction e h = refl
 exits_room sorts ways (Some exits) i direction e h =
-    let lead = both_are (eqb (length exits.ways) 12) (list_all (leads sorts) exits.ways) (all_at (lead_rightly sorts) ways i exits h e) in
+    let lead = and_parts (eqb (length exits.ways) 12) (list_all (leads sorts) exits.ways) (all_at (lead_rightly sorts) ways i exits h e) in
     beyond_room sorts exits.ways (slice_get exits.ways (direction - 1)) (direction - 1) refl lead.1
 
 ways_right : (t : Tables) → are_right_ways t ≡ true → list_all (lead_rightly (sorts_in t)) t.ways ≡ true
 unfolding are_right_ways
-ways_right t h = (both_are (eqb (length t.ways) (count_by (is_room_entry t.world.kinds) t.objects)) (list_all (lead_rightly (sorts_in t)) t.ways) h).1
+ways_right t h = (and_parts (eqb (length t.ways) (count_by (is_room_entry t.world.kinds) t.objects)) (list_all (lead_rightly (sorts_in t)) t.ways) h).1
 
 pub story_leads : (t : Tables) (room direction : ℕ) → IsStory t → is_at_or_none (sorts_in t).rooms (way_of t room direction) ≡ true
 story_leads t room direction story =
     let place = rooms_before t.world.kinds t.objects room in
-    elim (either (is_room_in t.world.kinds (slice_get t.objects room))) [
+    elim (cases_Bool (is_room_in t.world.kinds (slice_get t.objects room))) [
       | inl is ↦ rw is (exits_room (sorts_in t) t.ways (slice_get t.ways place) place direction refl (ways_right t (right_parts t story.right).1))
       | inr isnt ↦ rw isnt refl
     ]

@@ -2,11 +2,10 @@
 use Rattle.std.proofs.Common.{◌≡◌, ℕ, zero, suc, ◌+◌, ◌<◌, ◌≤◌, Bool, true, false, cond, ◌||◌, ltb, leb, eqb, List, [], ◌∷◌, ◌++◌, length, map, Option, Some, None, refl, sym, ap, ◌∙◌, arith, inl, inr, length-append}
 use Rattle.std.specs.Prelude.{min, replicate}
 use Rattle.std.specs.List.{flat_map, list_all}
-use Rattle.std.proofs.lemmas.Bool.{lt-ltb, le-leb, ne_eqb, eq-eqb}
+use Rattle.std.proofs.lemmas.Bool.{lt-ltb, le-leb, ne_eqb, eq-eqb, or_right, cases_Bool, and_from, and_parts}
 use Rattle.std.proofs.lemmas.List.{length-map, map-append}
 use Rattle.std.proofs.lemmas.List.Folds.{list_all-append}
 use Rattle.std.proofs.lemmas.Grind.{flat_map-append}
-use Rattle.world_meaning.proofs.Bools.{both, both_are, either}
 use Rattle.world_meaning.specs.declared.declared.Declared.{Declared}
 use Rattle.play_meaning.specs.Rules.{Rule}
 use Rattle.play_meaning.specs.StandardRules.{rules_of_closing, rules_of_dropping, rules_of_examining, rules_of_going, rules_of_inserting, rules_of_inventory, rules_of_looking, rules_of_opening, rules_of_putting, rules_of_switching, rules_of_taking, rules_of_wearing, standard_rules}
@@ -27,7 +26,6 @@ use Rattle.story_format.specs.declared.rule_entry.RuleEntry.{RuleEntry}
 use Rattle.story_format.specs.declared.rule_tables.Book.{Book}
 use Rattle.story_format.proofs.AboutRules.{IsSmall, aspect_fits, aspect_right, named_of, named_parts, number_fits, number_right}
 use Rattle.story_format.proofs.ActionLemmas.{action_count, actions_fit, actions_right}
-use Rattle.story_format.proofs.Known.{or_right}
 use Rattle.story_format.proofs.OrderLemmas.{codes_counted, codes_in_turn}
 use Rattle.story_format.proofs.StandardRuleRows.{all_bare, each_of, no_codes, no_uses, standard_count}
 
@@ -37,18 +35,18 @@ pub turn_joined : (ns ms : List ℕ) (next : ℕ) → are_in_turn next ns ≡ tr
 unfolding are_in_turn
 turn_joined [] ms next h k = let same : next ≡ next + 0 = omega arith in ap (λ n. are_in_turn n ms) same ∙ k
 turn_joined (n ∷ ns) ms next h k =
-    let t = both_are (eqb n next) (are_in_turn (next + 1) ns) h in
+    let t = and_parts (eqb n next) (are_in_turn (next + 1) ns) h in
     let there : (next + 1) + length ns ≡ next + suc (length ns) = omega arith in
-    both (eqb n next) (are_in_turn (next + 1) (ns ++ ms)) t.0 (turn_joined ns ms (next + 1) t.1 (ap (λ m. are_in_turn m ms) there ∙ k))
+    and_from (eqb n next) (are_in_turn (next + 1) (ns ++ ms)) t.0 (turn_joined ns ms (next + 1) t.1 (ap (λ m. are_in_turn m ms) there ∙ k))
 
 pub turn_parted : (ns ms : List ℕ) (next : ℕ) → are_in_turn next (ns ++ ms) ≡ true → (are_in_turn next ns ≡ true) × (are_in_turn (next + length ns) ms ≡ true)
 unfolding are_in_turn
 turn_parted [] ms next h = let same : next + 0 ≡ next = omega arith in (refl, ap (λ n. are_in_turn n ms) same ∙ h)
 turn_parted (n ∷ ns) ms next h =
-    let t = both_are (eqb n next) (are_in_turn (next + 1) (ns ++ ms)) h in
+    let t = and_parts (eqb n next) (are_in_turn (next + 1) (ns ++ ms)) h in
     let later = turn_parted ns ms (next + 1) t.1 in
     let there : next + suc (length ns) ≡ (next + 1) + length ns = omega arith in
-    (both (eqb n next) (are_in_turn (next + 1) ns) t.0 later.0, ap (λ m. are_in_turn m ms) there ∙ later.1)
+    (and_from (eqb n next) (are_in_turn (next + 1) ns) t.0 later.0, ap (λ m. are_in_turn m ms) there ∙ later.1)
 
 -- ---- the codes of a rule
 
@@ -135,7 +133,7 @@ heads_in_turn strings ws rules few le =
 
 pub uses_counted_one : (n : ℕ) (b : RuleBody) → length (cond (eqb n 65535) [] (Test 0 ∷ []) ++ use_in_body b) ≡ length (cond (eqb n 65535) [] (n ∷ []) ++ code_of_body b)
 uses_counted_one n b =
-    elim (either (eqb n 65535)) [
+    elim (cases_Bool (eqb n 65535)) [
       | inl none ↦ rw none (by b)
       | inr some ↦ rw some (ap suc (by b))
     ]
@@ -187,8 +185,8 @@ unfolding rule_entries
 rules_right z [] next named le few = refl
 rules_right z (rule ∷ rules) next named le few =
     let more = counted_more rule rules in
-    let t = both_are (is_of (named_of z) rule) (list_all (is_of (named_of z)) rules) named in
-    both (is_right_rule z (rule_entry next rule)) (list_all (is_right_rule z) (rule_entries (next + rule_count rule) rules))
+    let t = and_parts (is_of (named_of z) rule) (list_all (is_of (named_of z)) rules) named in
+    and_from (is_right_rule z (rule_entry next rule)) (list_all (is_right_rule z) (rule_entries (next + rule_count rule) rules))
     (rule_right z next rule t.0 (omega (arith, le, more)) few) (rules_right z rules (next + rule_count rule) t.1 (omega (arith, le, more)) few)
 
 -- ---- the entries of the rules that every story has are right
@@ -197,9 +195,9 @@ standard_right : (z : Counts) (rules : List Rule) (number : ℕ) → list_all (i
 unfolding is_right_body
 standard_right z [] number named first last = refl
 standard_right z (rule ∷ rules) number named first last =
-    let t = both_are (is_of (named_of z) rule) (list_all (is_of (named_of z)) rules) named in
-    let there : is_right_body z.codes (Standard number) ≡ true = both (leb 1 number) (leb number 61) (le-leb 1 number first) (le-leb number 61 (omega (arith, last))) in
-    both (is_right_rule z (standard_entry number rule)) (list_all (is_right_rule z) (standard_from (number + 1) rules))
+    let t = and_parts (is_of (named_of z) rule) (list_all (is_of (named_of z)) rules) named in
+    let there : is_right_body z.codes (Standard number) ≡ true = and_from (leb 1 number) (leb number 61) (le-leb 1 number first) (le-leb number 61 (omega (arith, last))) in
+    and_from (is_right_rule z (standard_entry number rule)) (list_all (is_right_rule z) (standard_from (number + 1) rules))
     (entry_right z rule 65535 (Standard number) t.0 refl there) (standard_right z rules (number + 1) t.1 (omega arith) (omega (arith, last)))
 
 all_standard_right : (z : Counts) → 16 ≤ z.actions → 8 ≤ z.books → list_all (is_right_rule z) standard_entries ≡ true
@@ -228,7 +226,7 @@ scene_right false = refl
 
 each_scene_right : (scenes : List Bool) → list_all is_right_scene (map scene_entry scenes) ≡ true
 each_scene_right [] = refl
-each_scene_right (recurs ∷ scenes) = both (is_right_scene (scene_entry recurs)) (list_all is_right_scene (map scene_entry scenes)) (scene_right recurs) (each_scene_right scenes)
+each_scene_right (recurs ∷ scenes) = and_from (is_right_scene (scene_entry recurs)) (list_all is_right_scene (map scene_entry scenes)) (scene_right recurs) (each_scene_right scenes)
 
 pub length_entries : (rules : List Rule) (next : ℕ) → length (rule_entries next rules) ≡ length rules
 unfolding rule_entries
@@ -241,7 +239,7 @@ length_all rules next = omega (arith, length-append standard_entries (rule_entri
 all_right : (z : Counts) (rules : List Rule) (next : ℕ) → 16 ≤ z.actions → 8 ≤ z.books → list_all (is_of (named_of z)) rules ≡ true → next + length (origins_in rules) ≤ z.codes → z.codes ≤ 65535 → list_all (is_right_rule z) (all_entries next rules) ≡ true
 all_right z rules next actions books named le codes =
     list_all-append (is_right_rule z) standard_entries (rule_entries next rules)
-    ∙ both (list_all (is_right_rule z) standard_entries) (list_all (is_right_rule z) (rule_entries next rules)) (all_standard_right z actions books) (rules_right z rules next named le codes)
+    ∙ and_from (list_all (is_right_rule z) standard_entries) (list_all (is_right_rule z) (rule_entries next rules)) (all_standard_right z actions books) (rules_right z rules next named le codes)
 
 -- what is known of the books of a tale with so many rules, those that every story has among them
 pub record AreRightBooks (d : Declared) (books : List Book) (count : ℕ) : Type 0 where
@@ -288,8 +286,8 @@ rules_fit : (z : Named) (rules : List Rule) (next : ℕ) → IsSmall z → list_
 unfolding rule_entries
 rules_fit z [] next small named = refl
 rules_fit z (rule ∷ rules) next small named =
-    let t = both_are (is_of z rule) (list_all (is_of z) rules) named in
-    both (rule_layout.format.fits (rule_entry next rule)) (list_all rule_layout.format.fits (rule_entries (next + rule_count rule) rules)) (rule_fits z next rule small t.0) (rules_fit z rules (next + rule_count rule) small t.1)
+    let t = and_parts (is_of z rule) (list_all (is_of z) rules) named in
+    and_from (rule_layout.format.fits (rule_entry next rule)) (list_all rule_layout.format.fits (rule_entries (next + rule_count rule) rules)) (rule_fits z next rule small t.0) (rules_fit z rules (next + rule_count rule) small t.1)
 
 scene_fits : (recurs : Bool) → scene_layout.format.fits (scene_entry recurs) ≡ true
 unfolding scene_layout
@@ -298,7 +296,7 @@ scene_fits false = refl
 
 scenes_fit : (scenes : List Bool) → list_all scene_layout.format.fits (map scene_entry scenes) ≡ true
 scenes_fit [] = refl
-scenes_fit (recurs ∷ scenes) = both (scene_layout.format.fits (scene_entry recurs)) (list_all scene_layout.format.fits (map scene_entry scenes)) (scene_fits recurs) (scenes_fit scenes)
+scenes_fit (recurs ∷ scenes) = and_from (scene_layout.format.fits (scene_entry recurs)) (list_all scene_layout.format.fits (map scene_entry scenes)) (scene_fits recurs) (scenes_fit scenes)
 
 standard_fit : list_all rule_layout.format.fits standard_entries ≡ true
 unfolding rule_layout body_layout aspect_layout kind_aspect_layout side_layout standard_entries standard_rules rules_of_looking rules_of_examining rules_of_taking rules_of_dropping rules_of_putting rules_of_inserting rules_of_opening rules_of_closing rules_of_going rules_of_wearing rules_of_inventory rules_of_switching
@@ -307,7 +305,7 @@ standard_fit = refl
 all_fit : (z : Named) (rules : List Rule) (next : ℕ) → IsSmall z → list_all (is_of z) rules ≡ true → list_all rule_layout.format.fits (all_entries next rules) ≡ true
 all_fit z rules next small named =
     list_all-append rule_layout.format.fits standard_entries (rule_entries next rules)
-    ∙ both (list_all rule_layout.format.fits standard_entries) (list_all rule_layout.format.fits (rule_entries next rules)) standard_fit (rules_fit z rules next small named)
+    ∙ and_from (list_all rule_layout.format.fits standard_entries) (list_all rule_layout.format.fits (rule_entries next rules)) standard_fit (rules_fit z rules next small named)
 
 pub rule_tables_fit : (d : Declared) (books : List Book) (z : Named) (rules : List Rule) (next : ℕ) → length d.scenes ≤ 50 → d.rulebooks ≤ 100 → length rules ≤ 1939 → AreRightBooks d books (61 + length rules) → length d.actions ≤ 184 → IsSmall z
     → list_all (is_of z) rules ≡ true → rules_layout.format.fits (rules_of d books next rules) ≡ true

@@ -3,7 +3,7 @@ use Rattle.std.proofs.Common.{◌≡◌, ◌∙◌, ap, subst, sym, refl, ℕ, s
 use Rattle.std.specs.Prelude.{min, slice_get}
 use Rattle.std.specs.List.{AllByRecursion, AllZip, list_all}
 use Rattle.std.specs.Option.{option_map}
-use Rattle.std.proofs.lemmas.Bool.{ne_eqb}
+use Rattle.std.proofs.lemmas.Bool.{ne_eqb, and_parts}
 use Rattle.play_meaning.specs.Codes.{Codes, RunsTo, test_of}
 use Rattle.play_meaning.specs.Doing.{Inner, do_body}
 use Rattle.play_meaning.specs.Progress.{Progress}
@@ -25,7 +25,6 @@ use Rattle.story_format.specs.Holding.{Named, is_of}
 use Rattle.story_format.specs.RuleMaking.{condition_count, condition_number, rule_count, rule_entries, rule_entry, standard_entries, standard_from}
 use Rattle.story_format.specs.declared.rule_entry.RuleBody.TheVariants.{Code, Standard}
 use Rattle.story_format.specs.declared.rule_entry.RuleEntry.{RuleEntry}
-use Rattle.world_meaning.proofs.Bools.{both_are}
 use Rattle.story_format.proofs.AboutRules.{IsSmall, entry_about}
 use Rattle.story_format.proofs.RuleLemmas.{counted, counted_more, origins_in}
 use Rattle.story_format.proofs.StandardRuleRows.{all_bare, bare_is, each_of, is_bare}
@@ -66,8 +65,8 @@ standard_carried : (c : Codes) (z : Named) (front rules : List Rule) (number : �
     → AllZip (CarriesRule c) (standard_from number rules) rules
 standard_carried c z front [] number parts is small named bare = tt
 standard_carried c z front (rule ∷ rules) number parts is small named bare =
-    let t = both_are (is_of z rule) (list_all (is_of z) rules) named in
-    let u = both_are (is_bare rule) (list_all is_bare rules) bare in
+    let t = and_parts (is_of z rule) (list_all (is_of z) rules) named in
+    let u = and_parts (is_bare rule) (list_all is_bare rules) bare in
     let none : rule.condition ≡ None = (bare_is rule u.0).condition in
     let later : number + 1 ≡ suc (length (front ++ rule ∷ [])) = omega (arith, is, length-append front (rule ∷ [])) in (
       record {
@@ -121,7 +120,7 @@ module _ (z : Counts) (c : Codes) (string : List ℕ → ℕ) (origins : List Or
   unfolding rule_entries
   rules_carried [] front next all is parts le = tt
   rules_carried (rule ∷ rules) front next all is parts le =
-      let named_here = both_are (is_of named rule) (list_all (is_of named) rules) all in
+      let named_here = and_parts (is_of named rule) (list_all (is_of named) rules) all in
       let more = counted_more rule rules in
       let later : next + rule_count rule ≡ length (front ++ origins_of_rule rule) = omega (arith, is, length-append front (origins_of_rule rule), counted rule) in
       let here = one_carried front rule (origins_in rules) named_here.0 parts (omega (arith, is, le, more)) in

@@ -2,10 +2,9 @@
 use Rattle.std.proofs.Common.{◌≡◌, ℕ, suc, ◌+◌, ◌<◌, ◌≤◌, true, ◌&&◌, nat_lt, List, [], ◌∷◌, ◌++◌, length, map, refl, sym, subst, ap, ◌∙◌, arith, length-append}
 use Rattle.std.specs.Prelude.{replicate}
 use Rattle.std.specs.List.{AllByRecursion, flat_map, list_all}
-use Rattle.std.proofs.lemmas.Bool.{and_parts, lt-ltb, ltb-true}
+use Rattle.std.proofs.lemmas.Bool.{and_parts, lt-ltb, ltb-true, and_from}
 use Rattle.std.proofs.lemmas.List.{length-map, map-append}
 use Rattle.std.proofs.lemmas.List.Folds.{list_all-append}
-use Rattle.world_meaning.proofs.Bools.{both}
 use Rattle.world_meaning.specs.declared.declared.Declared.{Declared}
 use Rattle.object_words.specs.Mentions.{number_in}
 use Rattle.play_meaning.specs.Instructions.{sizes}
@@ -42,27 +41,27 @@ use Rattle.story_format.proofs.RuleLemmas.{codes_in_all, heads_in_turn, origins_
 codes_say : (es : List Emitted) → AllByRecursion (λ e. can_say_all e ≡ true) es → list_all can_say_code (map (λ e. e.code) es) ≡ true
 unfolding can_say_all
 codes_say [] said = refl
-codes_say (e ∷ es) said = both (can_say_code e.code) (list_all can_say_code (map (λ e. e.code) es)) (and_parts (can_say_code e.code) (list_all can_say_code e.tests) said.0).0 (codes_say es said.1)
+codes_say (e ∷ es) said = and_from (can_say_code e.code) (list_all can_say_code (map (λ e. e.code) es)) (and_parts (can_say_code e.code) (list_all can_say_code e.tests) said.0).0 (codes_say es said.1)
 
 tests_say : (es : List Emitted) → AllByRecursion (λ e. can_say_all e ≡ true) es → list_all can_say_code (flat_map (λ e. e.tests) es) ≡ true
 unfolding can_say_all
 tests_say [] said = refl
 tests_say (e ∷ es) said =
     list_all-append can_say_code e.tests (flat_map (λ e. e.tests) es)
-    ∙ both (list_all can_say_code e.tests) (list_all can_say_code (flat_map (λ e. e.tests) es)) (and_parts (can_say_code e.code) (list_all can_say_code e.tests) said.0).1 (tests_say es said.1)
+    ∙ and_from (list_all can_say_code e.tests) (list_all can_say_code (flat_map (λ e. e.tests) es)) (and_parts (can_say_code e.code) (list_all can_say_code e.tests) said.0).1 (tests_say es said.1)
 
 pub all_say : (string : List ℕ → ℕ) (origins : List Origin) → CanBeSaid string origins → list_all can_say_code (codes_of_origins string origins) ≡ true
 all_say string origins said =
     let es = origins_emitted string origins in
     list_all-append can_say_code (map (λ e. e.code) es) (flat_map (λ e. e.tests) es)
-    ∙ both (list_all can_say_code (map (λ e. e.code) es)) (list_all can_say_code (flat_map (λ e. e.tests) es)) (codes_say es said.each) (tests_say es said.each)
+    ∙ and_from (list_all can_say_code (map (λ e. e.code) es)) (list_all can_say_code (flat_map (λ e. e.tests) es)) (codes_say es said.each) (tests_say es said.each)
 
 all_short : (codes : List (List Instruction)) → list_all can_say_code codes ≡ true → list_all is_short (map spelling codes) ≡ true
 all_short [] say = refl
 all_short (code ∷ codes) say =
     let both_say = and_parts (can_say_code code) (list_all can_say_code codes) say in
     let size = ltb-true (sizes code) 65536 (and_parts (nat_lt (sizes code) 65536) (list_all can_spell code && list_all opens_few code) both_say.0).0 in
-    both (is_short (spelling code)) (list_all is_short (map spelling codes)) (lt-ltb (length (spelling code)) 65536 (omega (arith, size, spelling_size code))) (all_short codes both_say.1)
+    and_from (is_short (spelling code)) (list_all is_short (map spelling codes)) (lt-ltb (length (spelling code)) 65536 (omega (arith, size, spelling_size code))) (all_short codes both_say.1)
 
 -- the bytes are short
 pub bytes_short : (strings : List (List ℕ)) (origins : List Origin) → CanBeSaid (number_in strings) origins → list_all is_short (code_bytes strings origins) ≡ true

@@ -3,7 +3,7 @@ use Rattle.std.proofs.Common.{◌≡◌, ◌∙◌, ap, sym, subst, ℕ, zero, s
 use Rattle.std.specs.List.{AllByRecursion, flat_map}
 use Rattle.std.specs.Int.{w16, to_be_bytes}
 use Rattle.std.proofs.lemmas.Simd.{map-map}
-use Rattle.world_meaning.proofs.Bools.{either}
+use Rattle.std.proofs.lemmas.Bool.{cases_Bool}
 use Rattle.play_meaning.specs.declared.operand.Counts.{Counts}
 use Rattle.play_meaning.specs.declared.operand.Use.{Use}
 use Rattle.code_table.specs.Strings.{counted_on, strings_of}
@@ -60,9 +60,9 @@ codes_are_bytes bytes t rest fits is =
 
 pub sound_or_not : (t : Tables) → AllByRecursion IsBytes t.codes → AreSound t ⊎ (AreSound t → ⊥)
 sound_or_not t fit =
-    elim (either (are_in_turn 0 (heads_named t))) [
+    elim (cases_Bool (are_in_turn 0 (heads_named t))) [
       | inl turn ↦
-          elim (either (is_count (length t.strings) (counted_on 0 (strings_read t)))) [
+          elim (cases_Bool (is_count (length t.strings) (counted_on 0 (strings_read t)))) [
             | inl named ↦ by turn (count_is (length t.strings) (counted_on 0 (strings_read t)) named) (table_or_none (counts_of t) (uses_of t) t.codes fit)
             | inr unnamed ↦ inr (λ sound. is_counted (length t.strings) (counted_on 0 (strings_read t)) sound.named unnamed)
           ]

@@ -1,9 +1,9 @@
 -- The rows of the rules that every story has are theirs, and name what each story has.
 use Rattle.std.proofs.Common.{◌≡◌, ◌∙◌, sym, refl, ℕ, ◌<◌, ◌≤◌, Bool, true, false, ◌&&◌, ltb, List, [], ◌∷◌, ◌++◌, length, map, Option, Some, None, arith}
 use Rattle.std.specs.List.{AllZip, list_all}
-use Rattle.std.proofs.lemmas.Bool.{lt-ltb, ltb-true}
+use Rattle.std.proofs.lemmas.Bool.{lt-ltb, ltb-true, and_from, and_parts}
 use Rattle.std.proofs.lemmas.List.{append-nil}
-use Rattle.world_meaning.proofs.Bools.{both, both_are}
+use Rattle.world_meaning.proofs.Options.{none_is}
 use Rattle.play_meaning.specs.Rules.{Anything, Aspect, Exactly, OfKind, Rule}
 use Rattle.play_meaning.specs.StandardRules.{rules_of_closing, rules_of_dropping, rules_of_examining, rules_of_going, rules_of_inserting, rules_of_inventory, rules_of_looking, rules_of_opening, rules_of_putting, rules_of_switching, rules_of_taking, rules_of_wearing, standard_rules}
 use Rattle.story_format.specs.Holding.{Named, is_of, is_there}
@@ -69,18 +69,14 @@ anything_is Anything h = refl
 anything_is (Exactly o) h = absurd cc
 anything_is (OfKind kind adjectives) h = absurd cc
 
-none_is : {A : Type 0} (x : Option A) → is_none x ≡ true → x ≡ None
-none_is None h = refl
-none_is (Some a) h = absurd cc
-
 pub bare_is : (rule : Rule) → is_bare rule ≡ true → IsBare rule
 bare_is rule h =
-    let a = both_are (ltb rule.book 8) (is_there 16 rule.action && (is_anything rule.noun && (is_anything rule.second && (is_anything rule.place && (is_none rule.scene && is_none rule.condition))))) h in
-    let b = both_are (is_there 16 rule.action) (is_anything rule.noun && (is_anything rule.second && (is_anything rule.place && (is_none rule.scene && is_none rule.condition)))) a.1 in
-    let c = both_are (is_anything rule.noun) (is_anything rule.second && (is_anything rule.place && (is_none rule.scene && is_none rule.condition))) b.1 in
-    let d = both_are (is_anything rule.second) (is_anything rule.place && (is_none rule.scene && is_none rule.condition)) c.1 in
-    let e = both_are (is_anything rule.place) (is_none rule.scene && is_none rule.condition) d.1 in
-    let f = both_are (is_none rule.scene) (is_none rule.condition) e.1 in
+    let a = and_parts (ltb rule.book 8) (is_there 16 rule.action && (is_anything rule.noun && (is_anything rule.second && (is_anything rule.place && (is_none rule.scene && is_none rule.condition))))) h in
+    let b = and_parts (is_there 16 rule.action) (is_anything rule.noun && (is_anything rule.second && (is_anything rule.place && (is_none rule.scene && is_none rule.condition)))) a.1 in
+    let c = and_parts (is_anything rule.noun) (is_anything rule.second && (is_anything rule.place && (is_none rule.scene && is_none rule.condition))) b.1 in
+    let d = and_parts (is_anything rule.second) (is_anything rule.place && (is_none rule.scene && is_none rule.condition)) c.1 in
+    let e = and_parts (is_anything rule.place) (is_none rule.scene && is_none rule.condition) d.1 in
+    let f = and_parts (is_none rule.scene) (is_none rule.condition) e.1 in
     record {
       book = a.0;
       action = b.0;
@@ -106,8 +102,8 @@ bare_of z rule books actions h =
 pub each_of : (z : Named) (rules : List Rule) → 8 ≤ z.books → 16 ≤ z.actions → list_all is_bare rules ≡ true → list_all (is_of z) rules ≡ true
 each_of z [] books actions h = refl
 each_of z (rule ∷ rules) books actions h =
-    let t = both_are (is_bare rule) (list_all is_bare rules) h in
-    both (is_of z rule) (list_all (is_of z) rules) (bare_of z rule books actions t.0) (each_of z rules books actions t.1)
+    let t = and_parts (is_bare rule) (list_all is_bare rules) h in
+    and_from (is_of z rule) (list_all (is_of z) rules) (bare_of z rule books actions t.0) (each_of z rules books actions t.1)
 
 -- ---- they name no code
 

@@ -1,10 +1,9 @@
 -- What is known of the objects of a tale that a story file can hold.
-use Rattle.std.proofs.Common.{◌≡◌, ℕ, zero, suc, ◌+◌, ◌<◌, ◌≤◌, Bool, true, false, ◌&&◌, leb, List, [], ◌∷◌, ◌++◌, length, map, take, drop, Option, Some, refl, ap, ◌∙◌, arith}
+use Rattle.std.proofs.Common.{◌≡◌, ℕ, zero, suc, ◌+◌, ◌≤◌, Bool, true, false, ◌&&◌, leb, List, [], ◌∷◌, ◌++◌, length, map, take, drop, Option, Some, refl, ap, ◌∙◌, arith}
 use Rattle.std.specs.Prelude.{slice_get, is_none, codes}
 use Rattle.std.specs.List.{list_all}
 use Rattle.std.specs.Str.{bytes_eq}
-use Rattle.std.proofs.lemmas.Bool.{leb-true}
-use Rattle.world_meaning.proofs.Bools.{both, both_are}
+use Rattle.std.proofs.lemmas.Bool.{leb-true, and_from, and_parts}
 use Rattle.world_meaning.specs.declared.direction.Direction.{Direction}
 use Rattle.world_meaning.specs.Directions.{all_directions, direction_name}
 use Rattle.world_meaning.specs.Kinds.{is_under}
@@ -13,28 +12,18 @@ use Rattle.world_meaning.specs.declared.tale.Object.{Object}
 
 pub all_at : {A : Type 0} (p : A → Bool) (xs : List A) (i : ℕ) (x : A) → list_all p xs ≡ true → slice_get xs i ≡ Some x → p x ≡ true
 all_at p [] i x h e = absurd cc
-all_at p (y ∷ ys) zero x h e = let same : y ≡ x = cc in rw (← same) (both_are (p y) (list_all p ys) h).0
-all_at p (y ∷ ys) (suc i) x h e = all_at p ys i x (both_are (p y) (list_all p ys) h).1 e
+all_at p (y ∷ ys) zero x h e = let same : y ≡ x = cc in rw (← same) (and_parts (p y) (list_all p ys) h).0
+all_at p (y ∷ ys) (suc i) x h e = all_at p ys i x (and_parts (p y) (list_all p ys) h).1 e
 
 pub all_weaker : {A : Type 0} (p q : A → Bool) → ((x : A) → p x ≡ true → q x ≡ true) → (xs : List A) → list_all p xs ≡ true → list_all q xs ≡ true
 all_weaker p q f [] h = refl
-all_weaker p q f (x ∷ xs) h = let t = both_are (p x) (list_all p xs) h in both (q x) (list_all q xs) (f x t.0) (all_weaker p q f xs t.1)
+all_weaker p q f (x ∷ xs) h = let t = and_parts (p x) (list_all p xs) h in and_from (q x) (list_all q xs) (f x t.0) (all_weaker p q f xs t.1)
 
 pub get_dropped : {A : Type 0} (n i k : ℕ) (xs : List A) → n + i ≡ k → slice_get (drop n xs) i ≡ slice_get xs k
 get_dropped zero i k xs e = let same : i ≡ k = omega arith in rw same refl
 get_dropped (suc n) i k [] e = refl
 get_dropped (suc n) i zero (x ∷ xs) e = absurd (omega arith)
 get_dropped (suc n) i (suc k) (x ∷ xs) e = get_dropped n i k xs (omega arith)
-
-pub get_within : {A : Type 0} (xs : List A) (i : ℕ) → i < length xs → (x : A) × (slice_get xs i ≡ Some x)
-get_within [] i lt = absurd (omega arith)
-get_within (x ∷ xs) zero lt = (x, refl)
-get_within (x ∷ xs) (suc i) lt = get_within xs i (omega arith)
-
-pub get_front : {A : Type 0} (xs ys : List A) (n : ℕ) (x : A) → slice_get xs n ≡ Some x → slice_get (xs ++ ys) n ≡ Some x
-get_front [] ys n x at = absurd cc
-get_front (y ∷ xs) ys zero x at = at
-get_front (y ∷ xs) ys (suc n) x at = get_front xs ys n x at
 
 pub behind_there : {A : Type 0} (front xs : List A) (k : ℕ) (x : A) → slice_get xs k ≡ Some x → slice_get (front ++ xs) (length front + k) ≡ Some x
 behind_there [] xs k x at = let same : 0 + k ≡ k = omega arith in ap (slice_get xs) same ∙ at
@@ -93,11 +82,11 @@ few_begin parents rooms (player ∷ others) h = omega (arith, (parts parents roo
 
 pub all_mapped : {A B : Type 0} (p : B → Bool) (f : A → B) (xs : List A) → list_all p (map f xs) ≡ true → list_all (λ x. p (f x)) xs ≡ true
 all_mapped p f [] h = refl
-all_mapped p f (x ∷ xs) h = let t = both_are (p (f x)) (list_all p (map f xs)) h in both (p (f x)) (list_all (λ y. p (f y)) xs) t.0 (all_mapped p f xs t.1)
+all_mapped p f (x ∷ xs) h = let t = and_parts (p (f x)) (list_all p (map f xs)) h in and_from (p (f x)) (list_all (λ y. p (f y)) xs) t.0 (all_mapped p f xs t.1)
 
 pub all_both : {A : Type 0} (p q : A → Bool) (xs : List A) → list_all p xs ≡ true → list_all q xs ≡ true → list_all (λ x. p x && q x) xs ≡ true
 all_both p q [] h k = refl
 all_both p q (x ∷ xs) h k =
-    let t = both_are (p x) (list_all p xs) h in
-    let u = both_are (q x) (list_all q xs) k in
-    both (p x && q x) (list_all (λ y. p y && q y) xs) (both (p x) (q x) t.0 u.0) (all_both p q xs t.1 u.1)
+    let t = and_parts (p x) (list_all p xs) h in
+    let u = and_parts (q x) (list_all q xs) k in
+    and_from (p x && q x) (list_all (λ y. p y && q y) xs) (and_from (p x) (q x) t.0 u.0) (all_both p q xs t.1 u.1)

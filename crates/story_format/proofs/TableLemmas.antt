@@ -4,11 +4,10 @@ use Rattle.std.specs.Prelude.{min, is_none, codes, count_by, slice_get}
 use Rattle.std.specs.List.{list_any, list_all, flat_map}
 use Rattle.std.specs.Str.{bytes_eq}
 use Rattle.std.specs.Option.{option_map}
-use Rattle.std.proofs.lemmas.Bool.{lt-ltb, eq-eqb, ne_eqb, le-leb}
+use Rattle.std.proofs.lemmas.Bool.{lt-ltb, eq-eqb, ne_eqb, le-leb, or_right, cases_Bool, and_from, and_parts, not-true}
 use Rattle.std.proofs.lemmas.List.{length-map, take-map}
-use Rattle.std.proofs.lemmas.Option.{slice_get-map, get_or_from_slice_get}
+use Rattle.std.proofs.lemmas.Option.{slice_get-map, get_or_from_slice_get, same_Some}
 use Rattle.std.proofs.lemmas.Slice.Eq.{bytes_eq-Decides}
-use Rattle.world_meaning.proofs.Bools.{both, both_are, either}
 use Rattle.world_meaning.specs.declared.article.Article.{Article}
 use Rattle.world_meaning.specs.declared.article.Article.TheVariants as articles
 use Rattle.world_meaning.specs.declared.place.Rel.{Rel}
@@ -42,7 +41,7 @@ use Rattle.story_format.specs.Placed.{is_room_entry, kinds_in, places_in}
 use Rattle.story_format.specs.Checks.{are_named_in_order, codes_named, heads_named, is_named, begin_with, has_words, have_words, is_small, is_small_at, has_small_words, is_player_entry, is_direction_entry, are_direction_entries, are_in_place, are_right_objects, are_right_ways, is_right_frame, stand_rightly, are_right}
 use Rattle.story_format.proofs.StoryLemmas.{all_weaker, few_begin, parts, player_parts, direction_parts}
 use Rattle.story_format.proofs.EntryLemmas.{kinds_back, objects_back, objects_in, place_there, places_back, rooms_counted, rooms_lead}
-use Rattle.story_format.proofs.Known.{or_right, text_is_itself, found_by_number, is_known, texts_known, any_left, any_right, fold_finds}
+use Rattle.story_format.proofs.Known.{text_is_itself, found_by_number, is_known, texts_known, any_left, any_right, fold_finds}
 use Rattle.story_format.proofs.OrderLemmas.{at_most_one, in_turn_in_order, strings_distinct, strings_in_order}
 use Rattle.story_format.proofs.RuleLemmas.{AreRightBooks, codes_in_all, heads_by, heads_in_turn, origins_in, rule_tables_right}
 use Rattle.story_format.proofs.DeclaredLemmas.{all_suit, declared_parts, few_grants, few_kinds, world_right}
@@ -81,10 +80,10 @@ plain_from strings [] next n count le lt h kinds = refl
 plain_from strings (w ∷ ws) next n count le lt h kinds =
     let bound = at_most_one w.object.description in
     let sizes : Sizes = record { kinds = n; codes = count } in
-    let t = both_are (words_once strings w) (list_all (words_once strings) ws) h in
-    let u = both_are (has_few_words w) (are_different (map (number_in strings) w.words)) t.0 in
-    let v = both_are (is_below n w.object.kind) (list_all (is_below n) (kinds_of (objects_in ws))) kinds in
-    both (is_right_entry sizes (entry_of strings next w)) (list_all (is_right_entry sizes) (entries_of strings (next + code_count w.object.description) ws))
+    let t = and_parts (words_once strings w) (list_all (words_once strings) ws) h in
+    let u = and_parts (has_few_words w) (are_different (map (number_in strings) w.words)) t.0 in
+    let v = and_parts (is_below n w.object.kind) (list_all (is_below n) (kinds_of (objects_in ws))) kinds in
+    and_from (is_right_entry sizes (entry_of strings next w)) (list_all (is_right_entry sizes) (entries_of strings (next + code_count w.object.description) ws))
     (plain_entry strings next n count w (omega (arith, le)) (omega (arith, lt)) u.0 u.1 v.0) (plain_from strings ws (next + code_count w.object.description) n count (omega (arith, le)) (omega (arith, lt, bound)) t.1 v.1)
 
 -- ---- words
@@ -97,8 +96,8 @@ all_named : (strings texts : List (List ℕ)) → list_all (is_known strings) te
 unfolding begin_with
 all_named strings [] h few = refl
 all_named strings (x ∷ texts) h few =
-    let t = both_are (is_known strings x) (list_all (is_known strings) texts) h in
-    both (is_named strings (number_in strings x) x) (begin_with strings (map (number_in strings) texts) texts) (named_is strings x t.0 few) (all_named strings texts t.1 few)
+    let t = and_parts (is_known strings x) (list_all (is_known strings) texts) h in
+    and_from (is_named strings (number_in strings x) x) (begin_with strings (map (number_in strings) texts) texts) (named_is strings x t.0 few) (all_named strings texts t.1 few)
 
 -- what an entry names is known
 abbrev pub knows : List (List ℕ) → Worded → Bool
@@ -108,12 +107,12 @@ pub all_known : (strings : List (List ℕ)) (ws : List Worded) → ((text : List
 all_known strings [] f = refl
 all_known strings (w ∷ ws) f =
     let known = texts_known strings (entry_strings w) (λ text k. f text (any_left (bytes_eq text) (entry_strings w) (flat_map entry_strings ws) k)) in
-    both (knows strings w) (list_all (knows strings) ws) known (all_known strings ws (λ text k. f text (any_right (bytes_eq text) (entry_strings w) (flat_map entry_strings ws) k)))
+    and_from (knows strings w) (list_all (knows strings) ws) known (all_known strings ws (λ text k. f text (any_right (bytes_eq text) (entry_strings w) (flat_map entry_strings ws) k)))
 
 words_of_entry : (strings : List (List ℕ)) (o next : ℕ) (object : Object) → knows strings (worded_at o object) ≡ true → length strings < 65535 → has_words strings o (entry_of strings next (worded_at o object)) ≡ true
 unfolding has_words entry_of entry_strings
 words_of_entry strings o next object h few =
-    let t = both_are (is_known strings object.name) (list_all (is_known strings) (words_for o object.name)) h in
+    let t = and_parts (is_known strings object.name) (list_all (is_known strings) (words_for o object.name)) h in
     rw (found_by_number strings object.name t.0 few).1 (all_named strings (words_for o object.name) t.1 few)
 
 all_words : (strings : List (List ℕ)) (objects : List Object) (o next : ℕ) → list_all (knows strings) (worded_from o objects) ≡ true → length strings < 65535 → have_words strings o (entries_of strings next (worded_from o objects)) ≡ true
@@ -121,8 +120,8 @@ unfolding entries_of have_words
 all_words strings [] o next h few = refl
 all_words strings (object ∷ objects) o next h few =
     let w = worded_at o object in
-    let t = both_are (knows strings w) (list_all (knows strings) (worded_from (o + 1) objects)) h in
-    both (has_words strings o (entry_of strings next w)) (have_words strings (o + 1) (entries_of strings (next + code_count w.object.description) (worded_from (o + 1) objects))) (words_of_entry strings o next object t.0 few)
+    let t = and_parts (knows strings w) (list_all (knows strings) (worded_from (o + 1) objects)) h in
+    and_from (has_words strings o (entry_of strings next w)) (have_words strings (o + 1) (entries_of strings (next + code_count w.object.description) (worded_from (o + 1) objects))) (words_of_entry strings o next object t.0 few)
     (all_words strings objects (o + 1) (next + code_count w.object.description) t.1 few)
 
 -- ---- words in small letters
@@ -135,9 +134,9 @@ small_named strings x h few small =
 all_small_named : (strings texts : List (List ℕ)) → list_all (is_known strings) texts ≡ true → length strings < 65535 → list_all is_good texts ≡ true → list_all (is_small_at (map is_small strings)) (map (number_in strings) texts) ≡ true
 all_small_named strings [] h few good = refl
 all_small_named strings (x ∷ texts) h few good =
-    let t = both_are (is_known strings x) (list_all (is_known strings) texts) h in
-    let u = both_are (is_good x) (list_all is_good texts) good in
-    both (is_small_at (map is_small strings) (number_in strings x)) (list_all (is_small_at (map is_small strings)) (map (number_in strings) texts)) (small_named strings x t.0 few (both_are (is_small x) (is_short x) u.0).0)
+    let t = and_parts (is_known strings x) (list_all (is_known strings) texts) h in
+    let u = and_parts (is_good x) (list_all is_good texts) good in
+    and_from (is_small_at (map is_small strings) (number_in strings x)) (list_all (is_small_at (map is_small strings)) (map (number_in strings) texts)) (small_named strings x t.0 few (and_parts (is_small x) (is_short x) u.0).0)
     (all_small_named strings texts t.1 few u.1)
 
 abbrev pub good_words : Worded → Bool
@@ -146,34 +145,31 @@ good_words w = list_all is_good w.words
 pub all_good_words : (o : ℕ) (objects : List Object) → list_all has_short_texts objects ≡ true → list_all good_words (worded_from o objects) ≡ true
 all_good_words o [] h = refl
 all_good_words o (object ∷ objects) h =
-    let t = both_are (has_short_texts object) (list_all has_short_texts objects) h in
-    let u = both_are (is_short object.name) (is_short_or_none object.description) t.0 in
-    both (list_all is_good (words_for o object.name)) (list_all good_words (worded_from (o + 1) objects)) (words_good o object.name u.0) (all_good_words (o + 1) objects t.1)
+    let t = and_parts (has_short_texts object) (list_all has_short_texts objects) h in
+    let u = and_parts (is_short object.name) (is_short_or_none object.description) t.0 in
+    and_from (list_all is_good (words_for o object.name)) (list_all good_words (worded_from (o + 1) objects)) (words_good o object.name u.0) (all_good_words (o + 1) objects t.1)
 
 small_entries : (strings : List (List ℕ)) (ws : List Worded) (next : ℕ) → list_all (knows strings) ws ≡ true → list_all good_words ws ≡ true → length strings < 65535 → list_all (has_small_words (map is_small strings)) (entries_of strings next ws) ≡ true
 unfolding entries_of entry_of entry_strings
 small_entries strings [] next h good few = refl
 small_entries strings (w ∷ ws) next h good few =
     let small = map is_small strings in
-    let t = both_are (knows strings w) (list_all (knows strings) ws) h in
-    let k = both_are (is_known strings w.object.name) (list_all (is_known strings) w.words) t.0 in
-    let u = both_are (good_words w) (list_all good_words ws) good in
-    both (has_small_words small (entry_of strings next w)) (list_all (has_small_words small) (entries_of strings (next + code_count w.object.description) ws)) (all_small_named strings w.words k.1 few u.0)
+    let t = and_parts (knows strings w) (list_all (knows strings) ws) h in
+    let k = and_parts (is_known strings w.object.name) (list_all (is_known strings) w.words) t.0 in
+    let u = and_parts (good_words w) (list_all good_words ws) good in
+    and_from (has_small_words small (entry_of strings next w)) (list_all (has_small_words small) (entries_of strings (next + code_count w.object.description) ws)) (all_small_named strings w.words k.1 few u.0)
     (small_entries strings ws (next + code_count w.object.description) t.1 u.1 few)
 
 -- ---- each word once
 
-some_is : {A : Type 0} (x y : A) → Some x ≡ Some y → x ≡ y
-some_is x y e = cc
-
 same_number : (strings : List (List ℕ)) (x y : List ℕ) → is_known strings x ≡ true → is_known strings y ≡ true → length strings < 65535 → number_in strings x ≡ number_in strings y → x ≡ y
-same_number strings x y h k few e = some_is x y (sym (found_by_number strings x h few).1 ∙ ap (slice_get strings) e ∙ (found_by_number strings y k few).1)
+same_number strings x y h k few e = same_Some x y (sym (found_by_number strings x h few).1 ∙ ap (slice_get strings) e ∙ (found_by_number strings y k few).1)
 
 not_among : (strings : List (List ℕ)) (x : List ℕ) (xs : List (List ℕ)) → is_known strings x ≡ true → list_all (is_known strings) xs ≡ true → length strings < 65535 → list_any (bytes_eq x) xs ≡ false → is_among (number_in strings x) (map (number_in strings) xs) ≡ false
 not_among strings x [] h k few e = refl
 not_among strings x (y ∷ xs) h k few e =
-    let t = both_are (is_known strings y) (list_all (is_known strings) xs) k in
-    elim (either (bytes_eq x y)) [
+    let t = and_parts (is_known strings y) (list_all (is_known strings) xs) k in
+    elim (cases_Bool (bytes_eq x y)) [
       | inl is ↦ let z : true ≡ false = rw is at e in absurd cc
       | inr isnt ↦
           let later : list_any (bytes_eq x) xs ≡ false = rw isnt at e in
@@ -181,27 +177,23 @@ not_among strings x (y ∷ xs) h k few e =
           rw apart (not_among strings x xs h t.1 few later)
     ]
 
-not_is : (b : Bool) → not b ≡ true → b ≡ false
-not_is true h = absurd cc
-not_is false h = refl
-
 numbers_differ : (strings xs : List (List ℕ)) → list_all (is_known strings) xs ≡ true → length strings < 65535 → differ xs ≡ true → are_different (map (number_in strings) xs) ≡ true
 unfolding are_different
 numbers_differ strings [] h few e = refl
 numbers_differ strings (x ∷ xs) h few e =
-    let t = both_are (is_known strings x) (list_all (is_known strings) xs) h in
-    let u = both_are (not (list_any (bytes_eq x) xs)) (differ xs) e in
-    both (not (is_among (number_in strings x) (map (number_in strings) xs))) (are_different (map (number_in strings) xs)) (ap not (not_among strings x xs t.0 t.1 few (not_is (list_any (bytes_eq x) xs) u.0))) (numbers_differ strings xs t.1 few u.1)
+    let t = and_parts (is_known strings x) (list_all (is_known strings) xs) h in
+    let u = and_parts (not (list_any (bytes_eq x) xs)) (differ xs) e in
+    and_from (not (is_among (number_in strings x) (map (number_in strings) xs))) (are_different (map (number_in strings) xs)) (ap not (not_among strings x xs t.0 t.1 few (not-true (list_any (bytes_eq x) xs) u.0))) (numbers_differ strings xs t.1 few u.1)
 
 all_once : (strings : List (List ℕ)) (objects : List Object) (o : ℕ) → list_all (knows strings) (worded_from o objects) ≡ true → list_all has_few_words (worded_from o objects) ≡ true → length strings < 65535 → list_all (words_once strings) (worded_from o objects) ≡ true
 unfolding entry_strings
 all_once strings [] o h k few = refl
 all_once strings (object ∷ objects) o h k few =
     let w = worded_at o object in
-    let t = both_are (knows strings w) (list_all (knows strings) (worded_from (o + 1) objects)) h in
-    let n = both_are (is_known strings object.name) (list_all (is_known strings) w.words) t.0 in
-    let u = both_are (has_few_words w) (list_all has_few_words (worded_from (o + 1) objects)) k in
-    both (words_once strings w) (list_all (words_once strings) (worded_from (o + 1) objects)) (both (has_few_words w) (are_different (map (number_in strings) w.words)) u.0 (numbers_differ strings w.words n.1 few (words_differ o object.name)))
+    let t = and_parts (knows strings w) (list_all (knows strings) (worded_from (o + 1) objects)) h in
+    let n = and_parts (is_known strings object.name) (list_all (is_known strings) w.words) t.0 in
+    let u = and_parts (has_few_words w) (list_all has_few_words (worded_from (o + 1) objects)) k in
+    and_from (words_once strings w) (list_all (words_once strings) (worded_from (o + 1) objects)) (and_from (has_few_words w) (are_different (map (number_in strings) w.words)) u.0 (numbers_differ strings w.words n.1 few (words_differ o object.name)))
     (all_once strings objects (o + 1) t.1 u.1 few)
 
 -- ---- the entries are in place
@@ -242,7 +234,7 @@ in_is_0 relations.Part h = absurd cc
 
 in_room : (rooms : List Bool) (p : Option Place) → stands_in_room rooms p ≡ true → (place_relation p ≡ 0) × (is_at rooms (place_holder p) ≡ true)
 in_room rooms None h = absurd cc
-in_room rooms (Some place) h = let t = both_are (is_in place.relation) (is_at rooms place.holder) h in (in_is_0 place.relation t.0, t.1)
+in_room rooms (Some place) h = let t = and_parts (is_in place.relation) (is_at rooms place.holder) h in (in_is_0 place.relation t.0, t.1)
 
 known_as : (strings : List (List ℕ)) (name text : List ℕ) → bytes_eq name text ≡ true → is_known strings name ≡ true → length strings < 65535 → is_named strings (number_in strings name) text ≡ true
 known_as strings name text e known few = ap (is_named strings (number_in strings name)) (sym ((bytes_eq-Decides name text).0 e)) ∙ named_is strings name known few
@@ -271,15 +263,15 @@ direction_entries strings parents next [] [] h k few = refl
 direction_entries strings parents next [] (w ∷ ws) h k few = absurd cc
 direction_entries strings parents next (d ∷ ds) [] h k few = absurd cc
 direction_entries strings parents next (d ∷ ds) (w ∷ ws) h k few =
-    let t = both_are (is_direction parents d w.object) (are_directions parents ds (objects_in ws)) h in
-    let u = both_are (knows_name strings w) (list_all (knows_name strings) ws) k in
-    both (is_direction_entry strings parents d (entry_of strings next w)) (are_direction_entries strings parents ds (entries_of strings (next + code_count w.object.description) ws)) (direction_entry strings parents next d w t.0 u.0 few)
+    let t = and_parts (is_direction parents d w.object) (are_directions parents ds (objects_in ws)) h in
+    let u = and_parts (knows_name strings w) (list_all (knows_name strings) ws) k in
+    and_from (is_direction_entry strings parents d (entry_of strings next w)) (are_direction_entries strings parents ds (entries_of strings (next + code_count w.object.description) ws)) (direction_entry strings parents next d w t.0 u.0 few)
     (direction_entries strings parents (next + code_count w.object.description) ds ws t.1 u.1 few)
 
 pub all_taken : {A : Type 0} (p : A → Bool) (n : ℕ) (xs : List A) → list_all p xs ≡ true → list_all p (take n xs) ≡ true
 all_taken p zero xs h = refl
 all_taken p (suc n) [] h = refl
-all_taken p (suc n) (x ∷ xs) h = let t = both_are (p x) (list_all p xs) h in both (p x) (list_all p (take n xs)) t.0 (all_taken p n xs t.1)
+all_taken p (suc n) (x ∷ xs) h = let t = and_parts (p x) (list_all p xs) h in and_from (p x) (list_all p (take n xs)) t.0 (all_taken p n xs t.1)
 
 entries_in_place : (strings : List (List ℕ)) (parents : List (Option ℕ)) (rooms : List Bool) (ws : List Worded) → begin_rightly parents rooms (objects_in ws) ≡ true → list_all (knows_name strings) ws ≡ true → length strings < 65535
     → are_in_place strings parents rooms (entries_of strings 0 ws) ≡ true
@@ -288,7 +280,7 @@ entries_in_place strings parents rooms [] h k few = absurd cc
 entries_in_place strings parents rooms (player ∷ others) h k few =
     let p = parts parents rooms player.object (objects_in others) h in
     let same : length (objects_in others) ≡ length others = length_mapped (λ (w : Worded). w.object) others in
-    let u = both_are (knows_name strings player) (list_all (knows_name strings) others) k in
+    let u = and_parts (knows_name strings player) (list_all (knows_name strings) others) k in
     let next = 0 + code_count player.object.description in
     let many_others : leb 12 (length others) ≡ true = le-leb _ _ (omega (arith, p.many, same)) in
     let directions : are_directions parents all_directions (objects_in (take 12 others)) ≡ true = ap (are_directions parents all_directions) (sym (take-map (λ (w : Worded). w.object) 12 others)) ∙ p.directions in
@@ -303,7 +295,7 @@ entries_in_place strings parents rooms (player ∷ others) h k few =
 
 names_known : (strings : List (List ℕ)) (ws : List Worded) → list_all (knows strings) ws ≡ true → list_all (knows_name strings) ws ≡ true
 unfolding entry_strings
-names_known strings ws h = all_weaker (knows strings) (knows_name strings) (λ w k. (both_are (is_known strings w.object.name) (list_all (is_known strings) w.words) k).0) ws h
+names_known strings ws h = all_weaker (knows strings) (knows_name strings) (λ w k. (and_parts (is_known strings w.object.name) (list_all (is_known strings) w.words) k).0) ws h
 
 pub entry_strings_known : (ws : List Worded) (origins : List Origin) (text : List ℕ) → list_any (bytes_eq text) (flat_map entry_strings ws) ≡ true → is_known (strings_of ws origins) text ≡ true
 unfolding strings_of

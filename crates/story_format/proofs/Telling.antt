@@ -5,8 +5,7 @@ use Rattle.std.specs.List.{list_all, list_any, position_or_len}
 use Rattle.std.specs.Str.{bytes_eq}
 use Rattle.std.proofs.Math.Seq.{drop-cons, take-length}
 use Rattle.std.proofs.lemmas.List.{length-append, take_more, take-append-drop}
-use Rattle.std.proofs.lemmas.Bool.{eqb-true, lt-ltb, ltb-false, ltb-true}
-use Rattle.world_meaning.proofs.Bools.{both_are, either}
+use Rattle.std.proofs.lemmas.Bool.{eqb-true, lt-ltb, ltb-false, ltb-true, cases_Bool, and_parts}
 use Rattle.object_words.proofs.Folds.{fold_both}
 use Rattle.object_words.proofs.MentionLemmas.{mentioned_few}
 use Rattle.object_words.specs.Mentions.{first_mentions, mention}
@@ -35,7 +34,7 @@ is_new strings n distinct lt =
     let x : List ℕ = text_at strings n in
     let front : List (List ℕ) = take n strings in
     let behind : List (List ℕ) = drop (suc n) strings in
-    elim (either (list_any (bytes_eq x) front)) [
+    elim (cases_Bool (list_any (bytes_eq x) front)) [
       | inl is ↦
           let known = fold_finds front [] x is in
           let folded : first_mentions strings ≡ fold mention (fold mention [] front) behind =
@@ -67,8 +66,8 @@ same_numbers strings [] [] distinct h k same = refl
 same_numbers strings [] (m ∷ ms) distinct h k same = absurd cc
 same_numbers strings (n ∷ ns) [] distinct h k same = absurd cc
 same_numbers strings (n ∷ ns) (m ∷ ms) distinct h k same =
-    let a = both_are (is_within (length strings) n) (list_all (is_within (length strings)) ns) h in
-    let b = both_are (is_within (length strings) m) (list_all (is_within (length strings)) ms) k in
+    let a = and_parts (is_within (length strings) n) (list_all (is_within (length strings)) ns) h in
+    let b = and_parts (is_within (length strings) m) (list_all (is_within (length strings)) ms) k in
     let head : text_at strings n ≡ text_at strings m = cc in
     let tail : map (text_at strings) ns ≡ map (text_at strings) ms = cc in
     let one : n ≡ m = same_number strings n m distinct (ltb-true _ _ a.0) (ltb-true _ _ b.0) head in
@@ -82,7 +81,7 @@ stands_in_front [] n next lt within = absurd (omega (arith, within))
 stands_in_front (s ∷ strings) n zero lt within = absurd (omega (arith, lt))
 stands_in_front (s ∷ strings) zero (suc next) lt within = rw (text_is_itself s) refl
 stands_in_front (s ∷ strings) (suc n) (suc next) lt within =
-    elim (either (bytes_eq (text_at strings n) s)) [
+    elim (cases_Bool (bytes_eq (text_at strings n) s)) [
       | inl is ↦ rw is refl
       | inr isnt ↦ rw isnt (stands_in_front strings n next (omega (arith, lt)) (omega (arith, within)))
     ]
@@ -103,7 +102,7 @@ mentioned_on strings next (n ∷ ns) distinct h =
     let within : n < length strings = omega (arith, named_within (length strings) (max next (n + 1)) ns t.1) in
     let later = mentioned_on strings (max next (n + 1)) ns distinct t.1 in
     let x : List ℕ = text_at strings n in
-    elim (either (ltb n next)) [
+    elim (cases_Bool (ltb n next)) [
       | inl is ↦
           let lt : n < next = ltb-true _ _ is in
           let same : max next (n + 1) ≡ next = omega (arith, lt) in

@@ -3,11 +3,10 @@ use Rattle.std.proofs.Common.{◌≡◌, ◌∙◌, ap, sym, subst, refl, ℕ, s
 use Rattle.std.specs.Prelude.{slice_get}
 use Rattle.std.specs.List.{list_all}
 use Rattle.std.specs.Option.{option_map}
-use Rattle.std.proofs.lemmas.Bool.{eqb-true, eqb-false, ltb-false, ltb-true}
+use Rattle.std.proofs.lemmas.Bool.{eqb-true, eqb-false, ltb-false, ltb-true, cases_Bool, and_parts}
 use Rattle.std.proofs.lemmas.List.{length-map, map-append}
 use Rattle.std.proofs.lemmas.List.Folds.{list_all-append}
 use Rattle.std.proofs.lemmas.Option.{get_or_from_slice_get}
-use Rattle.world_meaning.proofs.Bools.{both_are, either}
 use Rattle.play_meaning.specs.Codes.{Codes, code_of}
 use Rattle.play_meaning.specs.TranslatedScripts.{in_list}
 use Rattle.play_meaning.specs.declared.instruction.Instruction.{Instruction}
@@ -139,7 +138,7 @@ module _ (c d : Codes) where
           record {
             same = ((is_alike, e ∙ ap Some one ∙ sym f), rest.same);
             many = ap (λ o. length (in_list o ++ tests_in is)) e ∙ ap suc rest.many ∙ sym (ap (λ o. length (in_list o ++ tests_in js)) f);
-            tests = λ x low high. elim (either (eqb x a)) [
+            tests = λ x low high. elim (cases_Bool (eqb x a)) [
               | inl is ↦ subst (λ y. AreAlike c d (code_of c y) (code_of d y)) (sym (eqb-true x a is)) first
               | inr isnt ↦ rest.tests x (omega (arith, low, eqb-false x a isnt)) (omega (arith, high, ap (λ o. length (in_list o ++ tests_in is)) e))
             ];
@@ -186,7 +185,7 @@ module _ (c d : Codes) where
         first.same,
         all_same z y from.0 from_too.0 (n + 1) cs ds js ks from.1.1 from_too.1.1 (omega (arith, long, long_too, same, first.many)) (drop_at c.codes (map code_told js) n (code_told j) at).1
             (drop_at d.codes (map code_told ks) n (code_told k) at_too).1
-            (λ m low high. elim (either (nat_lt m (length uses))) [
+            (λ m low high. elim (cases_Bool (nat_lt m (length uses))) [
               | inl is ↦ alike m (omega (arith, low)) (ltb-true _ _ is)
               | inr isnt ↦ first.tests m (ltb-false _ _ isnt) (omega (arith, high, long))
             ]),
@@ -225,7 +224,7 @@ same_string strings None (Some m) distinct h k same = absurd cc
 same_string strings (Some n) None distinct h k same = absurd cc
 same_string strings (Some n) (Some m) distinct h k same =
     let text : text_at strings n ≡ text_at strings m = cc in
-    ap Some (same_number strings n m distinct (ltb-true _ _ (both_are (is_within (length strings) n) true h).0) (ltb-true _ _ (both_are (is_within (length strings) m) true k).0) text)
+    ap Some (same_number strings n m distinct (ltb-true _ _ (and_parts (is_within (length strings) n) true h).0) (ltb-true _ _ (and_parts (is_within (length strings) m) true k).0) text)
 
 module _ (c d : Codes) (strings : c.strings ≡ d.strings) (distinct : are_distinct c.strings ≡ true) where
   abbrev Within : List ℕ → Type 0
@@ -237,8 +236,8 @@ module _ (c d : Codes) (strings : c.strings ≡ d.strings) (distinct : are_disti
   same_code (i ∷ is) [] same h k = absurd same
   same_code (i ∷ is) (j ∷ js) same h k =
       let within = is_within (length c.strings) in
-      let a = both_are (list_all within (in_list (string_named i))) (list_all within (strings_in is)) (sym (list_all-append within (in_list (string_named i)) (strings_in is)) ∙ h) in
-      let b = both_are (list_all within (in_list (string_named j))) (list_all within (strings_in js)) (sym (list_all-append within (in_list (string_named j)) (strings_in js)) ∙ k) in
+      let a = and_parts (list_all within (in_list (string_named i))) (list_all within (strings_in is)) (sym (list_all-append within (in_list (string_named i)) (strings_in is)) ∙ h) in
+      let b = and_parts (list_all within (in_list (string_named j))) (list_all within (strings_in js)) (sym (list_all-append within (in_list (string_named j)) (strings_in js)) ∙ k) in
       let text : option_map (text_at c.strings) (string_named i) ≡ option_map (text_at c.strings) (string_named j) = same.0.0.text ∙ ap (λ s. option_map (text_at s) (string_named j)) (sym strings) in
       let string : string_named i ≡ string_named j = same_string c.strings (string_named i) (string_named j) distinct a.0 b.0 text in
       let one : i ≡ j = same_instruction i j same.0.0.same string same.0.1 in
@@ -251,8 +250,8 @@ module _ (c d : Codes) (strings : c.strings ≡ d.strings) (distinct : are_disti
   same_codes (a ∷ codes) [] same h k = absurd same
   same_codes (a ∷ codes) (b ∷ others) same h k =
       let within = is_within (length c.strings) in
-      let p = both_are (list_all within (strings_in a)) (list_all within (strings_of codes)) (sym (list_all-append within (strings_in a) (strings_of codes)) ∙ h) in
-      let q = both_are (list_all within (strings_in b)) (list_all within (strings_of others)) (sym (list_all-append within (strings_in b) (strings_of others)) ∙ k) in
+      let p = and_parts (list_all within (strings_in a)) (list_all within (strings_of codes)) (sym (list_all-append within (strings_in a) (strings_of codes)) ∙ h) in
+      let q = and_parts (list_all within (strings_in b)) (list_all within (strings_of others)) (sym (list_all-append within (strings_in b) (strings_of others)) ∙ k) in
       let one = same_code a b same.0 p.0 q.0 in
       let rest = same_codes codes others same.1 p.1 q.1 in
       λ l. one l ∷ rest l

@@ -2,8 +2,7 @@
 use Rattle.std.proofs.Common.{◌≡◌, ◌∙◌, ap, sym, subst, refl, ℕ, ◌+◌, ◌<◌, ◌≤◌, true, cond, eqb, List, [], ◌∷◌, length, inl, inr, arith}
 use Rattle.std.specs.Prelude.{map}
 use Rattle.std.specs.List.{AllZip}
-use Rattle.std.proofs.lemmas.Bool.{eqb-true, eqb-false}
-use Rattle.world_meaning.proofs.Bools.{both_are, either}
+use Rattle.std.proofs.lemmas.Bool.{eqb-true, eqb-false, cases_Bool, and_parts}
 use Rattle.story_format.specs.RuleChecks.{code_of_body, codes_in_rule, codes_in_rules}
 use Rattle.story_format.specs.Soundness.{are_in_turn}
 use Rattle.story_format.specs.Telling.{uncoded_body, uncoded_rule}
@@ -24,25 +23,25 @@ named_number n = cond (eqb n 65535) [] (n ∷ [])
 one_number : (n m next : ℕ) → told_number n ≡ told_number m → are_in_turn next (named_number n) ≡ true → are_in_turn next (named_number m) ≡ true → n ≡ m
 unfolding are_in_turn
 one_number n m next told h k =
-    elim (either (eqb n 65535)) [
+    elim (cases_Bool (eqb n 65535)) [
       | inl none ↦
-          elim (either (eqb m 65535)) [
+          elim (cases_Bool (eqb m 65535)) [
             | inl none_too ↦ eqb-true _ _ none ∙ sym (eqb-true _ _ none_too)
             | inr some ↦ let wrong : 65535 ≡ 0 = rw (none, some) at told in absurd (omega (arith, wrong))
           ]
       | inr some ↦
-          elim (either (eqb m 65535)) [
+          elim (cases_Bool (eqb m 65535)) [
             | inl none ↦ let wrong : 0 ≡ 65535 = rw (some, none) at told in absurd (omega (arith, wrong))
             | inr some_too ↦
                 let here : are_in_turn next (n ∷ []) ≡ true = rw some at h in
                 let there : are_in_turn next (m ∷ []) ≡ true = rw some_too at k in
-                eqb-true n next (both_are (eqb n next) true here).0 ∙ sym (eqb-true m next (both_are (eqb m next) true there).0)
+                eqb-true n next (and_parts (eqb n next) true here).0 ∙ sym (eqb-true m next (and_parts (eqb m next) true there).0)
           ]
     ]
 
 one_body : (a b : RuleBody) (next : ℕ) → uncoded_body a ≡ uncoded_body b → are_in_turn next (code_of_body a) ≡ true → are_in_turn next (code_of_body b) ≡ true → a ≡ b
 unfolding are_in_turn
-one_body (Code n) (Code m) next told h k = ap Code (eqb-true n next (both_are (eqb n next) true h).0 ∙ sym (eqb-true m next (both_are (eqb m next) true k).0))
+one_body (Code n) (Code m) next told h k = ap Code (eqb-true n next (and_parts (eqb n next) true h).0 ∙ sym (eqb-true m next (and_parts (eqb m next) true k).0))
 one_body (Code n) (Standard m) next told h k = absurd cc
 one_body (Code n) (Unknown m) next told h k = absurd cc
 one_body (Standard n) (Code m) next told h k = absurd cc
@@ -95,9 +94,9 @@ pub at_each : (R : ℕ → ℕ → Type 0) (ns : List ℕ) (next : ℕ) → are_
 unfolding are_in_turn
 at_each R [] next turn all n low high = absurd (omega (arith, low, high))
 at_each R (m ∷ ns) next turn all n low high =
-    let t = both_are (eqb m next) (are_in_turn (next + 1) ns) turn in
+    let t = and_parts (eqb m next) (are_in_turn (next + 1) ns) turn in
     let here : m ≡ next = eqb-true m next t.0 in
-    elim (either (eqb n m)) [
+    elim (cases_Bool (eqb n m)) [
       | inl same ↦ subst (λ k. R k k) (sym (eqb-true n m same)) all.0
       | inr other ↦ at_each R ns (next + 1) t.1 all.1 n (omega (arith, low, here, eqb-false n m other)) (omega (arith, high))
     ]

@@ -2,11 +2,10 @@
 use Rattle.std.proofs.Common.{◌≡◌, ◌∙◌, ap, sym, subst, refl, ℕ, suc, ◌+◌, ◌<◌, ◌≤◌, true, false, eqb, ltb, List, [], ◌∷◌, ◌++◌, length, inl, inr, arith}
 use Rattle.std.specs.Prelude.{filter, map, replicate, slice_get}
 use Rattle.std.specs.List.{AllByRecursion, flat_map, list_all}
-use Rattle.std.proofs.lemmas.Bool.{eqb-false, eqb-true, ltb-false, ltb-true}
+use Rattle.std.proofs.lemmas.Bool.{eqb-false, eqb-true, ltb-false, ltb-true, cases_Bool, and_parts}
 use Rattle.std.proofs.lemmas.List.{length-append, length-map, map-append}
 use Rattle.std.proofs.lemmas.List.Folds.{list_all-append}
 use Rattle.std.proofs.lemmas.Simd.{map-map}
-use Rattle.world_meaning.proofs.Bools.{both_are, either}
 use Rattle.object_words.specs.Mentions.{first_mentions}
 use Rattle.play_meaning.specs.Codes.{Codes, code_of}
 use Rattle.play_meaning.specs.declared.operand.Use.TheVariants.{Describing}
@@ -72,7 +71,7 @@ module _ (c d : Codes) where
                   let rest = numbered_alike (next + 1) es fs (omega (arith, long)) later later_too (λ o. alike (suc o)) in
                   record {
                     numbers = λ l. (is ∙ sym is_too) l ∷ rest.numbers l;
-                    heads = λ n low high. elim (either (eqb n next)) [
+                    heads = λ n low high. elim (cases_Bool (eqb n next)) [
                       | inl same ↦ subst_head n (eqb_is n next same) first_is
                       | inr other ↦ rest.heads n (eqb_isnt n next low other) (omega (arith, high, ap length all))
                     ];
@@ -122,10 +121,10 @@ same_entries strings [] (f ∷ fs) distinct h k numbers told = absurd cc
 same_entries strings (e ∷ es) [] distinct h k numbers told = absurd cc
 same_entries strings (e ∷ es) (f ∷ fs) distinct h k numbers told =
     let within = is_within (length strings) in
-    let a = both_are (list_all within (strings_named e)) (list_all within (flat_map strings_named es)) (sym (list_all-append within (strings_named e) (flat_map strings_named es)) ∙ h) in
-    let b = both_are (list_all within (strings_named f)) (list_all within (flat_map strings_named fs)) (sym (list_all-append within (strings_named f) (flat_map strings_named fs)) ∙ k) in
-    let x = both_are (within e.name) (list_all within e.words) a.0 in
-    let y = both_are (within f.name) (list_all within f.words) b.0 in
+    let a = and_parts (list_all within (strings_named e)) (list_all within (flat_map strings_named es)) (sym (list_all-append within (strings_named e) (flat_map strings_named es)) ∙ h) in
+    let b = and_parts (list_all within (strings_named f)) (list_all within (flat_map strings_named fs)) (sym (list_all-append within (strings_named f) (flat_map strings_named fs)) ∙ k) in
+    let x = and_parts (within e.name) (list_all within e.words) a.0 in
+    let y = and_parts (within f.name) (list_all within f.words) b.0 in
     let head : told_object strings e ≡ told_object strings f = cc in
     let tail : map (told_object strings) es ≡ map (told_object strings) fs = cc in
     let description : e.description ≡ f.description = cc in
@@ -171,7 +170,7 @@ within_parts : (t : Tables) → AreSound t
     → (list_all (is_within (length t.strings)) (flat_map strings_named t.objects) ≡ true) × (list_all (is_within (length t.strings)) (strings_of (codes_told t).codes) ≡ true)
 within_parts t sound =
     let within = is_within (length t.strings) in
-    both_are (list_all within (flat_map strings_named t.objects)) (list_all within (strings_of (codes_told t).codes))
+    and_parts (list_all within (flat_map strings_named t.objects)) (list_all within (strings_of (codes_told t).codes))
     (sym (list_all-append within (flat_map strings_named t.objects) (strings_of (codes_told t).codes)) ∙ read_within t sound)
 
 module _ (t u : Tables) (one : IsStory t) (other : IsStory u) (alike : AreToldAlike t u) where
@@ -219,7 +218,7 @@ module _ (t u : Tables) (one : IsStory t) (other : IsStory u) (alike : AreToldAl
   heads_alike n high =
       let described = length (codes_named t.objects) in
       let count = length-append (replicate described Describing) (uses_in_rules t.rules.rules) in
-      elim (either (ltb n described)) [
+      elim (cases_Bool (ltb n described)) [
         | inl is ↦ numbers.heads n (omega arith) (omega (arith, ltb-true n described is))
         | inr isnt ↦ rules_alike n (omega (arith, ltb-false n described isnt)) (omega (arith, high, count, length_replicated Describing described, uses_counted t.rules.rules))
       ]

@@ -1,15 +1,14 @@
 -- What is known of an object's words: each stands once, in small letters, and is no longer than its name.
-use Rattle.std.proofs.Common.{◌≡◌, ℕ, suc, ◌<◌, ◌≤◌, Bool, true, false, not, ◌&&◌, ◌||◌, ◌-◌, leb, eqb, List, [], ◌∷◌, ◌++◌, length, Option, Some, None, refl, sym, ap, ◌∙◌, arith, inl, inr}
+use Rattle.std.proofs.Common.{◌≡◌, ℕ, suc, ◌<◌, ◌≤◌, Bool, true, false, not, ◌&&◌, ◌-◌, leb, eqb, List, [], ◌∷◌, ◌++◌, length, Option, Some, None, refl, sym, ap, ◌∙◌, arith, inl, inr}
 use Rattle.std.specs.Prelude.{fold, filter, slice_get}
 use Rattle.std.specs.List.{list_all, list_any, slice_split, onto_first}
 use Rattle.std.specs.Str.{bytes_eq}
 use Rattle.std.specs.Char.{to_ascii_lowercase}
-use Rattle.std.proofs.lemmas.Bool.{eq-eqb, leb-true, le-leb, lt-ltb, ltb-true}
+use Rattle.std.proofs.lemmas.Bool.{eq-eqb, leb-true, le-leb, lt-ltb, ltb-true, cases_Bool, and_from, and_parts, or_parts, not-true}
 use Rattle.std.proofs.lemmas.List.Folds.{list_all-append}
 use Rattle.std.proofs.lemmas.List.Splits.{slice_split-cons_yes, slice_split-cons_no}
 use Rattle.std.proofs.lemmas.Slice.Eq.{bytes_eq-Decides}
 use Rattle.std.proofs.lemmas.Str.Ascii.{lowercase-lowercase}
-use Rattle.world_meaning.proofs.Bools.{both, both_are, either}
 use Rattle.world_meaning.specs.declared.direction.Direction.{Direction}
 use Rattle.world_meaning.specs.declared.direction.Direction.TheVariants as direction
 use Rattle.world_meaning.specs.Directions.{all_directions}
@@ -28,12 +27,12 @@ use Rattle.story_format.proofs.OrderLemmas.{mention_new, mention_old}
 pub all_mentioned : (p : List ℕ → Bool) (xs seen : List (List ℕ)) → list_all p seen ≡ true → list_all p xs ≡ true → list_all p (fold mention seen xs) ≡ true
 all_mentioned p [] seen h k = h
 all_mentioned p (x ∷ xs) seen h k =
-    let t = both_are (p x) (list_all p xs) k in
-    elim (either (list_any (bytes_eq x) seen)) [
+    let t = and_parts (p x) (list_all p xs) k in
+    elim (cases_Bool (list_any (bytes_eq x) seen)) [
       | inl is ↦ all_mentioned p xs (mention seen x) (ap (list_all p) (mention_old seen x is) ∙ h) t.1
       | inr isnt ↦
-          let one : list_all p (x ∷ []) ≡ true = both (p x) true t.0 refl in
-          let longer : list_all p (seen ++ x ∷ []) ≡ true = list_all-append p seen (x ∷ []) ∙ both (list_all p seen) (list_all p (x ∷ [])) h one in
+          let one : list_all p (x ∷ []) ≡ true = and_from (p x) true t.0 refl in
+          let longer : list_all p (seen ++ x ∷ []) ≡ true = list_all-append p seen (x ∷ []) ∙ and_from (list_all p seen) (list_all p (x ∷ [])) h one in
           all_mentioned p xs (mention seen x) (ap (list_all p) (mention_new seen x isnt) ∙ longer) t.1
     ]
 
@@ -47,52 +46,52 @@ good_in n word = is_small word && leb (length word) n
 
 longer_good : (n : ℕ) (word : List ℕ) → good_in n word ≡ true → good_in (suc n) word ≡ true
 longer_good n word h =
-    let t = both_are (is_small word) (leb (length word) n) h in
+    let t = and_parts (is_small word) (leb (length word) n) h in
     let le : length word ≤ n = leb-true _ _ t.1 in
-    both (is_small word) (leb (length word) (suc n)) t.0 (le-leb _ _ (omega (arith, le)))
+    and_from (is_small word) (leb (length word) (suc n)) t.0 (le-leb _ _ (omega (arith, le)))
 
 onto_good : (x n : ℕ) (parts : List (List ℕ)) → is_small_byte x ≡ true → list_all (good_in n) parts ≡ true → list_all (good_in (suc n)) (onto_first x parts) ≡ true
 onto_good x n [] h k =
     let one : leb (length (x ∷ [])) (suc n) ≡ true = le-leb _ _ (omega arith) in
-    both (good_in (suc n) (x ∷ [])) true (both (is_small (x ∷ [])) (leb (length (x ∷ [])) (suc n)) (both (is_small_byte x) true h refl) one) refl
+    and_from (good_in (suc n) (x ∷ [])) true (and_from (is_small (x ∷ [])) (leb (length (x ∷ [])) (suc n)) (and_from (is_small_byte x) true h refl) one) refl
 onto_good x n (part ∷ parts) h k =
-    let t = both_are (good_in n part) (list_all (good_in n) parts) k in
-    let u = both_are (is_small part) (leb (length part) n) t.0 in
+    let t = and_parts (good_in n part) (list_all (good_in n) parts) k in
+    let u = and_parts (is_small part) (leb (length part) n) t.0 in
     let le : length part ≤ n = leb-true _ _ u.1 in
     let one : leb (length (x ∷ part)) (suc n) ≡ true = le-leb _ _ (omega (arith, le)) in
-    both (good_in (suc n) (x ∷ part)) (list_all (good_in (suc n)) parts) (both (is_small (x ∷ part)) (leb (length (x ∷ part)) (suc n)) (both (is_small_byte x) (is_small part) h u.0) one)
+    and_from (good_in (suc n) (x ∷ part)) (list_all (good_in (suc n)) parts) (and_from (is_small (x ∷ part)) (leb (length (x ∷ part)) (suc n)) (and_from (is_small_byte x) (is_small part) h u.0) one)
     (all_weaker (good_in n) (good_in (suc n)) (longer_good n) parts t.1)
 
 split_good : (q : ℕ → Bool) (xs : List ℕ) → is_small xs ≡ true → list_all (good_in (length xs)) (slice_split q xs) ≡ true
 split_good q [] h = refl
 split_good q (x ∷ xs) h =
-    let t = both_are (is_small_byte x) (is_small xs) h in
+    let t = and_parts (is_small_byte x) (is_small xs) h in
     let later = split_good q xs t.1 in
-    elim (either (q x)) [
+    elim (cases_Bool (q x)) [
       | inl is ↦
           ap (list_all (good_in (suc (length xs)))) (slice_split-cons_yes q x xs is)
-          ∙ both (good_in (suc (length xs)) []) (list_all (good_in (suc (length xs))) (slice_split q xs)) (le-leb _ _ (omega arith)) (all_weaker (good_in (length xs)) (good_in (suc (length xs))) (longer_good (length xs)) (slice_split q xs) later)
+          ∙ and_from (good_in (suc (length xs)) []) (list_all (good_in (suc (length xs))) (slice_split q xs)) (le-leb _ _ (omega arith)) (all_weaker (good_in (length xs)) (good_in (suc (length xs))) (longer_good (length xs)) (slice_split q xs) later)
       | inr isnt ↦ ap (list_all (good_in (suc (length xs)))) (slice_split-cons_no q x xs isnt) ∙ onto_good x (length xs) (slice_split q xs) t.0 later
     ]
 
 filter_keeps : (p t : List ℕ → Bool) (xs : List (List ℕ)) → list_all p xs ≡ true → list_all p (filter t xs) ≡ true
 filter_keeps p t [] h = refl
 filter_keeps p t (x ∷ xs) h =
-    let u = both_are (p x) (list_all p xs) h in
-    elim (either (t x)) [
-      | inl is ↦ rw is (both (p x) (list_all p (filter t xs)) u.0 (filter_keeps p t xs u.1))
+    let u = and_parts (p x) (list_all p xs) h in
+    elim (cases_Bool (t x)) [
+      | inl is ↦ rw is (and_from (p x) (list_all p (filter t xs)) u.0 (filter_keeps p t xs u.1))
       | inr isnt ↦ rw isnt (filter_keeps p t xs u.1)
     ]
 
 lowered_small : (name : List ℕ) → is_small (lowered name) ≡ true
 lowered_small [] = refl
-lowered_small (b ∷ name) = both (is_small_byte (to_ascii_lowercase b)) (is_small (lowered name)) (eq-eqb _ _ (lowercase-lowercase b)) (lowered_small name)
+lowered_small (b ∷ name) = and_from (is_small_byte (to_ascii_lowercase b)) (is_small (lowered name)) (eq-eqb _ _ (lowercase-lowercase b)) (lowered_small name)
 
 good_if : (n : ℕ) → n < 65536 → (word : List ℕ) → good_in n word ≡ true → is_good word ≡ true
 good_if n lt word h =
-    let t = both_are (is_small word) (leb (length word) n) h in
+    let t = and_parts (is_small word) (leb (length word) n) h in
     let le : length word ≤ n = leb-true _ _ t.1 in
-    both (is_small word) (is_short word) t.0 (lt-ltb _ _ (omega (arith, le, lt)))
+    and_from (is_small word) (is_short word) t.0 (lt-ltb _ _ (omega (arith, le, lt)))
 
 blank_good : (name : List ℕ) → is_short name ≡ true → list_all is_good (blank_words (lowered name)) ≡ true
 blank_good name h =
@@ -119,7 +118,7 @@ short_good (Some direction.Outside) = refl
 more_good : (o : ℕ) → list_all is_good (more_words o) ≡ true
 unfolding more_words
 more_good o =
-    elim (either (eqb o 0)) [
+    elim (cases_Bool (eqb o 0)) [
       | inl is ↦ rw is refl
       | inr isnt ↦ rw isnt (short_good (slice_get all_directions (o - 1)))
     ]
@@ -128,7 +127,7 @@ pub words_good : (o : ℕ) (name : List ℕ) → is_short name ≡ true → list
 unfolding words_for
 words_good o name h =
     all_mentioned is_good (blank_words (lowered name) ++ more_words o) [] refl
-    (list_all-append is_good (blank_words (lowered name)) (more_words o) ∙ both (list_all is_good (blank_words (lowered name))) (list_all is_good (more_words o)) (blank_good name h) (more_good o))
+    (list_all-append is_good (blank_words (lowered name)) (more_words o) ∙ and_from (list_all is_good (blank_words (lowered name))) (list_all is_good (more_words o)) (blank_good name h) (more_good o))
 
 -- ---- each word once
 
@@ -138,35 +137,27 @@ differ (x ∷ xs) = not (list_any (bytes_eq x) xs) && differ xs
 
 other_way : (x y : List ℕ) → bytes_eq y x ≡ false → bytes_eq x y ≡ false
 other_way x y h =
-    elim (either (bytes_eq x y)) [
+    elim (cases_Bool (bytes_eq x y)) [
       | inl is ↦ let same : x ≡ y = (bytes_eq-Decides x y).0 is in let z : false ≡ true = sym h ∙ ap (bytes_eq y) same ∙ text_is_itself y in absurd cc
       | inr isnt ↦ isnt
     ]
 
-none_or : (a b : Bool) → (a || b) ≡ false → (a ≡ false) × (b ≡ false)
-none_or true b h = absurd cc
-none_or false b h = (refl, h)
-
 not_in_longer : (x y : List ℕ) (xs : List (List ℕ)) → list_any (bytes_eq x) xs ≡ false → bytes_eq y x ≡ false → list_any (bytes_eq x) (xs ++ y ∷ []) ≡ false
 not_in_longer x y [] h k = rw (other_way x y k) refl
-not_in_longer x y (z ∷ xs) h k = let t = none_or (bytes_eq x z) (list_any (bytes_eq x) xs) h in rw t.0 (not_in_longer x y xs t.1 k)
-
-not_is : (b : Bool) → not b ≡ true → b ≡ false
-not_is true h = absurd cc
-not_is false h = refl
+not_in_longer x y (z ∷ xs) h k = let t = or_parts (bytes_eq x z) (list_any (bytes_eq x) xs) h in rw t.0 (not_in_longer x y xs t.1 k)
 
 differ_longer : (xs : List (List ℕ)) (y : List ℕ) → differ xs ≡ true → list_any (bytes_eq y) xs ≡ false → differ (xs ++ y ∷ []) ≡ true
 differ_longer [] y h k = refl
 differ_longer (x ∷ xs) y h k =
-    let t = both_are (not (list_any (bytes_eq x) xs)) (differ xs) h in
-    let u = none_or (bytes_eq y x) (list_any (bytes_eq y) xs) k in
-    let away = not_in_longer x y xs (not_is (list_any (bytes_eq x) xs) t.0) u.0 in
-    both (not (list_any (bytes_eq x) (xs ++ y ∷ []))) (differ (xs ++ y ∷ [])) (ap not away) (differ_longer xs y t.1 u.1)
+    let t = and_parts (not (list_any (bytes_eq x) xs)) (differ xs) h in
+    let u = or_parts (bytes_eq y x) (list_any (bytes_eq y) xs) k in
+    let away = not_in_longer x y xs (not-true (list_any (bytes_eq x) xs) t.0) u.0 in
+    and_from (not (list_any (bytes_eq x) (xs ++ y ∷ []))) (differ (xs ++ y ∷ [])) (ap not away) (differ_longer xs y t.1 u.1)
 
 differ_mentioned : (xs seen : List (List ℕ)) → differ seen ≡ true → differ (fold mention seen xs) ≡ true
 differ_mentioned [] seen h = h
 differ_mentioned (x ∷ xs) seen h =
-    elim (either (list_any (bytes_eq x) seen)) [
+    elim (cases_Bool (list_any (bytes_eq x) seen)) [
       | inl is ↦ differ_mentioned xs (mention seen x) (ap differ (mention_old seen x is) ∙ h)
       | inr isnt ↦ differ_mentioned xs (mention seen x) (ap differ (mention_new seen x isnt) ∙ differ_longer seen x h isnt)
     ]

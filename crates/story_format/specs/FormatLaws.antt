@@ -1,10 +1,11 @@
 -- Each format gets what was put.
-use Rattle.std.proofs.Common.{◌≡◌, ℕ, zero, suc, ◌+◌, ◌^◌, ◌<◌, ◌≤◌, Bool, true, false, cond, ◌&&◌, ltb, eqb, List, [], ◌∷◌, ◌++◌, length, take, drop, Option, Some, None, refl, sym, ap, subst, ◌∙◌, append_assoc, arith, inl, inr, ◌⊎◌, ◌≢◌}
+use Rattle.std.proofs.Common.{◌≡◌, ℕ, zero, suc, ◌+◌, ◌^◌, ◌<◌, ◌≤◌, Bool, true, false, cond, ◌&&◌, ltb, eqb, List, [], ◌∷◌, ◌++◌, length, take, drop, Option, Some, None, refl, sym, ap, subst, ◌∙◌, append_assoc, arith, inl, inr, ◌≢◌}
 use Rattle.std.specs.List.{flat_map, list_all}
 use Rattle.std.specs.Int.{Width, w16, w32, byte_len, from_be_bytes, to_be_bytes}
-use Rattle.std.proofs.lemmas.Bool.{cases_lt, ltb-false, ltb-true, lt-ltb, le-ltb, eqb-true, eqb-false, ne_eqb, eq-eqb}
+use Rattle.std.proofs.lemmas.Bool.{cases_lt, ltb-false, ltb-true, lt-ltb, le-ltb, eqb-true, eqb-false, ne_eqb, eq-eqb, and_from, and_parts, cases_Bool}
 use Rattle.std.proofs.lemmas.List.{take_at, drop_at, take-append-drop, length-append, length-take, get_or-drop, get_or-take, get_or_past}
 use Rattle.std.proofs.lemmas.Nat.{be_bytes_2, be_bytes_4, from_be_bytes-to_be_bytes_2, from_be_bytes-to_be_bytes_4}
+use Rattle.std.proofs.lemmas.Option.{same_Some}
 use Rattle.story_format.specs.Formats.{Format, and_then, skip_then, behind, byte_at, behind_byte, byte, number, pair, via, optional_of, optional_number, fits_optional, optional, get_many, skip_many, exactly, counted, text, IsBytes, Takes, IsFormat}
 
 pub IsBytes-drop : (n : ℕ) (bytes : List ℕ) → IsBytes bytes → IsBytes (drop n bytes)
@@ -29,23 +30,6 @@ and_then_some (Some x) next y e = (x, refl, e)
 guarded : {A : Type 0} (b : Bool) (x y : A) → cond b None (Some x) ≡ Some y → (b ≡ false) × (x ≡ y)
 guarded true x y e = absurd cc
 guarded false x y e = (refl, cc)
-
-pub some_is : {A : Type 0} (x y : A) → Some x ≡ Some y → x ≡ y
-some_is x y e = cc
-
-pub both : (a b : Bool) → a ≡ true → b ≡ true → (a && b) ≡ true
-both true true p q = refl
-both true false p q = absurd cc
-both false b p q = absurd cc
-
-pub both_are : (a b : Bool) → (a && b) ≡ true → (a ≡ true) × (b ≡ true)
-both_are true true e = (refl, refl)
-both_are true false e = absurd cc
-both_are false b e = absurd cc
-
-pub either : (b : Bool) → (b ≡ true) ⊎ (b ≡ false)
-either true = inl refl
-either false = inr refl
 
 -- what is skipped where a test lets it through
 guarded_behind : {A : Type 0} (b : Bool) (x : A) (rest : List ℕ) → cond b None (Some rest) ≡ behind (cond b None (Some (x, rest)))
@@ -115,7 +99,7 @@ IsBytes-rest b bytes h i = h (suc i)
 byte_takes : (bytes : List ℕ) (n : ℕ) (rest : List ℕ) → IsBytes bytes → byte_at bytes ≡ Some (n, rest) → Takes bytes (n ∷ []) rest × (ltb n 256 ≡ true)
 byte_takes [] n rest fits e = absurd cc
 byte_takes (b ∷ bytes) n rest fits e =
-    let p = some_is (b, bytes) (n, rest) e in
+    let p = same_Some (b, bytes) (n, rest) e in
     subst (λ (q : ℕ × List ℕ). Takes (b ∷ bytes) (q.0 ∷ []) q.1 × (ltb q.0 256 ≡ true)) p (record { parts = refl; rest_fits = IsBytes-rest b bytes fits }, lt-ltb b 256 (fits 0))
 
 byte_skips : (bytes : List ℕ) → behind_byte bytes ≡ behind (byte_at bytes)
@@ -138,10 +122,10 @@ pair_lawful {A} {B} f g p q = record {
       let b = and_then_some (g.get a.0.1) (λ b rest. Some ((a.0.0, b), rest)) (x, rest) a.2 in
       let first = p.takes bytes a.0.0 a.0.1 fits a.1 in
       let second = q.takes a.0.1 b.0.0 b.0.1 first.0.rest_fits b.1 in
-      subst (λ (y : (A × B) × List ℕ). Takes bytes (f.put y.0.0 ++ g.put y.0.1) y.1 × ((f.fits y.0.0 && g.fits y.0.1) ≡ true)) (some_is ((a.0.0, b.0.0), b.0.1) (x, rest) b.2)
-      (Takes-then bytes (f.put a.0.0) a.0.1 (g.put b.0.0) b.0.1 first.0 second.0, both (f.fits a.0.0) (g.fits b.0.0) first.1 second.1);
+      subst (λ (y : (A × B) × List ℕ). Takes bytes (f.put y.0.0 ++ g.put y.0.1) y.1 × ((f.fits y.0.0 && g.fits y.0.1) ≡ true)) (same_Some ((a.0.0, b.0.0), b.0.1) (x, rest) b.2)
+      (Takes-then bytes (f.put a.0.0) a.0.1 (g.put b.0.0) b.0.1 first.0 second.0, and_from (f.fits a.0.0) (g.fits b.0.0) first.1 second.1);
   again = λ x rest h.
-      let fits = both_are (f.fits x.0) (g.fits x.1) h in
+      let fits = and_parts (f.fits x.0) (g.fits x.1) h in
       rw (append_assoc (f.put x.0) (g.put x.1) rest, p.again x.0 (g.put x.1 ++ rest) fits.0, q.again x.1 rest fits.1) refl;
   skips = λ bytes. ap (λ (o : Option (List ℕ)). skip_then o g.skip) (p.skips bytes) ∙ pair_skips g q (f.get bytes);
 }
@@ -151,7 +135,7 @@ via_lawful {A} {B} to from f back forth p = record {
   takes = λ bytes x rest fits e.
       let a = and_then_some (f.get bytes) (λ a rest. Some (to a, rest)) (x, rest) e in
       let first = p.takes bytes a.0.0 a.0.1 fits a.1 in
-      subst (λ (y : B × List ℕ). Takes bytes (f.put (from y.0)) y.1 × (f.fits (from y.0) ≡ true)) (some_is (to a.0.0, a.0.1) (x, rest) a.2)
+      subst (λ (y : B × List ℕ). Takes bytes (f.put (from y.0)) y.1 × (f.fits (from y.0) ≡ true)) (same_Some (to a.0.0, a.0.1) (x, rest) a.2)
       (rw (back a.0.0) first.0, ap f.fits (back a.0.0) ∙ first.1);
   again = λ x rest h. rw (p.again (from x) rest h, forth x) refl;
   skips = λ bytes. p.skips bytes ∙ behind_value to (f.get bytes);
@@ -161,7 +145,7 @@ via_lawful {A} {B} to from f back forth p = record {
 
 optional_back : (none n : ℕ) → n < none + 1 → (optional_number none (optional_of none n) ≡ n) × (fits_optional none (optional_of none n) ≡ true)
 optional_back none n lt =
-    elim (either (eqb n none)) [
+    elim (cases_Bool (eqb n none)) [
       | inl e ↦ rw e (sym (eqb-true n none e), refl)
       | inr e ↦ let ne : n ≢ none = eqb-false n none e in rw e (refl, lt-ltb n none (omega arith))
     ]
@@ -180,7 +164,7 @@ optional_lawful none f p highest = record {
       let a = and_then_some (f.get bytes) (λ n rest. Some (optional_of none n, rest)) (x, rest) e in
       let first = p.takes bytes a.0.0 a.0.1 fits a.1 in
       let back = optional_back none a.0.0 (ltb-true a.0.0 (none + 1) (sym (highest a.0.0) ∙ first.1)) in
-      subst (λ (y : Option ℕ × List ℕ). Takes bytes (f.put (optional_number none y.0)) y.1 × (fits_optional none y.0 ≡ true)) (some_is (optional_of none a.0.0, a.0.1) (x, rest) a.2)
+      subst (λ (y : Option ℕ × List ℕ). Takes bytes (f.put (optional_number none y.0)) y.1 × (fits_optional none y.0 ≡ true)) (same_Some (optional_of none a.0.0, a.0.1) (x, rest) a.2)
       (subst (λ (k : ℕ). Takes bytes (f.put k) a.0.1) (sym back.0) first.0, back.1);
   again = λ x rest h.
       ap (λ (o : Option (ℕ × List ℕ)). and_then o (λ n rest. Some (optional_of none n, rest))) (p.again (optional_number none x) rest (highest (optional_number none x) ∙ lt-ltb (optional_number none x) (none + 1) (optional_below none x h)))
@@ -194,20 +178,20 @@ many_take : {A : Type 0} (f : Format A) → IsFormat f → (n : ℕ) (bytes : Li
     → Takes bytes (flat_map f.put xs) rest × (length xs ≡ n) × (list_all f.fits xs ≡ true)
 unfolding get_many
 many_take {A} f p zero bytes xs rest fits e =
-    subst (λ (y : List A × List ℕ). Takes bytes (flat_map f.put y.0) y.1 × (length y.0 ≡ 0) × (list_all f.fits y.0 ≡ true)) (some_is ([], bytes) (xs, rest) e) (record { parts = refl; rest_fits = fits }, refl, refl)
+    subst (λ (y : List A × List ℕ). Takes bytes (flat_map f.put y.0) y.1 × (length y.0 ≡ 0) × (list_all f.fits y.0 ≡ true)) (same_Some ([], bytes) (xs, rest) e) (record { parts = refl; rest_fits = fits }, refl, refl)
 many_take {A} f p (suc n) bytes xs rest fits e =
     let a = and_then_some (f.get bytes) (λ x after. and_then (get_many f.get n after) (λ xs rest. Some (x ∷ xs, rest))) (xs, rest) e in
     let b = and_then_some (get_many f.get n a.0.1) (λ xs rest. Some (a.0.0 ∷ xs, rest)) (xs, rest) a.2 in
     let first = p.takes bytes a.0.0 a.0.1 fits a.1 in
     let second = many_take f p n a.0.1 b.0.0 b.0.1 first.0.rest_fits b.1 in
-    subst (λ (y : List A × List ℕ). Takes bytes (flat_map f.put y.0) y.1 × (length y.0 ≡ suc n) × (list_all f.fits y.0 ≡ true)) (some_is (a.0.0 ∷ b.0.0, b.0.1) (xs, rest) b.2)
-    (Takes-then bytes (f.put a.0.0) a.0.1 (flat_map f.put b.0.0) b.0.1 first.0 second.0, ap suc second.1, both (f.fits a.0.0) (list_all f.fits b.0.0) first.1 second.2)
+    subst (λ (y : List A × List ℕ). Takes bytes (flat_map f.put y.0) y.1 × (length y.0 ≡ suc n) × (list_all f.fits y.0 ≡ true)) (same_Some (a.0.0 ∷ b.0.0, b.0.1) (xs, rest) b.2)
+    (Takes-then bytes (f.put a.0.0) a.0.1 (flat_map f.put b.0.0) b.0.1 first.0 second.0, ap suc second.1, and_from (f.fits a.0.0) (list_all f.fits b.0.0) first.1 second.2)
 
 many_again : {A : Type 0} (f : Format A) → IsFormat f → (xs : List A) (rest : List ℕ) → list_all f.fits xs ≡ true → get_many f.get (length xs) (flat_map f.put xs ++ rest) ≡ Some (xs, rest)
 unfolding get_many
 many_again f p [] rest h = refl
 many_again f p (x ∷ xs) rest h =
-    let fits = both_are (f.fits x) (list_all f.fits xs) h in
+    let fits = and_parts (f.fits x) (list_all f.fits xs) h in
     rw (append_assoc (f.put x) (flat_map f.put xs) rest, p.again x (flat_map f.put xs ++ rest) fits.0, many_again f p xs rest fits.1) refl
 
 many_skip_on : {A : Type 0} (f : Format A) (n : ℕ) → ((bytes : List ℕ) → skip_many f.skip n bytes ≡ behind (get_many f.get n bytes)) → (found : Option (A × List ℕ))
@@ -226,9 +210,9 @@ counted_skips f p (Some x) = many_skips f p x.0 x.1
 
 pub exactly_lawful : {A : Type 0} (n : ℕ) (f : Format A) → IsFormat f → IsFormat (exactly n f)
 exactly_lawful n f p = record {
-  takes = λ bytes xs rest fits e. let t = many_take f p n bytes xs rest fits e in (t.0, both (eqb (length xs) n) (list_all f.fits xs) (eq-eqb (length xs) n t.1) t.2);
+  takes = λ bytes xs rest fits e. let t = many_take f p n bytes xs rest fits e in (t.0, and_from (eqb (length xs) n) (list_all f.fits xs) (eq-eqb (length xs) n t.1) t.2);
   again = λ xs rest h.
-      let fits = both_are (eqb (length xs) n) (list_all f.fits xs) h in
+      let fits = and_parts (eqb (length xs) n) (list_all f.fits xs) h in
       rw (← eqb-true (length xs) n fits.0) (many_again f p xs rest fits.1);
   skips = many_skips f p n;
 }
@@ -240,9 +224,9 @@ counted_lawful {A} count f c p = record {
       let first = c.takes bytes a.0.0 a.0.1 fits a.1 in
       let second = many_take f p a.0.0 a.0.1 xs rest first.0.rest_fits a.2 in
       let whole = Takes-then bytes (count.put a.0.0) a.0.1 (flat_map f.put xs) rest first.0 second.0 in
-      (subst (λ (k : ℕ). Takes bytes (count.put k ++ flat_map f.put xs) rest) (sym second.1) whole, both (count.fits (length xs)) (list_all f.fits xs) (ap count.fits second.1 ∙ first.1) second.2);
+      (subst (λ (k : ℕ). Takes bytes (count.put k ++ flat_map f.put xs) rest) (sym second.1) whole, and_from (count.fits (length xs)) (list_all f.fits xs) (ap count.fits second.1 ∙ first.1) second.2);
   again = λ xs rest h.
-      let fits = both_are (count.fits (length xs)) (list_all f.fits xs) h in
+      let fits = and_parts (count.fits (length xs)) (list_all f.fits xs) h in
       rw (append_assoc (count.put (length xs)) (flat_map f.put xs) rest, c.again (length xs) (flat_map f.put xs ++ rest) fits.0) (many_again f p xs rest fits.1);
   skips = λ bytes. counted_skips f p (count.get bytes);
 }

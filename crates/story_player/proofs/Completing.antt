@@ -1,10 +1,10 @@
 -- What a text is with a line break at its end.
 use Rattle.std.proofs.Common.{◌≡◌, ◌∙◌, ap, sym, refl, ℕ, suc, ◌-◌, Bool, true, false, List, [], ◌∷◌, length, arith}
 use Rattle.std.specs.Prelude.{not, ◌==◌, slice_index_or}
+use Rattle.std.proofs.lemmas.Bool.{not-false}
 use Rattle.play_meaning.specs.Sessions.{completed, ends_in_break}
 use Rattle.world_meaning.specs.Texts.{said}
 use Rattle.story_player.specs.Turns.{lacks_break}
-use Rattle.story_player.proofs.Readings.{not_false}
 
 -- whether a text ends in a break is told by its last byte
 last_tells : (b : ℕ) (bytes : List ℕ) (otherwise : ℕ) → (slice_index_or (b ∷ bytes) (length bytes) otherwise == 10) ≡ ends_in_break (b ∷ bytes)
@@ -28,4 +28,4 @@ completed_with (b ∷ bytes) lacks = sym (rw (not_true (ends_in_break (b ∷ byt
 
 pub completed_without : (bytes : List ℕ) → lacks_break bytes ≡ false → bytes ≡ completed bytes
 completed_without [] lacks = refl
-completed_without (b ∷ bytes) lacks = sym (rw (not_false (ends_in_break (b ∷ bytes)) lacks) refl)
+completed_without (b ∷ bytes) lacks = sym (rw (not-false (ends_in_break (b ∷ bytes)) lacks) refl)

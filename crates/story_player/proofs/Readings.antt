@@ -3,7 +3,7 @@ use Rattle.std.proofs.Common.{◌≡◌, ℕ, ◌<◌, Bool, true, false, List, 
 use Rattle.std.specs.Prelude.{Option, None, Some, find, ◌||◌, ◌&&◌, ◌==◌, not, nat_lt, if◌then◌else◌}
 use Rattle.std.specs.List.{list_all, position_or_len}
 use Rattle.std.proofs.lemmas.Grind.{common_steps}
-use Rattle.std.proofs.lemmas.Bool.{lt-ltb, ne_eqb}
+use Rattle.std.proofs.lemmas.Bool.{lt-ltb, ne_eqb, cases_Bool, and_parts, or_parts, not-false}
 use Rattle.std.proofs.lemmas.List.{length-append}
 use Rattle.play_meaning.specs.Games.{Game, Question}
 use Rattle.play_meaning.specs.Games.{Says}
@@ -18,7 +18,6 @@ use Rattle.story_format.specs.Facts.{words_of as words_told}
 use Rattle.action_stages.specs.StoryPlay.{coded_story, game_in_play}
 use Rattle.world_store.specs.StoryGames.{means_in}
 use Rattle.world_store.specs.StorySettings.{setting_of}
-use Rattle.world_meaning.proofs.Bools.{both_are, either}
 use Rattle.world_meaning.specs.Reading.{Means, direction_meant, go_reading, going, is_blank, is_go, is_look, is_quit, is_undo, look_reading, noun_of, reading_of, verb_reading, words_of, words_reading}
 use Rattle.world_meaning.specs.Texts.{empty_text, too_long_text}
 use Rattle.world_meaning.specs.declared.reading.Reading.{Reading as PlainReading}
@@ -26,25 +25,20 @@ use Rattle.world_meaning.specs.declared.reading.Reading.TheVariants.{Empty, NotS
 use Rattle.story_player.specs.Typed.{IsGone, Line, Long, Told, gone_told, gone_with, has_word, is_word_byte, line_reading, plain_told, told_reading}
 use Rattle.story_player.specs.declared.typed.Gone.{Gone}
 use Rattle.story_player.specs.declared.typed.Gone.TheVariants.{Nothing, Blanks, Words}
-use Rattle.story_player.proofs.LineLemmas.{or_neither}
 use Rattle.story_player.proofs.Words.{words_of-blank, words_of-word}
-
-pub not_false : (a : Bool) → not a ≡ false → a ≡ true
-not_false true e = refl
-not_false false e = absurd cc
 
 -- blanks hold no word
 pub words_of-blanks : (bytes : List ℕ) → has_word bytes ≡ false → words_of bytes ≡ []
 words_of-blanks [] blank = refl
 words_of-blanks (b ∷ bs) blank =
-    let each = or_neither (is_word_byte b) (has_word bs) blank in
-    words_of-blank b bs (not_false (is_blank b) each.0) ∙ words_of-blanks bs each.1
+    let each = or_parts (is_word_byte b) (has_word bs) blank in
+    words_of-blank b bs (not-false (is_blank b) each.0) ∙ words_of-blanks bs each.1
 
 pub word_ahead : (b : ℕ) (bs : List ℕ) → is_blank b ≡ false → 0 < position_or_len is_blank (b ∷ bs)
 word_ahead b bs word = rw word (omega arith)
 
 pub or_other : (a b : Bool) → a ≡ false → (a || b) ≡ true → b ≡ true
-or_other false b first either = either
+or_other false b first either = cases_Bool
 or_other true b first either = absurd cc
 
 pub rest_has_word : (b : ℕ) (bs : List ℕ) → is_blank b ≡ true → has_word (b ∷ bs) ≡ true → has_word bs ≡ true
@@ -161,8 +155,8 @@ found_rightly : (s : Setting) (words : ℕ → List (List ℕ)) (noun : List (Li
 found_rightly s words noun [] = refl
 found_rightly s words [] (o ∷ objects) = found_rightly s words [] objects
 found_rightly s words (word ∷ noun) (o ∷ objects) =
-    elim (either (is_direction_for s words (word ∷ noun) o)) [
-      | inl is ↦ rw is (both_are (s.is_of o direction_kind) (list_all (holds_word (words o)) (word ∷ noun)) is).0
+    elim (cases_Bool (is_direction_for s words (word ∷ noun) o)) [
+      | inl is ↦ rw is (and_parts (s.is_of o direction_kind) (list_all (holds_word (words o)) (word ∷ noun)) is).0
       | inr isnt ↦ rw isnt (found_rightly s words (word ∷ noun) objects)
     ]
 

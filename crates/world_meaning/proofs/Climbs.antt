@@ -1,8 +1,7 @@
 -- Steps up a tree of kinds, as many as there are kinds, lead wherever any steps lead.
 use Rattle.std.proofs.Common.{◌≡◌, ◌≢◌, ℕ, zero, suc, ◌≤◌, ◌<◌, true, false, eqb, List, [], ◌∷◌, length, Option, refl, sym, ap, ◌∙◌, subst, arith, inl, inr, ◌⊎◌}
 use Rattle.std.specs.Prelude.{Some, None, Decides, slice_get}
-use Rattle.std.proofs.lemmas.Bool.{eqb-true, eqb-false, eq-eqb}
-use Rattle.world_meaning.proofs.Bools.{either}
+use Rattle.std.proofs.lemmas.Bool.{eqb-true, eqb-false, eq-eqb, cases_Bool}
 use Rattle.world_meaning.specs.Kinds.{Under, itself, above, climb_on, climbs, is_under}
 
 -- the kinds, one of them without the kind above it
@@ -53,7 +52,7 @@ Around parents k x m = Under (cut k parents) x m ⊎ ((k ≡ m) ⊎ ((p : ℕ) �
 around_step : (parents : List (Option ℕ)) (k x p m : ℕ) → slice_get parents x ≡ Some (Some p) → Around parents k p m → Around parents k x m
 around_step parents k x p m e (inr behind) = inr behind
 around_step parents k x p m e (inl free) =
-    elim (either (eqb k x)) [
+    elim (cases_Bool (eqb k x)) [
       | inl is ↦ inr (inr (p, ap (slice_get parents) (eqb-true k x is) ∙ e, free))
       | inr isnt ↦ inl (above (kept k x p parents (eqb-false k x isnt) e) free)
     ]
@@ -76,7 +75,7 @@ climbs_all : (left parents some : List (Option ℕ)) (k m : ℕ) → ((j p : ℕ
 climbs_all left parents some k m within bound itself = climbs_itself left parents k k (eq-eqb k k refl)
 climbs_all [] parents some k m within bound (above {parent = p} e u) = absurd (omega (arith, fewer k p some e, bound))
 climbs_all (x ∷ left) parents some k m within bound (above {parent = p} e u) =
-    elim (either (eqb k m)) [
+    elim (cases_Bool (eqb k m)) [
       | inl is ↦ climbs_itself (x ∷ left) parents k m is
       | inr isnt ↦
           let rest : climbs left parents p m ≡ true = climbs_all left parents (cut k some) p m (λ j q h. within j q (was k j q some h)) (omega (arith, fewer k p some e, bound)) (behind_step some k p m e isnt (around some k p m u)) in
@@ -92,7 +91,7 @@ step_under left parents k m (Some (Some p)) e rest h = above e (rest p h)
 climbs_under : (left parents : List (Option ℕ)) (k m : ℕ) → climbs left parents k m ≡ true → Under parents k m
 climbs_under [] parents k m h = subst (λ (o : ℕ). Under parents k o) (eqb-true k m h) itself
 climbs_under (x ∷ left) parents k m h =
-    elim (either (eqb k m)) [
+    elim (cases_Bool (eqb k m)) [
       | inl is ↦ subst (λ (o : ℕ). Under parents k o) (eqb-true k m is) itself
       | inr isnt ↦
           let up : climb_on (λ p. climbs left parents p m) (slice_get parents k) ≡ true = rw isnt at h in

@@ -1,4 +1,4 @@
-pub mod Bools
+pub mod Options
 pub mod Chains
 pub mod Climbs
 pub mod Sights

@@ -2,8 +2,7 @@
 use Rattle.std.proofs.Common.{◌≡◌, ◌∙◌, sym, ap, refl, ℕ, zero, suc, ◌+◌, ◌<◌, ◌≤◌, Bool, false, inl, inr, List, [], ◌∷◌, length, map, arith}
 use Rattle.std.specs.Prelude.{Option, None, nat_lt, slice_get, slice_index_or, if◌then◌else◌}
 use Rattle.std.specs.List.{range_with_len}
-use Rattle.std.proofs.lemmas.Bool.{ltb-false, ltb-true}
-use Rattle.world_meaning.proofs.Bools.{either}
+use Rattle.std.proofs.lemmas.Bool.{ltb-false, ltb-true, cases_Bool}
 use Rattle.story_format.specs.Facts.{is_room_in, rooms_before}
 use Rattle.story_format.specs.InPlay.{exits_of}
 use Rattle.story_format.specs.declared.tables.Entry.{Entry}
@@ -31,7 +30,7 @@ no_ways t room past =
 pub found_at : (t : Tables) (room : ℕ) → slice_index_or (map (exits_of t) (range_with_len 0 (length t.objects))) room None ≡ exits_of t room
 found_at t room =
     let front : exits_of t (0 + room) ≡ exits_of t room = let same : 0 + room ≡ room = omega arith in ap (exits_of t) same in
-    elim (either (nat_lt room (length t.objects))) [
+    elim (cases_Bool (nat_lt room (length t.objects))) [
       | inl inside ↦ at_number (exits_of t) 0 (length t.objects) room (ltb-true room (length t.objects) inside) ∙ front
       | inr past ↦
           let there : length t.objects ≤ room = ltb-false room (length t.objects) past in

@@ -2,7 +2,7 @@
 use Rattle.std.proofs.Common.{◌≡◌, ap, subst, refl, ℕ, zero, suc, true, false, leb, ltb, List, [], ◌∷◌, drop, length, inl, inr}
 use Rattle.std.specs.Prelude.{Option, Some, None, slice_get}
 use Rattle.std.specs.List.{list_all}
-use Rattle.world_meaning.proofs.Bools.{both_are, either}
+use Rattle.std.proofs.lemmas.Bool.{cases_Bool, and_parts}
 use Rattle.world_meaning.proofs.Climbs.{climbs_decide}
 use Rattle.world_meaning.specs.Declarations.{are_right_grants, are_right_kinds, begin_with_kinds, begin_with_properties, is_rooted, is_same_kind}
 use Rattle.world_meaning.specs.Kinds.{Under, above, built_in_parents, direction_kind, is_under, itself}
@@ -31,9 +31,9 @@ begun_at : (parents others : List (Option ℕ)) (i : ℕ) → begin_with_kinds p
 unfolding begin_with_kinds
 begun_at parents [] i begun is = absurd cc
 begun_at [] (other ∷ others) i begun is = absurd cc
-begun_at (parent ∷ parents) (None ∷ others) zero begun is = ap Some (same_kind parent (both_are (is_same_kind parent None) (begin_with_kinds parents others) begun).0)
+begun_at (parent ∷ parents) (None ∷ others) zero begun is = ap Some (same_kind parent (and_parts (is_same_kind parent None) (begin_with_kinds parents others) begun).0)
 begun_at (parent ∷ parents) (Some k ∷ others) zero begun is = absurd cc
-begun_at (parent ∷ parents) (other ∷ others) (suc i) begun is = begun_at parents others i (both_are (is_same_kind parent other) (begin_with_kinds parents others) begun).1 is
+begun_at (parent ∷ parents) (other ∷ others) (suc i) begun is = begun_at parents others i (and_parts (is_same_kind parent other) (begin_with_kinds parents others) begun).1 is
 
 frame_right : (t : Tables) → IsStory t → is_right_frame t ≡ true
 unfolding are_right
@@ -74,7 +74,7 @@ one_root parents kind a b ra rb (above {parent = p} e u) (above {parent = q} f v
 -- what lies under a root doesn't lie under another
 other_root : (t : Tables) (kind a b : ℕ) → IsStory t → slice_get built_in_parents a ≡ Some None → slice_get built_in_parents b ≡ Some None → (a ≡ b → ⊥)
     → is_under t.world.kinds kind a ≡ true → is_under t.world.kinds kind b ≡ false
-other_root t kind a b story ra rb other is = elim (either (is_under t.world.kinds kind b)) [
+other_root t kind a b story ra rb other is = elim (cases_Bool (is_under t.world.kinds kind b)) [
   | inl under ↦ absurd (other (one_root t.world.kinds kind a b (root_is t a story ra) (root_is t b story rb) (lies is) (lies under)))
   | inr not ↦ not
 ]

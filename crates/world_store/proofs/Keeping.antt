@@ -3,11 +3,10 @@ use Rattle.std.proofs.Common.{◌≡◌, ◌∙◌, sym, ap, refl, subst, ℕ, z
 use Rattle.std.specs.Prelude.{Option, Some, None, ◌&&◌, ◌^◌, option_map, replicate, slice_get, slice_index_or, slice_set}
 use Rattle.std.specs.List.{range_with_len}
 use Rattle.std.proofs.Math.ListN.{length-set}
-use Rattle.std.proofs.lemmas.Bool.{eqb-true, eqb-false}
+use Rattle.std.proofs.lemmas.Bool.{eqb-true, eqb-false, cases_Bool, and_parts}
 use Rattle.std.proofs.lemmas.List.{length-map}
 use Rattle.std.proofs.lemmas.List.FromFn.{length-map-range_with_len}
 use Rattle.std.proofs.lemmas.Option.{none-some, same_Some}
-use Rattle.world_meaning.proofs.Bools.{both_are, either}
 use Rattle.world_meaning.specs.Chains.{IsTree}
 use Rattle.world_meaning.specs.Placing.{Kinds, keeps_player}
 use Rattle.world_meaning.specs.Sight.{is_in}
@@ -145,14 +144,14 @@ pub keeps_put : (t : Tables) (w : World) (kinds : Kinds) (o : ℕ) (place : Plac
     → keeps_player kinds o place ≡ true
     → places ≡ slice_set w.places o (Some place) → IsKept t (record w { places = places })
 keeps_put t w kinds o place places k rooms keeps is =
-    elim (either (eqb o 0)) [
+    elim (cases_Bool (eqb o 0)) [
       | inl player ↦
           let first : o ≡ 0 = eqb-true o 0 player in
           let inside : (is_in place.relation && kinds.is_room place.holder) ≡ true = rw player at keeps in
           let there : place_of places 0 ≡ Some place = ap (λ (ps : List (Option Place)). place_of ps 0) (is ∙ ap (λ (n : ℕ). slice_set w.places n (Some place)) first)
           ∙ get_or-set_same w.places 0 (Some place) None (not_none w.places _ k.player) in
-          let a_room : is_of t place.holder room_kind ≡ true = sym (ap (λ (f : ℕ → Bool). f place.holder) rooms) ∙ (both_are _ _ inside).1 in
-          moved t w places place.holder k (ap length is ∙ length-set w.places o (Some place)) a_room (there ∙ ap Some (directly place (both_are _ _ inside).0))
+          let a_room : is_of t place.holder room_kind ≡ true = sym (ap (λ (f : ℕ → Bool). f place.holder) rooms) ∙ (and_parts _ _ inside).1 in
+          moved t w places place.holder k (ap length is ∙ length-set w.places o (Some place)) a_room (there ∙ ap Some (directly place (and_parts _ _ inside).0))
       | inr other ↦
           let away : 0 ≢ o = λ e. eqb-false o 0 other (sym e) in
           moved t w places k.here k (ap length is ∙ length-set w.places o (Some place)) k.room (ap (λ (ps : List (Option Place)). place_of ps 0) is ∙ get_or-set_other w.places o 0 (Some place) None away ∙ k.player)

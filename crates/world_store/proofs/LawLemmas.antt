@@ -1,8 +1,7 @@
 -- What the laws of worlds cite.
 use Rattle.std.proofs.Common.{◌≡◌, ◌∙◌, ◌≢◌, ◌⊎◌, sym, ap, refl, ℕ, zero, suc, ◌<◌, ◌≤◌, ℤ, Bool, true, false, List, [], ◌∷◌, length, arith, inl, inr, get_or-set_same, get_or-set_other, eqb-true}
 use Rattle.std.specs.Prelude.{Option, Some, None, ◌&&◌, ◌||◌, ◌==◌, if◌then◌else◌, nat_lt, pos, slice_get, slice_index_or, slice_set}
-use Rattle.std.proofs.lemmas.Bool.{ltb-false, ltb-true}
-use Rattle.world_meaning.proofs.Bools.{either}
+use Rattle.std.proofs.lemmas.Bool.{ltb-false, ltb-true, cases_Bool}
 use Rattle.world_meaning.specs.Declarations.{has_property}
 use Rattle.world_meaning.specs.declared.declared.Granted.{Granted}
 use Rattle.world_meaning.specs.Chains.{IsChain}
@@ -35,7 +34,7 @@ none_past (column ∷ columns) (suc i) past = none_past columns i (omega (arith,
 
 at_most : {A : Type 0} (columns : List (List A)) (count height i : ℕ) → AreColumns columns count height → length (slice_index_or columns i []) ≤ height
 at_most columns count height i k =
-    elim (either (nat_lt i count)) [
+    elim (cases_Bool (nat_lt i count)) [
       | inl inside ↦ omega (arith, k.high i (ltb-true i count inside))
       | inr past ↦ omega (arith, ap length (none_past columns i (omega (arith, ltb-false i count past, k.many))))
     ]

@@ -4,9 +4,8 @@ use Rattle.std.specs.Prelude.{nat_lt, slice_index_or, slice_set}
 use Rattle.std.specs.List.{flat_map, range_with_len}
 use Rattle.std.proofs.Math.Nat.{suc-mul}
 use Rattle.std.proofs.Math.Seq.{drop-append_seam, take-append_seam, take-set-lt}
-use Rattle.std.proofs.lemmas.Bool.{ltb-false, ltb-true}
+use Rattle.std.proofs.lemmas.Bool.{ltb-false, ltb-true, cases_Bool}
 use Rattle.std.proofs.lemmas.List.{get_or-drop, get_or-take, drop-set-add, drop-set-lt, take-set-le}
-use Rattle.world_meaning.proofs.Bools.{either}
 use Rattle.world_store.specs.Rows.{place_in, read_at, rows, write_at}
 
 -- ---- what is read
@@ -49,9 +48,9 @@ module _ {T : Type 0} where
 
   pub rows_read : (h n : ℕ) (vs : List T) (p o : ℕ) (d : T) → slice_index_or (slice_index_or (rows h n vs) p []) o d ≡ read_at vs (place_in h n p o) d
   rows_read h n vs p o d =
-      elim (either (nat_lt p n)) [
+      elim (cases_Bool (nat_lt p n)) [
         | inr behind ↦ rw (behind, none_behind h n vs p (ltb-false p n behind)) refl
-        | inl inside ↦ elim (either (nat_lt o h)) [
+        | inl inside ↦ elim (cases_Bool (nat_lt o h)) [
           | inr above ↦ rw (inside, above) (none_in h n vs p o d (ltb-false o h above))
           | inl at ↦ rw (inside, at) (read_inside h n vs p o d (ltb-true p n inside) (ltb-true o h at) ∙ ap (λ k. slice_index_or vs k d) (far_is h p o))
         ]
@@ -88,9 +87,9 @@ module _ {T : Type 0} where
 
   pub rows_written : (h n : ℕ) (vs : List T) (p o : ℕ) (x : T) → rows h n (write_at vs (place_in h n p o) x) ≡ slice_set (rows h n vs) p (slice_set (slice_index_or (rows h n vs) p []) o x)
   rows_written h n vs p o x =
-      elim (either (nat_lt p n)) [
+      elim (cases_Bool (nat_lt p n)) [
         | inr behind ↦ rw behind (sym (write_behind h n vs p (slice_set (slice_index_or (rows h n vs) p []) o x) (ltb-false p n behind)))
-        | inl inside ↦ elim (either (nat_lt o h)) [
+        | inl inside ↦ elim (cases_Bool (nat_lt o h)) [
           | inr above ↦ rw (inside, above) (sym (write_above h n vs p o x (ltb-false o h above)))
           | inl at ↦ rw (inside, at) (ap (λ k. rows h n (slice_set vs k x)) (sym (far_is h p o)) ∙ sym (write_inside h n vs p o x (ltb-true p n inside) (ltb-true o h at)))
         ]

@@ -3,9 +3,9 @@ use Rattle.std.proofs.Common.{◌≡◌, ℕ, zero, suc, ◌+◌, ◌-◌, Bool,
 use Rattle.std.specs.Prelude.{FitsSigned, is_none, replicate, slice_get, slice_index_or, ℤ, pos, negsuc}
 use Rattle.std.specs.Int.{w32, cast_signed, cast_unsigned}
 use Rattle.std.specs.List.{flat_map, list_all, range_with_len}
-use Rattle.std.proofs.lemmas.Bool.{ltb-true}
+use Rattle.std.proofs.lemmas.Bool.{ltb-true, cases_Bool, and_parts}
 use Rattle.std.proofs.lemmas.Int.{to_z-of_z}
-use Rattle.world_meaning.proofs.Bools.{both_are, either}
+use Rattle.world_meaning.proofs.Options.{none_is}
 use Rattle.world_meaning.specs.Declarations.{has_property, is_number, suits_kind}
 use Rattle.world_meaning.specs.Kinds.{is_under}
 use Rattle.world_meaning.specs.WellMade.{are_closed, has_right_exits, is_closed, sorts_in}
@@ -55,13 +55,13 @@ number_back z h = to_z-of_z w32 z (number_fits z h)
 
 numbers_back : (zs : List ℤ) (i : ℕ) → list_all is_number zs ≡ true → number_from (slice_get (numbers_of zs) i) ≡ slice_index_or zs i (pos 0)
 numbers_back [] i h = refl
-numbers_back (z ∷ zs) zero h = number_back z (both_are (is_number z) (list_all is_number zs) h).0
-numbers_back (z ∷ zs) (suc i) h = numbers_back zs i (both_are (is_number z) (list_all is_number zs) h).1
+numbers_back (z ∷ zs) zero h = number_back z (and_parts (is_number z) (list_all is_number zs) h).0
+numbers_back (z ∷ zs) (suc i) h = numbers_back zs i (and_parts (is_number z) (list_all is_number zs) h).1
 
 variables_back : (zs : List ℤ) → list_all is_number zs ≡ true → map start_variable (map variable_of zs) ≡ zs
 variables_back [] h = refl
 variables_back (z ∷ zs) h =
-    let t = both_are (is_number z) (list_all is_number zs) h in
+    let t = and_parts (is_number z) (list_all is_number zs) h in
     λ i. number_back z t.0 i ∷ variables_back zs t.1 i
 
 -- ---- an entry says what its object says
@@ -88,19 +88,15 @@ module _ {A : Type 0} (right : Object → Bool) (told : Entry → A) (said : Obj
   unfolding entries_of
   said_of_all strings next from [] h = refl
   said_of_all strings next from (object ∷ objects) h =
-      let t = both_are (right object) (list_all right objects) h in
+      let t = and_parts (right object) (list_all right objects) h in
       λ i. same strings next (worded_at from object) t.0 i ∷ said_of_all strings (next + code_count object.description) (from + 1) objects t.1 i
 
 -- ---- doors
 
-none_is : {A : Type 0} (o : Option A) → is_none o ≡ true → o ≡ None
-none_is None e = refl
-none_is (Some x) e = absurd cc
-
 closed_door : (ways : List Way) (i : ℕ) → list_all is_closed ways ≡ true → told_door_on (slice_get ways i) ≡ None
 closed_door [] i h = refl
-closed_door (way ∷ ways) zero h = none_is way.door (both_are (is_none way.room) (is_none way.door) (both_are (is_closed way) (list_all is_closed ways) h).0).1
-closed_door (way ∷ ways) (suc i) h = closed_door ways i (both_are (is_closed way) (list_all is_closed ways) h).1
+closed_door (way ∷ ways) zero h = none_is way.door (and_parts (is_none way.room) (is_none way.door) (and_parts (is_closed way) (list_all is_closed ways) h).0).1
+closed_door (way ∷ ways) (suc i) h = closed_door ways i (and_parts (is_closed way) (list_all is_closed ways) h).1
 
 doors_found : (parents : List (Option ℕ)) (sorts : Sorts) (strings : List (List ℕ)) (ws : List Worded) (o direction : ℕ) (found : Option Worded) → slice_get ws o ≡ found → list_all (has_right_exits parents sorts) (objects_in ws) ≡ true
     → door_in (exits_at parents (entries_of strings 0 ws) (flat_map (ways_of parents) ws) o) direction ≡ in_object None (told_door direction) (slice_get (objects_in ws) o)
@@ -109,7 +105,7 @@ doors_found parents sorts strings ws o direction None e h = rw (exits_found pare
 doors_found parents sorts strings ws o direction (Some w) e h =
     let object : slice_get (objects_in ws) o ≡ Some w.object = object_found ws o (Some w) e in
     let right : has_right_exits parents sorts w.object ≡ true = all_at (has_right_exits parents sorts) (objects_in ws) o w.object h object in
-    elim (either (is_under parents w.object.kind 1)) [
+    elim (cases_Bool (is_under parents w.object.kind 1)) [
       | inl is ↦ rw (exits_found parents strings ws o (Some w) e, is, object) refl
       | inr isnt ↦ let closed : are_closed w.object.exits ≡ true = rw isnt at right in rw (exits_found parents strings ws o (Some w) e, isnt, object) (sym (closed_door w.object.exits.ways (direction - 1) closed))
     ]
@@ -143,12 +139,12 @@ settings_agree t texts listings rules held said =
 -- an object's numbers fit their words
 numbers_right : (d : Declared) (object : Object) → suits_kind d object ≡ true → list_all is_number object.numbers ≡ true
 unfolding suits_kind
-numbers_right d object h = (both_are _ (list_all is_number object.numbers) h).1
+numbers_right d object h = (and_parts _ (list_all is_number object.numbers) h).1
 
 number_started : (d : Declared) (property : ℕ) (strings : List (List ℕ)) (next : ℕ) (w : Worded) → suits_kind d w.object ≡ true → start_number (world_of d) property (entry_of strings next w) ≡ number_at_start d property w.object
 unfolding world_of entry_of
 number_started d property strings next w h =
-    elim (either (has_property d.kinds d.numbers w.object.kind property)) [
+    elim (cases_Bool (has_property d.kinds d.numbers w.object.kind property)) [
       | inl is ↦ rw is (numbers_back w.object.numbers (place_of_number d property w.object) (numbers_right d w.object h))
       | inr isnt ↦ rw isnt refl
     ]

@@ -2,7 +2,7 @@
 use Rattle.std.proofs.Common.{◌≡◌, ◌∙◌, ap, sym, refl, subst, ℕ, ◌-◌, Bool, true, false, List, [], ◌∷◌, length, arith}
 use Rattle.std.specs.Prelude.{Option, Some, None, ◌&&◌, ◌==◌, filter, option_map, if◌then◌else◌}
 use Rattle.std.specs.List.{range_with_len}
-use Rattle.world_meaning.proofs.Bools.{both_are}
+use Rattle.std.proofs.lemmas.Bool.{and_parts, false≢true}
 use Rattle.world_meaning.specs.declared.place.Place.{Place}
 use Rattle.world_meaning.specs.declared.place.Rel.{Rel}
 use Rattle.world_meaning.specs.declared.place.Rel.TheVariants.{In}
@@ -18,9 +18,6 @@ use Rattle.world_store.specs.StoryWorlds.{IsKept, StoryWorld}
 minus_none : (n : ℕ) → n - 0 ≡ n
 minus_none n = omega arith
 
-false_true : false ≡ true → ⊥
-false_true wrong = absurd cc
-
 -- what holds of an item is looked for only among those of which another thing holds that it implies
 filter_within : (p q : ℕ → Bool) → ((x : ℕ) → p x ≡ true → q x ≡ true) → (xs : List ℕ) → filter p (filter q xs) ≡ filter p xs
 filter_within p q implies [] = refl
@@ -30,18 +27,18 @@ filter_within p q implies (x ∷ xs) = by_case (q x) (p x) refl refl (implies x)
     by_case true true inner here so rest = rw (inner, here) (ap (λ ys. x ∷ ys) rest)
     by_case true false inner here so rest = rw (inner, here) rest
     by_case false false inner here so rest = rw (inner, here) rest
-    by_case false true inner here so rest = absurd (false_true (sym inner ∙ so here))
+    by_case false true inner here so rest = absurd (false≢true (sym inner ∙ so here))
 
 -- a place in a holder has that holder
 in_holder : (here : ℕ) (place : Option Place) → is_place In here place ≡ true → is_holder here (option_map (λ p. p.holder) place) ≡ true
 in_holder here None is = absurd cc
-in_holder here (Some place) is = (both_are (relation_number place.relation == relation_number In) (place.holder == here) is).1
+in_holder here (Some place) is = (and_parts (relation_number place.relation == relation_number In) (place.holder == here) is).1
 
 -- what is on view stands directly in the player's room
 viewed_in : (s : Setting) (w : World) (here o : ℕ) → location_of w ≡ Some here → is_on_view s w o ≡ true → is_holder here (holder_of w.places o) ≡ true
 viewed_in s w here o is view =
     let held : is_held w In (location_of w) o ≡ true =
-    (both_are (is_among s w (Quality described_flag First ∷ NotSo (Quality scenery_flag First) ∷ []) (Some thing_kind) o) (is_held w In (location_of w) o) view).1 in
+    (and_parts (is_among s w (Quality described_flag First ∷ NotSo (Quality scenery_flag First) ∷ []) (Some thing_kind) o) (is_held w In (location_of w) o) view).1 in
     in_holder here (place_of w o) (ap (λ holder. is_held w In holder o) (sym is) ∙ held)
 
 pub view_within : (s : Setting) (w : World) (here : ℕ) → length w.places ≡ s.count → location_of w ≡ Some here
@@ -63,7 +60,7 @@ held_by w relation holder o held = of_place (place_of w o) held
   where
     of_place : (place : Option Place) → is_place relation holder place ≡ true → is_holder holder (option_map (λ p. p.holder) place) ≡ true
     of_place None is = absurd cc
-    of_place (Some place) is = (both_are (relation_number place.relation == relation_number relation) (place.holder == holder) is).1
+    of_place (Some place) is = (and_parts (relation_number place.relation == relation_number relation) (place.holder == holder) is).1
 
 held_within : (s : Setting) (w : World) (relation : Rel) (holder : ℕ) → length w.places ≡ s.count
     → filter (is_held w relation (Some holder)) (children_of w.places holder) ≡ filter (is_held w relation (Some holder)) (objects_of s)
