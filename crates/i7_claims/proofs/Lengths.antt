@@ -7,9 +7,9 @@ use Rattle.std.proofs.lemmas.List.Folds.{length-prefix_len}
 use Rattle.std.proofs.lemmas.Slice.Eq.{bytes_eq-Decides}
 use Rattle.std.specs.Char.{to_ascii_lowercase}
 use Rattle.std.proofs.lemmas.Bool.{ltb-true, ltb-false, cases_Bool}
-use Rattle.world_meaning.specs.Spelling.{is_spelled}
+use Rattle.world_meaning.specs.Spelling.{is_article, is_spelled}
 use Rattle.i7_claims.specs.NameScans.{IsShort, Standings, longer, longer_claim, longer_fact, no_standings, with_claim, with_fact, with_naming}
-use Rattle.i7_claims.specs.Phrases.{behind_word, first_word, is_article, is_behind_and, is_denied, is_letter, is_name, is_phrase, kind_said, longest_phrase, name_in, without_article, without_blank}
+use Rattle.i7_claims.specs.Phrases.{behind_word, first_word, is_behind_and, is_denied, is_letter, is_name, is_phrase, kind_said, longest_phrase, name_in, without_article, without_blank}
 use Rattle.i7_claims.specs.Plurals.{front_of, kind_named}
 use Rattle.i7_claims.specs.Wording.{may_end, some_name}
 use Rattle.i7_claims.specs.declared.claim.Claim.{Claim}

@@ -1,7 +1,7 @@
 -- Phrases of one name: what is said by a property's name, perhaps behind `not` or an article, or by a kind's.
-use Rattle.std.specs.Prelude.{ℕ, ◌+◌, Bool, true, false, not, ◌&&◌, ◌||◌, ◌==◌, List, [], ◌∷◌, take, drop, Option, Some, None, option_map, codes, if◌then◌else◌}
+use Rattle.std.specs.Prelude.{ℕ, ◌+◌, Bool, true, false, not, ◌&&◌, ◌==◌, List, [], ◌∷◌, take, drop, Option, Some, None, option_map, codes, if◌then◌else◌}
 use Rattle.std.specs.List.{prefix_len}
-use Rattle.world_meaning.specs.Spelling.{is_spelled}
+use Rattle.world_meaning.specs.Spelling.{is_article, is_spelled}
 use Rattle.i7_claims.specs.NameScans.{Standings}
 use Rattle.i7_claims.specs.Plurals.{kind_named}
 use Rattle.i7_claims.specs.declared.claim.Quality.{Quality}
@@ -10,9 +10,6 @@ use Rattle.i7_claims.specs.declared.claim.Standing.TheVariants as stands
 
 abbrev pub is_blank : ℕ → Bool
 is_blank b = b == 32
-
-abbrev pub is_article : List ℕ → Bool
-is_article word = is_spelled word (codes "a") || is_spelled word (codes "an") || is_spelled word (codes "the") || is_spelled word (codes "some")
 
 -- what a name says: a property's first name that it is true, its second that it isn't
 abbrev pub quality_by : Standing → List ℕ → Option Quality

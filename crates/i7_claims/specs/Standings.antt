@@ -97,8 +97,9 @@ IsTwice before _ = ⊥
 
 -- ---- rulebooks, whose names are apart
 
+-- the names that no sentence gives a rulebook
 abbrev pub built_in_books : List (List ℕ)
-built_in_books = map (λ book. book.now) BOOKS
+built_in_books = map (λ book. book.now) BOOKS ++ map (λ word. word.now) RESERVED
 
 abbrev pub books_in : Fact → List (List ℕ)
 books_in (Rulebook name) = name ∷ []

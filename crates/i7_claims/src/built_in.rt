@@ -127,7 +127,7 @@ pub fn built_in_namings(alloc: Global) -> Result<Vec<Naming>, AllocError>
     namings_from(alloc, &RESERVED, &KINDS, &PROPERTIES)
 }
 
-/// Puts rulebooks behind the others.
+/// Puts names behind the others.
 fn mention_all(alloc: Global, books: &mut Strings, names: &[&[u8]]) -> Result<(), AllocError>
     ensures { OnOk result (books.new ≡ fold (λ seen name. mention seen name.now) books.old names.now) }
 {
@@ -139,11 +139,12 @@ fn mention_all(alloc: Global, books: &mut Strings, names: &[&[u8]]) -> Result<()
     Ok(())
 }
 
-/// The rulebooks before any sentence.
+/// The names that no sentence gives a rulebook.
 pub fn built_in_books(alloc: Global) -> Result<Strings, AllocError>
     ensures { IfOk result (λ books. books ≡ built_in_books) }
 {
     let mut books = Strings::new(alloc);
     mention_all(alloc, &mut books, &BOOKS)?;
+    mention_all(alloc, &mut books, &RESERVED)?;
     Ok(books)
 }

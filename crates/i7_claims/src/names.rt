@@ -37,24 +37,18 @@ pub fn key_of(alloc: Global, name: &[u8]) -> Result<Vec<u8>, AllocError>
     name.to_ascii_lowercase(alloc)
 }
 
-/// The keys of the built-in objects.
+/// The keys of the built-in objects: the player's, and the directions' by number.
+#[tactic(auto, unfolding(world_meaning::specs::Directions::direction_name))]
 pub fn built_in_keys(alloc: Global) -> Result<Strings, AllocError>
     ensures { IfOk result (λ keys. keys ≡ built_in_keys) }
 {
     let mut keys = Strings::new(alloc);
     keys.mention(alloc, b"yourself")?;
-    keys.mention(alloc, b"north")?;
-    keys.mention(alloc, b"northeast")?;
-    keys.mention(alloc, b"northwest")?;
-    keys.mention(alloc, b"south")?;
-    keys.mention(alloc, b"southeast")?;
-    keys.mention(alloc, b"southwest")?;
-    keys.mention(alloc, b"east")?;
-    keys.mention(alloc, b"west")?;
-    keys.mention(alloc, b"up")?;
-    keys.mention(alloc, b"down")?;
-    keys.mention(alloc, b"inside")?;
-    keys.mention(alloc, b"outside")?;
+    let mut rest: &[Direction] = &Direction::ALL;
+    while let [direction, after @ ..] = rest {
+        keys.mention(alloc, direction.name())?;
+        rest = after;
+    }
     Ok(keys)
 }
 

@@ -2,22 +2,13 @@
 ghost use Rattle.std.specs.Prelude.{◌≡◌, ◌≤◌, IfOk, length, nat_lt, option_copied};
 ghost use Rattle.std.specs.List.{prefix_len};
 ghost use Rattle.i7_claims.specs.NameScans.{IsShort, standing_at};
-ghost use Rattle.i7_claims.specs.Phrases.{behind_word, denied_if, first_word, is_article, is_behind_and, is_denied, is_letter, is_name, is_phrase, is_quality, kind_said, longest_phrase, name_in, phrase_said, plain_said, quality_in, said_of, without_article, without_blank};
+ghost use Rattle.i7_claims.specs.Phrases.{behind_word, denied_if, first_word, is_behind_and, is_denied, is_letter, is_name, is_phrase, is_quality, kind_said, longest_phrase, name_in, phrase_said, plain_said, quality_in, said_of, without_article, without_blank};
 
 use crate::claim::{Quality, Standing};
 use crate::plurals::kind_named;
 use crate::standings::{Known, standing_of};
 use std::alloc::{AllocError, Global};
-use world_meaning::{TextBytes, is_spelled};
-
-fn is_article(word: &[u8]) -> bool
-    ensures { result ≡ is_article word.now }
-{
-    is_spelled(word, b"a")
-        || is_spelled(word, b"an")
-        || is_spelled(word, b"the")
-        || is_spelled(word, b"some")
-}
+use world_meaning::{TextBytes, is_article, is_spelled};
 
 /// How many bytes the first word has.
 fn first_len(words: &[u8]) -> usize
