@@ -5,9 +5,8 @@ use Rattle.std.proofs.lemmas.List.Folds.{list_any-append}
 use Rattle.std.proofs.lemmas.Slice.Eq.{bytes_eq-Decides}
 use Rattle.std.proofs.lemmas.Bool.{cases_Bool, and_from, and_parts, or_cases, or_left, or_right}
 use Rattle.world_meaning.proofs.Climbs.{climbs_decide}
-use Rattle.world_meaning.specs.Kinds.{is_under}
+use Rattle.world_meaning.specs.Kinds.{door_kind, is_under}
 use Rattle.i7_kinds.specs.Doors.{DemandsDoor, IsDoorDemanded, IsTold, IsToldAgain, all_told, door_demanded, door_told, door_twice, doors_of, is_door_kind, is_told_again, shows_told_again, with_told}
-use Rattle.i7_kinds.specs.Knowns.{door_kind}
 use Rattle.i7_claims.specs.Numbers.{has_name, number_in}
 use Rattle.i7_claims.specs.Scans.{IsLowest, ShownBy}
 use Rattle.i7_claims.specs.Sorts.{with_name}

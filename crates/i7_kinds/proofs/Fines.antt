@@ -4,7 +4,7 @@ use Rattle.std.proofs.Common.{◌≡◌, ℕ, zero, suc, ◌+◌, ◌-◌, ◌<�
 use Rattle.std.specs.Prelude.{Some, None, fold, not, replicate, slice_set}
 use Rattle.std.proofs.lemmas.Bool.{eqb-true, cases_Bool, not-false}
 use Rattle.world_meaning.proofs.Climbs.{climbs_decide}
-use Rattle.world_meaning.specs.Kinds.{Under, itself, is_under}
+use Rattle.world_meaning.specs.Kinds.{Under, itself, direction_kind, is_under, person_kind}
 use Rattle.i7_kinds.specs.KindClaims.{is_unknown, same_names, shows_unknown, unknown_kind}
 use Rattle.i7_kinds.specs.Knowns.{Scope, deepen, deepened, first_knowns, is_in, is_off, is_parted, kind_by, known_at, knowns_of, off_path, shows_off, thing_or_container, unknown, with_demand, with_holder, with_known, with_known_of, with_room}
 use Rattle.i7_claims.specs.Numbers.{has_name, number_in}
@@ -26,7 +26,7 @@ base_in (b ∷ bs) zero = b
 base_in (b ∷ bs) (suc o) = base_in bs o
 
 abbrev pub base : ℕ → Option ℕ
-base o = base_in (Some 6 ∷ replicate 12 (Some 2)) o
+base o = base_in (Some person_kind ∷ replicate 12 (Some direction_kind)) o
 
 abbrev pub UnderBase : List (Option ℕ) → Option ℕ → ℕ → Type 0
 UnderBase parents None kind = Unit {0}

@@ -2,7 +2,7 @@
 use Rattle.std.proofs.Common.{◌≡◌, ℕ, zero, suc, ◌-◌, false, List, ◌++◌, Option, refl, sym, subst, inl, inr, ◌⊎◌}
 use Rattle.std.specs.Prelude.{Some, None, codes, replicate, slice_get}
 use Rattle.world_meaning.specs.Directions.{direction_name, direction_number}
-use Rattle.world_meaning.specs.Kinds.{Under, itself}
+use Rattle.world_meaning.specs.Kinds.{Under, itself, direction_kind, person_kind}
 use Rattle.world_meaning.specs.declared.direction.Direction.{Direction}
 use Rattle.world_meaning.specs.declared.direction.Direction.TheVariants.{North, Northeast, Northwest, South, Southeast, Southwest, East, West, Up, Down, Inside, Outside}
 use Rattle.i7_claims.specs.Statements.{built_in_keys}
@@ -54,9 +54,9 @@ first_are_known S count o =
 -- ---- by names
 
 abbrev pub IsFirst : List ℕ → ℕ → Type 0
-IsFirst name x = ((name ≡ codes "yourself") × (x ≡ 6)) ⊎ ((d : Direction) × (name ≡ direction_name d) × (x ≡ 2))
+IsFirst name x = ((name ≡ codes "yourself") × (x ≡ person_kind)) ⊎ ((d : Direction) × (name ≡ direction_name d) × (x ≡ direction_kind))
 
-told : (d : Direction) (name : List ℕ) (x : ℕ) → Some (direction_name d) ≡ Some name → Some 2 ≡ Some x → IsFirst name x
+told : (d : Direction) (name : List ℕ) (x : ℕ) → Some (direction_name d) ≡ Some name → Some direction_kind ≡ Some x → IsFirst name x
 told d name x h k = inr (d, sym (same_some h), sym (same_some k))
 
 pub first_named : (more : List (List ℕ)) (o : ℕ) (name : List ℕ) (x : ℕ) → slice_get (built_in_keys ++ more) o ≡ Some name → base o ≡ Some x → IsFirst name x
@@ -79,7 +79,7 @@ pub player_is_first : (more : List (List ℕ)) → slice_get (built_in_keys ++ m
 player_is_first more = refl
 
 -- a direction stands at its number, and is a direction
-pub direction_is_first : (more : List (List ℕ)) (d : Direction) → (slice_get (built_in_keys ++ more) (direction_number d) ≡ Some (direction_name d)) × (base (direction_number d) ≡ Some 2)
+pub direction_is_first : (more : List (List ℕ)) (d : Direction) → (slice_get (built_in_keys ++ more) (direction_number d) ≡ Some (direction_name d)) × (base (direction_number d) ≡ Some direction_kind)
 direction_is_first more North = (refl, refl)
 direction_is_first more Northeast = (refl, refl)
 direction_is_first more Northwest = (refl, refl)

@@ -4,7 +4,7 @@ use Rattle.std.specs.Prelude.{Some, None, Decides, codes, slice_get}
 use Rattle.std.proofs.lemmas.Bool.{eqb-true, eq-eqb, cases_Bool, not-false}
 use Rattle.std.proofs.lemmas.Option.{slice_get_within}
 use Rattle.world_meaning.specs.Directions.{direction_name, direction_number}
-use Rattle.world_meaning.specs.Kinds.{Under, itself as no_step, above as step, built_in_parents}
+use Rattle.world_meaning.specs.Kinds.{Under, itself as no_step, above as step, built_in_parents, container_kind, direction_kind, door_kind, person_kind, room_kind, thing_kind}
 use Rattle.world_meaning.specs.declared.place.Rel.{Rel}
 use Rattle.world_meaning.specs.declared.place.Rel.TheVariants.{In}
 use Rattle.i7_claims.specs.KindNames.{kind_names}
@@ -19,7 +19,7 @@ use Rattle.i7_claims.specs.declared.claim.Fact.TheVariants.{Demands, Placed, Roo
 use Rattle.i7_kinds.specs.Doors.{DemandsDoor}
 use Rattle.i7_kinds.specs.KindClaims.{parents_of}
 use Rattle.i7_kinds.specs.KindsMeant.{HasKind, HoldsSomething, IsClaimed, IsDemanded, IsSaidDoor, IsThingAtMost, by_claim, by_way, container, deepest, of_direction, of_player, thing}
-use Rattle.i7_kinds.specs.Knowns.{door_kind, first_knowns, kind_by, kind_of, known_at, knowns_of, thing_or_container}
+use Rattle.i7_kinds.specs.Knowns.{first_knowns, kind_by, kind_of, known_at, knowns_of, thing_or_container}
 use Rattle.i7_kinds.specs.Tales.{scope_of}
 use Rattle.i7_kinds.specs.declared.knowns.Demanded.{Demanded}
 use Rattle.i7_kinds.specs.declared.knowns.Demanded.TheVariants.{Nothing, Deepest, Parted}
@@ -87,7 +87,7 @@ module _ (claims : List Claim) (keys : List (List ℕ)) (new : AreNew built_in_k
       let N = kind_names claims in
       let S = parents_of N claims in
       let d : Demand = record { object = name; kind = said.0 } in
-      let under : Under S (number_in N said.0) door_kind = subst (λ (n : ℕ). Under S (number_in N said.0) n) (numbered 3 (codes "door") refl)
+      let under : Under S (number_in N said.0) door_kind = subst (λ (n : ℕ). Under S (number_in N said.0) n) (numbered door_kind (codes "door") refl)
       (to_numbers claims new found.known said.0 (codes "door") said.2) in
       let demands : DemandsDoor N S name (Demands d) = (refl, is_kind d said.1, under) in
       let t = shown_where claims (Demands d) said.1 in
@@ -106,8 +106,8 @@ module _ (claims : List Claim) (keys : List (List ℕ)) (new : AreNew built_in_k
 
     first_asked : (x : ℕ) → IsFirst name x → IsAskedAs x
     unfolding built_in_kinds
-    first_asked x (inl player) = (codes "person", of_player player.0 refl, ap (slice_get (kind_names claims)) player.1 ∙ kind_at_number 6 (codes "person") refl)
-    first_asked x (inr t) = (codes "direction", of_direction t.0 t.1 refl, ap (slice_get (kind_names claims)) t.2 ∙ kind_at_number 2 (codes "direction") refl)
+    first_asked x (inl player) = (codes "person", of_player player.0 refl, ap (slice_get (kind_names claims)) player.1 ∙ kind_at_number person_kind (codes "person") refl)
+    first_asked x (inr t) = (codes "direction", of_direction t.0 t.1 refl, ap (slice_get (kind_names claims)) t.2 ∙ kind_at_number direction_kind (codes "direction") refl)
 
     claim_asked : (x : ℕ) (f : Fact) → IsClaimed claims f → DemandsKind (scope_of claims keys) name x f → IsAskedAs x
     unfolding built_in_kinds
@@ -118,7 +118,7 @@ module _ (claims : List Claim) (keys : List (List ℕ)) (new : AreNew built_in_k
     claim_asked x (RoomUnlessDoor object) h t =
         let here : IsClaimed claims (RoomUnlessDoor name) = subst (λ (n : List ℕ). IsClaimed claims (RoomUnlessDoor n)) t.0 h in
         let none : has_name (scope_of claims keys).doors name ≡ false = ap (has_name (scope_of claims keys).doors) (sym t.0) ∙ t.1 in
-        (codes "room", by_way here (λ door. true≢false (sym (is_door name door) ∙ none)) refl, ap (slice_get (kind_names claims)) t.2 ∙ kind_at_number 1 (codes "room") refl)
+        (codes "room", by_way here (λ door. true≢false (sym (is_door name door) ∙ none)) refl, ap (slice_get (kind_names claims)) t.2 ∙ kind_at_number room_kind (codes "room") refl)
     claim_asked x _ h t = absurd t
 
     asked : (x : ℕ) → IsAsked x → IsAskedAs x
@@ -135,16 +135,16 @@ module _ (claims : List Claim) (keys : List (List ℕ)) (new : AreNew built_in_k
     unfolding built_in_kinds
     asks kind (of_player is same) =
         let N = kind_names claims in
-        let number : number_in N kind ≡ 6 = ap (number_in N) same ∙ numbered 6 (codes "person") refl in (
-          inl (subst (λ (n : ℕ). base o ≡ Some n) (sym number) (placed_first 0 (codes "yourself") 6 (player_is_first more) refl is)),
-          ap (slice_get N) number ∙ kind_at_number 6 (codes "person") refl ∙ ap (λ (n : List ℕ). Some n) (sym same),
+        let number : number_in N kind ≡ person_kind = ap (number_in N) same ∙ numbered person_kind (codes "person") refl in (
+          inl (subst (λ (n : ℕ). base o ≡ Some n) (sym number) (placed_first 0 (codes "yourself") person_kind (player_is_first more) refl is)),
+          ap (slice_get N) number ∙ kind_at_number person_kind (codes "person") refl ∙ ap (λ (n : List ℕ). Some n) (sym same),
         )
     asks kind (of_direction d is same) =
         let N = kind_names claims in
-        let number : number_in N kind ≡ 2 = ap (number_in N) same ∙ numbered 2 (codes "direction") refl in
+        let number : number_in N kind ≡ direction_kind = ap (number_in N) same ∙ numbered direction_kind (codes "direction") refl in
         let t = direction_is_first more d in (
-          inl (subst (λ (n : ℕ). base o ≡ Some n) (sym number) (placed_first (direction_number d) (direction_name d) 2 t.0 t.1 is)),
-          ap (slice_get N) number ∙ kind_at_number 2 (codes "direction") refl ∙ ap (λ (n : List ℕ). Some n) (sym same),
+          inl (subst (λ (n : ℕ). base o ≡ Some n) (sym number) (placed_first (direction_number d) (direction_name d) direction_kind t.0 t.1 is)),
+          ap (slice_get N) number ∙ kind_at_number direction_kind (codes "direction") refl ∙ ap (λ (n : List ℕ). Some n) (sym same),
         )
     asks kind (by_claim h) =
         let N = kind_names claims in
@@ -153,10 +153,10 @@ module _ (claims : List Claim) (keys : List (List ℕ)) (new : AreNew built_in_k
     asks kind (by_way h none same) =
         let N = kind_names claims in
         let doors = (scope_of claims keys).doors in
-        let number : number_in N kind ≡ 1 = ap (number_in N) same ∙ numbered 1 (codes "room") refl in
+        let number : number_in N kind ≡ room_kind = ap (number_in N) same ∙ numbered room_kind (codes "room") refl in
         let no_door : has_name doors name ≡ false = ⊎_elim (λ is. absurd (none (is_said_door name is))) (λ isnt. isnt) (cases_Bool (has_name doors name)) in (
           inr (fact_among (DemandsKind (scope_of claims keys) name (number_in N kind)) claims (RoomUnlessDoor name) h (refl, no_door, number)),
-          ap (slice_get N) number ∙ kind_at_number 1 (codes "room") refl ∙ ap (λ (n : List ℕ). Some n) (sym same),
+          ap (slice_get N) number ∙ kind_at_number room_kind (codes "room") refl ∙ ap (λ (n : List ℕ). Some n) (sym same),
         )
 
     -- ---- what is in it
@@ -182,8 +182,8 @@ module _ (claims : List Claim) (keys : List (List ℕ)) (new : AreNew built_in_k
 
     thing_or : (is : Bool) → Decides is (⊥ ⊎ SomeFact (IsHeldIn name) claims) → IsThingAtMost claims name → HasKindAt (thing_or_container is)
     unfolding built_in_kinds
-    thing_or true d most = (codes "container", kind_at_number 4 (codes "container") refl, container most (⊎_elim (λ none. absurd none) is_held (d.0 refl)) refl)
-    thing_or false d most = (codes "thing", kind_at_number 0 (codes "thing") refl, thing most (λ h. true≢false (sym (d.1 (inr (holds h))))) refl)
+    thing_or true d most = (codes "container", kind_at_number container_kind (codes "container") refl, container most (⊎_elim (λ none. absurd none) is_held (d.0 refl)) refl)
+    thing_or false d most = (codes "thing", kind_at_number thing_kind (codes "thing") refl, thing most (λ h. true≢false (sym (d.1 (inr (holds h))))) refl)
 
     nothing_asked : ((x : ℕ) → IsAsked x → ⊥) → IsThingAtMost claims name
     nothing_asked none kind h = absurd (none (number_in (kind_names claims) kind) (asks kind h).0)
@@ -194,7 +194,7 @@ module _ (claims : List Claim) (keys : List (List ℕ)) (new : AreNew built_in_k
         let N = kind_names claims in
         let t = asks kind h in
         let same : 0 ≡ number_in N kind = at_root (parents_of N claims) 0 (number_in N kind) root (all (number_in N kind) t.0) in
-        one_value (slice_get N 0) kind (codes "thing") (ap (slice_get N) same ∙ t.1) (kind_at_number 0 (codes "thing") refl)
+        one_value (slice_get N 0) kind (codes "thing") (ap (slice_get N) same ∙ t.1) (kind_at_number thing_kind (codes "thing") refl)
 
     deeper : (d : ℕ) → (d ≡ 0 → ⊥) → IsAsked d → ((x : ℕ) → IsAsked x → Under (parents_of (kind_names claims) claims) d x) → HasKindAt d
     unfolding built_in_kinds
@@ -203,7 +203,7 @@ module _ (claims : List Claim) (keys : List (List ℕ)) (new : AreNew built_in_k
         let t = asked d ask in (
           t.0,
           t.2,
-          deepest t.1 (λ same. more_than (sym (kind_number claims new found.known d (codes "thing") (t.2 ∙ ap (λ (n : List ℕ). Some n) same)) ∙ numbered 0 (codes "thing") refl))
+          deepest t.1 (λ same. more_than (sym (kind_number claims new found.known d (codes "thing") (t.2 ∙ ap (λ (n : List ℕ). Some n) same)) ∙ numbered thing_kind (codes "thing") refl))
               (λ other h. let a = asks other h in under_named claims new found.known d (number_in N other) t.0 other t.2 a.1 (all (number_in N other) a.0)),
         )
 

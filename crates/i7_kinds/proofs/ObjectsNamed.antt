@@ -3,6 +3,7 @@ use Rattle.std.proofs.Common.{◌≡◌, ℕ, zero, suc, ◌+◌, List, [], ◌�
 use Rattle.std.specs.Prelude.{Some, None, fold, slice_get}
 use Rattle.std.proofs.lemmas.List.{map-append}
 use Rattle.std.proofs.lemmas.Bool.{cases_Bool}
+use Rattle.world_meaning.specs.Directions.{direction_name}
 use Rattle.world_meaning.specs.declared.declared.Declared.{Declared}
 use Rattle.world_meaning.specs.declared.fault.Fault.{Fault}
 use Rattle.world_meaning.specs.declared.fault.FaultCode.TheVariants.{Twice}
@@ -102,6 +103,7 @@ keyed_sentences [] named keyed = keyed
 keyed_sentences (sentence ∷ sentences) named keyed = keyed_sentences sentences (with_names_of named sentence) (keyed_names (names_at sentence) named keyed)
 
 pub keyed : (sentences : List Sentence) → Keyed (named_by sentences)
+unfolding direction_name
 keyed sentences = keyed_sentences sentences (record { keys = built_in_keys; mentions = [] }) (record { keys_are = refl; once = once_mentions built_in_keys [] none_once })
 
 -- ---- the entries stand at the keys
@@ -116,7 +118,7 @@ author_keys [] = refl
 author_keys (at ∷ mentions) = ap (λ (keys : List (List ℕ)). key_at at ∷ keys) (author_keys mentions)
 
 pub entry_keys : (mentions : List NameAt) → map key_in (entries_of mentions) ≡ built_in_keys ++ map key_at mentions
-unfolding entries_of
+unfolding entries_of direction_name
 entry_keys mentions = ap (λ (keys : List (List ℕ)). built_in_keys ++ keys) (author_keys mentions)
 
 -- ---- the objects

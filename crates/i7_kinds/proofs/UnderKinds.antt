@@ -3,7 +3,7 @@ use Rattle.std.proofs.Common.{◌≡◌, ℕ, true, false, List, ◌++◌, Optio
 use Rattle.std.specs.Prelude.{Some, slice_get}
 use Rattle.std.proofs.lemmas.Bool.{false_from_ne_true}
 use Rattle.world_meaning.proofs.Climbs.{climbs_decide}
-use Rattle.world_meaning.specs.Kinds.{Under, itself, above, built_in_parents, is_under}
+use Rattle.world_meaning.specs.Kinds.{Under, itself, above, built_in_parents, direction_kind, door_kind, is_under, person_kind, room_kind, thing_kind}
 
 pub trans : (S : List (Option ℕ)) (a b c : ℕ) → Under S a b → Under S b c → Under S a c
 trans S a b c itself v = v
@@ -35,26 +35,26 @@ isnt_under S d i j apart u = false_from_ne_true (is_under S d j) (λ h. not_both
 abbrev pub with_others : List (Option ℕ) → List (Option ℕ)
 with_others others = built_in_parents ++ others
 
-pub person_is_thing : (others : List (Option ℕ)) → is_under (with_others others) 6 0 ≡ true
+pub person_is_thing : (others : List (Option ℕ)) → is_under (with_others others) person_kind thing_kind ≡ true
 unfolding is_under built_in_parents
 person_is_thing others = refl
 
-pub person_and_door : (others : List (Option ℕ)) → Apart (with_others others) 6 3
+pub person_and_door : (others : List (Option ℕ)) → Apart (with_others others) person_kind door_kind
 unfolding is_under built_in_parents
 person_and_door others = (refl, refl)
 
-pub room_and_thing : (others : List (Option ℕ)) → Apart (with_others others) 1 0
+pub room_and_thing : (others : List (Option ℕ)) → Apart (with_others others) room_kind thing_kind
 unfolding is_under built_in_parents
 room_and_thing others = (refl, refl)
 
-pub direction_and_thing : (others : List (Option ℕ)) → Apart (with_others others) 2 0
+pub direction_and_thing : (others : List (Option ℕ)) → Apart (with_others others) direction_kind thing_kind
 unfolding is_under built_in_parents
 direction_and_thing others = (refl, refl)
 
-pub direction_and_room : (others : List (Option ℕ)) → Apart (with_others others) 2 1
+pub direction_and_room : (others : List (Option ℕ)) → Apart (with_others others) direction_kind room_kind
 unfolding is_under built_in_parents
 direction_and_room others = (refl, refl)
 
-pub person_and_room : (others : List (Option ℕ)) → Apart (with_others others) 6 1
+pub person_and_room : (others : List (Option ℕ)) → Apart (with_others others) person_kind room_kind
 unfolding is_under built_in_parents
 person_and_room others = (refl, refl)

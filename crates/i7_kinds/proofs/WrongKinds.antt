@@ -6,7 +6,7 @@ use Rattle.std.proofs.lemmas.Bool.Decides.{Decides-and, Decides-eqb, Decides-lik
 use Rattle.std.proofs.lemmas.List.Folds.{Any-from_list_any, list_any-from_Any}
 use Rattle.std.proofs.lemmas.Bool.{cases_Bool}
 use Rattle.world_meaning.proofs.Climbs.{climbs_decide}
-use Rattle.world_meaning.specs.Kinds.{Under, is_under, room_kind}
+use Rattle.world_meaning.specs.Kinds.{Under, door_kind, is_under, room_kind}
 use Rattle.world_meaning.specs.Placing.{can_be_held, can_hold, keeps_player}
 use Rattle.world_meaning.specs.Sight.{is_in}
 use Rattle.world_meaning.specs.declared.place.Place.{Place}
@@ -25,7 +25,7 @@ use Rattle.i7_claims.specs.declared.statements.NumberedSentence.{NumberedSentenc
 use Rattle.i7_kinds.specs.Demands.{is_door, is_no_room, is_room, is_wrong, is_wrong_subject, line_of_statement, subject_of, wrong_after, wrong_kind}
 use Rattle.i7_kinds.specs.FirstShown.{IsFirst, IsFound}
 use Rattle.i7_kinds.specs.Grants.{built_in_bases}
-use Rattle.i7_kinds.specs.Knowns.{Scope, door_kind, is_parted_at, kind_of, kinds_known, known_at}
+use Rattle.i7_kinds.specs.Knowns.{Scope, is_parted_at, kind_of, kinds_known, known_at}
 use Rattle.i7_kinds.specs.Places.{place_of, thing_of}
 use Rattle.i7_kinds.specs.RefusalsShown.{EndsAbout, HasProperty, Holds, IsDoor, IsLacking, IsNoRoom, IsRoom, IsUnsuited, IsWrong, Suits}
 use Rattle.i7_kinds.specs.Suits.{can_be, is_unsuited, kinds_in, same_knowns, shows_unsuited, suits, unsuited}

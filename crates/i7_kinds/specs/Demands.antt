@@ -4,9 +4,9 @@ use Rattle.std.specs.Prelude.{ℕ, Bool, true, false, not, ◌&&◌, ◌||◌, �
 use Rattle.std.specs.List.{list_any}
 use Rattle.world_meaning.specs.Directions.{direction_number, opposite_of}
 use Rattle.world_meaning.specs.declared.direction.Direction.{Direction}
-use Rattle.world_meaning.specs.Kinds.{room_kind}
+use Rattle.world_meaning.specs.Kinds.{door_kind, room_kind}
 use Rattle.i7_claims.specs.Firsts.{first_of}
-use Rattle.i7_kinds.specs.Knowns.{door_kind, is_of, is_parted_at}
+use Rattle.i7_kinds.specs.Knowns.{is_of, is_parted_at}
 use Rattle.i7_kinds.specs.declared.knowns.Known.{Known}
 use Rattle.i7_claims.specs.Statements.{NameAt}
 use Rattle.i7_kinds.specs.declared.descriptions.Description.{Description}

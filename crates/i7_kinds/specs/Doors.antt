@@ -1,7 +1,6 @@
 -- Doors: of which objects sentences demand one, and which sentences tell the rooms of a door again.
 use Rattle.std.specs.Prelude.{◌≡◌, ℕ, Bool, true, false, ◌&&◌, List, [], fold, Option, Some, None}
-use Rattle.world_meaning.specs.Kinds.{Under, is_under}
-use Rattle.i7_kinds.specs.Knowns.{door_kind}
+use Rattle.world_meaning.specs.Kinds.{Under, door_kind, is_under}
 use Rattle.i7_claims.specs.Numbers.{has_name, number_in}
 use Rattle.i7_claims.specs.Scans.{ShownBy, lowest}
 use Rattle.i7_claims.specs.Sorts.{named_if, with_name}

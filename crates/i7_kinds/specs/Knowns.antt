@@ -1,6 +1,6 @@
 -- The kinds of objects: the deepest kind that is demanded of each, all of its demands lying on one path.
 use Rattle.std.specs.Prelude.{ℕ, ◌-◌, Bool, true, false, not, ◌==◌, ◌&&◌, List, ◌∷◌, ◌++◌, length, map, fold, replicate, slice_get, slice_index_or, slice_set, Option, Some, None, if◌then◌else◌}
-use Rattle.world_meaning.specs.Kinds.{direction_kind, is_under, person_kind, room_kind}
+use Rattle.world_meaning.specs.Kinds.{container_kind, direction_kind, door_kind, is_under, person_kind, room_kind, supporter_kind, thing_kind}
 use Rattle.world_meaning.specs.Placing.{Kinds}
 use Rattle.world_meaning.specs.declared.place.Rel.{Rel}
 use Rattle.world_meaning.specs.declared.place.Rel.TheVariants.{In}
@@ -37,9 +37,6 @@ scope_of_names objects kinds parents properties givens doors variables = record 
   doors = doors;
   variables = variables;
 }
-
-abbrev pub door_kind : ℕ
-door_kind = 3
 
 -- ---- what is known of an object by the claims so far
 
@@ -102,12 +99,12 @@ knowns_of s claims = fold (with_known_of s) (first_knowns (length s.objects)) cl
 -- ---- kinds
 
 abbrev pub thing_or_container : Bool → ℕ
-thing_or_container holds = if holds then 4 else 0
+thing_or_container holds = if holds then container_kind else thing_kind
 
 abbrev pub kind_by : Demanded → Bool → ℕ
 kind_by Nothing holds = thing_or_container holds
-kind_by (Deepest kind) holds = if kind == 0 then thing_or_container holds else kind
-kind_by Parted holds = 0
+kind_by (Deepest kind) holds = if kind == thing_kind then thing_or_container holds else kind
+kind_by Parted holds = thing_kind
 
 -- what something is in, and is demanded nothing deeper than a thing, is a container, and else a thing
 abbrev pub kind_of : Known → ℕ
@@ -138,12 +135,12 @@ is_of parents knowns kind o = is_of_in parents kind (slice_get knowns o)
 
 abbrev pub kinds_known : List (Option ℕ) → List Known → Kinds
 kinds_known parents knowns = record {
-  is_thing = is_of parents knowns 0;
-  is_room = is_of parents knowns 1;
+  is_thing = is_of parents knowns thing_kind;
+  is_room = is_of parents knowns room_kind;
   is_door = is_of parents knowns door_kind;
-  is_container = is_of parents knowns 4;
-  is_supporter = is_of parents knowns 5;
-  is_person = is_of parents knowns 6;
+  is_container = is_of parents knowns container_kind;
+  is_supporter = is_of parents knowns supporter_kind;
+  is_person = is_of parents knowns person_kind;
 }
 
 -- ---- C8: the first demand off the path of the earlier ones

@@ -1,7 +1,7 @@
 -- What is refused in what sentences state and claim, each said of a statement or a claim with those before it.
 use Rattle.std.specs.Prelude.{◌≡◌, ◌≢◌, ◌⊎◌, ℕ, ◌+◌, ◌≤◌, ◌<◌, false, true, List, [], ◌∷◌, ◌++◌, length, slice_get, Option, Some, None}
 use Rattle.std.specs.List.{Any}
-use Rattle.world_meaning.specs.Kinds.{Under, direction_kind, person_kind, room_kind}
+use Rattle.world_meaning.specs.Kinds.{Under, container_kind, direction_kind, door_kind, person_kind, room_kind, supporter_kind, thing_kind}
 use Rattle.world_meaning.specs.declared.place.Place.{Place}
 use Rattle.world_meaning.specs.declared.place.Rel.{Rel}
 use Rattle.world_meaning.specs.declared.place.Rel.TheVariants.{In, On, Carried, Worn, Part}
@@ -17,7 +17,7 @@ use Rattle.i7_claims.specs.declared.statements.NumberedSentence.{NumberedSentenc
 use Rattle.i7_kinds.specs.Demands.{first_of_author, subject_of, way_there, way_through}
 use Rattle.i7_kinds.specs.FirstShown.{IsShown}
 use Rattle.i7_kinds.specs.Grants.{built_in_bases}
-use Rattle.i7_kinds.specs.Knowns.{Scope, door_kind, kind_of, known_at}
+use Rattle.i7_kinds.specs.Knowns.{Scope, kind_of, known_at}
 use Rattle.i7_kinds.specs.Places.{place_of, thing_of}
 use Rattle.i7_kinds.specs.Suits.{kinds_in}
 use Rattle.i7_kinds.specs.declared.knowns.Demanded.TheVariants.{Parted}
@@ -106,15 +106,15 @@ IsWrong parents knowns before _ = ⊥
 
 -- a holder of its kind holds so
 abbrev pub Holds : List (Option ℕ) → List Known → Rel → ℕ → Type 0
-Holds parents knowns In holder = IsRoom parents knowns holder ⊎ IsOf parents knowns 4 holder
-Holds parents knowns On holder = IsOf parents knowns 5 holder
+Holds parents knowns In holder = IsRoom parents knowns holder ⊎ IsOf parents knowns container_kind holder
+Holds parents knowns On holder = IsOf parents knowns supporter_kind holder
 Holds parents knowns Carried holder = IsOf parents knowns person_kind holder
 Holds parents knowns Worn holder = IsOf parents knowns person_kind holder
-Holds parents knowns Part holder = IsOf parents knowns 0 holder
+Holds parents knowns Part holder = IsOf parents knowns thing_kind holder
 
 -- a thing that is no door may stand in this place; the player only directly in a room
 pub record Suits (parents : List (Option ℕ)) (knowns : List Known) (o : ℕ) (place : Place) : Type 0 where
-  pub thing : IsOf parents knowns 0 o
+  pub thing : IsOf parents knowns thing_kind o
   pub no_door : IsDoor parents knowns o → ⊥
   pub holds : Holds parents knowns place.relation place.holder
   pub player : o ≡ 0 → (place.relation ≡ In) × IsRoom parents knowns place.holder

@@ -13,7 +13,7 @@ use Rattle.world_meaning.specs.declared.fault.FaultCode.TheVariants.{Twice, Unkn
 use Rattle.world_meaning.specs.declared.tale.Object.{Object}
 use Rattle.world_meaning.specs.declared.tale.Tale.{Tale}
 use Rattle.world_meaning.specs.Declarations.{is_had}
-use Rattle.world_meaning.specs.Kinds.{is_under, is_under_one, room_kind}
+use Rattle.world_meaning.specs.Kinds.{is_under, is_under_one, room_kind, thing_kind}
 use Rattle.world_meaning.specs.declared.declared.Granted.{Granted}
 use Rattle.world_meaning.specs.Properties.{described}
 use Rattle.world_meaning.specs.declared.kinds.TheConstants.{PROPERTIES}
@@ -110,7 +110,7 @@ pub record Made : Type 0 where
   pub statements : List NumberedSentence
 
 abbrev pub kind_at : List ℕ → ℕ → ℕ
-kind_at kinds o = slice_index_or kinds o 0
+kind_at kinds o = slice_index_or kinds o thing_kind
 
 abbrev pub player_entry : Entry
 player_entry = record { name = codes "yourself"; article = article.None }

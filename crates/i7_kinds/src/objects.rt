@@ -36,12 +36,6 @@ pub struct Makings<'a> {
     pub ways: &'a Ways<'a>,
 }
 
-/// No way.
-const NOWHERE: Way = Way {
-    room: None,
-    door: None,
-};
-
 fn door_no(door: Option<usize>) -> Option<ObjNo>
     requires { IsSmall door }
     ensures { result ≡ door }
@@ -58,7 +52,7 @@ fn way_of(ways: &Ways<'_>, room: usize, direction: Direction) -> Way
     ensures { result ≡ way_to (target_of (stated ways.now) room (direction_number direction)) }
 {
     match ways.target_of(room, direction) {
-        None => NOWHERE,
+        None => Way::NONE,
         Some(target) => Way {
             room: Some(ObjNo::new(target.room as u16)),
             door: door_no(target.door),
@@ -108,7 +102,7 @@ fn exits_by(makings: &Makings<'_>, kind: KindNo, number: usize) -> Exits
         exits_of(makings.ways, number)
     } else {
         Exits {
-            ways: [NOWHERE; 12],
+            ways: [Way::NONE; 12],
         }
     }
 }
