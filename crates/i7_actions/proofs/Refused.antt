@@ -1,14 +1,14 @@
 -- Many words that nothing opens mean no object.
-use Rattle.std.proofs.Common.{◌≡◌, ◌<◌, false, List, [], ◌∷◌, length, refl, ap, ◌∙◌, arith, inl, inr}
+use Rattle.std.proofs.Common.{◌≡◌, ◌<◌, true, false, List, [], ◌∷◌, length, refl, ap, ◌∙◌, arith, inl, inr}
 use Rattle.std.specs.Prelude.{None, nat_lt, codes}
 use Rattle.std.proofs.lemmas.Bool.Decides.{nat_tests}
 use Rattle.std.proofs.lemmas.Bool.{cases_Bool, or_parts}
-use Rattle.world_meaning.specs.Spelling.{is_spelled}
+use Rattle.world_meaning.specs.Spelling.{is_article, is_spelled}
 use Rattle.i7_conditions.specs.Marks.{has_from, marks_of, split_opening}
 use Rattle.i7_conditions.specs.Parts.{put_together}
 use Rattle.i7_conditions.specs.Plain.{plainly_named}
 use Rattle.i7_conditions.specs.Scopes.{Scope}
-use Rattle.i7_conditions.specs.Words.{Word, beyond_of, is_article}
+use Rattle.i7_conditions.specs.Words.{Word, beyond_of}
 use Rattle.i7_conditions.specs.declared.found.Found.TheVariants.{Unread}
 use Rattle.i7_conditions.specs.declared.mark.Mark.TheVariants.{Unknown}
 use Rattle.i7_actions.specs.NounForms.{is_opening, may_open, noun_said}

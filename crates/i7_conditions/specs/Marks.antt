@@ -1,9 +1,10 @@
 -- Words that name an object as openings and names, in their order.
 use Rattle.std.specs.Prelude.{Bool, ◌&&◌, List, [], ◌∷◌, ◌++◌, flat_map, Option, Some, None, if◌then◌else◌}
 use Rattle.std.specs.List.{list_any, slice_split}
+use Rattle.world_meaning.specs.Spelling.{is_article}
 use Rattle.i7_conditions.specs.Plain.{plainly_named}
 use Rattle.i7_conditions.specs.Scopes.{Scope}
-use Rattle.i7_conditions.specs.Words.{Word, begins_beyond, beyond_of, is_article, is_from, without_article}
+use Rattle.i7_conditions.specs.Words.{Word, begins_beyond, beyond_of, is_from, without_article}
 use Rattle.i7_conditions.specs.declared.mark.Mark.{Mark}
 use Rattle.i7_conditions.specs.declared.mark.Mark.TheVariants.{Unknown}
 

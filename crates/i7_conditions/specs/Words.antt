@@ -1,15 +1,12 @@
 -- Words as they are written, the case of letters aside.
-use Rattle.std.specs.Prelude.{ℕ, Bool, true, false, not, ◌&&◌, ◌||◌, List, [], ◌∷◌, ◌++◌, Option, Some, None, codes, fold, is_some, if◌then◌else◌}
-use Rattle.world_meaning.specs.Spelling.{is_spelled, lowered}
+use Rattle.std.specs.Prelude.{ℕ, Bool, true, false, not, ◌&&◌, List, [], ◌∷◌, ◌++◌, Option, Some, None, codes, fold, is_some, if◌then◌else◌}
+use Rattle.world_meaning.specs.Spelling.{is_article, is_spelled, lowered}
 use Rattle.i7_conditions.specs.declared.mark.Mark.{Mark}
 use Rattle.i7_conditions.specs.declared.mark.Mark.TheVariants.{Room, Door}
 
 -- a word's bytes
 abbrev pub Word : Type 0
 Word = List ℕ
-
-unfoldable pub is_article : Word → Bool
-is_article word = is_spelled word (codes "a") || is_spelled word (codes "an") || is_spelled word (codes "the") || is_spelled word (codes "some")
 
 unfoldable pub is_from : Word → Bool
 is_from word = is_spelled word (codes "from")

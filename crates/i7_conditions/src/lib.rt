@@ -50,4 +50,4 @@ pub use number::{number_of, one_number_is_meant};
 pub use object::{object_of, object_said, one_object_is_meant};
 pub use relation::relation_at;
 pub use scope::Scope;
-pub use word::{is_article, key_of, without_article};
+pub use word::{key_of, without_article};

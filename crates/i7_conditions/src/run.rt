@@ -8,9 +8,9 @@ use crate::joint::{Joint, cut};
 use crate::mark::Mark;
 use crate::plain::plainly_named;
 use crate::scope::Scope;
-use crate::word::{begins_beyond, beyond_of, is_article, is_from, without_article};
+use crate::word::{begins_beyond, beyond_of, is_from, without_article};
 use std::alloc::{AllocError, Global};
-use world_meaning::TextBytes;
+use world_meaning::{TextBytes, is_article};
 
 /// What a word is where no name begins: an opening, an article in front of one, or neither.
 fn opening(word: &TextBytes, after: &[TextBytes]) -> Option<Option<Mark>>
@@ -19,7 +19,7 @@ fn opening(word: &TextBytes, after: &[TextBytes]) -> Option<Option<Mark>>
     match beyond_of(word) {
         Some(way) => Some(Some(way)),
         None => {
-            if is_article(word) && begins_beyond(after) {
+            if is_article(word.as_slice()) && begins_beyond(after) {
                 Some(None)
             } else {
                 None

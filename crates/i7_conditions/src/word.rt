@@ -1,22 +1,10 @@
-//! Words as they are written: which are articles, `from` or open a place beyond, and the name that words spell.
+//! Words as they are written: which are `from` or open a place beyond, and the name that words spell.
 ghost use Rattle.std.specs.Prelude.{◌≡◌, fold, IfOk, OnOk};
-ghost use Rattle.i7_conditions.specs.Words.{begins_beyond, beyond_of, is_article, is_from, is_not, key_of, spelled, with_word, without_article};
+ghost use Rattle.i7_conditions.specs.Words.{begins_beyond, beyond_of, is_from, is_not, key_of, spelled, with_word, without_article};
 
 use crate::mark::Mark;
 use std::alloc::{AllocError, Global};
-use world_meaning::{TextBytes, is_spelled, lowered};
-
-/// Whether the word is `a`, `an`, `the` or `some`.
-#[tactic(auto, unfolding(crate::specs::Words::is_article))]
-pub fn is_article(word: &TextBytes) -> bool
-    ensures { result ≡ is_article word.now }
-{
-    let word = word.as_slice();
-    is_spelled(word, b"a")
-        || is_spelled(word, b"an")
-        || is_spelled(word, b"the")
-        || is_spelled(word, b"some")
-}
+use world_meaning::{TextBytes, is_article, is_spelled, lowered};
 
 /// Whether the word is `from`.
 #[tactic(auto, unfolding(crate::specs::Words::is_from))]
@@ -65,7 +53,7 @@ pub fn without_article(words: &[TextBytes]) -> &[TextBytes]
     match words {
         [] => words,
         [first, rest @ ..] => {
-            if is_article(first) && !rest.is_empty() {
+            if is_article(first.as_slice()) && !rest.is_empty() {
                 rest
             } else {
                 words

@@ -3,6 +3,7 @@ use Rattle.std.proofs.Common.{◌≡◌, ℕ, ◌-◌, ◌==◌, length, Bool, t
 use Rattle.std.specs.Prelude.{Option, None, Some, bytes_eq, codes, fold, if◌then◌else◌}
 use Rattle.std.proofs.lemmas.Slice.Eq.{bytes_eq-Decides}
 use Rattle.std.proofs.lemmas.Bool.{and_parts}
+use Rattle.world_meaning.specs.Directions.{direction_name}
 use Rattle.world_meaning.specs.Spelling.{lowered}
 use Rattle.i7_sentences.specs.declared.sentence.Sentence.{Sentence}
 use Rattle.i7_conditions.specs.Meanings.{Meanings}
@@ -41,11 +42,11 @@ small_by_test (x ∷ xs) h =
     ((bytes_eq-Decides (lowered x.name) x.name).0 parts.0, small_by_test xs parts.1)
 
 built_in_small : AreSmall built_in_namings
-unfolding are_small built_in_namings
+unfolding are_small built_in_namings direction_name
 built_in_small = small_by_test built_in_namings refl
 
 built_in_fit : fits no_standings built_in_namings ≡ true
-unfolding fits built_in_namings
+unfolding fits built_in_namings direction_name
 built_in_fit = refl
 
 -- ---- names and plurals

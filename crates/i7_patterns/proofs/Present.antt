@@ -3,7 +3,7 @@ use Rattle.std.proofs.Common.{◌≡◌, ℕ, ◌+◌, ◌<◌, Bool, true, fals
 use Rattle.std.specs.Prelude.{◌&&◌, ◌||◌, Option, Some, None, codes, if◌then◌else◌, nat_le, nat_lt}
 use Rattle.std.specs.List.{list_all}
 use Rattle.std.specs.Option.{option_or}
-use Rattle.std.proofs.lemmas.Bool.{lt-ltb, and_from, and_parts}
+use Rattle.std.proofs.lemmas.Bool.{lt-ltb, and_from, and_parts, or_parts}
 use Rattle.std.proofs.lemmas.Grind.{common_steps}
 use Rattle.std.proofs.lemmas.Option.{slice_get_within}
 use Rattle.world_meaning.specs.Spelling.{is_spelled}
@@ -288,17 +288,13 @@ module _ (z : Counts) (s : Scope) (there : AreThere z s.meanings s.plurals) wher
       let around = asks.2 in
       record { noun = first_is Two (take n asks.0) nouns.0 around.noun; second = last_is Two around.last nouns.1 around.ends }
 
-  neither : (a b : Bool) → (a || b) ≡ false → (a ≡ false) × (b ≡ false)
-  neither true b e = absurd cc
-  neither false b e = (refl, e)
-
   abbrev IsAsking : ℕ → Pattern → Type 0
   IsAsking actions p = pattern_is_over p ≡ false → AsksWhatIs z actions p
 
   asking_what_is : (actions : ℕ) (action : Option ℕ) (x : Aspects) → is_one_of actions action ≡ true → AreNouns x.nouns → IsAspect x.place → IsAsking actions (pattern_of action x)
   asking_what_is actions action x one nouns place within =
-      let parts = neither (is_long x.nouns.0 || is_long x.nouns.1) (is_long x.place) within in
-      let both_nouns = neither (is_long x.nouns.0) (is_long x.nouns.1) parts.0 in
+      let parts = or_parts (is_long x.nouns.0 || is_long x.nouns.1) (is_long x.place) within in
+      let both_nouns = or_parts (is_long x.nouns.0) (is_long x.nouns.1) parts.0 in
       record { action = one; noun = nouns.noun both_nouns.0; second = nouns.second both_nouns.1; place = place parts.1; scene = refl }
 
   pattern_is : (actions : List Action) (words : List Word) (p : Pattern) → IsPattern actions s words p → IsAsking (length actions) p

@@ -1,7 +1,7 @@
 -- What a substitution of a text says (*Writing with Inform*, chapter 5): of the readings that the names allow the first listed is meant.
 use Rattle.std.specs.Prelude.{◌≡◌, ℕ, Bool, false, ◌&&◌, ◌||◌, List, [], ◌∷◌, Option, None, Some, codes, if◌then◌else◌}
 use Rattle.std.specs.Char.{is_ascii_uppercase}
-use Rattle.world_meaning.specs.Spelling.{is_spelled}
+use Rattle.world_meaning.specs.Spelling.{is_article, is_spelled}
 use Rattle.play_meaning.specs.Trees as tree
 use Rattle.play_meaning.specs.declared.naming.Naming.{Naming}
 use Rattle.play_meaning.specs.declared.naming.Naming.TheVariants.{CapitalDefinite, CapitalIndefinite, Definite, Indefinite, Plain}
@@ -12,7 +12,7 @@ use Rattle.i7_conditions.specs.Predicates.{is_deep, is_long}
 use Rattle.i7_conditions.specs.Readings.{FirstOf}
 use Rattle.i7_conditions.specs.Scopes.{Scope}
 use Rattle.i7_conditions.specs.Terms.{is_over}
-use Rattle.i7_conditions.specs.Words.{Word, is_article}
+use Rattle.i7_conditions.specs.Words.{Word}
 
 -- what a text says outside its ifs
 pub data Piece : Type 0 where

@@ -9,11 +9,11 @@ ghost use Rattle.i7_conditions.specs.Scopes.{scope_of};
 ghost use Rattle.i7_phrases.specs.SubstitutionForms.{description_by, figure_said, found_piece, from_listing, from_name, listing_said, name_said, substitution_said};
 ghost use Rattle.i7_phrases.specs.Substitutions.{DescriptionOf as IsDescriptionOf, Figure as IsFigure, Listing as IsListing, Name as IsName, Piece as Meant, Substitutes, begins_with_article, behind_of, is_capital, listed_by, listing_in, naming_of, piece_is_over, telling_in, told_behind, told_by};
 
-use i7_conditions::{Found, Scope, description_said, is_article, number_said, object_said};
+use i7_conditions::{Found, Scope, description_said, number_said, object_said};
 use play_meaning::Naming;
 use play_meaning::tree::{Description, Number, Piece, Referent};
 use std::alloc::{AllocError, Global};
-use world_meaning::{TextBytes, is_spelled};
+use world_meaning::{TextBytes, is_article, is_spelled};
 
 /// Whether the first letter of a word is a capital.
 fn is_capital(word: &TextBytes) -> bool
@@ -54,7 +54,7 @@ fn begins_with_article(words: &[TextBytes]) -> bool
 {
     match words {
         [] => false,
-        [word, ..] => is_article(word),
+        [word, ..] => is_article(word.as_slice()),
     }
 }
 

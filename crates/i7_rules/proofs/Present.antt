@@ -1,7 +1,7 @@
 -- What heads are about is there where what names stand for is.
 use Rattle.std.proofs.Common.{◌≡◌, ◌<◌, ℕ, true, false, List, [], length, refl, sym, ap, ◌∙◌, subst}
-use Rattle.std.specs.Prelude.{Option, None, Some, ◌||◌, Bool}
-use Rattle.std.proofs.lemmas.Bool.{lt-ltb}
+use Rattle.std.specs.Prelude.{Option, None, Some}
+use Rattle.std.proofs.lemmas.Bool.{lt-ltb, or_parts}
 use Rattle.play_meaning.specs.Patterns.{Pattern}
 use Rattle.i7_sentences.specs.declared.rule.Rule.{Rule}
 use Rattle.i7_sentences.specs.declared.rule.RuleSubject.{RuleSubject}
@@ -18,10 +18,6 @@ use Rattle.i7_patterns.proofs.Present.{one_there, patterns_there}
 use Rattle.i7_rules.specs.Abouts.{Happens, IsAbout, IsScene, IsSubject}
 use Rattle.i7_rules.specs.Heads.{Head, IsWithin, is_asked_over}
 use Rattle.i7_rules.specs.Knowns.{Known, scope_among}
-
-first_within : (a b : Bool) → (a || b) ≡ false → a ≡ false
-first_within true b e = absurd cc
-first_within false b e = refl
 
 module _ (k : Known) (z : Counts) (there : AreThere z k.meanings k.plurals) where
   -- ---- scenes
@@ -67,7 +63,7 @@ module _ (k : Known) (z : Counts) (there : AreThere z k.meanings k.plurals) wher
       subst (AsksWhatIs z (length k.actions)) (sym is.4) (record { action = asks.action; noun = asks.noun; second = asks.second; place = asks.place; scene = happens_there rule.scene is.1 is.3 })
 
   pub head_there : (rule : Rule) (head : Head) → IsWithin k rule head → AsksWhatIs z (length k.actions) head.about
-  head_there rule head is = about_there rule head.about (is.0).about (first_within (pattern_is_over head.about) (is_asked_over head.condition) is.2)
+  head_there rule head is = about_there rule head.about (is.0).about (or_parts (pattern_is_over head.about) (is_asked_over head.condition) is.2).0
 
 pub heads_there : (k : Known) (z : Counts) (rule : Rule) (head : Head) → AreThere z k.meanings k.plurals → IsWithin k rule head → AsksWhatIs z (length k.actions) head.about
 heads_there k z rule head there is = head_there k z there rule head is

@@ -3,10 +3,11 @@ use Rattle.std.proofs.Common.{◌≡◌, ℕ, false, List, [], ◌∷◌, refl}
 use Rattle.std.specs.Prelude.{None}
 use Rattle.std.specs.Char.{eq_ignore_ascii_case}
 use Rattle.std.proofs.lemmas.Bool.{or_parts}
+use Rattle.world_meaning.specs.Directions.{direction_name}
 use Rattle.i7_sentences.specs.Words.{direction_named, may_lead}
 
 pub not_leading : (word : List ℕ) → may_lead word ≡ false → direction_named word ≡ None
-unfolding may_lead
+unfolding may_lead direction_name
 not_leading [] none = refl
 not_leading (letter ∷ more) none =
     let n = or_parts (eq_ignore_ascii_case letter 110) _ none in

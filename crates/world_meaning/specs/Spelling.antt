@@ -6,7 +6,7 @@ abbrev pub is_spelled : List ℕ → List ℕ → Bool
 is_spelled word spelling = str_eq_ignore_ascii_case word spelling
 
 -- one of the words that may stand before a noun
-abbrev pub is_article : List ℕ → Bool
+unfoldable pub is_article : List ℕ → Bool
 is_article word = is_spelled word (codes "a") || is_spelled word (codes "an") || is_spelled word (codes "the") || is_spelled word (codes "some")
 
 -- the text in small ASCII letters

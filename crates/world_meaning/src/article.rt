@@ -19,6 +19,7 @@ pub enum Article {
 }
 
 /// Whether the word is `a`, `an`, `the` or `some`.
+#[tactic(auto, unfolding(crate::specs::Spelling::is_article))]
 pub fn is_article(word: &[u8]) -> bool
     ensures { result ≡ is_article word.now }
 {
