@@ -75,6 +75,7 @@ spelled_longer word spelling lt =
     ]
 
 long_no_article : (word : List ℕ) → 4 < length word → is_article word ≡ false
+unfolding is_article
 long_no_article word long =
     let a = spelled_longer word (codes "a") (omega (arith, long)) in
     let an = spelled_longer word (codes "an") (omega (arith, long)) in
