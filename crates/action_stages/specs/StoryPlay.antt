@@ -2,7 +2,8 @@
 use Rattle.std.specs.Prelude.{ℕ, Bool, ◌||◌, ◌==◌, map, slice_get, Option, None, Some, if◌then◌else◌}
 use Rattle.play_meaning.specs.CodedStories.{Coded, CodedRule, CodedScene, CodedStory, RuleBody, Standard, game_of_codes}
 use Rattle.play_meaning.specs.Games.{Game}
-use Rattle.play_meaning.specs.PlainReading.{reads_plainly}
+use Rattle.play_meaning.specs.Commands.{read}
+use Rattle.play_meaning.specs.StandardGrammar.{standard_grammar}
 use Rattle.play_meaning.specs.Rules.{Anything, Aspect, Exactly, OfKind}
 use Rattle.play_meaning.specs.StandardActions.{no_needs}
 use Rattle.play_meaning.specs.Trees.{Adjective, First, NotSo, Quality, Second}
@@ -91,7 +92,7 @@ coded_story t = record {
   rules = map rule_told t.rules.rules;
   books = map (λ book. book.rules) t.rules.books;
   scenes = map scene_told t.rules.scenes;
-  reads = reads_plainly (setting_of t) (words_of t);
+  reads = read (standard_grammar (setting_of t) (words_of t));
 }
 
 abbrev pub game_in_play : Tables → Game

@@ -18,13 +18,11 @@ ghost use Rattle.world_store.specs.StorySettings.{setting_of};
 use crate::failing::{access, asks_holding, fails, light, say_first_taking};
 use crate::parts::{Part, decision_of, parts, with_nouns};
 use crate::playing::{Does, Playing};
+use play_meaning::standard_actions::TAKING;
 use play_meaning::{ActNo, ActionNow, Flow, Outcome};
 use std::alloc::Global;
 use story_code::{RunState, Step, Verified, runs_begin_standing};
 use world_meaning::{Abandon, ObjNo, Slot};
-
-/// Taking, by its number.
-const TAKING: u8 = 2;
 
 /// Tries an action, one level deeper.
 #[cycle(acting)]

@@ -116,13 +116,13 @@ module _ (g : Grammar) (q : Question) (noun words : List (List ℕ)) (is_noun : 
 
 -- ---- candidates as one filter
 
-passes_both : (p : Bool) (o : ℕ) (twice both : List ℕ) → twice ≡ and_from → (if p then o ∷ twice else twice) ≡ (if p && true then o ∷ and_from else and_from)
-passes_both true o twice and_from is = ap (λ xs. o ∷ xs) is
-passes_both false o twice and_from is = is
+passes_both : (p : Bool) (o : ℕ) (twice both : List ℕ) → twice ≡ both → (if p then o ∷ twice else twice) ≡ (if p && true then o ∷ both else both)
+passes_both true o twice both is = ap (λ xs. o ∷ xs) is
+passes_both false o twice both is = is
 
-passes_one : (p : Bool) (o : ℕ) (twice both : List ℕ) → twice ≡ and_from → twice ≡ (if p && false then o ∷ and_from else and_from)
-passes_one true o twice and_from is = is
-passes_one false o twice and_from is = is
+passes_one : (p : Bool) (o : ℕ) (twice both : List ℕ) → twice ≡ both → twice ≡ (if p && false then o ∷ both else both)
+passes_one true o twice both is = is
+passes_one false o twice both is = is
 
 filter_filter : (p q : ℕ → Bool) (objects : List ℕ) → filter p (filter q objects) ≡ filter (λ o. p o && q o) objects
 filter_filter p q [] = refl

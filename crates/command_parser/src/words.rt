@@ -1,10 +1,10 @@
 //! The words of a line, and a noun phrase behind its article.
 ghost use Rattle.std.specs.Prelude.{◌≡◌, ◌<◌, ◌≤◌, [], ◌∷◌, length, map, MatchOption};
 ghost use Rattle.std.specs.List.{position_or_len};
-ghost use Rattle.world_meaning.specs.Reading.{is_article, is_blank, noun_of, words_of};
+ghost use Rattle.world_meaning.specs.Reading.{is_blank, noun_of, words_of};
 
 use arrayvec::ArrayVec;
-use world_meaning::is_spelled;
+use world_meaning::is_article;
 
 /// The most words of a line.
 pub(crate) const MOST_WORDS: usize = 32;
@@ -53,16 +53,6 @@ pub(crate) fn words_of(line: &[u8]) -> Option<ArrayVec<&[u8], MOST_WORDS>>
         }
     }
     Some(words)
-}
-
-/// Whether the word is `a`, `an`, `the` or `some`.
-fn is_article(word: &[u8]) -> bool
-    ensures { result ≡ is_article word.now }
-{
-    is_spelled(word, b"a")
-        || is_spelled(word, b"an")
-        || is_spelled(word, b"the")
-        || is_spelled(word, b"some")
 }
 
 /// A noun phrase without the one article in front.

@@ -22,7 +22,7 @@ IsTold Is None = (book : ℕ) → Is book → ⊥
 told_first : (First Second : ℕ → Type 0) (a b : Option ℕ) → IsTold First a → IsTold Second b → IsTold (FirstOf First Second) (option_or a b)
 told_first First Second (Some book) b h k = inl h
 told_first First Second None (Some book) h k = inr (h, k)
-told_first First Second None None h k = λ book cases_Bool. elim cases_Bool [
+told_first First Second None None h k = λ book either. elim either [
   | inl first ↦ h book first
   | inr second ↦ k book second.1
 ]

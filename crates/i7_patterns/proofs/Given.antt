@@ -22,7 +22,7 @@ given_as One Other to back None h = λ x means. h x (back x means)
 pub or_given : {A : Type 0} (First Second : A → Type 0) (a b : Option A) → IsGiven First a → IsGiven Second b → IsGiven (FirstOf First Second) (option_or a b)
 or_given First Second (Some x) b h k = inl h
 or_given First Second None (Some y) h k = inr (h, k)
-or_given First Second None None h k = λ x cases_Bool. elim cases_Bool [
+or_given First Second None None h k = λ x either. elim either [
   | inl first ↦ h x first
   | inr second ↦ k x second.1
 ]

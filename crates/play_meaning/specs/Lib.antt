@@ -23,7 +23,6 @@ pub mod Operands
 pub mod Order
 pub mod Patterns
 pub mod PhraseRows
-pub mod PlainReading
 pub mod PlainStories
 pub mod PlainTales
 pub mod Progress

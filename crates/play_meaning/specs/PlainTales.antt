@@ -1,8 +1,9 @@
--- What a tale gives to play while no rule, listing, scene or action is told and no command names a thing.
+-- What a tale gives to play while no rule, listing, scene or action is told.
 use Rattle.std.specs.Prelude.{◌≡◌, ℕ, [], Option}
 use Rattle.world_meaning.specs.declared.tale.Tale.{Tale}
 use Rattle.object_words.specs.Words.{words_of}
-use Rattle.play_meaning.specs.PlainReading.{reads_plainly}
+use Rattle.play_meaning.specs.Commands.{read}
+use Rattle.play_meaning.specs.StandardGrammar.{standard_grammar}
 use Rattle.play_meaning.specs.PlainStories.{PlainStory}
 use Rattle.play_meaning.specs.Scripts.{Script, telling_of}
 use Rattle.play_meaning.specs.StandardActions.{needs_of}
@@ -19,7 +20,7 @@ script_of t texts = record {
   descriptions = texts;
   rules = standard_rules;
   scenes = [];
-  reads = reads_plainly (setting_of t) (words_of t);
+  reads = read (standard_grammar (setting_of t) (words_of t));
 }
 
 -- a script without rules, scenes or actions of its own

@@ -20,6 +20,7 @@ mod outcome;
 mod phrase_laws;
 mod scene;
 mod sight_laws;
+pub mod standard_actions;
 pub mod tree;
 mod way;
 mod work_laws;

@@ -3,43 +3,16 @@ ghost use Rattle.std.specs.Prelude.{◌≡◌, slice_get};
 ghost use Rattle.std.specs.Option.{option_map};
 ghost use Rattle.play_meaning.specs.StandardRules.{standard_rules};
 
+use play_meaning::standard_actions::{
+    CLOSING, DROPPING, EXAMINING, GOING, INSERTING, JUMPING, LOOKING, OPENING, PUTTING_ON,
+    SWITCHING_OFF, SWITCHING_ON, TAKING, TAKING_INVENTORY, TAKING_OFF, WAITING, WEARING,
+};
+
 const CHECK: u16 = 2;
 
 const CARRY_OUT: u16 = 3;
 
 const REPORT: u16 = 5;
-
-const LOOKING: u8 = 0;
-
-const EXAMINING: u8 = 1;
-
-const TAKING: u8 = 2;
-
-const DROPPING: u8 = 3;
-
-const PUTTING_ON: u8 = 4;
-
-const INSERTING: u8 = 5;
-
-const OPENING: u8 = 6;
-
-const CLOSING: u8 = 7;
-
-const GOING: u8 = 8;
-
-const WEARING: u8 = 9;
-
-const TAKING_OFF: u8 = 10;
-
-const TAKING_INVENTORY: u8 = 11;
-
-const WAITING: u8 = 12;
-
-const JUMPING: u8 = 13;
-
-const SWITCHING_ON: u8 = 14;
-
-const SWITCHING_OFF: u8 = 15;
 
 /// The rulebook and the action of each, by number from 1.
 pub const STANDARD_RULES: [(u16, u8); 61] = [

@@ -1,6 +1,7 @@
 -- The rows of the rules that every story has are theirs, and name what each story has.
 use Rattle.std.proofs.Common.{◌≡◌, ◌∙◌, sym, refl, ℕ, ◌<◌, ◌≤◌, Bool, true, false, ◌&&◌, ltb, List, [], ◌∷◌, ◌++◌, length, map, Option, Some, None, arith}
 use Rattle.std.specs.List.{AllZip, list_all}
+use Rattle.std.specs.Option.{is_none}
 use Rattle.std.proofs.lemmas.Bool.{lt-ltb, ltb-true, and_from, and_parts}
 use Rattle.std.proofs.lemmas.List.{append-nil}
 use Rattle.world_meaning.proofs.Options.{none_is}
@@ -42,10 +43,6 @@ abbrev is_anything : Aspect → Bool
 is_anything Anything = true
 is_anything (Exactly o) = false
 is_anything (OfKind kind adjectives) = false
-
-abbrev is_none : {A : Type 0} → Option A → Bool
-is_none None = true
-is_none (Some a) = false
 
 abbrev pub is_bare : Rule → Bool
 is_bare rule =

@@ -11,7 +11,7 @@ use Rattle.std.proofs.lemmas.Slice.Eq.{bytes_eq-Decides}
 use Rattle.std.proofs.lemmas.Str.Ascii.{lowercase-lowercase}
 use Rattle.world_meaning.specs.declared.direction.Direction.{Direction}
 use Rattle.world_meaning.specs.declared.direction.Direction.TheVariants as direction
-use Rattle.world_meaning.specs.Directions.{all_directions}
+use Rattle.world_meaning.specs.Directions.{all_directions, short_word}
 use Rattle.object_words.specs.Mentions.{mention}
 use Rattle.object_words.specs.Words.{is_word, is_blank, blank_words, short_words, more_words, words_for}
 use Rattle.world_meaning.specs.Spelling.{lowered}
@@ -101,6 +101,7 @@ blank_good name h =
     filter_keeps is_good is_word (slice_split is_blank (lowered name)) (all_weaker (good_in (length (lowered name))) is_good (good_if (length (lowered name)) (omega (arith, lt, same))) (slice_split is_blank (lowered name)) split)
 
 short_good : (d : Option Direction) → list_all is_good (short_words d) ≡ true
+unfolding short_word
 short_good None = refl
 short_good (Some direction.North) = refl
 short_good (Some direction.Northeast) = refl

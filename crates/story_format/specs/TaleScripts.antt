@@ -2,7 +2,8 @@
 -- scenes, which nothing begins or ends so far.
 use Rattle.std.specs.Prelude.{Bool, List, ◌++◌, map, None, slice_index_or}
 use Rattle.object_words.specs.Words.{words_of}
-use Rattle.play_meaning.specs.PlainReading.{reads_plainly}
+use Rattle.play_meaning.specs.Commands.{read}
+use Rattle.play_meaning.specs.StandardGrammar.{standard_grammar}
 use Rattle.play_meaning.specs.Rules.{Rule}
 use Rattle.play_meaning.specs.Scripts.{Scene, Script}
 use Rattle.play_meaning.specs.StandardActions.{no_needs, standard_needs}
@@ -23,5 +24,5 @@ whole_script t texts listings rules = record {
   descriptions = text_of t texts;
   rules = story_rules listings rules;
   scenes = map idle_scene t.declared.scenes;
-  reads = reads_plainly (setting_of t) (words_of t);
+  reads = read (standard_grammar (setting_of t) (words_of t));
 }

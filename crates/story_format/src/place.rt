@@ -12,12 +12,6 @@ use world_meaning::{Exits, ObjNo, Place, Rel, Way};
 /// The number that stands for none.
 pub const NONE: u16 = 65535;
 
-/// A direction in which nothing lies.
-pub const NO_WAY: Way = Way {
-    room: None,
-    door: None,
-};
-
 /// The object of a number, or none.
 pub fn object_of(number: u16) -> Option<ObjNo>
     ensures { result ≡ optional_of 65535 number }
@@ -119,7 +113,7 @@ impl Field for Exits {
         let Some((all, rest)) = read_many(alloc, 12, bytes)? else {
             return Ok(None);
         };
-        let mut ways = [NO_WAY; 12];
+        let mut ways = [Way::NONE; 12];
         ways.copy_from_slice(all.as_slice());
         Ok(Some((Exits { ways }, rest)))
     }

@@ -1,5 +1,5 @@
 //! A story that was loaded, and what it says of its objects.
-ghost use Rattle.std.specs.Prelude.{◌≡◌, ◌≤◌, ◌-◌, ℕ, Some, map};
+ghost use Rattle.std.specs.Prelude.{◌≡◌, ◌≤◌, ◌-◌, [], ℕ, Some, length, map, slice_index_or};
 ghost use Rattle.std.specs.List.{list_any};
 ghost use Rattle.story_format.specs.Facts.{body_of_rule, condition_of_rule, description_code_of, exits_at, name_of, object_count_of, start_of, text_at, way_of, words_of};
 ghost use Rattle.story_code.specs.Runs.{AreSoundTogether, IsBody, IsDescription, IsTestAt};
@@ -119,6 +119,23 @@ impl Story {
         ensures { result ≡ list_any (is_spelled word.now) (words_of self.now object) }
     {
         hold_word(self.tables.strings.as_slice(), self.words(object), word)
+    }
+
+    /// How many words a command may name the object by.
+    pub fn word_count(&self, object: ObjNo) -> usize
+        ensures { result ≡ length (words_of self.now object) }
+    {
+        self.words(object).len()
+    }
+
+    /// A word that a command may name the object by, by its place; no bytes where there is none.
+    pub fn word(&self, object: ObjNo, place: usize) -> &[u8]
+        ensures { result.now ≡ slice_index_or (words_of self.now object) place [] }
+    {
+        match self.words(object).get(place) {
+            Some(number) => self.string(*number),
+            None => &[],
+        }
     }
 
     /// The numbers of the words that a command may name the object by.

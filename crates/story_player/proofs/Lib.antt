@@ -6,10 +6,8 @@ pub mod RunLemmas
 pub mod Tellings
 pub mod Transcripts
 pub mod TypedLines
-pub mod Words
 pub mod Writes
 pub mod Completing
 pub mod Parts
 pub mod Keepings
-pub mod Objects
 pub mod Answering

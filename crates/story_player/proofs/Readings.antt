@@ -1,31 +1,29 @@
 -- What a typed line means, where only a part of it is kept.
-use Rattle.std.proofs.Common.{◌≡◌, ℕ, ◌<◌, Bool, true, false, List, [], ◌∷◌, ◌++◌, length, refl, ap, sym, ◌∙◌, subst, arith, inl, inr}
-use Rattle.std.specs.Prelude.{Option, None, Some, find, ◌||◌, ◌&&◌, ◌==◌, not, nat_lt, if◌then◌else◌}
-use Rattle.std.specs.List.{list_all, position_or_len}
+use Rattle.std.proofs.Common.{◌≡◌, ℕ, ◌<◌, Bool, true, false, List, [], ◌∷◌, ◌++◌, length, refl, ap, sym, ◌∙◌, subst, arith}
+use Rattle.std.specs.Prelude.{Option, None, Some, is_some, ◌||◌, not, nat_lt, if◌then◌else◌}
+use Rattle.std.specs.List.{position_or_len}
 use Rattle.std.proofs.lemmas.Grind.{common_steps}
-use Rattle.std.proofs.lemmas.Bool.{lt-ltb, ne_eqb, cases_Bool, and_parts, or_parts, not-false}
+use Rattle.std.proofs.lemmas.Bool.{lt-ltb, ne_eqb, or_parts, not-false}
 use Rattle.std.proofs.lemmas.List.{length-append}
-use Rattle.play_meaning.specs.Games.{Game, Question}
-use Rattle.play_meaning.specs.Games.{Says}
-use Rattle.play_meaning.specs.Grammar.{has_word as holds_word}
-use Rattle.play_meaning.specs.PlainReading.{direction_for, is_direction_for, is_rightly_read, meant, reads_plainly}
-use Rattle.play_meaning.specs.Seeing.{is_visible}
-use Rattle.play_meaning.specs.Sessions.{State}
-use Rattle.play_meaning.specs.Settings.{Setting, direction_kind, objects_of}
+use Rattle.command_parser.proofs.LineWords.{words_of-blank, words_of-word}
+use Rattle.command_parser.specs.Settling.{is_asking}
 use Rattle.play_meaning.specs.CodedStories.{game_of_codes}
+use Rattle.play_meaning.specs.Commands.{read}
+use Rattle.play_meaning.specs.Games.{Game, Question, Reading, Says}
+use Rattle.play_meaning.specs.Grammar.{Grammar}
+use Rattle.play_meaning.specs.Seeing.{is_visible}
+use Rattle.play_meaning.specs.Sessions.{Answer, State, answer_to, read_answer, unless_ended}
+use Rattle.play_meaning.specs.Worlds.{World}
 use Rattle.story_format.specs.declared.tables.Tables.{Tables}
-use Rattle.story_format.specs.Facts.{words_of as words_told}
 use Rattle.action_stages.specs.StoryPlay.{coded_story, game_in_play}
-use Rattle.world_store.specs.StoryGames.{means_in}
 use Rattle.world_store.specs.StorySettings.{setting_of}
-use Rattle.world_meaning.specs.Reading.{Means, direction_meant, go_reading, going, is_blank, is_go, is_look, is_quit, is_undo, look_reading, noun_of, reading_of, verb_reading, words_of, words_reading}
+use Rattle.world_store.specs.StoryWorlds.{StoryWorld}
+use Rattle.world_meaning.specs.Reading.{is_blank, words_of}
+use Rattle.world_meaning.specs.declared.session.Ending.{Ending}
 use Rattle.world_meaning.specs.Texts.{empty_text, too_long_text}
-use Rattle.world_meaning.specs.declared.reading.Reading.{Reading as PlainReading}
-use Rattle.world_meaning.specs.declared.reading.Reading.TheVariants.{Empty, NotSeen, NoVerb, Quit, TooLong, Undo}
-use Rattle.story_player.specs.Typed.{IsGone, Line, Long, Told, gone_told, gone_with, has_word, is_word_byte, line_reading, plain_told, told_reading}
+use Rattle.story_player.specs.Typed.{IsGone, Line, Long, Told, gone_told, gone_with, grammar_of, has_word, is_word_byte, line_reading, read_in, told_reading}
 use Rattle.story_player.specs.declared.typed.Gone.{Gone}
 use Rattle.story_player.specs.declared.typed.Gone.TheVariants.{Nothing, Blanks, Words}
-use Rattle.story_player.proofs.Words.{words_of-blank, words_of-word}
 
 -- blanks hold no word
 pub words_of-blanks : (bytes : List ℕ) → has_word bytes ≡ false → words_of bytes ≡ []
@@ -38,7 +36,7 @@ pub word_ahead : (b : ℕ) (bs : List ℕ) → is_blank b ≡ false → 0 < posi
 word_ahead b bs word = rw word (omega arith)
 
 pub or_other : (a b : Bool) → a ≡ false → (a || b) ≡ true → b ≡ true
-or_other false b first either = cases_Bool
+or_other false b first either = either
 or_other true b first either = absurd cc
 
 pub rest_has_word : (b : ℕ) (bs : List ℕ) → is_blank b ≡ true → has_word (b ∷ bs) ≡ true → has_word bs ≡ true
@@ -62,111 +60,66 @@ pub long_is_long : (bytes : List ℕ) → 255 < length bytes → nat_lt 255 (len
 long_is_long bytes long = lt-ltb 255 (length bytes) long
 
 -- over 255 bytes with a word
-pub reading-too_long : (means : Means) (bytes : List ℕ) → 255 < length bytes → has_word bytes ≡ true → reading_of means bytes ≡ TooLong
-reading-too_long means bytes long word =
+pub reading-too_long : (g : Grammar) (question : Option Question) (sees : ℕ → Bool) (bytes : List ℕ) → 255 < length bytes → has_word bytes ≡ true → read g question sees bytes ≡ Says too_long_text
+unfolding read
+reading-too_long g question sees bytes long word =
     rw (ne_eqb (length (words_of bytes)) 0 (λ none. omega (arith, none, words_of-some bytes word))) (rw (long_is_long bytes long) refl)
 
 -- blanks alone
-pub reading-empty : (means : Means) (bytes : List ℕ) → has_word bytes ≡ false → reading_of means bytes ≡ Empty
-reading-empty means bytes blank = rw (words_of-blanks bytes blank) refl
+pub reading-empty : (g : Grammar) (question : Option Question) (sees : ℕ → Bool) (bytes : List ℕ) → has_word bytes ≡ false → read g question sees bytes ≡ Says empty_text
+unfolding read
+reading-empty g question sees bytes blank = rw (words_of-blanks bytes blank) refl
 
--- ---- what a game without rules of its own reads
+-- ---- what a game of commands reads
 
--- a game reads lines as this language does
-pub record ReadsPlainly (g : Game) : Type 0 where
-  pub means : Means
-  pub reads : (question : Option Question) (sees : ℕ → Bool) (line : List ℕ) → g.reads question sees line ≡ meant (reading_of means line)
+-- a game reads lines by a grammar
+pub record ReadsCommands (g : Game) : Type 0 where
+  pub grammar : Grammar
+  pub reads : (question : Option Question) (sees : ℕ → Bool) (line : List ℕ) → g.reads question sees line ≡ read grammar question sees line
 
-pub reads_so : (t : Tables) → ReadsPlainly (game_in_play t)
-unfolding game_of_codes coded_story reads_plainly
-reads_so t = record { means = means_in t; reads = λ question sees line. refl }
+pub reads_so : (t : Tables) → ReadsCommands (game_in_play t)
+unfolding game_of_codes coded_story
+reads_so t = record { grammar = grammar_of t; reads = λ question sees line. refl }
 
-reads_too_long : (g : Game) (plain : ReadsPlainly g) (s : State) (line : List ℕ) → 255 < length line → has_word line ≡ true → Says too_long_text ≡ line_reading g s line
-reads_too_long g plain s line long word = sym (plain.reads s.question (is_visible g.telling.setting s.world) line ∙ ap meant (reading-too_long plain.means line long word))
+reads_too_long : (g : Game) (how : ReadsCommands g) (s : State) (line : List ℕ) → 255 < length line → has_word line ≡ true → Says too_long_text ≡ line_reading g s line
+reads_too_long g how s line long word =
+    let sees = is_visible g.telling.setting s.world in
+    sym (how.reads s.question sees line ∙ reading-too_long how.grammar s.question sees line long word)
 
-reads_empty : (g : Game) (plain : ReadsPlainly g) (s : State) (line : List ℕ) → has_word line ≡ false → Says empty_text ≡ line_reading g s line
-reads_empty g plain s line blank = sym (plain.reads s.question (is_visible g.telling.setting s.world) line ∙ ap meant (reading-empty plain.means line blank))
+reads_empty : (g : Game) (how : ReadsCommands g) (s : State) (line : List ℕ) → has_word line ≡ false → Says empty_text ≡ line_reading g s line
+reads_empty g how s line blank =
+    let sees = is_visible g.telling.setting s.world in
+    sym (how.reads s.question sees line ∙ reading-empty how.grammar s.question sees line blank)
 
 -- what is known of the bytes that were let go is enough
-pub reading_typed : (g : Game) (plain : ReadsPlainly g) (s : State) (gone : Gone) (front kept : List ℕ) → IsGone gone front → told_reading g s (gone_told gone kept) ≡ line_reading g s (front ++ kept)
-reading_typed g plain s Nothing front kept is = ap (λ bs. line_reading g s (bs ++ kept)) (sym is)
-reading_typed g plain s Words front kept is =
-    reads_too_long g plain s (front ++ kept) (omega (arith, is.0, length-append front kept)) (has_word-append front kept ∙ rw is.1 refl)
-reading_typed g plain s Blanks front kept is =
+pub reading_typed : (g : Game) (how : ReadsCommands g) (s : State) (gone : Gone) (front kept : List ℕ) → IsGone gone front → told_reading g s (gone_told gone kept) ≡ line_reading g s (front ++ kept)
+reading_typed g how s Nothing front kept is = ap (λ bs. line_reading g s (bs ++ kept)) (sym is)
+reading_typed g how s Words front kept is =
+    reads_too_long g how s (front ++ kept) (omega (arith, is.0, length-append front kept)) (has_word-append front kept ∙ rw is.1 refl)
+reading_typed g how s Blanks front kept is =
     let Goal : Bool → Type 0 = λ v. has_word kept ≡ v → told_reading g s (Long (has_word kept)) ≡ line_reading g s (front ++ kept) in
     elim (has_word kept) as Goal [
-      | true ↦ λ word. ap (λ v. told_reading g s (Long v)) word ∙ reads_too_long g plain s (front ++ kept) (omega (arith, is.0, length-append front kept)) (has_word-append front kept ∙ rw (is.1, word) refl)
-      | false ↦ λ blank. ap (λ v. told_reading g s (Long v)) blank ∙ reads_empty g plain s (front ++ kept) (has_word-append front kept ∙ rw (is.1, blank) refl)
+      | true ↦ λ word. ap (λ v. told_reading g s (Long v)) word ∙ reads_too_long g how s (front ++ kept) (omega (arith, is.0, length-append front kept)) (has_word-append front kept ∙ rw (is.1, word) refl)
+      | false ↦ λ blank. ap (λ v. told_reading g s (Long v)) blank ∙ reads_empty g how s (front ++ kept) (has_word-append front kept ∙ rw (is.1, blank) refl)
     ] refl
 
--- what the player makes of a line is what the story's game reads in it
-pub reads_told : (t : Tables) (s : State) (line : Told) → meant (plain_told (means_in t) line) ≡ told_reading (game_in_play t) s line
-unfolding game_of_codes coded_story reads_plainly
-reads_told t s (Line bytes) = refl
-reads_told t s (Long true) = refl
-reads_told t s (Long false) = refl
+-- what is read in a world is what the story's game reads in it
+pub reads_told : (w : StoryWorld) (s : State) (line : Told) → s.world ≡ w.world → read_in w s.question line ≡ told_reading (game_in_play w.tables) s line
+unfolding game_of_codes coded_story
+reads_told w s (Line bytes) same = ap (λ (now : World). read (grammar_of w.tables) s.question (is_visible (setting_of w.tables) now) bytes) (sym same)
+reads_told w s (Long has_word) same = refl
 
--- ---- where a line leads
+-- a question of which memory was refused is one that would have been asked
+pub asked_as : (w : StoryWorld) (asked question : Option Question) (line : Told) → asked ≡ question → is_asking (read_in w asked line) ≡ true → is_asking (read_in w question line) ≡ true
+asked_as w asked question line same asks = subst (λ (q : Option Question). is_asking (read_in w q line) ≡ true) same asks
 
--- the direction, if there is one, is one
-abbrev pub goes_if_any : Setting → Option ℕ → Bool
-goes_if_any s None = true
-goes_if_any s (Some direction) = s.is_of direction direction_kind
+-- while the story goes on, what a line means is what is answered
+unended : (ending : Option Ending) (s : State) (answer : Answer) → is_some ending ≡ false → answer ≡ unless_ended ending s answer
+unended None s answer going = refl
+unended (Some ending) s answer going = absurd cc
 
-module _ (s : Setting) (means : Means) (rightly : (noun : List (List ℕ)) → goes_if_any s (means noun) ≡ true) where
-  going_rightly : (phrase : List (List ℕ)) (otherwise : PlainReading) → is_rightly_read s otherwise ≡ true → is_rightly_read s (going (direction_meant means phrase) otherwise) ≡ true
-  going_rightly phrase otherwise is = one (direction_meant means phrase) (rightly (noun_of phrase))
-    where
-      one : (found : Option ℕ) → goes_if_any s found ≡ true → is_rightly_read s (going found otherwise) ≡ true
-      one None rightly = is
-      one (Some direction) rightly = rightly
-
-  go_rightly : (phrase : List (List ℕ)) → is_rightly_read s (go_reading means phrase) ≡ true
-  go_rightly [] = refl
-  go_rightly (word ∷ words) = going_rightly (word ∷ words) NotSeen refl
-
-  look_rightly : (phrase : List (List ℕ)) → is_rightly_read s (look_reading phrase) ≡ true
-  look_rightly [] = refl
-  look_rightly (word ∷ words) = refl
-
-  either_rightly : (test : Bool) (one other : PlainReading) → is_rightly_read s one ≡ true → is_rightly_read s other ≡ true → is_rightly_read s (if test then one else other) ≡ true
-  either_rightly true one other first second = first
-  either_rightly false one other first second = second
-
-  verb_rightly : (verb : List ℕ) (phrase : List (List ℕ)) → is_rightly_read s (verb_reading means verb phrase) ≡ true
-  verb_rightly verb phrase =
-      either_rightly (is_go verb) _ _ (go_rightly phrase)
-      (either_rightly (is_look verb) _ _ (look_rightly phrase)
-      (either_rightly (is_undo verb && (length phrase == 0)) Undo _ refl
-      (either_rightly (is_quit verb && (length phrase == 0)) Quit _ refl (going_rightly (verb ∷ phrase) NoVerb refl))))
-
-  words_rightly : (words : List (List ℕ)) → is_rightly_read s (words_reading means words) ≡ true
-  words_rightly [] = refl
-  words_rightly (verb ∷ words) = verb_rightly verb words
-
-  line_rightly : (line : Told) → is_rightly_read s (plain_told means line) ≡ true
-  line_rightly (Line line) =
-      either_rightly (length (words_of line) == 0) Empty _ refl
-      (either_rightly (nat_lt 255 (length line) || nat_lt 32 (length (words_of line))) TooLong _ refl (words_rightly (words_of line)))
-  line_rightly (Long true) = refl
-  line_rightly (Long false) = refl
-
-found_rightly : (s : Setting) (words : ℕ → List (List ℕ)) (noun : List (List ℕ)) (objects : List ℕ) → goes_if_any s (find (is_direction_for s words noun) objects) ≡ true
-found_rightly s words noun [] = refl
-found_rightly s words [] (o ∷ objects) = found_rightly s words [] objects
-found_rightly s words (word ∷ noun) (o ∷ objects) =
-    elim (cases_Bool (is_direction_for s words (word ∷ noun) o)) [
-      | inl is ↦ rw is (and_parts (s.is_of o direction_kind) (list_all (holds_word (words o)) (word ∷ noun)) is).0
-      | inr isnt ↦ rw isnt (found_rightly s words (word ∷ noun) objects)
-    ]
-
-noun_rightly : (t : Tables) (noun : List (List ℕ)) → goes_if_any (setting_of t) (means_in t noun) ≡ true
-unfolding direction_for
-noun_rightly t noun = found_rightly (setting_of t) (words_told t) noun (objects_of (setting_of t))
-
--- a line that goes anywhere goes in a direction of the story
-pub read_rightly : (t : Tables) (line : Told) → is_rightly_read (setting_of t) (plain_told (means_in t) line) ≡ true
-read_rightly t line = line_rightly (setting_of t) (means_in t) (noun_rightly t) line
+pub answered_as : (g : Game) (refused : Option ℕ) (s : State) (one other : Reading) → is_some s.ending ≡ false → one ≡ other → read_answer g refused s one ≡ answer_to g refused s other
+answered_as g refused s one other going same = unended s.ending s (read_answer g refused s one) going ∙ ap (answer_to g refused s) same
 
 -- bytes that are let go behind others
 pub gone-more : (gone : Gone) (front kept : List ℕ) → 255 < length kept → IsGone gone front → IsGone (gone_with gone kept) (front ++ kept)

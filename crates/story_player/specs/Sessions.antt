@@ -18,9 +18,8 @@ story_of session = session.world.tables
 abbrev pub game_of : {X : _} {F : _} {g : _} → Session X F g → Game
 game_of session = game_in_play (story_of session)
 
--- no line of this language leaves a question open
 abbrev pub state_of : {X : _} {F : _} {g : _} → Session X F g → State
-state_of session = record { world = session.world.world; kept = map (λ before. before.world) session.kept.items; question = None; ending = session.ending }
+state_of session = record { world = session.world.world; kept = map (λ before. before.world) session.kept.items; question = session.question; ending = session.ending }
 
 -- a reply, and the state in which a session is behind it
 abbrev pub answer_with : Spoken → State → Answer

@@ -1,13 +1,18 @@
 -- A line that is being typed: the bytes that are kept, and what is known of those in front of them.
-use Rattle.std.specs.Prelude.{◌≡◌, ℕ, ◌<◌, ◌==◌, Bool, true, false, not, List, [], ◌∷◌, ◌++◌, length, if◌then◌else◌}
+use Rattle.std.specs.Prelude.{◌≡◌, ℕ, ◌<◌, ◌==◌, Bool, true, false, not, List, [], ◌∷◌, ◌++◌, length, Option, if◌then◌else◌}
 use Rattle.std.specs.List.{list_any}
-use Rattle.play_meaning.specs.Games.{Game, Reading, Says}
+use Rattle.play_meaning.specs.Commands.{read}
+use Rattle.play_meaning.specs.Games.{Game, Question, Reading, Says}
+use Rattle.play_meaning.specs.Grammar.{Grammar}
 use Rattle.play_meaning.specs.Seeing.{is_visible}
 use Rattle.play_meaning.specs.Sessions.{State}
-use Rattle.world_meaning.specs.Reading.{Means, is_blank, reading_of}
+use Rattle.play_meaning.specs.StandardGrammar.{standard_grammar}
+use Rattle.story_format.specs.Facts.{words_of}
+use Rattle.story_format.specs.declared.tables.Tables.{Tables}
+use Rattle.world_meaning.specs.Reading.{is_blank}
 use Rattle.world_meaning.specs.Texts.{empty_text, too_long_text}
-use Rattle.world_meaning.specs.declared.reading.Reading.{Reading as PlainReading}
-use Rattle.world_meaning.specs.declared.reading.Reading.TheVariants.{Empty, TooLong}
+use Rattle.world_store.specs.StorySettings.{setting_of}
+use Rattle.world_store.specs.StoryWorlds.{StoryWorld}
 use Rattle.story_player.specs.declared.typed.Gone.{Gone}
 use Rattle.story_player.specs.declared.typed.Gone.TheVariants.{Nothing, Blanks, Words}
 use Rattle.story_player.specs.declared.typed.Typed.{Typed}
@@ -79,10 +84,16 @@ abbrev pub told : Typed → Told
 told (Whole bytes) = Line bytes.now
 told (Overlong has_word) = Long has_word
 
--- what a story in which no rule of its own is consulted reads in it
-abbrev pub plain_told : Means → Told → PlainReading
-plain_told means (Line line) = reading_of means line
-plain_told means (Long has_word) = if has_word then TooLong else Empty
+-- ---- what is read in it
+
+-- the commands of a story
+abbrev pub grammar_of : Tables → Grammar
+grammar_of t = standard_grammar (setting_of t) (words_of t)
+
+-- what a world's story reads in it, whether a question is open or none
+abbrev pub read_in : StoryWorld → Option Question → Told → Reading
+read_in w question (Line line) = read (grammar_of w.tables) question (is_visible (setting_of w.tables) w.world) line
+read_in w question (Long has_word) = if has_word then Says too_long_text else Says empty_text
 
 -- what a game reads in a line
 abbrev pub line_reading : Game → State → List ℕ → Reading

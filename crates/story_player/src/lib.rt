@@ -1,8 +1,9 @@
 //! The player of a story: it reads typed lines, changes the world, takes turns back and prints the transcript.
 #![tactic(auto)]
 
-mod directions;
+mod asking;
 mod fault;
+mod in_play;
 mod playing;
 mod reading;
 mod reply;
@@ -16,7 +17,6 @@ mod watched;
 
 pub use fault::{RunFault, StartFault};
 pub use playing::run;
-pub use reading::read_line;
 pub use reply::Reply;
 pub use session::Session;
 pub use watched::Watched;

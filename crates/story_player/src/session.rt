@@ -1,46 +1,47 @@
 //! A session: a story in play, line by line.
 ghost use Rattle.std.specs.Prelude.{◌≡◌, false, true, None, Some, IfErr, IfOk, MatchResult, OnOk};
-ghost use Rattle.play_meaning.specs.Games.{Acts, Quit, Undo};
-ghost use Rattle.play_meaning.specs.PlainReading.{done, meant};
+ghost use Rattle.play_meaning.specs.Games.{Acts, Asks, Quit, Reading as Read, Says, Undo};
 ghost use Rattle.play_meaning.specs.Progress.{fresh};
 ghost use Rattle.play_meaning.specs.Sessions.{abandon_text, answer_of, answer_to, opened, read_answer};
 ghost use Rattle.play_meaning.specs.Transcripts.{ended_at_end};
 ghost use Rattle.play_meaning.specs.Turns.{opening};
 ghost use Rattle.standard_rules.specs.HostTables.{rule_count};
 ghost use Rattle.world_meaning.specs.declared.session.Abandon.TheVariants.{Memory};
-ghost use Rattle.world_store.specs.StoryGames.{means_in};
 ghost use Rattle.action_stages.specs.Answering.{Breaks};
 ghost use Rattle.action_stages.specs.StoryPlay.{game_in_play};
+ghost use Rattle.command_parser.specs.Readings.{said_text, told as told_of};
+ghost use Rattle.command_parser.specs.Settling.{is_asking};
 ghost use Rattle.story_player.specs.Begun.{IsUnbegun};
 ghost use Rattle.story_player.specs.KeptWorlds.{AreOf};
 ghost use Rattle.story_player.specs.Turns.{IsToldOf, done_in, ending_told, kind_told, taken_up};
-ghost use Rattle.story_player.specs.Typed.{plain_told, told, told_reading};
+ghost use Rattle.story_player.specs.Typed.{grammar_of, told, told_reading};
+ghost use Rattle.world_store.specs.StorySettings.{setting_of};
+ghost use Rattle.play_meaning.specs.Commands.{asking_text};
 
+use crate::asking::asking_text;
 use crate::fault::StartFault;
+use crate::reading::{read_typed, said_text};
 use crate::telling::abandon_text;
 use crate::trial::{Told, opened, tried};
-use crate::turns::look_round;
 use crate::typed::Typed;
-use crate::{Reply, read_line, texts};
+use crate::{Reply, texts};
 use action_stages::needs_of;
 use circular_buffer::HeapCircularBuffer;
-use play_meaning::{ActNo, ActionNow};
+use command_parser::{Question, Reading, Said};
+use play_meaning::ActionNow;
 use standard_rules::HostTable;
 use std::alloc::Global;
 use std::mem;
 use std::rc::Rc;
 use story_format::Story;
-use world_meaning::{Abandon, Action, Ending, Reading, ReplyKind, TextBytes};
+use world_meaning::{Abandon, Ending, ReplyKind, TextBytes};
 use world_store::World;
 
 /// The most worlds that are kept.
 const MOST_KEPT: usize = 8;
 
-/// The number of going among the standard actions.
-const GOING: u8 = 8;
-
-/// A story in play: its stored rules, its world, the worlds before the last kept turns, the latest in front, and how it ended, if
-/// it has.
+/// A story in play: its stored rules, its world, the worlds before the last kept turns, the latest in front, the question that is
+/// open, if one is, and how it ended, if it has.
 #[derive(Drop)]
 pub struct Session {
     alloc: Global,
@@ -48,6 +49,7 @@ pub struct Session {
     hosts: HostTable,
     world: World,
     kept: HeapCircularBuffer<World>,
+    question: Option<Question>,
     ending: Option<Ending>,
     opening: TextBytes,
     ghost opened: { opening ≡ (opened (game_in_play story.value)).text },
@@ -57,37 +59,11 @@ pub struct Session {
     ghost room: { kept.capacity ≡ 8 },
 }
 
-/// What a line means as it was typed.
-fn read_typed(story: &Story, typed: Typed<'_>) -> Reading
-    ensures { result ≡ plain_told (means_in story.now) (told typed.entry) }
-{
-    match typed {
-        Typed::Whole(line) => read_line(story, line),
-        Typed::Overlong { has_word: true } => Reading::TooLong,
-        Typed::Overlong { has_word: false } => Reading::Empty,
-    }
-}
-
 /// That a turn was abandoned.
 fn abandoned(reason: Abandon) -> Reply
     ensures { result ≡ record { text = abandon_text reason; kind = ReplyKind.Abandoned reason } }
 {
     Reply::fixed(abandon_text(reason), ReplyKind::Abandoned(reason))
-}
-
-/// The action that a line means.
-fn action_of(action: Action) -> ActionNow
-    ensures { result ≡ done action }
-{
-    match action {
-        Action::Looking => look_round(),
-        Action::Going(direction) => ActionNow {
-            action: ActNo::new(GOING),
-            noun: Some(direction),
-            second: None,
-            silent: false,
-        },
-    }
 }
 
 /// How the session ends where the story has.
@@ -140,6 +116,7 @@ impl Session {
                 hosts,
                 world: told.world,
                 kept,
+                question: None,
                 ending,
                 opening: told.text,
             }),
@@ -198,6 +175,7 @@ impl Session {
         ensures story { story_of self.new ≡ story_of self.old }
     {
         let Told { world, text } = told;
+        self.question = None;
         self.ending = ending_of(&world);
         let kind = kind_of(&world, ReplyKind::Free);
         self.world = world;
@@ -213,6 +191,7 @@ impl Session {
         ensures story { story_of self.new ≡ story_of self.old }
     {
         let Told { world, text } = told;
+        self.question = None;
         self.ending = ending_of(&world);
         let kind = kind_of(&world, ReplyKind::Kept);
         let before = mem::replace(&mut self.world, world);
@@ -237,7 +216,10 @@ impl Session {
                     self.take_up_turn(told)
                 }
             }
-            Err(reason) => abandoned(reason),
+            Err(reason) => {
+                self.question = None;
+                abandoned(reason)
+            }
         }
     }
 
@@ -247,6 +229,7 @@ impl Session {
         ensures game { game_of self.new ≡ game_of self.old }
         ensures story { story_of self.new ≡ story_of self.old }
     {
+        self.question = None;
         match self.kept.pop_front() {
             None => Reply::fixed(texts::NOTHING_TO_UNDO, ReplyKind::Free),
             Some(kept) => {
@@ -262,28 +245,65 @@ impl Session {
         ensures game { game_of self.new ≡ game_of self.old }
         ensures story { story_of self.new ≡ story_of self.old }
     {
+        self.question = None;
         self.ending = Some(Ending::Quit);
         Reply::fixed(b"", ReplyKind::Ended)
     }
 
-    /// Answers what a line means.
-    fn answer(&mut self, reading: Reading) -> Reply
-        ensures answer { answer_with result (state_of self.new) ≡ answer_to (game_of self.old) (refusal_of result.kind) (state_of self.old) (meant reading) }
+    /// Says what a line that does nothing means.
+    fn say(&mut self, said: Said) -> Reply
+        ensures answer { answer_with result (state_of self.new) ≡ read_answer (game_of self.old) (refusal_of result.kind) (state_of self.old) (Says (said_text said)) }
         ensures game { game_of self.new ≡ game_of self.old }
         ensures story { story_of self.new ≡ story_of self.old }
     {
-        if self.ending.is_some() {
-            return Reply::fixed(b"", ReplyKind::Over);
+        self.question = None;
+        Reply::fixed(said_text(said), ReplyKind::Free)
+    }
+
+    /// Asks which of the candidates of a question is meant.
+    fn ask(&mut self, question: Question) -> Reply
+        ensures answer { answer_with result (state_of self.new) ≡ read_answer (game_of self.old) (refusal_of result.kind) (state_of self.old)
+            (Asks question (asking_text (setting_of (story_of self.old)) question.candidates)) }
+        ensures game { game_of self.new ≡ game_of self.old }
+        ensures story { story_of self.new ≡ story_of self.old }
+    {
+        match asking_text(self.alloc, &self.world, question.candidates()) {
+            Ok(text) => {
+                self.question = Some(question);
+                Reply::made(text, ReplyKind::Free)
+            }
+            Err(reason) => {
+                self.question = None;
+                abandoned(reason)
+            }
         }
+    }
+
+    /// Memory was refused to a question: it isn't asked.
+    fn leave_unasked(&mut self) -> Reply
+        ensures answer { (reading : Read) → is_asking reading ≡ true
+            → answer_with result (state_of self.new) ≡ read_answer (game_of self.old) (refusal_of result.kind) (state_of self.old) reading }
+        ensures game { game_of self.new ≡ game_of self.old }
+        ensures story { story_of self.new ≡ story_of self.old }
+    {
+        self.question = None;
+        abandoned(Abandon::Memory)
+    }
+
+    /// Answers what a line means.
+    fn answer(&mut self, reading: Reading) -> Reply
+        requires going { (state_of self.old).ending ≡ None }
+        ensures answer { answer_with result (state_of self.new) ≡ read_answer (game_of self.old) (refusal_of result.kind) (state_of self.old)
+            (told_of (grammar_of (story_of self.old)) reading) }
+        ensures game { game_of self.new ≡ game_of self.old }
+        ensures story { story_of self.new ≡ story_of self.old }
+    {
         match reading {
-            Reading::Act(action) => self.act(action_of(action)),
+            Reading::Says(said) => self.say(said),
+            Reading::Asks(question) => self.ask(question),
+            Reading::Acts(now) => self.act(now),
             Reading::Undo => self.undo(),
             Reading::Quit => self.quit(),
-            Reading::Empty => Reply::fixed(texts::EMPTY, ReplyKind::Free),
-            Reading::TooLong => Reply::fixed(texts::TOO_LONG, ReplyKind::Free),
-            Reading::NoVerb => Reply::fixed(texts::NO_VERB, ReplyKind::Free),
-            Reading::NotSeen => Reply::fixed(texts::NOT_SEEN, ReplyKind::Free),
-            Reading::NotUnderstood => Reply::fixed(texts::NOT_UNDERSTOOD, ReplyKind::Free),
         }
     }
 
@@ -295,12 +315,17 @@ impl Session {
         ensures game { game_of self.new ≡ game_of self.old }
         ensures story { story_of self.new ≡ story_of self.old }
     {
-        let reading = read_typed(self.world.story(), typed);
-        self.answer(reading)
+        if self.ending.is_some() {
+            return Reply::fixed(b"", ReplyKind::Over);
+        }
+        match read_typed(self.alloc, &self.world, self.question.as_ref(), typed) {
+            Ok(reading) => self.answer(reading),
+            Err(_) => self.leave_unasked(),
+        }
     }
 
-    /// Answers a line. Where memory is refused in a turn, the answer says so and nothing has changed; a line that is no
-    /// turn is answered without memory, `undo` among them.
+    /// Answers a line. Where memory is refused, in a turn or for a question, the answer says so and nothing has changed but that no
+    /// question is open; any other line is answered without memory, `undo` among them.
     pub fn line(&mut self, line: &[u8]) -> Reply
         ensures answer { answer_with result (state_of self.new) ≡ answer_of (game_of self.old) (refusal_of result.kind) (state_of self.old) line.now }
         ensures game { game_of self.new ≡ game_of self.old }

@@ -11,7 +11,7 @@ use crate::texts;
 use world_meaning::{Abandon, TextBytes};
 
 /// Adds bytes to what is said.
-fn add(text: &mut Vec<u8>, bytes: &[u8]) -> Result<(), Abandon>
+pub(crate) fn add(text: &mut Vec<u8>, bytes: &[u8]) -> Result<(), Abandon>
     ensures said { OnOk result (text.new.items ≡ text.old.items ++ bytes.now) }
     ensures refused { OnErr result (result ≡ Err Memory) }
 {

@@ -14,8 +14,6 @@ pub const UNDONE: &[u8] = b"Previous turn undone.\n";
 
 pub const NOTHING_TO_UNDO: &[u8] = b"You can't undo any further.\n";
 
-pub const NO_WAY: &[u8] = b"You can't go that way.\n";
-
 pub const OUT_OF_MEMORY: &[u8] = b"[The turn was abandoned: out of memory.]\n";
 
 pub const OUT_OF_RANGE: &[u8] = b"[The turn was abandoned: number out of range.]\n";

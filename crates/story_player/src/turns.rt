@@ -8,6 +8,7 @@ ghost use Rattle.action_stages.specs.StoryPlay.{game_in_play};
 ghost use Rattle.story_player.specs.Turns.{done_in};
 
 use action_stages::{Stage, consult, count_turn, perform};
+use play_meaning::standard_actions::LOOKING;
 use play_meaning::{ActNo, ActionNow};
 use std::alloc::Global;
 use world_meaning::Abandon;
@@ -22,9 +23,6 @@ const EVERY_TURN: u16 = 6;
 /// The rulebook of when play begins.
 const PLAY_BEGINS: u16 = 7;
 
-/// The number of looking among the standard actions.
-const LOOKING: u8 = 0;
-
 /// No action.
 fn no_action() -> ActionNow
     ensures { result ≡ no_action }
@@ -38,7 +36,7 @@ fn no_action() -> ActionNow
 }
 
 /// The action of looking round.
-pub(crate) fn look_round() -> ActionNow
+fn look_round() -> ActionNow
     ensures { result ≡ look_round }
 {
     ActionNow {

@@ -18,7 +18,8 @@ use Rattle.world_meaning.specs.declared.tale.Object.{Object}
 use Rattle.world_meaning.specs.declared.tale.Tale.{Tale}
 use Rattle.play_meaning.proofs.Agreement.{one_setting}
 use Rattle.play_meaning.specs.Agreement.{SettingsAgree}
-use Rattle.play_meaning.specs.PlainReading.{reads_plainly}
+use Rattle.play_meaning.specs.Commands.{read}
+use Rattle.play_meaning.specs.StandardGrammar.{standard_grammar}
 use Rattle.play_meaning.specs.Grounds.{said_by_code}
 use Rattle.play_meaning.specs.PlainTales.{script_of, story_of_script}
 use Rattle.play_meaning.specs.Scripts.{says, undescribed}
@@ -192,5 +193,5 @@ tables_game t texts listings rules held said =
       setting = setting i;
       start = start i;
       describes = λ o now w. described o now w i;
-      reads = reads_plainly (setting i) (λ o. carries.words o i);
+      reads = read (standard_grammar (setting i) (λ o. carries.words o i));
     }

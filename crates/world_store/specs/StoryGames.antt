@@ -1,8 +1,8 @@
 -- The game of a story that was loaded: it is told by what the tables say of the objects.
-use Rattle.world_meaning.specs.Reading.{Means}
 use Rattle.play_meaning.specs.Games.{Game}
 use Rattle.play_meaning.specs.Grounds.{telling_by}
-use Rattle.play_meaning.specs.PlainReading.{direction_for, reads_plainly}
+use Rattle.play_meaning.specs.Commands.{read}
+use Rattle.play_meaning.specs.StandardGrammar.{standard_grammar}
 use Rattle.play_meaning.specs.PlainStories.{PlainStory, game_of_plain}
 use Rattle.story_format.specs.Codes.{codes_told}
 use Rattle.story_format.specs.Facts.{description_code_of, words_of}
@@ -16,12 +16,8 @@ plain_story t = record {
   setting = setting_of t;
   start = start_world t;
   describes = (telling_by (codes_told t) (setting_of t) (description_code_of t)).describes;
-  reads = reads_plainly (setting_of t) (words_of t);
+  reads = read (standard_grammar (setting_of t) (words_of t));
 }
-
--- which direction a noun means
-abbrev pub means_in : Tables → Means
-means_in t = direction_for (setting_of t) (words_of t)
 
 abbrev pub game_of_story : Tables → Game
 game_of_story t = game_of_plain (plain_story t)

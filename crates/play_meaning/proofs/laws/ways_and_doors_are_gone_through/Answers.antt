@@ -1,6 +1,8 @@
 use Rattle.std.proofs.Common.{refl}
 use Rattle.std.specs.Fmt.{digits}
 use Rattle.world_meaning.specs.Declarations.{count_of_numbers}
+use Rattle.world_meaning.specs.Directions.{direction_name, short_word}
+use Rattle.world_meaning.specs.Spelling.{is_article}
 use Rattle.world_meaning.specs.Kinds.{built_in_parents, is_under}
 use Rattle.world_meaning.specs.Properties.{built_in_properties}
 use Rattle.play_meaning.specs.Acting.{access, act, carrying, inner_of, stages, visibility}
@@ -35,5 +37,5 @@ use Rattle.play_meaning.specs.Worlds.{chain, is_true_of, number_of, set_flag, se
 use Rattle.play_meaning.proofs.laws.ways_and_doors_are_gone_through.Goals as goal
 
 pub returns : goal.returns
-unfolding game_of_codes coded codes_of_script description_said body_done test_within does run adjective_code body_part choice condition_part description_code loop number_part phrase_part seq strings_of_body strings_of_phrase text_part count_of_numbers built_in_parents is_under built_in_properties digits visibility access carrying stages act inner_of may_be_put settle first_reading command answer read applies ask consult do_phrase do_body splits candidates book_of nowhere spend is_about said_in game_of encloses is_in_view has_light is_visible_thing is_visible is_touchable opened tale_of start_in grammar_of script_of standard_needs standard_lines rules_of_looking rules_of_examining rules_of_taking rules_of_dropping rules_of_putting rules_of_inserting rules_of_opening rules_of_closing rules_of_going rules_of_wearing rules_of_inventory rules_of_switching standard_rules depth_of setting_of start_of truth_in ending_of beginning_of pass turn opening object_in is_one those number_in hall_and_garden closed_gate hall_and_garden_shown hall_and_garden_nowhere_shown closed_gate_shown closed_gate_opened_shown chain is_true_of number_of set_flag set_number
+unfolding direction_name short_word is_article game_of_codes coded codes_of_script description_said body_done test_within does run adjective_code body_part choice condition_part description_code loop number_part phrase_part seq strings_of_body strings_of_phrase text_part count_of_numbers built_in_parents is_under built_in_properties digits visibility access carrying stages act inner_of may_be_put settle first_reading command answer read applies ask consult do_phrase do_body splits candidates book_of nowhere spend is_about said_in game_of encloses is_in_view has_light is_visible_thing is_visible is_touchable opened tale_of start_in grammar_of script_of standard_needs standard_lines rules_of_looking rules_of_examining rules_of_taking rules_of_dropping rules_of_putting rules_of_inserting rules_of_opening rules_of_closing rules_of_going rules_of_wearing rules_of_inventory rules_of_switching standard_rules depth_of setting_of start_of truth_in ending_of beginning_of pass turn opening object_in is_one those number_in hall_and_garden closed_gate hall_and_garden_shown hall_and_garden_nowhere_shown closed_gate_shown closed_gate_opened_shown chain is_true_of number_of set_flag set_number
 returns c = record { rooms = (refl, refl); nowhere = (refl, refl); closed = (refl, refl); opened = (refl, refl) }

@@ -1,0 +1,68 @@
+//! A story in play, as commands are read against it: its objects with their words, the lines that every story has, and what the
+//! player sees.
+ghost use Rattle.std.specs.Prelude.{◌≡◌};
+
+use command_parser::{
+    Commands, Token, standard_action, standard_line_count, standard_token, standard_token_count,
+};
+use play_meaning::ActNo;
+use world_meaning::{KindNo, ObjNo};
+use world_store::World;
+
+/// The world as it is, with its story.
+#[derive(Clone, Copy)]
+pub(crate) struct InPlay<'a> {
+    pub(crate) world: &'a World,
+}
+
+impl Commands for InPlay<'_> {
+    ghost use Rattle.play_meaning.specs.Seeing.{is_visible};
+    ghost use Rattle.play_meaning.specs.StandardGrammar.{standard_grammar};
+    ghost use Rattle.story_format.specs.Facts.{words_of};
+    ghost use Rattle.world_store.specs.StorySettings.{setting_of};
+
+    ghost grammar = { λ play. standard_grammar (setting_of play.world.now.tables) (words_of play.world.now.tables) };
+
+    ghost sees = { λ play. is_visible (setting_of play.world.now.tables) play.world.now.world };
+
+    #[tactic(auto, unfolding(world_store::specs::StorySettings::setting_of))]
+    fn object_count(&self) -> u16 {
+        self.world.story().object_count() as u16
+    }
+
+    fn is_of(&self, object: ObjNo, kind: KindNo) -> bool {
+        self.world.is_of(object, kind)
+    }
+
+    fn visible(&self, object: ObjNo) -> bool {
+        self.world.visible(object)
+    }
+
+    fn has_word(&self, object: ObjNo, word: &[u8]) -> bool {
+        self.world.story().has_word(object, word)
+    }
+
+    fn word_count(&self, object: ObjNo) -> usize {
+        self.world.story().word_count(object)
+    }
+
+    fn word(&self, object: ObjNo, place: usize) -> &[u8] {
+        self.world.story().word(object, place)
+    }
+
+    fn line_count(&self) -> u16 {
+        standard_line_count()
+    }
+
+    fn action(&self, line: u16) -> ActNo {
+        standard_action(line)
+    }
+
+    fn token_count(&self, line: u16) -> usize {
+        standard_token_count(line)
+    }
+
+    fn token(&self, line: u16, place: usize) -> Option<Token<'_>> {
+        standard_token(line, place)
+    }
+}
