@@ -20,24 +20,71 @@ const STANDARD_LINES: [LineRow<'static>; 33] = [
     (LOOKING, &[Token::Word(b"l")]),
     (EXAMINING, &[Token::Word(b"examine"), Token::Something]),
     (EXAMINING, &[Token::Word(b"x"), Token::Something]),
-    (EXAMINING, &[Token::Word(b"look"), Token::Word(b"at"), Token::Something]),
+    (
+        EXAMINING,
+        &[Token::Word(b"look"), Token::Word(b"at"), Token::Something],
+    ),
     (TAKING, &[Token::Word(b"take"), Token::Something]),
     (TAKING, &[Token::Word(b"get"), Token::Something]),
-    (TAKING, &[Token::Word(b"pick"), Token::Word(b"up"), Token::Something]),
+    (
+        TAKING,
+        &[Token::Word(b"pick"), Token::Word(b"up"), Token::Something],
+    ),
     (DROPPING, &[Token::Word(b"drop"), Token::Something]),
-    (DROPPING, &[Token::Word(b"put"), Token::Word(b"down"), Token::Something]),
-    (PUTTING_ON, &[Token::Word(b"put"), Token::Something, Token::Word(b"on"), Token::Something]),
-    (INSERTING, &[Token::Word(b"put"), Token::Something, Token::Word(b"in"), Token::Something]),
-    (INSERTING, &[Token::Word(b"put"), Token::Something, Token::Word(b"into"), Token::Something]),
-    (INSERTING, &[Token::Word(b"insert"), Token::Something, Token::Word(b"into"), Token::Something]),
+    (
+        DROPPING,
+        &[Token::Word(b"put"), Token::Word(b"down"), Token::Something],
+    ),
+    (
+        PUTTING_ON,
+        &[
+            Token::Word(b"put"),
+            Token::Something,
+            Token::Word(b"on"),
+            Token::Something,
+        ],
+    ),
+    (
+        INSERTING,
+        &[
+            Token::Word(b"put"),
+            Token::Something,
+            Token::Word(b"in"),
+            Token::Something,
+        ],
+    ),
+    (
+        INSERTING,
+        &[
+            Token::Word(b"put"),
+            Token::Something,
+            Token::Word(b"into"),
+            Token::Something,
+        ],
+    ),
+    (
+        INSERTING,
+        &[
+            Token::Word(b"insert"),
+            Token::Something,
+            Token::Word(b"into"),
+            Token::Something,
+        ],
+    ),
     (OPENING, &[Token::Word(b"open"), Token::Something]),
     (CLOSING, &[Token::Word(b"close"), Token::Something]),
     (CLOSING, &[Token::Word(b"shut"), Token::Something]),
     (GOING, &[Token::Direction]),
     (GOING, &[Token::Word(b"go"), Token::Direction]),
     (WEARING, &[Token::Word(b"wear"), Token::Something]),
-    (WEARING, &[Token::Word(b"put"), Token::Word(b"on"), Token::Something]),
-    (TAKING_OFF, &[Token::Word(b"take"), Token::Word(b"off"), Token::Something]),
+    (
+        WEARING,
+        &[Token::Word(b"put"), Token::Word(b"on"), Token::Something],
+    ),
+    (
+        TAKING_OFF,
+        &[Token::Word(b"take"), Token::Word(b"off"), Token::Something],
+    ),
     (TAKING_OFF, &[Token::Word(b"remove"), Token::Something]),
     (TAKING_INVENTORY, &[Token::Word(b"inventory")]),
     (TAKING_INVENTORY, &[Token::Word(b"inv")]),
@@ -45,10 +92,26 @@ const STANDARD_LINES: [LineRow<'static>; 33] = [
     (WAITING, &[Token::Word(b"wait")]),
     (WAITING, &[Token::Word(b"z")]),
     (JUMPING, &[Token::Word(b"jump")]),
-    (SWITCHING_ON, &[Token::Word(b"switch"), Token::Word(b"on"), Token::Something]),
-    (SWITCHING_ON, &[Token::Word(b"turn"), Token::Word(b"on"), Token::Something]),
-    (SWITCHING_OFF, &[Token::Word(b"switch"), Token::Word(b"off"), Token::Something]),
-    (SWITCHING_OFF, &[Token::Word(b"turn"), Token::Word(b"off"), Token::Something]),
+    (
+        SWITCHING_ON,
+        &[Token::Word(b"switch"), Token::Word(b"on"), Token::Something],
+    ),
+    (
+        SWITCHING_ON,
+        &[Token::Word(b"turn"), Token::Word(b"on"), Token::Something],
+    ),
+    (
+        SWITCHING_OFF,
+        &[
+            Token::Word(b"switch"),
+            Token::Word(b"off"),
+            Token::Something,
+        ],
+    ),
+    (
+        SWITCHING_OFF,
+        &[Token::Word(b"turn"), Token::Word(b"off"), Token::Something],
+    ),
 ];
 
 #[tactic(auto, unfolding(play_meaning::specs::StandardGrammar::standard_lines))]

@@ -17,7 +17,6 @@ mod numbers;
 mod place;
 mod placing_laws;
 mod properties;
-mod reading;
 mod session;
 mod sight_laws;
 mod sorts;
@@ -42,7 +41,6 @@ pub use numbers::ObjNo;
 pub use place::{Place, Rel};
 pub use placing_laws::placing_keeps_its_rules;
 pub use properties::{is_under_one, start_properties};
-pub use reading::{Action, Reading};
 pub use session::{Abandon, Ending, ReplyKind};
 pub use sight_laws::{
     boxes_hide_and_keep, light_comes_from_inside, places_are_seen, the_dark_hides,

@@ -11,7 +11,7 @@ returns-in-Ok-clause-answer g c =
     let line = told c.args.typed in
     c.answer.ensures.answer
     ∙ answered_as (game_of session) (refusal_of c.answer.result.kind) s _ _ (sym c.is_some.ensures ∙ c.if-is_some.false)
-      (c.in-Ok.ensures.read ∙ ap (λ q. read_in session.world q line) c.as_ref.ensures.value ∙ reads_told session.world s line refl)
+    (c.in-Ok.ensures.read ∙ ap (λ q. read_in session.world q line) c.as_ref.ensures.value ∙ reads_told session.world s line refl)
 
 pub returns-in-Err-clause-answer : goal.returns-in-Err-clause-answer
 returns-in-Err-clause-answer g c =
