@@ -30,7 +30,7 @@ def prompts(name, words):
     """A player that waits for each prompt gets each answer before it types on."""
     player = subprocess.Popen(words, stdin=subprocess.PIPE, stdout=subprocess.PIPE, bufsize=0)
     good = reads(player.stdout, OPENING)
-    for line, answer in [(b"n\n", b"Garden\n\n>"), (b"s\n", OPENING), (b"x\n", b"I don't know that verb.\n\n>")]:
+    for line, answer in [(b"n\n", b"Garden\n\n>"), (b"s\n", OPENING), (b"xyzzy\n", b"I don't know that verb.\n\n>")]:
         player.stdin.write(line)
         good = good and reads(player.stdout, answer)
     player.stdin.close()
