@@ -1,5 +1,5 @@
 #!/usr/bin/env bash
-# Plays four rows, each as a source and as a compiled story, with each allocation of the run refused in turn. Each
+# Plays five rows, each as a source and as a compiled story, with each allocation of the run refused in turn. Each
 # run must end in one of two ways: with status 4, the one line `i7story: out of memory` and no transcript; or
 # with status 0 and the transcript in which at most one reply is that of the abandoned turn.
 # Use: tests/refused_memory.sh PROGRAM
@@ -25,6 +25,23 @@ expected() {
 import pathlib
 import sys
 row, scratch = map(pathlib.Path, sys.argv[1:])
+ABANDONED = "[The turn was abandoned: out of memory.]\n"
+commands = (row / "commands").read_text().splitlines()
+
+
+def asking(refused):
+    """The transcript of the row of two boxes, of one of which is asked: a question of which memory is refused isn't open."""
+    question = "Which do you mean, the red box or the blue box?\n"
+    hall = "Hall\nYou can see a red box and a blue box here.\n"
+    answers = [question, "I don't know that verb.\n" if refused == 0 else "You open the red box.\n", question, hall]
+    replies = [ABANDONED if place == refused else answer for place, answer in enumerate(answers)]
+    return hall + "".join(f"\n>{command}\n{reply}" for command, reply in zip(commands, replies, strict=True)) + "\n>"
+
+
+if row.name == "which_box_is_meant":
+    for refused in [None, 0, 1, 2, 3]:
+        (scratch / f"may{refused}").write_text(asking(refused))
+    sys.exit()
 dark = "Darkness\nIt is pitch dark, and you can't see a thing.\n"
 platform = "Platform\nThe platform lies dry and still. The next train is LATE minutes late. A signal box stands to the east.\n"
 box = "Box\nLevers fill the wall, and a lamp glows among them.\nYou can see a lamp and a shelf here.\n"
@@ -68,7 +85,6 @@ begins, start, looks, ways, closed, behind = {
         {"Box": bell},
     ),
 }[row.name]
-commands = (row / "commands").read_text().split()
 turns = [place for place, command in enumerate(commands) if command != "undo"]
 
 
@@ -85,7 +101,7 @@ def transcript(refused):
             text += "Previous turn undone.\n" if kept else "You can't undo any further.\n"
             room, late = kept.pop() if kept else (room, late)
         elif place == refused:
-            text += "[The turn was abandoned: out of memory.]\n"
+            text += ABANDONED
         else:
             kept.append((room, late))
             beyond = room if command == "look" else ways.get((room, command))
@@ -104,7 +120,7 @@ PY
 
 passed=0
 failed=0
-for name in two_rooms lamp_in_a_dark_room doors_between_rooms rules_and_scenes; do
+for name in two_rooms lamp_in_a_dark_room doors_between_rooms rules_and_scenes which_box_is_meant; do
   row=$here/rows/$name
   "$program" compile "$row/source.i7" "$scratch/story" || exit 1
   expected || exit 1
