@@ -8,7 +8,7 @@ use Rattle.std.proofs.lemmas.List.{length-map}
 use Rattle.std.proofs.lemmas.Option.{slice_get_past}
 use Rattle.world_meaning.specs.Chains.{IsTree}
 use Rattle.world_meaning.specs.Declarations.{is_below as is_kind_below, is_rooted, is_well_declared}
-use Rattle.world_meaning.specs.Directions.{all_directions}
+use Rattle.world_meaning.specs.Directions.{all_directions, direction_name, short_word}
 use Rattle.world_meaning.specs.Placing.{Kinds, can_be_held, can_hold, keeps_player}
 use Rattle.world_meaning.specs.Sight.{is_in}
 use Rattle.world_meaning.specs.Sorts.{is_at, kinds_told, sorts_of, under_each}
@@ -222,7 +222,7 @@ authors_short (at ∷ mentions) h =
     and_from (is_short at.name.text) (list_all has_short_entry (map author_entry mentions)) (name_short at.name.text (not-true (has_long_name at) t.0)) (authors_short mentions t.1)
 
 entries_short : (mentions : List NameAt) → list_all has_short_name mentions ≡ true → list_all has_short_entry (entries_of mentions) ≡ true
-unfolding entries_of
+unfolding entries_of direction_name
 entries_short mentions h = authors_short mentions h
 
 objects_short : (m : Made) (o : ℕ) (entries : List Entry) → list_all has_short_entry entries ≡ true → list_all (λ d. not (has_long_text d)) m.descriptions ≡ true → list_all has_short_texts (objects_of m o entries) ≡ true
@@ -262,7 +262,7 @@ authors_few m o (at ∷ mentions) le h =
     (authors_few m (o + 1) mentions (omega (arith, le)) t.1)
 
 words_held : (m : Made) (mentions : List NameAt) → list_all has_short_name mentions ≡ true → list_all has_few_words (worded (objects_of m 0 (entries_of mentions))) ≡ true
-unfolding entries_of object_as words_for more_words
+unfolding entries_of object_as words_for more_words direction_name short_word
 words_held m mentions h = authors_few m 13 mentions (omega arith) h
 
 -- ---- all of it
