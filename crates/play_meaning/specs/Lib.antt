@@ -31,6 +31,7 @@ pub mod RuleRows
 pub mod Rules
 pub mod Saying
 pub mod Scoping
+pub mod ScenesMeant
 pub mod Scripts
 pub mod Seeing
 pub mod SessionRows

@@ -7,6 +7,7 @@ mod pattern;
 mod phrase;
 mod rule;
 mod said;
+mod scene;
 
 pub use condition::{Basic, Clause, Condition, Conjunction};
 pub use number::{Joined, Number, Operator, Term};
@@ -15,3 +16,4 @@ pub use pattern::{Aspect, Listing, Pattern};
 pub use phrase::{Branch, Phrase, Simple};
 pub use rule::{MeantRule, RuleHead};
 pub use said::{Piece, Said, Text};
+pub use scene::MeantScene;
