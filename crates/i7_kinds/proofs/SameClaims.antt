@@ -141,6 +141,7 @@ claiming_of : (known : Standings) (said : Assertion) (line : ℕ) (f : Fact) →
 claiming_of known asserts.Aside line f h = absurd h
 claiming_of known (asserts.Description text) line f h = absurd h
 claiming_of known (asserts.Rule rule) line f h = absurd h
+claiming_of known (asserts.SceneChange change) line f h = absurd h
 claiming_of known (asserts.Listing listing) line f h = absurd h
 claiming_of known (asserts.Action action) line f h = absurd h
 claiming_of known _ line f h = refl
@@ -149,6 +150,7 @@ declaring : (said : Assertion) (line : ℕ) (f : Fact) → IsClaimed (declares_s
 declaring asserts.Aside line f h = absurd h
 declaring (asserts.Description text) line f h = absurd h
 declaring (asserts.Rule rule) line f h = absurd h
+declaring (asserts.SceneChange change) line f h = absurd h
 declaring (asserts.Listing listing) line f h = absurd h
 declaring (asserts.Action action) line f h = absurd h
 declaring _ line f h = refl

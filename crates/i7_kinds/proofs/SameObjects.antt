@@ -97,6 +97,7 @@ naming : (said : Assertion) (key : List ℕ) → IsKeyOf key (names_in said) →
 naming asserts.Aside key h = absurd h
 naming (asserts.Description text) key h = absurd h
 naming (asserts.Rule rule) key h = absurd h
+naming (asserts.SceneChange change) key h = absurd h
 naming (asserts.Listing listing) key h = absurd h
 naming (asserts.Action action) key h = absurd h
 naming _ key h = refl

@@ -67,6 +67,7 @@ of_assertion named (asserts.Holds holder relation things) text e = none_of_holdi
 of_assertion named (asserts.VariableIs variable number) text e = cc
 of_assertion named (asserts.Are being) text e = none_of_subject named being.subjects text e
 of_assertion named (asserts.Rule rule) text e = cc
+of_assertion named (asserts.SceneChange change) text e = cc
 of_assertion named (asserts.Listing listing) text e = cc
 of_assertion named (asserts.Action declaration) text e = cc
 

@@ -14,12 +14,14 @@ use Rattle.i7_sentences.specs.Keywords.{is_sign}
 use Rattle.i7_sentences.specs.Literals.{literal_of}
 use Rattle.i7_sentences.specs.Names.{joined, name_of, names_from}
 use Rattle.i7_sentences.specs.RuleListings.{listed_first, listed_last, not_listed}
+use Rattle.i7_sentences.specs.SceneChanges.{scene_change}
 use Rattle.i7_sentences.specs.TextPieces.{is_text_read, text_pieces}
 use Rattle.i7_sentences.specs.Words.{word_of, direction_named}
 use Rattle.i7_sentences.specs.declared.keyword.Keyword.TheVariants as keyword
 use Rattle.i7_sentences.specs.declared.form.Form.{Form}
 use Rattle.i7_sentences.specs.declared.form.Form.TheVariants as form
 use Rattle.i7_sentences.specs.declared.name.Name.{Name}
+use Rattle.i7_sentences.specs.declared.scene_change.SceneEdge.TheVariants as edge
 use Rattle.i7_sentences.specs.declared.sentence.Assertion.{Assertion}
 use Rattle.i7_sentences.specs.declared.sentence.Assertion.TheVariants as assertion
 use Rattle.i7_sentences.specs.declared.sentence.Holder.{Holder}
@@ -205,6 +207,8 @@ are _ = None
 -- what a form says with these letters
 unfoldable pub assertion_of : Form → List (List Token) → Option Assertion
 assertion_of form.Description letters = description letters
+assertion_of form.SceneBegins letters = scene_change edge.Begins letters
+assertion_of form.SceneEnds letters = scene_change edge.Ends letters
 assertion_of form.ListedFirst letters = listed_first letters
 assertion_of form.ListedLast letters = listed_last letters
 assertion_of form.NotListed letters = not_listed letters
@@ -232,7 +236,8 @@ assertion_of (form.WhatHeld relation) letters = what_held relation letters
 assertion_of form.Is letters = are letters
 assertion_of _ letters = None
 
--- the forms that are read so far: neither rules, understandings nor a scene's begin and end
+-- the forms that say something whatever their letters are, descriptions aside: neither rules nor what a scene begins or ends on, whose
+-- words have a shape of their own; understandings aren't read so far
 abbrev pub is_asserting : Form → Bool
 is_asserting form.Understand = false
 is_asserting form.BeforeRule = false

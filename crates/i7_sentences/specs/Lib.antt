@@ -25,6 +25,7 @@ pub mod RuleBodies
 pub mod RuleHeads
 pub mod RuleListings
 pub mod Rules
+pub mod SceneChanges
 pub mod Seams
 pub mod Sources
 pub mod Signs

@@ -11,6 +11,7 @@ use crate::letter::{describing_text, number_in, side_direction};
 use crate::name::{joined, name_of};
 use crate::names::names_of;
 use crate::rule_listing::{listed_first, listed_last, not_listed};
+use crate::scene_change::{SceneEdge, scene_change};
 use crate::tagged::Tagged;
 use crate::{Assertion, Being, Form, Holder, Side, Way};
 use std::alloc::{AllocError, Global};
@@ -292,6 +293,8 @@ pub fn assertion_of(
 {
     match form {
         Form::Description => Ok(description(alloc, letters)?),
+        Form::SceneBegins => Ok(scene_change(alloc, SceneEdge::Begins, letters)?),
+        Form::SceneEnds => Ok(scene_change(alloc, SceneEdge::Ends, letters)?),
         Form::ListedFirst => Ok(listed_first(alloc, letters)?),
         Form::ListedLast => Ok(listed_last(alloc, letters)?),
         Form::NotListed => Ok(not_listed(alloc, letters)?),

@@ -31,7 +31,9 @@ pub enum Form {
     SceneBeginsRule,
     SceneEndsRule,
     OwnRule,
+    /// `the storm begins when the score is at least 1`
     SceneBegins,
+    /// `the storm ends when in darkness`
     SceneEnds,
     ListedFirst,
     ListedLast,

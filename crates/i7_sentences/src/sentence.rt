@@ -1,5 +1,5 @@
 //! Sentences and what they assert.
-use crate::{ActionDeclaration, Name, Names, Rule, RuleListing};
+use crate::{ActionDeclaration, Name, Names, Rule, RuleListing, SceneChange};
 use world_meaning::{Direction, Rel, TextBytes};
 
 /// What one sentence asserts, its names as it mentions them.
@@ -79,6 +79,8 @@ pub enum Assertion {
     Are(Being),
     /// `every turn: say "Tick."`
     Rule(Rule),
+    /// `the storm begins when the score is at least 1`
+    SceneChange(SceneChange),
     /// `the oak rule is listed first in the instead rules`, `the oak rule is not listed in any rulebook`
     Listing(RuleListing),
     /// `weighing it with is an action applying to one carried thing and one thing`

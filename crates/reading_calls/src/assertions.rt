@@ -2,7 +2,7 @@
 use crate::actions::add_action;
 use crate::names::{add, add_declared, add_name, add_names};
 use crate::plans::add_plan;
-use crate::rules::{add_listing, add_rule};
+use crate::rules::{add_listing, add_rule, add_scene_change};
 use i7_sentences::{Assertion, Being, Name, Side, Way};
 use std::alloc::{AllocError, Global};
 use world_meaning::Rel;
@@ -78,6 +78,7 @@ pub fn add_said(alloc: Global, out: &mut Vec<u8>, said: &Assertion) -> Result<()
         Assertion::Are(being) => add_being(out, being),
         Assertion::Rule(rule) => add_rule(alloc, out, rule),
         Assertion::Listing(listing) => add_listing(out, listing),
+        Assertion::SceneChange(change) => add_scene_change(out, change),
         Assertion::Action(action) => add_action(out, action),
         _ => add_plan(alloc, out, said),
     }

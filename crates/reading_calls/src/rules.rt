@@ -1,12 +1,13 @@
 //! A rule: its rulebook, `[pattern]` or `@[place]`, `~[scene]`, `{condition:` and `(name)`, and of each phrase its line and depth, what
-//! it says, and `!` for an `instead`: `every{in,darkness: 1/0 |x|`. Where a sentence lists a rule: `first<instead>(oak)`.
+//! it says, and `!` for an `instead`: `every{in,darkness: 1/0 |x|`. Where a sentence lists a rule: `first<instead>(oak)`. On what a
+//! scene begins or ends: `begins<storm>{in,darkness:`.
 use crate::spoken::add_spoken;
 use crate::texts::add_words;
 use crate::tokens::fault_told;
 use i7_lexer::{Lexed, lex};
 use i7_sentences::{
-    Assertion, ListedIn, Rule, RuleBook, RuleListing, RulePhrase, RuleSubject, Sentence, WordList,
-    read,
+    Assertion, ListedIn, Rule, RuleBook, RuleListing, RulePhrase, RuleSubject, SceneChange, SceneEdge,
+    Sentence, WordList, read,
 };
 use std::alloc::{AllocError, Global};
 
@@ -100,12 +101,22 @@ pub fn add_listing(out: &mut Vec<u8>, listing: &RuleListing) -> Result<(), Alloc
     add_words(out, b'(', &listing.rule, b')')
 }
 
-/// What a sentence says as a rule, or where it lists one.
+/// Adds on what a scene begins or ends.
+pub fn add_scene_change(out: &mut Vec<u8>, change: &SceneChange) -> Result<(), AllocError> {
+    match change.edge {
+        SceneEdge::Begins => add_scene(out, b"begins", &change.scene)?,
+        SceneEdge::Ends => add_scene(out, b"ends", &change.scene)?,
+    }
+    add_words(out, b'{', &change.condition, b':')
+}
+
+/// What a sentence says as a rule, where it lists one, or on what a scene begins or ends.
 fn said_told(alloc: Global, said: &Assertion) -> Result<Vec<u8>, AllocError> {
     let mut out = Vec::new(alloc);
     match said {
         Assertion::Rule(rule) => add_rule(alloc, &mut out, rule)?,
         Assertion::Listing(listing) => add_listing(&mut out, listing)?,
+        Assertion::SceneChange(change) => add_scene_change(&mut out, change)?,
         _ => out.extend_from_slice(b"no rule")?,
     }
     Ok(out)
