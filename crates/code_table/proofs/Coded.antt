@@ -4,16 +4,18 @@ use Rattle.std.specs.List.{AllByRecursion, flat_map}
 use Rattle.std.specs.Prelude.{map}
 use Rattle.play_meaning.specs.Meant.{text_meant}
 use Rattle.play_meaning.specs.Patterns.{rule_meant}
+use Rattle.play_meaning.specs.ScenesMeant.{scene_meant}
 use Rattle.play_meaning.specs.declared.instruction.Instruction.{Instruction}
 use Rattle.play_meaning.specs.declared.operand.Counts.{Counts}
 use Rattle.play_meaning.specs.declared.tree.rule.MeantRule.{MeantRule}
 use Rattle.play_meaning.specs.declared.tree.said.Text.{Text as MeantText}
+use Rattle.play_meaning.specs.declared.tree.scene.MeantScene.{MeantScene}
 use Rattle.story_code.specs.Emits.{AreEmitted, AreSpelled}
 use Rattle.story_code.specs.Emitting.{can_say_all}
 use Rattle.story_code.specs.SoundlyEmitted.{AreSoundAnywhere, among}
 use Rattle.code_table.specs.Coding.{AddAll, Adds, AreCoded, IsCoded}
 use Rattle.code_table.specs.Emitted.{AllFit, CanBeSaid, codes_of_origins, origins_emitted, origins_from}
-use Rattle.code_table.specs.Origins.{Describes, Fits, Origin, origins_meant, origins_of_rule, part_of, use_for}
+use Rattle.code_table.specs.Origins.{Describes, Fits, Origin, origins_meant, origins_of_rule, origins_of_scene, part_of, use_for}
 
 pub spelled_long : (bytes : List (List ℕ)) (codes : List (List Instruction)) → AreSpelled bytes codes → length bytes ≡ length codes
 spelled_long [] [] spelled = refl
@@ -77,13 +79,6 @@ module _ (z : Counts) (string : List ℕ → ℕ) where
       let es = origins_emitted string origins in
       omega (arith, many, length-append (map (λ e. e.code) es) (flat_map (λ e. e.tests) es), codes_long string (length origins) origins)
 
-  -- rules behind texts
-  pub all_coded : (heads : ℕ) (texts : List MeantText) (rules : List MeantRule) (codes tests more_codes more_tests : List (List ℕ)) → heads ≡ length (origins_meant texts rules)
-      → AreCoded z string heads (map Describes (map text_meant texts)) codes tests → AddAll z string heads (flat_map origins_of_rule (map rule_meant rules)) codes tests more_codes more_tests
-      → AreCoded z string (length (origins_meant texts rules)) (origins_meant texts rules) more_codes more_tests
-  all_coded heads texts rules codes tests more_codes more_tests count coded adds =
-      subst (λ n. AreCoded z string n (origins_meant texts rules) more_codes more_tests) count (adds (map Describes (map text_meant texts)) coded)
-
   -- ---- one more
 
   one_more : (first : ℕ) (origins : List Origin) (codes tests : List (List ℕ)) (origin : Origin) (code : List ℕ) (own : List (List ℕ)) → AreCoded z string first origins codes tests → IsCoded z string (first + length tests) origin code own
@@ -121,3 +116,10 @@ module _ (z : Counts) (string : List ℕ → ℕ) where
     adds_by origin first codes tests more_codes more_tests [] number fits emitted sound codes_are tests_are = absurd emitted.spelled
     adds_by origin first codes tests more_codes more_tests (code ∷ own) number fits emitted sound codes_are tests_are =
         (code, (own, (codes_are, (tests_are, subst (λ n. IsCoded z string n origin code own) number (record { fits = fits; emitted = emitted; sound = sound })))))
+
+    -- rules behind texts, and scenes behind these
+    pub all_behind : (texts : List MeantText) (rules : List MeantRule) (scenes : List MeantScene) (codes tests more_codes more_tests last_codes last_tests : List (List ℕ))
+        → AreCoded z string heads (map Describes (map text_meant texts)) codes tests → AddAll z string heads (flat_map origins_of_rule (map rule_meant rules)) codes tests more_codes more_tests
+        → AddAll z string heads (flat_map origins_of_scene (map scene_meant scenes)) more_codes more_tests last_codes last_tests → AreCoded z string heads (origins_meant texts rules scenes) last_codes last_tests
+    all_behind texts rules scenes codes tests more_codes more_tests last_codes last_tests coded ruled told =
+        adds_both (flat_map origins_of_rule (map rule_meant rules)) (flat_map origins_of_scene (map scene_meant scenes)) codes tests more_codes more_tests last_codes last_tests ruled told (map Describes (map text_meant texts)) coded

@@ -1,15 +1,14 @@
 -- How many codes stand in front of the tests, counted; and numbers behind them.
-use Rattle.std.proofs.Common.{◌≡◌, refl, ℕ, ◌+◌, ◌<◌, ◌≤◌, nat_lt, Bool, true, false, if◌then◌else◌, List, length, Some, None, arith, length-append}
+use Rattle.std.proofs.Common.{◌≡◌, refl, ℕ, ◌+◌, ◌<◌, ◌≤◌, nat_lt, Bool, true, false, if◌then◌else◌, List, length, Some, None}
 use Rattle.std.specs.List.{flat_map}
 use Rattle.std.specs.Prelude.{map}
 use Rattle.std.proofs.lemmas.Bool.{ltb-false, ltb-true}
-use Rattle.std.proofs.lemmas.List.{length-map}
-use Rattle.play_meaning.specs.Meant.{text_meant}
 use Rattle.play_meaning.specs.Patterns.{rule_meant}
+use Rattle.play_meaning.specs.ScenesMeant.{scene_meant}
 use Rattle.play_meaning.specs.declared.tree.rule.MeantRule.{MeantRule}
-use Rattle.play_meaning.specs.declared.tree.said.Text.{Text as MeantText}
+use Rattle.play_meaning.specs.declared.tree.scene.MeantScene.{MeantScene}
 use Rattle.code_table.specs.Coding.{number_behind}
-use Rattle.code_table.specs.Origins.{Describes, origins_meant, origins_of_rule}
+use Rattle.code_table.specs.Origins.{origins_of_rule, origins_of_scene}
 
 -- ---- a number of two bytes
 
@@ -27,12 +26,12 @@ no_number_by heads tests false less is = ltb-false (heads + tests) 65536 less
 pub no_number : (heads tests : ℕ) → number_behind heads tests ≡ None → 65536 ≤ heads + tests
 no_number heads tests is = no_number_by heads tests (nat_lt (heads + tests) 65536) refl is
 
--- ---- those of texts and rules
+-- ---- those of rules and scenes
 
 -- how many codes rules have in front of the tests
-abbrev pub heads_of : List MeantRule → ℕ
-heads_of rules = length (flat_map origins_of_rule (map rule_meant rules))
+abbrev pub heads_of_rules : List MeantRule → ℕ
+heads_of_rules rules = length (flat_map origins_of_rule (map rule_meant rules))
 
-pub heads_begin : (texts : List MeantText) (rules : List MeantRule) → length texts + heads_of rules ≡ length (origins_meant texts rules)
-heads_begin texts rules =
-    omega (arith, length-append (map Describes (map text_meant texts)) (flat_map origins_of_rule (map rule_meant rules)), length-map (map text_meant texts) Describes, length-map texts text_meant)
+-- and scenes
+abbrev pub heads_of_scenes : List MeantScene → ℕ
+heads_of_scenes scenes = length (flat_map origins_of_scene (map scene_meant scenes))

@@ -10,6 +10,7 @@ pub mod Onward
 pub mod Parted
 pub mod Said
 pub mod SaidStrings
+pub mod SceneCodes
 pub mod Spoken
 pub mod Stopped
 pub mod Tabled

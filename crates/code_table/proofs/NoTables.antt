@@ -1,4 +1,4 @@
--- Texts and rules that have a table of codes aren't among those that have none.
+-- Texts, rules and scenes that have a table of codes aren't among those that have none.
 use Rattle.std.proofs.Common.{◌≡◌, ◌∙◌, sym, subst, refl, ℕ, ◌+◌, true, false, List, [], ◌∷◌, ◌++◌, length, length-append, arith}
 use Rattle.std.specs.List.{AllByRecursion, flat_map}
 use Rattle.play_meaning.specs.declared.operand.Counts.{Counts}
@@ -6,8 +6,8 @@ use Rattle.story_code.specs.Emitting.{can_say_all}
 use Rattle.code_table.specs.Emitted.{AllFit, CanBeSaid, IsTooLong, number_from, origins_from}
 use Rattle.code_table.specs.Origins.{Origin, origins_of, part_of}
 use Rattle.code_table.specs.Laws.{NeverTableAndNone}
-use Rattle.code_table.specs.declared.fault.TableFault.TheVariants.{LongRule, LongText, TooMany, Memory}
-use Rattle.code_table.proofs.Parted.{rule_parted, text_parted}
+use Rattle.code_table.specs.declared.fault.TableFault.TheVariants.{LongRule, LongScene, LongText, TooMany, Memory}
+use Rattle.code_table.proofs.Parted.{rule_parted, scene_parted, text_parted}
 
 fits_there : (z : Counts) (string : List ℕ → ℕ) (before behind : List Origin) (origin : Origin) → AllFit z string (before ++ origin ∷ behind) → AllFit z string (origin ∷ behind)
 fits_there z string [] behind origin fit = fit
@@ -38,9 +38,11 @@ never_long z string origins before behind origin parts fits can long =
     cc
 
 pub never_both : NeverTableAndNone
-never_both z string texts rules (LongText number) fits can long =
-    absurd (never_long z string (origins_of texts rules) _ _ _ (text_parted texts long.before long.behind long.text rules long.parts) fits can long.long)
-never_both z string texts rules (LongRule number) fits can long =
-    absurd (never_long z string (origins_of texts rules) _ _ _ (rule_parted texts rules long.before long.behind long.rule long.front long.back long.origin long.parts long.within) fits can long.long)
-never_both z string texts rules TooMany fits can many = absurd (omega (arith, many, can.few))
-never_both z string texts rules Memory fits can none = refl
+never_both z string texts rules scenes (LongText number) fits can long =
+    absurd (never_long z string (origins_of texts rules scenes) _ _ _ (text_parted texts long.before long.behind long.text rules scenes long.parts) fits can long.long)
+never_both z string texts rules scenes (LongRule number) fits can long =
+    absurd (never_long z string (origins_of texts rules scenes) _ _ _ (rule_parted texts rules long.before long.behind scenes long.rule long.front long.back long.origin long.parts long.within) fits can long.long)
+never_both z string texts rules scenes (LongScene number) fits can long =
+    absurd (never_long z string (origins_of texts rules scenes) _ _ _ (scene_parted texts rules scenes long.before long.behind long.scene long.front long.back long.origin long.parts long.within) fits can long.long)
+never_both z string texts rules scenes TooMany fits can many = absurd (omega (arith, many, can.few))
+never_both z string texts rules scenes Memory fits can none = refl

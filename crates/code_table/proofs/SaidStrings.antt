@@ -1,4 +1,4 @@
--- The strings that the codes of texts and rules name are those that these say.
+-- The strings that the codes of texts, rules and scenes name are those that these say.
 use Rattle.std.proofs.Common.{◌≡◌, ◌∙◌, ap, sym, refl, ℕ, ◌+◌, negsuc, List, [], ◌∷◌, ◌++◌, length, append-nil, Option, Some, None}
 use Rattle.std.specs.List.{flat_map}
 use Rattle.std.specs.Prelude.{map}

@@ -18,7 +18,7 @@ use Rattle.story_code.specs.Emitting.{can_say_all}
 use Rattle.story_code.specs.declared.emit.EmitFault.{EmitFault}
 use Rattle.story_code.specs.declared.emit.EmitFault.TheVariants as emit
 use Rattle.code_table.specs.Coding.{AddAll, Adds, AreCoded, HasNoCode, RulesHaveNone, StopIn, StopsIn, TextsHaveNone, not_emitted, rule_fault, text_fault}
-use Rattle.code_table.specs.Emitted.{HaveNoTable, codes_of_origins, number_from, origins_emitted, origins_from}
+use Rattle.code_table.specs.Emitted.{HaveNoTable, IsTooLong, codes_of_origins, number_from, origins_emitted, origins_from}
 use Rattle.code_table.specs.Origins.{Asks, Describes, Does, Fits, Origin, origins_of, origins_of_rule, part_of}
 use Rattle.code_table.specs.declared.adding.NotAdded.{NotAdded}
 use Rattle.code_table.specs.declared.adding.NotAdded.TheVariants as added
@@ -67,6 +67,18 @@ module _ {A : Type 0} (f : A → List Origin) (z : Counts) (string : List ℕ �
     grows_on codes_now tests_now more_codes more_tests rest x some at adds way =
         grown codes_now tests_now more_codes more_tests (m x) (map m (take (length rest - 1) (drop 1 rest))) adds (subst (λ l. IsOnWay codes_now tests_now (map m l)) (front_of rest x some at) way)
 
+    -- the next has the number of those in front
+    pub numbered : (things : List X) → all ≡ map m things → (codes_now tests_now : List (List ℕ)) (rest : List X) (number : ℕ) → number + length rest ≡ length things → (way : IsOnWay codes_now tests_now (map m rest)) → number ≡ length way.before
+    numbered things meant codes_now tests_now rest number place way =
+        omega (arith, place, length-map things m, length-map rest m, sym (ap length meant) ∙ ap length way.parts, length-append way.before (map m rest))
+
+    pub next_parts : (codes_now tests_now : List (List ℕ)) (rest : List X) (x : X) → 1 ≤ length rest → x ≡ get_or rest 0 x → (way : IsOnWay codes_now tests_now (map m rest)) → all ≡ way.before ++ m x ∷ map m (take (length rest - 1) (drop 1 rest))
+    next_parts codes_now tests_now rest x some at way = way.parts ∙ ap (λ l. way.before ++ map m l) (front_of rest x some at)
+
+    -- so many are left
+    pub fewer : (things : List X) → all ≡ map m things → (codes_now tests_now : List (List ℕ)) (rest : List X) → IsOnWay codes_now tests_now (map m rest) → length rest ≤ length things
+    fewer things meant codes_now tests_now rest way = omega (arith, length-map things m, length-map rest m, sym (ap length meant) ∙ ap length way.parts, length-append way.before (map m rest))
+
     pub ends : (more_codes more_tests : List (List ℕ)) (rest : List X) → length rest < 1 → IsOnWay more_codes more_tests (map m rest) → AddAll z string heads (flat_map f all) codes tests more_codes more_tests
     ends more_codes more_tests rest none way = ended more_codes more_tests (subst (λ l. IsOnWay more_codes more_tests (map m l)) (nothing_left rest none) way)
 
@@ -113,20 +125,31 @@ module _ (z : Counts) (string : List ℕ → ℕ) where
   }
 
   -- the first of them
-  stops_first : (heads : ℕ) (before back : List Origin) (origin : Origin) (codes tests : List (List ℕ)) (fault : NotAdded) → AreCoded z string heads before codes tests → HasNoCode z string (heads + length tests) origin fault
+  pub stops_first : (heads : ℕ) (before back : List Origin) (origin : Origin) (codes tests : List (List ℕ)) (fault : NotAdded) → AreCoded z string heads before codes tests → HasNoCode z string (heads + length tests) origin fault
       → StopsIn z string heads before (origin ∷ back) fault
   stops_first heads before back origin codes tests fault coded none = stops_at heads before [] back origin codes tests fault (subst (λ l. AreCoded z string heads l codes tests) (sym (append-nil before)) coded) none
 
   -- ---- why there is no table then
 
+  -- so many codes stand in front of the first test
+  pub long_there : (heads first : ℕ) (before origins : List Origin) → heads ≡ first → (stops : StopsIn z string heads before origins added.TooLong) → IsTooLong z string first (before ++ stops.front) stops.origin
+  long_there heads first before origins count stops = record {
+    fit = stops.fit;
+    said = subst (λ n. AllByRecursion (λ e. can_say_all e ≡ true) (origins_from string n (before ++ stops.front))) count stops.said;
+    long = subst (λ n. HasNoCode z string (number_from string n (before ++ stops.front)) stops.origin added.TooLong) count stops.none;
+  }
+
+  pub many_there : (heads : ℕ) (all before origins behind : List Origin) → heads ≡ length all → (stops : StopsIn z string heads before origins added.TooMany) → all ≡ before ++ stops.front ++ behind → 65535 < length (codes_of_origins string all)
+  many_there heads all before origins behind count stops parts = too_many all (before ++ stops.front) behind parts (subst (λ n. 65536 ≤ number_from string n (before ++ stops.front)) count stops.none)
+
   text_none : (heads : ℕ) (texts before behind : List Text) (text : Text) (codes tests : List (List ℕ)) (number : ℕ) (fault : NotAdded) → texts ≡ before ++ text ∷ behind → number ≡ length codes
       → AreCoded z string heads (map Describes before) codes tests → HasNoCode z string (heads + length tests) (Describes text) fault → TextsHaveNone z string heads texts (text_fault number fault)
-  text_none heads texts before behind text codes tests number fault parts place coded none rules count = by fault none
+  text_none heads texts before behind text codes tests number fault parts place coded none rules scenes count = by fault none
     where
-      first : heads + length tests ≡ number_from string (length (origins_of texts rules)) (map Describes before)
+      first : heads + length tests ≡ number_from string (length (origins_of texts rules scenes)) (map Describes before)
       first = ap (λ k. heads + k) (coded_tests z string heads (map Describes before) codes tests coded) ∙ ap (λ n. number_from string n (map Describes before)) count
 
-      by : (fault : NotAdded) → HasNoCode z string (heads + length tests) (Describes text) fault → HaveNoTable z string texts rules (text_fault number fault)
+      by : (fault : NotAdded) → HasNoCode z string (heads + length tests) (Describes text) fault → HaveNoTable z string texts rules scenes (text_fault number fault)
       by added.TooLong none = record {
         before = before;
         text = text;
@@ -139,15 +162,16 @@ module _ (z : Counts) (string : List ℕ → ℕ) where
           long = subst (λ n. HasNoCode z string n (Describes text) added.TooLong) first none;
         };
       }
-      by added.TooMany none = too_many (origins_of texts rules) (map Describes before) _ (text_parted texts before behind text rules parts) (subst (λ n. 65536 ≤ n) first none)
+      by added.TooMany none = too_many (origins_of texts rules scenes) (map Describes before) _ (text_parted texts before behind text rules scenes parts) (subst (λ n. 65536 ≤ n) first none)
       by added.Memory none = tt
 
   rule_none : (heads : ℕ) (rules before behind : List Rule) (rule : Rule) (codes tests codes_now tests_now : List (List ℕ)) (number : ℕ) (fault : NotAdded) → rules ≡ before ++ rule ∷ behind → number ≡ length before
       → AddAll z string heads (flat_map origins_of_rule before) codes tests codes_now tests_now → StopIn z string heads (origins_of_rule rule) codes_now tests_now fault
       → RulesHaveNone z string heads rules codes tests (rule_fault number fault)
-  rule_none heads rules before behind rule codes tests codes_now tests_now number fault parts place adds stop texts coded count = by fault (stop (origins_of texts before) (adds (map Describes texts) coded))
+  rule_none heads rules before behind rule codes tests codes_now tests_now number fault parts place adds stop texts scenes coded count =
+      by fault (stop (map Describes texts ++ flat_map origins_of_rule before) (adds (map Describes texts) coded))
     where
-      by : (fault : NotAdded) → StopsIn z string heads (origins_of texts before) (origins_of_rule rule) fault → HaveNoTable z string texts rules (rule_fault number fault)
+      by : (fault : NotAdded) → StopsIn z string heads (map Describes texts ++ flat_map origins_of_rule before) (origins_of_rule rule) fault → HaveNoTable z string texts rules scenes (rule_fault number fault)
       by added.TooLong stops = record {
         before = before;
         rule = rule;
@@ -158,15 +182,11 @@ module _ (z : Counts) (string : List ℕ → ℕ) where
         origin = stops.origin;
         back = stops.back;
         within = stops.within;
-        long = record {
-          fit = stops.fit;
-          said = subst (λ n. AllByRecursion (λ e. can_say_all e ≡ true) (origins_from string n (origins_of texts before ++ stops.front))) count stops.said;
-          long = subst (λ n. HasNoCode z string (number_from string n (origins_of texts before ++ stops.front)) stops.origin added.TooLong) count stops.none;
-        };
+        long = long_there heads (length (origins_of texts rules scenes)) (map Describes texts ++ flat_map origins_of_rule before) (origins_of_rule rule) count stops;
       }
       by added.TooMany stops =
-          too_many (origins_of texts rules) (origins_of texts before ++ stops.front) _ (rule_parted texts rules before behind rule stops.front stops.back stops.origin parts stops.within)
-          (subst (λ n. 65536 ≤ number_from string n (origins_of texts before ++ stops.front)) count stops.none)
+          many_there heads (origins_of texts rules scenes) (map Describes texts ++ flat_map origins_of_rule before) (origins_of_rule rule) _ count stops
+          (rule_parted texts rules before behind scenes rule stops.front stops.back stops.origin parts stops.within)
       by added.Memory stops = tt
 
 -- ---- a rule's condition and body
@@ -230,18 +250,10 @@ module _ (z : Counts) (string : List ℕ → ℕ) (heads : ℕ) where
   pub rule_stops : (rules : List MeantRule) (codes tests codes_now tests_now : List (List ℕ)) (rest : List MeantRule) (rule : MeantRule) (number : ℕ) (fault : NotAdded) → 1 ≤ length rest → rule ≡ get_or rest 0 rule
       → number + length rest ≡ length rules → StopIn z string heads (origins_of_rule (rule_meant rule)) codes_now tests_now fault
       → IsOnWay origins_of_rule z string heads (map rule_meant rules) codes tests codes_now tests_now (map rule_meant rest) → RulesHaveNone z string heads (map rule_meant rules) codes tests (rule_fault number fault)
-  rule_stops rules codes tests codes_now tests_now rest rule number fault some at place stop left =
-      let way : IsOnWay origins_of_rule z string heads (map rule_meant rules) codes tests codes_now tests_now (rule_meant rule ∷ map rule_meant (take (length rest - 1) (drop 1 rest))) =
-      subst (λ l. IsOnWay origins_of_rule z string heads (map rule_meant rules) codes tests codes_now tests_now (map rule_meant l)) (front_of rest rule some at) left in
-      let after = take (length rest - 1) (drop 1 rest) in
-      let many : length rules ≡ length way.before + suc (length (map rule_meant after)) = sym (length-map rules rule_meant) ∙ ap length way.parts ∙ length-append way.before (rule_meant rule ∷ map rule_meant after) in
-      rule_none z string heads (map rule_meant rules) way.before (map rule_meant after) (rule_meant rule) codes tests codes_now tests_now number fault way.parts
-      (omega (arith, place, many, length-map after rule_meant, ap length (front_of rest rule some at))) way.coded stop
-
-  pub rules_left : (rules : List MeantRule) (codes tests codes_now tests_now : List (List ℕ)) (rest : List MeantRule) → IsOnWay origins_of_rule z string heads (map rule_meant rules) codes tests codes_now tests_now (map rule_meant rest)
-      → length rest ≤ length rules
-  rules_left rules codes tests codes_now tests_now rest way =
-      omega (arith, length-map rules rule_meant, length-map rest rule_meant, ap length way.parts, length-append way.before (map rule_meant rest))
+  rule_stops rules codes tests codes_now tests_now rest rule number fault some at place stop way =
+      rule_none z string heads (map rule_meant rules) way.before (map rule_meant (take (length rest - 1) (drop 1 rest))) (rule_meant rule) codes tests codes_now tests_now number fault
+      (next_parts origins_of_rule z string heads (map rule_meant rules) codes tests rule_meant codes_now tests_now rest rule some at way)
+      (numbered origins_of_rule z string heads (map rule_meant rules) codes tests rule_meant rules refl codes_now tests_now rest number place way) way.coded stop
 
   pub texts_end : (texts : List Text) (codes tests : List (List ℕ)) (rest : List MeantText) → length rest < 1 → IsOnWay one_text z string heads texts [] [] codes tests (map text_meant rest) → AreCoded z string heads (map Describes texts) codes tests
   texts_end texts codes tests rest none way = subst (λ l. AreCoded z string heads l codes tests) (all_texts texts) (ends one_text z string heads texts [] [] text_meant codes tests rest none way [] (refl, refl))

@@ -1,7 +1,8 @@
--- How the codes of texts and rules are put together one by one, as relations on lists: what the code is proved equal to.
+-- How the codes of texts, rules and scenes are put together one by one, as relations on lists: what the code is proved equal to.
 use Rattle.std.specs.Prelude.{◌≡◌, ℕ, ◌+◌, ◌≤◌, nat_lt, true, false, List, [], ◌∷◌, ◌++◌, length, map, Option, None, Some, if◌then◌else◌}
-use Rattle.std.specs.List.{AllByRecursion}
+use Rattle.std.specs.List.{AllByRecursion, flat_map}
 use Rattle.play_meaning.specs.Rules.{Rule}
+use Rattle.play_meaning.specs.Scripts.{Scene}
 use Rattle.play_meaning.specs.Trees.{Text}
 use Rattle.play_meaning.specs.declared.operand.Counts.{Counts}
 use Rattle.story_code.specs.Emits.{AreEmitted}
@@ -10,11 +11,11 @@ use Rattle.story_code.specs.SoundlyEmitted.{AreSoundAnywhere, among}
 use Rattle.story_code.specs.declared.emit.EmitFault.{EmitFault}
 use Rattle.story_code.specs.declared.emit.EmitFault.TheVariants as emit
 use Rattle.code_table.specs.Emitted.{AllFit, HaveNoTable, number_from, origins_from}
-use Rattle.code_table.specs.Origins.{Describes, Fits, Origin, origins_of, part_of, use_for}
+use Rattle.code_table.specs.Origins.{Describes, Fits, Origin, origins_of, origins_of_rule, part_of, use_for}
 use Rattle.code_table.specs.declared.adding.NotAdded.{NotAdded}
 use Rattle.code_table.specs.declared.adding.NotAdded.TheVariants as added
 use Rattle.code_table.specs.declared.fault.TableFault.{TableFault}
-use Rattle.code_table.specs.declared.fault.TableFault.TheVariants.{LongRule, LongText, TooMany, Memory}
+use Rattle.code_table.specs.declared.fault.TableFault.TheVariants.{LongRule, LongScene, LongText, TooMany, Memory}
 
 -- the number behind so many origins and tests, if two bytes say it
 abbrev pub number_behind : ℕ → ℕ → Option ℕ
@@ -65,20 +66,29 @@ pub record StopsIn (z : Counts) (string : List ℕ → ℕ) (heads : ℕ) (befor
 abbrev pub StopIn : Counts → (List ℕ → ℕ) → ℕ → List Origin → List (List ℕ) → List (List ℕ) → NotAdded → Type 0
 StopIn z string heads origins codes tests fault = (before : List Origin) → AreCoded z string heads before codes tests → StopsIn z string heads before origins fault
 
--- so many codes stand in front of the first test, whatever rules there are: why texts have no table with them
-abbrev pub TextsHaveNone : Counts → (List ℕ → ℕ) → ℕ → List Text → TableFault → Type 0
-TextsHaveNone z string heads texts fault = (rules : List Rule) → heads ≡ length (origins_of texts rules) → HaveNoTable z string texts rules fault
+-- so many codes stand in front of the first test: why texts, rules and scenes have no table
+abbrev pub HaveNone : Counts → (List ℕ → ℕ) → ℕ → List Text → List Rule → List Scene → TableFault → Type 0
+HaveNone z string heads texts rules scenes fault = heads ≡ length (origins_of texts rules scenes) → HaveNoTable z string texts rules scenes fault
 
--- the same of rules, behind whatever texts have these codes and tests
+-- why texts have none, whatever rules and scenes there are with them
+abbrev pub TextsHaveNone : Counts → (List ℕ → ℕ) → ℕ → List Text → TableFault → Type 0
+TextsHaveNone z string heads texts fault = (rules : List Rule) (scenes : List Scene) → HaveNone z string heads texts rules scenes fault
+
+-- the same of rules, behind whatever texts have these codes and tests, and in front of whatever scenes
 abbrev pub RulesHaveNone : Counts → (List ℕ → ℕ) → ℕ → List Rule → List (List ℕ) → List (List ℕ) → TableFault → Type 0
 RulesHaveNone z string heads rules codes tests fault =
-    (texts : List Text) → AreCoded z string heads (map Describes texts) codes tests → heads ≡ length (origins_of texts rules) → HaveNoTable z string texts rules fault
+    (texts : List Text) (scenes : List Scene) → AreCoded z string heads (map Describes texts) codes tests → HaveNone z string heads texts rules scenes fault
+
+-- of scenes, behind whatever texts and rules have these codes and tests
+abbrev pub ScenesHaveNone : Counts → (List ℕ → ℕ) → ℕ → List Scene → List (List ℕ) → List (List ℕ) → TableFault → Type 0
+ScenesHaveNone z string heads scenes codes tests fault =
+    (texts : List Text) (rules : List Rule) → AreCoded z string heads (map Describes texts ++ flat_map origins_of_rule rules) codes tests → HaveNone z string heads texts rules scenes fault
 
 abbrev pub not_emitted : EmitFault → NotAdded
 not_emitted emit.TooLong = added.TooLong
 not_emitted emit.Memory = added.Memory
 
--- why there is no table where the text, or the rule, of this number isn't coded
+-- why there is no table where the text, the rule or the scene of this number isn't coded
 abbrev pub text_fault : ℕ → NotAdded → TableFault
 text_fault number added.TooLong = LongText number
 text_fault number added.TooMany = TooMany
@@ -88,3 +98,8 @@ abbrev pub rule_fault : ℕ → NotAdded → TableFault
 rule_fault number added.TooLong = LongRule number
 rule_fault number added.TooMany = TooMany
 rule_fault number added.Memory = Memory
+
+abbrev pub scene_fault : ℕ → NotAdded → TableFault
+scene_fault number added.TooLong = LongScene number
+scene_fault number added.TooMany = TooMany
+scene_fault number added.Memory = Memory

@@ -1,7 +1,8 @@
--- The codes of texts and rules: those of all origins in turn, and behind them all tests that they name, in turn.
+-- The codes of texts, rules and scenes: those of all origins in turn, and behind them all tests that they name, in turn.
 use Rattle.std.specs.Prelude.{◌≡◌, ℕ, ◌+◌, ◌<◌, true, false, List, ◌∷◌, ◌++◌, length, map}
 use Rattle.std.specs.List.{AllByRecursion, flat_map}
 use Rattle.play_meaning.specs.Rules.{Rule}
+use Rattle.play_meaning.specs.Scripts.{Scene}
 use Rattle.play_meaning.specs.TranslatedScripts.{codes_emitted, emitted_in_turn}
 use Rattle.play_meaning.specs.Translation.{Emitted}
 use Rattle.play_meaning.specs.Trees.{Text}
@@ -9,9 +10,9 @@ use Rattle.play_meaning.specs.declared.instruction.Instruction.{Instruction}
 use Rattle.play_meaning.specs.declared.operand.Counts.{Counts}
 use Rattle.story_code.specs.Emitting.{can_say_all}
 use Rattle.story_code.specs.SoundlyEmitted.{among}
-use Rattle.code_table.specs.Origins.{Describes, Fits, Origin, origins_of, origins_of_rule, part_of}
+use Rattle.code_table.specs.Origins.{Describes, Fits, Origin, origins_of, origins_of_rule, origins_of_scene, part_of}
 use Rattle.code_table.specs.declared.fault.TableFault.{TableFault}
-use Rattle.code_table.specs.declared.fault.TableFault.TheVariants.{LongRule, LongText, TooMany, Memory}
+use Rattle.code_table.specs.declared.fault.TableFault.TheVariants.{LongRule, LongScene, LongText, TooMany, Memory}
 
 -- of each origin its code and the tests that this names, the first test of this number, each string by its own
 abbrev pub origins_from : (List ℕ → ℕ) → ℕ → List Origin → List Emitted
@@ -65,11 +66,26 @@ pub record IsLongRule (z : Counts) (string : List ℕ → ℕ) (first : ℕ) (te
   pub origin : Origin
   pub back : List Origin
   pub within : origins_of_rule rule ≡ front ++ origin ∷ back
-  pub long : IsTooLong z string first (origins_of texts before ++ front) origin
+  pub long : IsTooLong z string first (map Describes texts ++ flat_map origins_of_rule before ++ front) origin
 
--- why texts and rules have no table of codes
-abbrev pub HaveNoTable : Counts → (List ℕ → ℕ) → List Text → List Rule → TableFault → Type 0
-HaveNoTable z string texts rules (LongText number) = IsLongText z string (length (origins_of texts rules)) texts number
-HaveNoTable z string texts rules (LongRule number) = IsLongRule z string (length (origins_of texts rules)) texts rules number
-HaveNoTable z string texts rules TooMany = 65535 < length (codes_of_origins string (origins_of texts rules))
-HaveNoTable z string texts rules Memory = Unit {0}
+-- the condition on which the scene of this number begins, or that on which it ends, is too long
+pub record IsLongScene (z : Counts) (string : List ℕ → ℕ) (first : ℕ) (texts : List Text) (rules : List Rule) (scenes : List Scene) (number : ℕ) : Type 0 where
+  pub before : List Scene
+  pub scene : Scene
+  pub behind : List Scene
+  pub parts : scenes ≡ before ++ scene ∷ behind
+  pub place : number ≡ length before
+  -- what stands in front of it in the scene, and behind it
+  pub front : List Origin
+  pub origin : Origin
+  pub back : List Origin
+  pub within : origins_of_scene scene ≡ front ++ origin ∷ back
+  pub long : IsTooLong z string first (origins_of texts rules before ++ front) origin
+
+-- why texts, rules and scenes have no table of codes
+abbrev pub HaveNoTable : Counts → (List ℕ → ℕ) → List Text → List Rule → List Scene → TableFault → Type 0
+HaveNoTable z string texts rules scenes (LongText number) = IsLongText z string (length (origins_of texts rules scenes)) texts number
+HaveNoTable z string texts rules scenes (LongRule number) = IsLongRule z string (length (origins_of texts rules scenes)) texts rules number
+HaveNoTable z string texts rules scenes (LongScene number) = IsLongScene z string (length (origins_of texts rules scenes)) texts rules scenes number
+HaveNoTable z string texts rules scenes TooMany = 65535 < length (codes_of_origins string (origins_of texts rules scenes))
+HaveNoTable z string texts rules scenes Memory = Unit {0}

@@ -6,7 +6,7 @@ use Rattle.play_meaning.specs.Doing.{Inner, do_body}
 use Rattle.play_meaning.specs.Progress.{Progress}
 use Rattle.play_meaning.specs.Rules.{Rule}
 use Rattle.play_meaning.specs.Saying.{Telling, said_in}
-use Rattle.play_meaning.specs.Scripts.{scope_of}
+use Rattle.play_meaning.specs.Scripts.{Scene, scope_of}
 use Rattle.play_meaning.specs.Translation.{strings_of_body, strings_of_text}
 use Rattle.play_meaning.specs.Trees.{Body, Condition, Text}
 use Rattle.play_meaning.specs.Truth.{truth_in}
@@ -50,7 +50,7 @@ abbrev pub TablesAreTold : Type 0
 TablesAreTold = (z : Counts) (heads : List Use) (bytes : List (List ℕ)) (judged : List Judged) (codes : List (List Instruction)) → IsTableOf z heads bytes judged → AreSpelled bytes codes
     → map code_told judged ≡ codes
 
--- ---- the codes of texts and rules
+-- ---- the codes of texts, rules and scenes
 
 -- origins that fit, and that bytes can say, are a table, whose first codes are for what they are
 abbrev pub OriginsAreTables : Type 0
@@ -59,8 +59,8 @@ OriginsAreTables = (z : Counts) (string : List ℕ → ℕ) (origins : List Orig
 
 -- nothing but memory is told of why they have no table
 abbrev pub NeverTableAndNone : Type 0
-NeverTableAndNone = (z : Counts) (string : List ℕ → ℕ) (texts : List Text) (rules : List Rule) (fault : TableFault)
-    → AllFit z string (origins_of texts rules) → CanBeSaid string (origins_of texts rules) → HaveNoTable z string texts rules fault → fault ≡ Memory
+NeverTableAndNone = (z : Counts) (string : List ℕ → ℕ) (texts : List Text) (rules : List Rule) (scenes : List Scene) (fault : TableFault)
+    → AllFit z string (origins_of texts rules scenes) → CanBeSaid string (origins_of texts rules scenes) → HaveNoTable z string texts rules scenes fault → fault ≡ Memory
 
 -- among the codes of a story, where each string stands by its number, the code of a text's number says it
 abbrev pub DescriptionsAreSaid : Type 0

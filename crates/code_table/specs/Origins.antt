@@ -1,9 +1,12 @@
--- What codes are emitted of: the texts that describe, and of each rule its condition, if there is one, and its body.
+-- What codes are emitted of: the texts that describe, of each rule its condition, if there is one, and its body, and of each
+-- scene the conditions on which it begins and ends, if there are any.
 use Rattle.std.specs.Prelude.{ℕ, List, [], ◌∷◌, ◌++◌, map}
 use Rattle.std.specs.List.{flat_map}
 use Rattle.play_meaning.specs.Meant.{text_meant}
 use Rattle.play_meaning.specs.Patterns.{rule_meant}
 use Rattle.play_meaning.specs.Rules.{Rule}
+use Rattle.play_meaning.specs.ScenesMeant.{scene_meant}
+use Rattle.play_meaning.specs.Scripts.{Scene}
 use Rattle.play_meaning.specs.TranslatedScripts.{description_part, in_list, test_part}
 use Rattle.play_meaning.specs.Translation.{Part, strings_of_body, strings_of_text}
 use Rattle.play_meaning.specs.Trees.{Body, Condition, Text}
@@ -12,6 +15,7 @@ use Rattle.play_meaning.specs.declared.operand.Use.{Use}
 use Rattle.play_meaning.specs.declared.operand.Use.TheVariants as role
 use Rattle.play_meaning.specs.declared.tree.rule.MeantRule.{MeantRule}
 use Rattle.play_meaning.specs.declared.tree.said.Text.{Text as MeantText}
+use Rattle.play_meaning.specs.declared.tree.scene.MeantScene.{MeantScene}
 use Rattle.story_code.specs.Emits.{whole_body}
 use Rattle.story_code.specs.Fitting.{BodyFits, ConditionFits, TextFits}
 
@@ -24,13 +28,17 @@ pub data Origin : Type 0 where
 abbrev pub origins_of_rule : Rule → List Origin
 origins_of_rule rule = map Asks (in_list rule.condition) ++ Does rule.body ∷ []
 
--- texts stand in front of rules
-abbrev pub origins_of : List Text → List Rule → List Origin
-origins_of texts rules = map Describes texts ++ flat_map origins_of_rule rules
+-- the condition on which a scene begins stands in front of that on which it ends
+abbrev pub origins_of_scene : Scene → List Origin
+origins_of_scene scene = map Asks (in_list scene.begins ++ in_list scene.ends)
+
+-- texts stand in front of rules, and these in front of scenes
+abbrev pub origins_of : List Text → List Rule → List Scene → List Origin
+origins_of texts rules scenes = map Describes texts ++ (flat_map origins_of_rule rules ++ flat_map origins_of_scene scenes)
 
 -- of those that a source means
-abbrev pub origins_meant : List MeantText → List MeantRule → List Origin
-origins_meant texts rules = origins_of (map text_meant texts) (map rule_meant rules)
+abbrev pub origins_meant : List MeantText → List MeantRule → List MeantScene → List Origin
+origins_meant texts rules scenes = origins_of (map text_meant texts) (map rule_meant rules) (map scene_meant scenes)
 
 -- what its code is for
 abbrev pub use_for : Origin → Use

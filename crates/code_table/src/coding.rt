@@ -1,21 +1,24 @@
-//! The codes of texts and rules, one behind the other.
-ghost use Rattle.std.specs.Prelude.{◌≡◌, ◌≤◌, IfErr, IfOk, length, map, MatchOption, OnOk};
+//! The codes of texts, rules and scenes, one behind the other.
+ghost use Rattle.std.specs.Prelude.{◌≡◌, ◌+◌, ◌≤◌, ℕ, IfErr, IfOk, length, List, map, MatchOption, OnOk};
 ghost use Rattle.object_words.specs.Mentions.{number_in};
-ghost use Rattle.play_meaning.specs.Meant.{text_meant};
+ghost use Rattle.play_meaning.specs.Meant.{condition_meant, text_meant};
 ghost use Rattle.play_meaning.specs.Patterns.{rule_meant};
+ghost use Rattle.play_meaning.specs.ScenesMeant.{scene_meant};
+ghost use Rattle.play_meaning.specs.TranslatedScripts.{in_list};
 ghost use Rattle.std.specs.List.{flat_map};
-ghost use Rattle.code_table.specs.Coding.{AddAll, AreCoded, RulesHaveNone, StopIn, TextsHaveNone, rule_fault, text_fault};
-ghost use Rattle.code_table.specs.Origins.{Describes, origins_meant, origins_of_rule};
+ghost use Rattle.std.specs.Option.{option_map};
+ghost use Rattle.code_table.specs.Coding.{AddAll, AreCoded, HaveNone, RulesHaveNone, ScenesHaveNone, StopIn, TextsHaveNone, rule_fault, scene_fault, text_fault};
+ghost use Rattle.code_table.specs.Origins.{Asks, Describes, origins_meant, origins_of_rule, origins_of_scene};
 
 use crate::adding::{Coded, NotAdded, add_body, add_condition, add_text, number_behind};
 use crate::fault::TableFault;
 use object_words::Strings;
 use play_meaning::Counts;
-use play_meaning::tree::{MeantRule, Text};
+use play_meaning::tree::{Condition, MeantRule, MeantScene, Text};
 use std::alloc::Global;
 
 /// How many codes a rule has in front of all tests that they name.
-fn heads_in(rule: &MeantRule) -> usize
+fn heads_in_rule(rule: &MeantRule) -> usize
     ensures { result ≡ length (origins_of_rule (rule_meant rule.now)) }
 {
     match rule.head.condition {
@@ -24,20 +27,64 @@ fn heads_in(rule: &MeantRule) -> usize
     }
 }
 
-/// How many codes texts and rules have in front of all tests that they name, if two bytes say it.
-pub fn heads_counted(texts: &[Text], rules: &[MeantRule]) -> Option<usize>
-    ensures { MatchOption result (65536 ≤ length (origins_meant texts.now rules.now)) (λ heads. heads ≡ length (origins_meant texts.now rules.now)) }
+/// How many a condition has in front of them, if there is one.
+fn heads_asked(asked: &Option<Condition>) -> usize
+    ensures count { result ≡ length (in_list (option_map condition_meant asked.now)) }
+    ensures few { result ≤ 1 }
 {
-    let mut count = texts.len();
+    match asked {
+        Some(_) => 1,
+        None => 0,
+    }
+}
+
+/// How many a scene has in front of them.
+fn heads_in_scene(scene: &MeantScene) -> usize
+    ensures { result ≡ length (origins_of_scene (scene_meant scene.now)) }
+{
+    heads_asked(&scene.begins) + heads_asked(&scene.ends)
+}
+
+/// How many codes there are with those of rules in front of all tests that they name, if two bytes say it.
+fn rules_counted(before: usize, rules: &[MeantRule]) -> Option<usize>
+    ensures { MatchOption result (65536 ≤ before + length (flat_map origins_of_rule (map rule_meant rules.now))) (λ heads. heads ≡ before + length (flat_map origins_of_rule (map rule_meant rules.now))) }
+{
+    let mut count = before;
     let mut rest = rules;
     while let [rule, after @ ..] = rest {
-        match number_behind(count, heads_in(rule)) {
+        match number_behind(count, heads_in_rule(rule)) {
             Some(more) => count = usize::from(more),
             None => return None,
         }
         rest = after;
     }
     Some(count)
+}
+
+/// How many there are with those of scenes.
+fn scenes_counted(before: usize, scenes: &[MeantScene]) -> Option<usize>
+    ensures { MatchOption result (65536 ≤ before + length (flat_map origins_of_scene (map scene_meant scenes.now))) (λ heads. heads ≡ before + length (flat_map origins_of_scene (map scene_meant scenes.now))) }
+{
+    let mut count = before;
+    let mut rest = scenes;
+    while let [scene, after @ ..] = rest {
+        match number_behind(count, heads_in_scene(scene)) {
+            Some(more) => count = usize::from(more),
+            None => return None,
+        }
+        rest = after;
+    }
+    Some(count)
+}
+
+/// How many codes texts, rules and scenes have in front of all tests that they name, if two bytes say it.
+pub fn heads_counted(texts: &[Text], rules: &[MeantRule], scenes: &[MeantScene]) -> Option<usize>
+    ensures { MatchOption result (65536 ≤ length (origins_meant texts.now rules.now scenes.now)) (λ heads. heads ≡ length (origins_meant texts.now rules.now scenes.now)) }
+{
+    match rules_counted(texts.len(), rules) {
+        Some(before) => scenes_counted(before, scenes),
+        None => None,
+    }
 }
 
 /// Why there is no table where the text of this number isn't coded.
@@ -53,7 +100,7 @@ fn text_fault(number: usize, fault: NotAdded) -> TableFault
 
 /// The bytes of the codes that say texts, in turn, and of the tests that these name, where so many codes, `heads`, stand in
 /// front of the first test.
-pub fn texts_coded(
+fn texts_coded(
     alloc: Global,
     counts: &Counts,
     strings: &Strings,
@@ -112,7 +159,7 @@ fn add_rule(
 }
 
 /// Adds those of rules, rule by rule.
-pub fn add_rules(
+fn add_rules(
     alloc: Global,
     counts: &Counts,
     strings: &Strings,
@@ -132,4 +179,99 @@ pub fn add_rules(
         rest = after;
     }
     Ok(())
+}
+
+/// Why there is no table where the scene of this number isn't coded.
+fn scene_fault(number: usize, fault: NotAdded) -> TableFault
+    ensures { result ≡ scene_fault number fault }
+{
+    match fault {
+        NotAdded::TooLong => TableFault::LongScene(number),
+        NotAdded::TooMany => TableFault::TooMany,
+        NotAdded::Memory => TableFault::Memory,
+    }
+}
+
+/// Adds the bytes of the code of a condition, if there is one, and those of the tests that it names.
+fn add_asked(
+    alloc: Global,
+    counts: &Counts,
+    out: &mut Coded,
+    heads: usize,
+    asked: &Option<Condition>,
+) -> Result<(), NotAdded>
+    ensures coded { (string : List ℕ → ℕ) → OnOk result (AddAll counts.now string heads (map Asks (in_list (option_map condition_meant asked.now))) out.old.codes.items out.old.tests.items out.new.codes.items out.new.tests.items) }
+    ensures none { (string : List ℕ → ℕ) → IfErr result (StopIn counts.now string heads (map Asks (in_list (option_map condition_meant asked.now))) out.old.codes.items out.old.tests.items) }
+{
+    match asked {
+        Some(condition) => add_condition(alloc, counts, out, heads, condition),
+        None => Ok(()),
+    }
+}
+
+/// Adds those of the conditions on which a scene begins and ends, if there are any.
+fn add_scene(
+    alloc: Global,
+    counts: &Counts,
+    out: &mut Coded,
+    heads: usize,
+    scene: &MeantScene,
+) -> Result<(), NotAdded>
+    ensures coded { (string : List ℕ → ℕ) → OnOk result (AddAll counts.now string heads (origins_of_scene (scene_meant scene.now)) out.old.codes.items out.old.tests.items out.new.codes.items out.new.tests.items) }
+    ensures none { (string : List ℕ → ℕ) → IfErr result (StopIn counts.now string heads (origins_of_scene (scene_meant scene.now)) out.old.codes.items out.old.tests.items) }
+{
+    match add_asked(alloc, counts, out, heads, &scene.begins) {
+        Ok(()) => add_asked(alloc, counts, out, heads, &scene.ends),
+        Err(fault) => Err(fault),
+    }
+}
+
+/// Adds those of scenes, scene by scene.
+fn add_scenes(
+    alloc: Global,
+    counts: &Counts,
+    out: &mut Coded,
+    heads: usize,
+    scenes: &[MeantScene],
+) -> Result<(), TableFault>
+    ensures coded { (string : List ℕ → ℕ) → OnOk result (AddAll counts.now string heads (flat_map origins_of_scene (map scene_meant scenes.now)) out.old.codes.items out.old.tests.items out.new.codes.items out.new.tests.items) }
+    ensures none { (string : List ℕ → ℕ) → IfErr result (ScenesHaveNone counts.now string heads (map scene_meant scenes.now) out.old.codes.items out.old.tests.items) }
+{
+    let mut rest = scenes;
+    while let [scene, after @ ..] = rest {
+        match add_scene(alloc, counts, out, heads, scene) {
+            Ok(()) => {}
+            Err(fault) => return Err(scene_fault(scenes.len() - rest.len(), fault)),
+        }
+        rest = after;
+    }
+    Ok(())
+}
+
+/// The bytes of the codes of texts, rules and scenes, in turn, and of the tests that these name, where so many codes,
+/// `heads`, stand in front of the first test.
+pub fn all_coded(
+    alloc: Global,
+    counts: &Counts,
+    strings: &Strings,
+    heads: usize,
+    texts: &[Text],
+    rules: &[MeantRule],
+    scenes: &[MeantScene],
+) -> Result<Coded, TableFault>
+    ensures coded { IfOk result (λ out. AreCoded counts.now (number_in strings.now) heads (origins_meant texts.now rules.now scenes.now) out.codes.items out.tests.items) }
+    ensures none { IfErr result (HaveNone counts.now (number_in strings.now) heads (map text_meant texts.now) (map rule_meant rules.now) (map scene_meant scenes.now)) }
+{
+    let mut out = match texts_coded(alloc, counts, strings, heads, texts) {
+        Ok(out) => out,
+        Err(fault) => return Err(fault),
+    };
+    match add_rules(alloc, counts, strings, &mut out, heads, rules) {
+        Ok(()) => {}
+        Err(fault) => return Err(fault),
+    }
+    match add_scenes(alloc, counts, &mut out, heads, scenes) {
+        Ok(()) => Ok(out),
+        Err(fault) => Err(fault),
+    }
 }

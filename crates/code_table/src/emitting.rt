@@ -1,8 +1,9 @@
-//! The codes of texts and rules, as a table.
+//! The codes of texts, rules and scenes, as a table.
 ghost use Rattle.std.specs.Prelude.{◌≡◌, ◌<◌, IfErr, IfOk, List, OnOk, length, map};
 ghost use Rattle.object_words.specs.Mentions.{number_in};
 ghost use Rattle.play_meaning.specs.Meant.{text_meant};
 ghost use Rattle.play_meaning.specs.Patterns.{rule_meant};
+ghost use Rattle.play_meaning.specs.ScenesMeant.{scene_meant};
 ghost use Rattle.story_code.specs.Emits.{AreSpelled};
 ghost use Rattle.story_code.specs.Soundness.{Judged};
 ghost use Rattle.code_table.specs.Emitted.{AllFit, CanBeSaid, HaveNoTable, codes_of_origins};
@@ -10,49 +11,48 @@ ghost use Rattle.code_table.specs.Origins.{origins_meant, use_for};
 ghost use Rattle.code_table.specs.Tables.{IsTableOf};
 
 use crate::adding::{Coded, number_behind};
-use crate::coding::{add_rules, heads_counted, texts_coded};
+use crate::coding::{all_coded, heads_counted};
 use crate::fault::TableFault;
 use object_words::Strings;
 use play_meaning::Counts;
-use play_meaning::tree::{MeantRule, Text};
+use play_meaning::tree::{MeantRule, MeantScene, Text};
 use std::alloc::Global;
 use world_meaning::TextBytes;
 
-/// The bytes of the codes of texts and rules: of each text the code that says it; behind these, rule by rule, the code of its
-/// condition, if it has one, and of its body; and behind all of these those of the tests that they name, in turn. Each
-/// string goes by its number among `strings`. By what there is in `counts`, and as many codes as they are, they are a table,
-/// whose first codes are descriptions, and behind them tests inside no loop and bodies.
+/// The bytes of the codes of texts, rules and scenes: of each text the code that says it; behind these, rule by rule, the
+/// code of its condition, if it has one, and of its body; behind these, scene by scene, those of the conditions on which it
+/// begins and ends, if there are any; and behind all of these those of the tests that they name, in turn. Each string goes
+/// by its number among `strings`. By what there is in `counts`, and as many codes as they are, they are a table, whose first
+/// codes are descriptions, and behind them tests inside no loop and bodies.
 ///
 /// # Errors
 ///
 /// `LongText` with the number of the first text that doesn't fit, or whose codes bytes can't say; `LongRule` with that of
-/// the first rule of whose condition or body this is so, where it is so of no text; `TooMany` only where there are more than
-/// 65,535 codes; and `Memory`.
+/// the first rule of whose condition or body this is so, where it is so of no text; `LongScene` with that of the first
+/// scene of one of whose conditions this is so, where it is so of no text and no rule; `TooMany` only where there are more
+/// than 65,535 codes; and `Memory`.
 pub fn code_table(
     alloc: Global,
     counts: &Counts,
     strings: &Strings,
     texts: &[Text],
     rules: &[MeantRule],
+    scenes: &[MeantScene],
 ) -> Result<Vec<TextBytes>, TableFault>
-    ensures codes { IfOk result (λ codes. AreSpelled codes.items (codes_of_origins (number_in strings.now) (origins_meant texts.now rules.now))) }
-    ensures fit { OnOk result (AllFit counts.now (number_in strings.now) (origins_meant texts.now rules.now)) }
-    ensures said { OnOk result (CanBeSaid (number_in strings.now) (origins_meant texts.now rules.now)) }
-    ensures table { IfOk result (λ codes. (judged : List Judged) × IsTableOf (record counts.now { codes = length codes.items }) (map use_for (origins_meant texts.now rules.now)) codes.items judged) }
+    ensures codes { IfOk result (λ codes. AreSpelled codes.items (codes_of_origins (number_in strings.now) (origins_meant texts.now rules.now scenes.now))) }
+    ensures fit { OnOk result (AllFit counts.now (number_in strings.now) (origins_meant texts.now rules.now scenes.now)) }
+    ensures said { OnOk result (CanBeSaid (number_in strings.now) (origins_meant texts.now rules.now scenes.now)) }
+    ensures table { IfOk result (λ codes. (judged : List Judged) × IsTableOf (record counts.now { codes = length codes.items }) (map use_for (origins_meant texts.now rules.now scenes.now)) codes.items judged) }
     ensures few { IfOk result (λ codes. length codes.items < 65536) }
-    ensures none { IfErr result (HaveNoTable counts.now (number_in strings.now) (map text_meant texts.now) (map rule_meant rules.now)) }
+    ensures none { IfErr result (HaveNoTable counts.now (number_in strings.now) (map text_meant texts.now) (map rule_meant rules.now) (map scene_meant scenes.now)) }
 {
-    let Some(heads) = heads_counted(texts, rules) else {
+    let Some(heads) = heads_counted(texts, rules, scenes) else {
         return Err(TableFault::TooMany);
     };
-    let mut out = match texts_coded(alloc, counts, strings, heads, texts) {
+    let out = match all_coded(alloc, counts, strings, heads, texts, rules, scenes) {
         Ok(out) => out,
         Err(fault) => return Err(fault),
     };
-    match add_rules(alloc, counts, strings, &mut out, heads, rules) {
-        Ok(()) => {}
-        Err(fault) => return Err(fault),
-    }
     let Some(_) = number_behind(heads, out.tests.len()) else {
         return Err(TableFault::TooMany);
     };

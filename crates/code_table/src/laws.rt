@@ -27,13 +27,13 @@ pub fn tables_are_told()
     ensures { TablesAreTold }
 {}
 
-/// Texts and rules that fit, and whose codes bytes can say, are a table: the bytes of all of these.
+/// Texts, rules and scenes that fit, and whose codes bytes can say, are a table: the bytes of all of these.
 pub fn origins_are_tables()
     ensures { OriginsAreTables }
 {}
 
-/// In a story whose codes are those of texts and rules that fit it, and in which each string stands by its number, the code
-/// of a text's number says what the text says, in every world and action, or abandons as it does.
+/// In a story whose codes are those of texts, rules and scenes that fit it, and in which each string stands by its number,
+/// the code of a text's number says what the text says, in every world and action, or abandons as it does.
 pub fn descriptions_are_said()
     ensures { DescriptionsAreSaid }
 {}
@@ -49,12 +49,12 @@ pub fn bodies_are_done()
     ensures { BodiesAreDone }
 {}
 
-/// The codes of texts and rules name the strings that these say, in order.
+/// The codes of texts, rules and scenes name the strings that these say, in order.
 pub fn strings_are_in_order()
     ensures { StringsAreInOrder }
 {}
 
-/// Texts and rules that have a table of codes have none for no reason but memory.
+/// Texts, rules and scenes that have a table of codes have none for no reason but memory.
 pub fn never_table_and_none()
     ensures { NeverTableAndNone }
 {}
