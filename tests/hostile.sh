@@ -187,7 +187,7 @@ save("plays_full_book", [standard(6)] * 2000, [], books=in_every_turn(list(range
 save("L7_last_again", [standard(6)] * 2000, [], books=in_every_turn([*range(2000), 1999]))
 save("L7_last_of_another", [standard(6)] * 1999 + [standard(7)], [], books=in_every_turn(list(range(2000))))
 save("L5_listed_behind", [standard(6)] * 2000, [], books=in_every_turn(list(range(2001))))
-save("L5_many_scenes", [], [], books=[[]] * LONGEST, scenes=[b"\0" + b"\xff" * 4] * LONGEST)
+save("L5_many_scenes", [], [], books=[[]] * LONGEST, scenes=[(0, NONE16, NONE16)] * LONGEST)
 save("L5_many_actions", [], [], actions=ACTIONS + [bytes([1, 1, 255, 0])] * (LONGEST - len(ACTIONS)))
 save("L5_many_standard_actions", [], [], actions=(ACTIONS * LONGEST)[:LONGEST])
 def about(action):

@@ -301,5 +301,5 @@ def tables_of(source, described, objects=()):
     return {
         "actions": [entry for _, entry in actions], "grammar": [], "rules": rules,
         "books": [in_order(rules, book, listed) for book in range(BUILT_IN_BOOKS + 2 * len(scenes) + len(rulebooks))],
-        "scenes": [bytes([recurs]) + b"\xff" * 4 for recurs in scenes.values()],
+        "scenes": [(int(recurs), NONE16, NONE16) for recurs in scenes.values()],
     }

@@ -34,7 +34,8 @@ def rule_of(r):
 def rules_written(t):
     """The bytes of tables 8 to 12."""
     return (table(t["actions"]) + table([]) + table(rule_of(r) for r in t["rules"])
-            + table(table(u(2, n) for n in book) for book in t["books"]) + table(t["scenes"]))
+            + table(table(u(2, n) for n in book) for book in t["books"])
+            + table(u(1, recurs) + u(2, begins) + u(2, ends) for recurs, begins, ends in t["scenes"]))
 
 
 def written(t):
@@ -124,10 +125,10 @@ def furnished(story):
 def ruled(story):
     """A furnished story with two actions, two scenes, two rulebooks and rules, among them one about nouns, a place and a scene and
     one that is standard and about an action of the author's, and one that tries another; the Hall's description asks about a
-    scene."""
+    scene; both scenes would end, but nothing begins them."""
     t = unnumbered(furnished(story))
     t["actions"] += [bytes([2, CARRIED, SEEN, LIGHT]), bytes([0, NONE8, NONE8, OUT_OF_WORLD])]
-    t["scenes"] = [b"\1" + b"\xff" * 4, b"\0" + b"\xff" * 4]
+    t["scenes"] = [(1, NONE16, 9), (0, NONE16, 10)]
     t["books"] = [[] for _ in range(BUILT_IN_BOOKS + 4 + 2)]
     t["books"][0], t["books"][EVERY_TURN], t["books"][13] = [2], [4, 0], [3]
     anything, always = (0,), NONE16
@@ -140,17 +141,20 @@ def ruled(story):
     ]
     tests = t["codes"][4:]
     t["codes"][0] = [bytes.fromhex("1a 00 32 000b 22"), Said(b"Wet "), bytes.fromhex("33 000e 22"), Said(b"Dry "), bytes([SAY]), Said(b"hall."), bytes([DONE])]
-    # the tests that the table and Ann name stand behind the rules' codes
-    t["codes"][2][0] = t["codes"][2][0].replace(bytes.fromhex("20 00 0004"), bytes.fromhex("20 00 0009"))
-    t["codes"][3][0] = t["codes"][3][0].replace(bytes.fromhex("21 01 00 0005"), bytes.fromhex("21 01 00 000a"))
+    # the tests that the table and Ann name stand behind the codes of the rules and the scenes
+    t["codes"][2][0] = t["codes"][2][0].replace(bytes.fromhex("20 00 0004"), bytes.fromhex("20 00 000b"))
+    t["codes"][3][0] = t["codes"][3][0].replace(bytes.fromhex("21 01 00 0005"), bytes.fromhex("21 01 00 000c"))
     t["codes"][4:] = [
         [bytes([SAY]), Said(b"Tick."), bytes([SAY]), Said(b"\n"), bytes([DONE])],
         # a scene happens; the noun is lit, and nothing is decided
         [bytes.fromhex("1a 01 3b")],
         [bytes.fromhex("0e 26 03 01 38")],
         # fewer than two rooms; each lit thing is named, an action tried, a rulebook followed, the story ended
-        [bytes.fromhex("20 00 000b 01 00000002 09 3b")],
-        [bytes.fromhex("34 00 35 00 000c 000f 11 00 23 01 33 0002 0e 0f 30 01 11 31 000d 36"), Said(b"Over."), bytes.fromhex("3a")],
+        [bytes.fromhex("20 00 000d 01 00000002 09 3b")],
+        [bytes.fromhex("34 00 35 00 000e 000f 11 00 23 01 33 0002 0e 0f 30 01 11 31 000d 36"), Said(b"Over."), bytes.fromhex("3a")],
+        # there have been two turns; it is dark
+        [bytes.fromhex("01 00000002 04 0a 3b")],
+        [bytes.fromhex("19 3b")],
         *tests,
         [bytes.fromhex("11 00 13 01 3b")],
         [bytes.fromhex("11 00 12 03 01 3b")],

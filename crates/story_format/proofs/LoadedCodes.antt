@@ -14,7 +14,7 @@ use Rattle.story_format.specs.Checks.{are_in_place, are_named_in_order, are_righ
 use Rattle.story_format.specs.Codes.{AreCodesOf, code_spelled, codes_told, counts_of, uses_of}
 use Rattle.story_format.specs.Facts.{description_code_in, description_code_of}
 use Rattle.story_format.specs.Loaded.{IsLoaded}
-use Rattle.story_format.specs.RuleChecks.{codes_in_rules, uses_in_rules}
+use Rattle.story_format.specs.RuleChecks.{codes_in_tables, uses_in_tables}
 use Rattle.story_format.specs.Sizes.{are_different, is_right_entry, sizes_of}
 use Rattle.story_format.specs.Placed.{is_place, sorts_in}
 use Rattle.story_format.specs.WorldChecks.{suits_kind}
@@ -76,9 +76,9 @@ all_described (suc count) (suc n) lt = all_described count n (omega (arith, lt))
 pub loaded_described : (t : Tables) (judged : List Judged) → IsLoaded t judged → (o n : ℕ) → description_code_of t o ≡ Some n → IsDescription judged n
 loaded_described t judged loaded o n is =
     let named = codes_named t.objects in
-    let turn = (turn_parted named (codes_in_rules t.rules.rules) 0 loaded.story.sound.in_turn).0 in
+    let turn = (turn_parted named (codes_in_tables t.rules) 0 loaded.story.sound.in_turn).0 in
     head_there (counts_of t) (uses_of t) t.codes judged loaded.codes n Describing
-    (get_front (replicate (length named) Describing) (uses_in_rules t.rules.rules) n Describing (all_described (length named) n (omega (arith, named_within 0 t.objects o n turn is))))
+    (get_front (replicate (length named) Describing) (uses_in_tables t.rules) n Describing (all_described (length named) n (omega (arith, named_within 0 t.objects o n turn is))))
 
 -- ---- what they are
 

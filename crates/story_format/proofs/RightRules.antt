@@ -1,8 +1,8 @@
--- What a story's tables say of each rule and each scene is right, and its first actions are those that every story has.
-use Rattle.std.proofs.Common.{◌≡◌, ℕ, Bool, true, ◌&&◌, leb, ltb, eqb, [], length, Some}
+-- What a story's tables say of each rule is right, and its first actions are those that every story has.
+use Rattle.std.proofs.Common.{◌≡◌, ◌≤◌, ℕ, Bool, true, ◌&&◌, leb, ltb, eqb, [], length, Some}
 use Rattle.std.specs.Prelude.{slice_get}
 use Rattle.std.specs.List.{list_all}
-use Rattle.std.proofs.lemmas.Bool.{and_parts}
+use Rattle.std.proofs.lemmas.Bool.{and_parts, leb-true}
 use Rattle.play_meaning.specs.declared.operand.Counts.{Counts}
 use Rattle.story_format.specs.Checks.{are_distinct, are_right, are_right_objects, are_right_ways, is_right_frame, stand_rightly}
 use Rattle.story_format.specs.Counts.{counts_of}
@@ -21,7 +21,7 @@ rules_right t right =
     (four (is_right_world t.world) (are_right_rules (counts_of t) t.rules) (leb (length t.objects) 1000) (ltb (length t.strings) 65535) frame).1
 
 record Parts (t : Tables) : Type 0 where
-  scenes : are_right_scenes t.rules.scenes ≡ true
+  scenes : length t.rules.scenes ≤ 50
   actions : are_right_actions t.rules.actions ≡ true
   rules : list_all (is_right_rule (counts_of t)) t.rules.rules ≡ true
 
@@ -30,9 +30,9 @@ unfolding are_right_rules
 parts t right =
     let r = t.rules in
     let p =
-    last_of_five (are_right_scenes r.scenes) (are_right_books (length r.scenes) (length r.rules) r.books) (are_right_actions r.actions) (eqb (length r.grammar) 0)
+    last_of_five (are_right_scenes (counts_of t) r.scenes) (are_right_books (length r.scenes) (length r.rules) r.books) (are_right_actions r.actions) (eqb (length r.grammar) 0)
     (leb (length r.rules) 2000 && list_all (is_right_rule (counts_of t)) r.rules) right in
-    record { scenes = p.0; actions = p.2; rules = (and_parts (leb (length r.rules) 2000) (list_all (is_right_rule (counts_of t)) r.rules) p.4).1 }
+    record { scenes = leb-true _ _ (and_parts (leb (length r.scenes) 50) (list_all (is_right_scene (counts_of t)) r.scenes) p.0).0; actions = p.2; rules = (and_parts (leb (length r.rules) 2000) (list_all (is_right_rule (counts_of t)) r.rules) p.4).1 }
 
 parts_of : (t : Tables) → IsStory t → Parts t
 parts_of t story = parts t (rules_right t story.right)
@@ -49,8 +49,8 @@ body_of_right z r right =
 pub body_right : (t : Tables) → IsStory t → (n : ℕ) (rule : RuleEntry) → slice_get t.rules.rules n ≡ Some rule → is_right_body (counts_of t).codes rule.body ≡ true
 body_right t story n rule there = body_of_right (counts_of t) rule (rule_right t story n rule there)
 
-pub scenes_right : (t : Tables) → IsStory t → list_all is_right_scene t.rules.scenes ≡ true
-scenes_right t story = (and_parts (leb (length t.rules.scenes) 50) (list_all is_right_scene t.rules.scenes) (parts_of t story).scenes).1
+pub few_scenes : (t : Tables) → IsStory t → length t.rules.scenes ≤ 50
+few_scenes t story = (parts_of t story).scenes
 
 pub actions_begin : (t : Tables) → IsStory t → begin_with_actions t.rules.actions (action_entries []) ≡ true
 unfolding are_right_actions

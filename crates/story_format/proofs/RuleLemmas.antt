@@ -1,5 +1,5 @@
 -- The rules of a tale: their codes are named in turn, each for its use, and their tables are a story's.
-use Rattle.std.proofs.Common.{◌≡◌, ℕ, zero, suc, ◌+◌, ◌<◌, ◌≤◌, Bool, true, false, cond, ◌||◌, ltb, leb, eqb, List, [], ◌∷◌, ◌++◌, length, map, Option, Some, None, refl, sym, ap, ◌∙◌, arith, inl, inr, length-append}
+use Rattle.std.proofs.Common.{◌≡◌, ℕ, zero, suc, ◌+◌, ◌<◌, ◌≤◌, Bool, true, false, ◌||◌, ltb, leb, eqb, List, [], ◌∷◌, ◌++◌, length, map, Option, Some, None, refl, sym, ap, ◌∙◌, arith, inl, inr, length-append, append_nil}
 use Rattle.std.specs.Prelude.{min, replicate}
 use Rattle.std.specs.List.{flat_map, list_all}
 use Rattle.std.proofs.lemmas.Bool.{lt-ltb, le-leb, ne_eqb, eq-eqb, or_right, cases_Bool, and_from, and_parts}
@@ -11,19 +11,22 @@ use Rattle.play_meaning.specs.Rules.{Rule}
 use Rattle.play_meaning.specs.StandardRules.{rules_of_closing, rules_of_dropping, rules_of_examining, rules_of_going, rules_of_inserting, rules_of_inventory, rules_of_looking, rules_of_opening, rules_of_putting, rules_of_switching, rules_of_taking, rules_of_wearing, standard_rules}
 use Rattle.play_meaning.specs.Trees.{Condition}
 use Rattle.play_meaning.specs.declared.operand.Counts.{Counts}
+use Rattle.play_meaning.specs.declared.operand.Use.{Use}
 use Rattle.play_meaning.specs.declared.operand.Use.TheVariants.{Test}
 use Rattle.code_table.specs.Origins.{Origin, origins_of_rule, use_for}
 use Rattle.story_format.specs.Checks.{codes_named}
 use Rattle.story_format.specs.Holding.{Named, has_first_noun, is_of}
 use Rattle.story_format.specs.Layout.{aspect_layout, body_layout, book_layout, kind_aspect_layout, rule_layout, rules_layout, scene_layout, side_layout}
 use Rattle.story_format.specs.Making.{Worded, described_in, entries_of}
-use Rattle.story_format.specs.RuleChecks.{are_right_books, are_right_rules, code_of_body, codes_in_rule, codes_in_rules, is_number_or_none, is_right_body, is_right_rule, is_right_scene, lists_what_is_there, use_in_body, uses_in_rule, uses_in_rules}
+use Rattle.story_format.specs.RuleChecks.{are_right_books, are_right_rules, code_if, code_of_body, codes_in_rule, codes_in_rules, codes_in_scene, codes_in_scenes, codes_in_tables, is_number_or_none, is_right_body, is_right_rule, is_right_scene, lists_what_is_there, test_if, use_in_body, uses_in_rule, uses_in_rules, uses_in_scene, uses_in_scenes, uses_in_tables}
 use Rattle.story_format.specs.RuleMaking.{all_entries, book_count, condition_count, condition_number, entry_with, first_own_book, rule_count, rule_entries, rule_entry, rules_of, scene_entry, standard_entries, standard_entry, standard_from}
 use Rattle.story_format.specs.Soundness.{are_in_turn}
 use Rattle.story_format.specs.declared.rule_entry.RuleBody.{RuleBody}
 use Rattle.story_format.specs.declared.rule_entry.RuleBody.TheVariants.{Code, Standard, Unknown}
 use Rattle.story_format.specs.declared.rule_entry.RuleEntry.{RuleEntry}
 use Rattle.story_format.specs.declared.rule_tables.Book.{Book}
+use Rattle.story_format.specs.declared.rule_tables.RuleTables.{RuleTables}
+use Rattle.story_format.specs.declared.rule_tables.SceneEntry.{SceneEntry}
 use Rattle.story_format.proofs.AboutRules.{IsSmall, aspect_fits, aspect_right, named_of, named_parts, number_fits, number_right}
 use Rattle.story_format.proofs.ActionLemmas.{action_count, actions_fit, actions_right}
 use Rattle.story_format.proofs.OrderLemmas.{codes_counted, codes_in_turn}
@@ -114,11 +117,31 @@ rules_used (rule ∷ rules) next le =
 
 -- the rules that every story has name no code
 
-pub codes_in_all : (rules : List Rule) (next : ℕ) → codes_in_rules (all_entries next rules) ≡ codes_in_rules (rule_entries next rules)
+codes_in_all : (rules : List Rule) (next : ℕ) → codes_in_rules (all_entries next rules) ≡ codes_in_rules (rule_entries next rules)
 codes_in_all rules next = flat_map-append codes_in_rule standard_entries (rule_entries next rules) ∙ ap (λ codes. codes ++ codes_in_rules (rule_entries next rules)) no_codes
 
-pub uses_in_all : (rules : List Rule) (next : ℕ) → uses_in_rules (all_entries next rules) ≡ uses_in_rules (rule_entries next rules)
+uses_in_all : (rules : List Rule) (next : ℕ) → uses_in_rules (all_entries next rules) ≡ uses_in_rules (rule_entries next rules)
 uses_in_all rules next = flat_map-append uses_in_rule standard_entries (rule_entries next rules) ∙ ap (λ uses. uses ++ uses_in_rules (rule_entries next rules)) no_uses
+
+-- nor do scenes that nothing begins or ends
+
+no_tests : (scenes : List Bool) → codes_in_scenes (map scene_entry scenes) ≡ []
+no_tests [] = refl
+no_tests (recurs ∷ scenes) = no_tests scenes
+
+no_test_uses : (scenes : List Bool) → uses_in_scenes (map scene_entry scenes) ≡ []
+no_test_uses [] = refl
+no_test_uses (recurs ∷ scenes) = no_test_uses scenes
+
+pub codes_in_made : (d : Declared) (books : List Book) (rules : List Rule) (next : ℕ) → codes_in_tables (rules_of d books next rules) ≡ codes_in_rules (rule_entries next rules)
+unfolding rules_of
+codes_in_made d books rules next =
+    ap (λ tests. codes_in_rules (all_entries next rules) ++ tests) (no_tests d.scenes) ∙ append_nil (codes_in_rules (all_entries next rules)) ∙ codes_in_all rules next
+
+pub uses_in_made : (d : Declared) (books : List Book) (rules : List Rule) (next : ℕ) → uses_in_tables (rules_of d books next rules) ≡ uses_in_rules (rule_entries next rules)
+unfolding rules_of
+uses_in_made d books rules next =
+    ap (λ uses. uses_in_rules (all_entries next rules) ++ uses) (no_test_uses d.scenes) ∙ append_nil (uses_in_rules (all_entries next rules)) ∙ uses_in_all rules next
 
 -- the codes that the entries of objects and of the author's rules name
 abbrev pub heads_by : List (List ℕ) → List Worded → List Rule → List ℕ
@@ -131,23 +154,40 @@ heads_in_turn strings ws rules few le =
     turn_joined (codes_named (entries_of strings 0 ws)) (codes_in_rules (rule_entries (described_in ws) rules)) 0 (codes_in_turn strings ws 0 (omega (arith, few)))
     (ap (λ n. are_in_turn n (codes_in_rules (rule_entries (described_in ws) rules))) there ∙ rules_in_turn rules (described_in ws) le)
 
-pub uses_counted_one : (n : ℕ) (b : RuleBody) → length (cond (eqb n 65535) [] (Test 0 ∷ []) ++ use_in_body b) ≡ length (cond (eqb n 65535) [] (n ∷ []) ++ code_of_body b)
-uses_counted_one n b =
-    elim (cases_Bool (eqb n 65535)) [
-      | inl none ↦ rw none (by b)
-      | inr some ↦ rw some (ap suc (by b))
-    ]
-  where
-    by : (b : RuleBody) → length (use_in_body b) ≡ length (code_of_body b)
-    by (Code n) = refl
-    by (Standard n) = refl
-    by (Unknown n) = refl
+-- ---- each code that rules and scenes name has its use
 
--- each code that rules name has its use
+pub tests_counted : (n : ℕ) → length (test_if n) ≡ length (code_if n)
+tests_counted n =
+    elim (cases_Bool (eqb n 65535)) [
+      | inl none ↦ rw none refl
+      | inr some ↦ rw some refl
+    ]
+
+body_counted : (b : RuleBody) → length (use_in_body b) ≡ length (code_of_body b)
+body_counted (Code n) = refl
+body_counted (Standard n) = refl
+body_counted (Unknown n) = refl
+
+pub rule_counted : (r : RuleEntry) → length (uses_in_rule r) ≡ length (codes_in_rule r)
+rule_counted r =
+    length-append (test_if r.condition) (use_in_body r.body) ∙ (λ i. tests_counted r.condition i + body_counted r.body i) ∙ sym (length-append (code_if r.condition) (code_of_body r.body))
+
+pub scene_counted : (scene : SceneEntry) → length (uses_in_scene scene) ≡ length (codes_in_scene scene)
+scene_counted scene =
+    length-append (test_if scene.begins) (test_if scene.ends) ∙ (λ i. tests_counted scene.begins i + tests_counted scene.ends i) ∙ sym (length-append (code_if scene.begins) (code_if scene.ends))
+
+all_counted : {X : Type 0} (codes : X → List ℕ) (uses : X → List Use) → ((x : X) → length (uses x) ≡ length (codes x)) → (xs : List X) → length (flat_map uses xs) ≡ length (flat_map codes xs)
+all_counted codes uses counted [] = refl
+all_counted codes uses counted (x ∷ xs) =
+    length-append (uses x) (flat_map uses xs) ∙ (λ i. counted x i + all_counted codes uses counted xs i) ∙ sym (length-append (codes x) (flat_map codes xs))
+
 pub uses_counted : (rules : List RuleEntry) → length (uses_in_rules rules) ≡ length (codes_in_rules rules)
-uses_counted [] = refl
-uses_counted (r ∷ rules) =
-    length-append (uses_in_rule r) (uses_in_rules rules) ∙ (λ i. uses_counted_one r.condition r.body i + uses_counted rules i) ∙ sym (length-append (codes_in_rule r) (codes_in_rules rules))
+uses_counted rules = all_counted codes_in_rule uses_in_rule rule_counted rules
+
+pub tables_counted : (r : RuleTables) → length (uses_in_tables r) ≡ length (codes_in_tables r)
+tables_counted r =
+    length-append (uses_in_rules r.rules) (uses_in_scenes r.scenes) ∙ (λ i. uses_counted r.rules i + all_counted codes_in_scene uses_in_scene scene_counted r.scenes i)
+    ∙ sym (length-append (codes_in_rules r.rules) (codes_in_scenes r.scenes))
 
 -- ---- a rule's entry is right
 
@@ -219,14 +259,14 @@ unfolding are_right_books
 books_right scenes own rules books le count there =
     rw (le-leb (first_own_book scenes) (length books) (omega (arith, count)), le-leb (length books) (first_own_book scenes + 100) (omega (arith, count, le))) there
 
-scene_right : (recurs : Bool) → is_right_scene (scene_entry recurs) ≡ true
+scene_right : (z : Counts) (recurs : Bool) → is_right_scene z (scene_entry recurs) ≡ true
 unfolding is_right_scene
-scene_right true = refl
-scene_right false = refl
+scene_right z true = refl
+scene_right z false = refl
 
-each_scene_right : (scenes : List Bool) → list_all is_right_scene (map scene_entry scenes) ≡ true
-each_scene_right [] = refl
-each_scene_right (recurs ∷ scenes) = and_from (is_right_scene (scene_entry recurs)) (list_all is_right_scene (map scene_entry scenes)) (scene_right recurs) (each_scene_right scenes)
+each_scene_right : (z : Counts) (scenes : List Bool) → list_all (is_right_scene z) (map scene_entry scenes) ≡ true
+each_scene_right z [] = refl
+each_scene_right z (recurs ∷ scenes) = and_from (is_right_scene z (scene_entry recurs)) (list_all (is_right_scene z) (map scene_entry scenes)) (scene_right z recurs) (each_scene_right z scenes)
 
 pub length_entries : (rules : List Rule) (next : ℕ) → length (rule_entries next rules) ≡ length rules
 unfolding rule_entries
@@ -258,7 +298,7 @@ rule_tables_right d books z rules next few_scenes few_own few known few_actions 
     let own_books : are_right_books (length (map scene_entry d.scenes)) (length (all_entries next rules)) books ≡ true =
     (λ i. are_right_books (count i) (many i) books) ∙ books_right (length d.scenes) d.rulebooks (61 + length rules) books few_own known.count_is known.there in
     let few_entries : leb (length (all_entries next rules)) 2000 ≡ true = le-leb _ _ (omega (arith, many, few)) in
-    rw (scenes, each_scene_right d.scenes, own_books, actions_right d.actions few_actions nouns, few_entries) (all_right z rules next actions built_in named le codes)
+    rw (scenes, each_scene_right z d.scenes, own_books, actions_right d.actions few_actions nouns, few_entries) (all_right z rules next actions built_in named le codes)
 
 -- ---- there is room for each in its bytes
 

@@ -30,11 +30,11 @@ use Rattle.story_format.specs.Codes.{code_spelled, counts_of, small}
 use Rattle.story_format.specs.Holding.{is_short}
 use Rattle.story_format.specs.Making.{Worded, code_bytes, described_in, entries_of, entry_strings, strings_of, strings_said, tables_with}
 use Rattle.story_format.specs.Soundness.{AreSound, are_in_turn, strings_read}
-use Rattle.story_format.specs.RuleChecks.{uses_in_rules}
-use Rattle.story_format.specs.RuleMaking.{all_entries, rules_of}
+use Rattle.story_format.specs.RuleChecks.{uses_in_tables}
+use Rattle.story_format.specs.RuleMaking.{rules_of}
 use Rattle.story_format.specs.declared.rule_tables.Book.{Book}
 use Rattle.story_format.proofs.OrderLemmas.{codes_counted, numbers_named, strings_all_named}
-use Rattle.story_format.proofs.RuleLemmas.{codes_in_all, heads_in_turn, origins_in, rules_used, uses_in_all}
+use Rattle.story_format.proofs.RuleLemmas.{codes_in_made, heads_in_turn, origins_in, rules_used, uses_in_made}
 
 -- ---- bytes can say each code
 
@@ -123,12 +123,12 @@ tables_sound d books ws texts rules few short many fit said =
     let all = origins_counted texts rules in
     let room : described_in ws + length (origins_in rules) ≤ 65535 = omega (arith, all, many, bytes_enough strings origins, bytes_few strings origins said) in
     let described : length texts ≡ length (codes_named (entries_of strings 0 ws)) = many ∙ sym (codes_counted strings ws 0 (omega (arith, short))) in
-    let uses : map use_for origins ≡ replicate (length (codes_named (entries_of strings 0 ws))) Describing ++ uses_in_rules (all_entries (described_in ws) rules) =
-    origins_used texts rules ∙ (λ i. replicate (described i) Describing ++ sym (uses_in_all rules (described_in ws) ∙ rules_used rules (described_in ws) room) i) in
+    let uses : map use_for origins ≡ replicate (length (codes_named (entries_of strings 0 ws))) Describing ++ uses_in_tables (rules_of d books (described_in ws) rules) =
+    origins_used texts rules ∙ (λ i. replicate (described i) Describing ++ sym (uses_in_made d books rules (described_in ws) ∙ rules_used rules (described_in ws) room) i) in
     record {
       judged = found.0;
       table = subst (λ us. IsTableOf (record z { codes = small (length bytes) }) us bytes found.0) uses (subst (λ n. IsTableOf (record z { codes = n }) (map use_for origins) bytes found.0) count found.1);
-      in_turn = ap (λ codes. are_in_turn 0 (codes_named (entries_of strings 0 ws) ++ codes)) (codes_in_all rules (described_in ws)) ∙ heads_in_turn strings ws rules short room;
+      in_turn = ap (λ codes. are_in_turn 0 (codes_named (entries_of strings 0 ws) ++ codes)) (codes_in_made d books rules (described_in ws)) ∙ heads_in_turn strings ws rules short room;
       named =
           ap (λ codes. counted_on 0 (flat_map strings_named (entries_of strings 0 ws) ++ strings_in_codes codes)) (bytes_told strings origins said)
           ∙ ap (counted_on 0) (

@@ -43,7 +43,7 @@ use Rattle.story_format.proofs.StoryLemmas.{all_weaker, few_begin, parts, player
 use Rattle.story_format.proofs.EntryLemmas.{kinds_back, objects_back, objects_in, place_there, places_back, rooms_counted, rooms_lead}
 use Rattle.story_format.proofs.Known.{text_is_itself, found_by_number, is_known, texts_known, any_left, any_right, fold_finds}
 use Rattle.story_format.proofs.OrderLemmas.{at_most_one, in_turn_in_order, strings_distinct, strings_in_order}
-use Rattle.story_format.proofs.RuleLemmas.{AreRightBooks, codes_in_all, heads_by, heads_in_turn, origins_in, rule_tables_right}
+use Rattle.story_format.proofs.RuleLemmas.{AreRightBooks, codes_in_made, heads_by, heads_in_turn, origins_in, rule_tables_right}
 use Rattle.story_format.proofs.DeclaredLemmas.{all_suit, declared_parts, few_grants, few_kinds, world_right}
 use Rattle.story_format.proofs.AboutRules.{named_of}
 use Rattle.story_format.proofs.ActionLemmas.{length_actions}
@@ -334,7 +334,7 @@ module _ (d : Declared) (books : List Book) (ws : List Worded) (rules : List Rul
 
   heads_told : are_named_in_order 0 (heads_by (strings_of ws said) ws rules) ≡ true → are_named_in_order 0 (heads_named (tables_with d books ws rules said)) ≡ true
   unfolding tables_with rules_of
-  heads_told h = ap (λ codes. are_named_in_order 0 (codes_named (entries_of (strings_of ws said) 0 ws) ++ codes)) (codes_in_all rules (described_in ws)) ∙ h
+  heads_told h = ap (λ codes. are_named_in_order 0 (codes_named (entries_of (strings_of ws said) 0 ws) ++ codes)) (codes_in_made d books rules (described_in ws)) ∙ h
 
 pub tables_right : (d : Declared) (books : List Book) (objects : List Object) (rules : List Rule) (said : List Origin) → IsWellMade (record { declared = d; objects = objects }) → list_all has_short_texts objects ≡ true → list_all has_few_words (worded objects) ≡ true
     → length d.actions ≤ 184 → list_all has_first_noun d.actions ≡ true → length rules ≤ 1939 → AreRightBooks d books (61 + length rules) → list_all (is_of (named_by d (length objects))) rules ≡ true → length (strings_of (worded objects) said) < 65535 → length (code_bytes (strings_of (worded objects) said) said) < 65536

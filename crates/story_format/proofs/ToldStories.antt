@@ -18,7 +18,7 @@ use Rattle.story_code.proofs.Fetched.{told}
 use Rattle.story_format.specs.declared.rule_tables.RuleTables.{RuleTables}
 use Rattle.story_format.specs.declared.tables.Entry.{Entry}
 use Rattle.story_format.specs.declared.tables.Tables.{Tables}
-use Rattle.story_format.specs.RuleChecks.{codes_in_rules, uses_in_rules}
+use Rattle.story_format.specs.RuleChecks.{codes_in_rules, codes_in_scenes, codes_in_tables, uses_in_tables}
 use Rattle.story_format.specs.Checks.{are_distinct, are_right, are_right_objects, are_right_ways, codes_named, is_right_frame, is_some_code, stand_rightly, strings_named}
 use Rattle.story_format.specs.Codes.{code_spelled, codes_told, counts_of, uses_of}
 use Rattle.story_format.specs.Facts.{description_code_in, text_at}
@@ -26,10 +26,10 @@ use Rattle.story_format.specs.Soundness.{AreSound, are_in_turn, strings_read}
 use Rattle.story_format.specs.Spells.{IsStory}
 use Rattle.story_format.specs.Telling.{AreAlike, AreCodedAlike, AreDescribedAlike, AreToldAlike, ToldObject, told_object, unnumbered}
 use Rattle.story_format.proofs.Naming.{described, next_of, plain}
-use Rattle.story_format.proofs.RuleLemmas.{length_replicated, turn_parted, uses_counted}
+use Rattle.story_format.proofs.RuleLemmas.{length_replicated, tables_counted, turn_parted}
 use Rattle.story_format.proofs.StoryLemmas.{last_of_five}
 use Rattle.story_format.proofs.Telling.{all_within, is_within, mentioned_on, same_number, same_numbers}
-use Rattle.story_format.proofs.ToldRules.{at_each, rules_again}
+use Rattle.story_format.proofs.ToldRules.{at_each, rules_again, scenes_again}
 use Rattle.story_format.proofs.ToldCodes.{AllSame, all_same, all_texts_same, same_codes}
 
 -- ---- objects that are described alike have the same numbers of codes
@@ -180,12 +180,17 @@ module _ (t u : Tables) (one : IsStory t) (other : IsStory u) (alike : AreToldAl
   d : Codes
   d = codes_told u
 
-  -- the codes that objects name, and then those that rules name, are in turn
-  turns : (x : Tables) → AreSound x → (are_in_turn 0 (codes_named x.objects) ≡ true) × (are_in_turn (length (codes_named x.objects)) (codes_in_rules x.rules.rules) ≡ true)
+  -- the codes that objects name, and then those that rules and scenes name, are in turn
+  turns : (x : Tables) → AreSound x → (are_in_turn 0 (codes_named x.objects) ≡ true) × (are_in_turn (length (codes_named x.objects)) (codes_in_tables x.rules) ≡ true)
   turns x sound =
-      let t = turn_parted (codes_named x.objects) (codes_in_rules x.rules.rules) 0 sound.in_turn in
+      let t = turn_parted (codes_named x.objects) (codes_in_tables x.rules) 0 sound.in_turn in
       let there : length (codes_named x.objects) ≡ 0 + length (codes_named x.objects) = omega arith in
-      (t.0, ap (λ n. are_in_turn n (codes_in_rules x.rules.rules)) there ∙ t.1)
+      (t.0, ap (λ n. are_in_turn n (codes_in_tables x.rules)) there ∙ t.1)
+
+  -- those of rules, and behind them those of scenes
+  parted : (x : Tables) → AreSound x → (are_in_turn (length (codes_named x.objects)) (codes_in_rules x.rules.rules) ≡ true)
+      × (are_in_turn (length (codes_named x.objects) + length (codes_in_rules x.rules.rules)) (codes_in_scenes x.rules.scenes) ≡ true)
+  parted x sound = turn_parted (codes_in_rules x.rules.rules) (codes_in_scenes x.rules.scenes) (length (codes_named x.objects)) (turns x sound).1
 
   numbers : AreNumberedAlike c d 0 t.objects u.objects
   unfolding c d
@@ -198,29 +203,35 @@ module _ (t u : Tables) (one : IsStory t) (other : IsStory u) (alike : AreToldAl
 
   same_rules : t.rules.rules ≡ u.rules.rules
   same_rules =
-      let there : are_in_turn (length (codes_named t.objects)) (codes_in_rules u.rules.rules) ≡ true = ap (λ n. are_in_turn n (codes_in_rules u.rules.rules)) described_same ∙ (turns u other.sound).1 in
-      rules_again t.rules.rules u.rules.rules (length (codes_named t.objects)) (ap (λ (r : RuleTables). r.rules) alike.rules) (turns t one.sound).1 there
+      let there : are_in_turn (length (codes_named t.objects)) (codes_in_rules u.rules.rules) ≡ true = ap (λ n. are_in_turn n (codes_in_rules u.rules.rules)) described_same ∙ (parted u other.sound).0 in
+      rules_again t.rules.rules u.rules.rules (length (codes_named t.objects)) (ap (λ (r : RuleTables). r.rules) alike.rules) (parted t one.sound).0 there
+
+  same_scenes : t.rules.scenes ≡ u.rules.scenes
+  same_scenes =
+      let there : are_in_turn (length (codes_named t.objects) + length (codes_in_rules t.rules.rules)) (codes_in_scenes u.rules.scenes) ≡ true =
+      (λ i. are_in_turn (described_same i + length (codes_in_rules (same_rules i))) (codes_in_scenes u.rules.scenes)) ∙ (parted u other.sound).1 in
+      scenes_again t.rules.scenes u.rules.scenes (length (codes_named t.objects) + length (codes_in_rules t.rules.rules)) (ap (λ (r : RuleTables). r.scenes) alike.rules) (parted t one.sound).1 there
 
   all_rules : t.rules ≡ u.rules
-  all_rules = λ i. record { actions = (alike.rules i).actions; grammar = (alike.rules i).grammar; rules = same_rules i; books = (alike.rules i).books; scenes = (alike.rules i).scenes }
+  all_rules = λ i. record { actions = (alike.rules i).actions; grammar = (alike.rules i).grammar; rules = same_rules i; books = (alike.rules i).books; scenes = same_scenes i }
 
   same_uses : uses_of t ≡ uses_of u
-  same_uses = λ i. replicate (described_same i) Describing ++ uses_in_rules (same_rules i)
+  same_uses = λ i. replicate (described_same i) Describing ++ uses_in_tables (all_rules i)
 
-  -- the codes of rules that are told alike, by number
-  rules_alike : (n : ℕ) → length (codes_named t.objects) ≤ n → n < length (codes_named t.objects) + length (codes_in_rules t.rules.rules) → AreAlike c d (code_of c n) (code_of d n)
+  -- the codes of rules and scenes that are told alike, by number
+  rules_alike : (n : ℕ) → length (codes_named t.objects) ≤ n → n < length (codes_named t.objects) + length (codes_in_tables t.rules) → AreAlike c d (code_of c n) (code_of d n)
   unfolding c d
   rules_alike n low high =
-      at_each (λ n m. AreAlike (codes_told t) (codes_told u) (code_of (codes_told t) n) (code_of (codes_told u) m)) (codes_in_rules t.rules.rules) (length (codes_named t.objects)) (turns t one.sound).1
-      (subst (λ rs. AreCodedAlike (codes_told t) (codes_told u) (codes_in_rules t.rules.rules) (codes_in_rules rs)) (sym same_rules) alike.rule_codes) n low high
+      at_each (λ n m. AreAlike (codes_told t) (codes_told u) (code_of (codes_told t) n) (code_of (codes_told u) m)) (codes_in_tables t.rules) (length (codes_named t.objects)) (turns t one.sound).1
+      (subst (λ rs. AreCodedAlike (codes_told t) (codes_told u) (codes_in_tables t.rules) (codes_in_tables rs)) (sym all_rules) alike.rule_codes) n low high
 
   heads_alike : (n : ℕ) → n < length (uses_of t) → AreAlike c d (code_of c n) (code_of d n)
   heads_alike n high =
       let described = length (codes_named t.objects) in
-      let count = length-append (replicate described Describing) (uses_in_rules t.rules.rules) in
+      let count = length-append (replicate described Describing) (uses_in_tables t.rules) in
       elim (cases_Bool (ltb n described)) [
         | inl is ↦ numbers.heads n (omega arith) (omega (arith, ltb-true n described is))
-        | inr isnt ↦ rules_alike n (omega (arith, ltb-false n described isnt)) (omega (arith, high, count, length_replicated Describing described, uses_counted t.rules.rules))
+        | inr isnt ↦ rules_alike n (omega (arith, ltb-false n described isnt)) (omega (arith, high, count, length_replicated Describing described, tables_counted t.rules))
       ]
 
   same_told : AllSame c d c.codes d.codes

@@ -14,7 +14,7 @@ use Rattle.story_format.specs.declared.tables.Entry.{Entry}
 use Rattle.story_format.specs.declared.tables.Tables.{Tables}
 use Rattle.story_format.specs.Counts.{counts_of}
 use Rattle.story_format.specs.Placed.{is_room_entry, places_in, sorts_in}
-use Rattle.story_format.specs.RuleChecks.{are_right_rules, codes_in_rules}
+use Rattle.story_format.specs.RuleChecks.{are_right_rules, codes_in_tables}
 use Rattle.story_format.specs.Sizes.{is_right_entry, sizes_of}
 use Rattle.story_format.specs.WorldChecks.{is_right_world, suits_kind}
 
@@ -95,9 +95,9 @@ is_some_code n = not (n == 65535)
 abbrev pub codes_named : List Entry → List ℕ
 codes_named entries = filter is_some_code (map (λ e. e.description) entries)
 
--- the codes that objects name, and then those that rules name
+-- the codes that objects name, then those that rules name, and then those that scenes name
 abbrev pub heads_named : Tables → List ℕ
-heads_named t = codes_named t.objects ++ codes_in_rules t.rules.rules
+heads_named t = codes_named t.objects ++ codes_in_tables t.rules
 
 -- the objects are those of a story, and named in order
 unfoldable pub are_right_objects : Tables → Bool

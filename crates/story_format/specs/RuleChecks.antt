@@ -68,12 +68,20 @@ is_right_rule z r =
 
 -- ---- the codes that rules name: of each the test of its condition, if it has one, and its body, if that is a code
 
+-- the number of a code, if it is one
+abbrev pub code_if : ℕ → List ℕ
+code_if n = if n == 65535 then [] else n ∷ []
+
+-- what it is for, if it is a condition's
+abbrev pub test_if : ℕ → List Use
+test_if n = if n == 65535 then [] else Test 0 ∷ []
+
 abbrev pub code_of_body : RuleBody → List ℕ
 code_of_body (bodies.Code code) = code ∷ []
 code_of_body _ = []
 
 abbrev pub codes_in_rule : RuleEntry → List ℕ
-codes_in_rule r = (if r.condition == 65535 then [] else r.condition ∷ []) ++ code_of_body r.body
+codes_in_rule r = code_if r.condition ++ code_of_body r.body
 
 abbrev pub codes_in_rules : List RuleEntry → List ℕ
 codes_in_rules rules = flat_map codes_in_rule rules
@@ -84,12 +92,12 @@ use_in_body _ = []
 
 -- what they are for
 abbrev pub uses_in_rule : RuleEntry → List Use
-uses_in_rule r = (if r.condition == 65535 then [] else Test 0 ∷ []) ++ use_in_body r.body
+uses_in_rule r = test_if r.condition ++ use_in_body r.body
 
 abbrev pub uses_in_rules : List RuleEntry → List Use
 uses_in_rules rules = flat_map uses_in_rule rules
 
--- ---- tables 11 and 12: books, scenes without codes
+-- ---- table 11: books
 
 -- where there are so many rules
 abbrev pub lists_what_is_there : ℕ → Book → Bool
@@ -100,17 +108,40 @@ unfoldable pub are_right_books : ℕ → ℕ → List Book → Bool
 are_right_books scenes rules books =
     nat_le (first_own_book scenes) (length books) && nat_le (length books) (first_own_book scenes + 100) && list_all (lists_what_is_there rules) books
 
-unfoldable pub is_right_scene : SceneEntry → Bool
-is_right_scene scene = nat_le scene.recurring 1 && (scene.begins == 65535) && (scene.ends == 65535)
+-- ---- table 12: scenes
 
-abbrev pub are_right_scenes : List SceneEntry → Bool
-are_right_scenes scenes = nat_le (length scenes) 50 && list_all is_right_scene scenes
+unfoldable pub is_right_scene : Counts → SceneEntry → Bool
+is_right_scene z scene = nat_le scene.recurring 1 && is_number_or_none 65535 z.codes scene.begins && is_number_or_none 65535 z.codes scene.ends
+
+-- 50 at most
+abbrev pub are_right_scenes : Counts → List SceneEntry → Bool
+are_right_scenes z scenes = nat_le (length scenes) 50 && list_all (is_right_scene z) scenes
+
+-- the codes that a scene names: the test by which it begins, if there is one, and that by which it ends
+abbrev pub codes_in_scene : SceneEntry → List ℕ
+codes_in_scene scene = code_if scene.begins ++ code_if scene.ends
+
+abbrev pub codes_in_scenes : List SceneEntry → List ℕ
+codes_in_scenes scenes = flat_map codes_in_scene scenes
+
+-- what they are for
+abbrev pub uses_in_scene : SceneEntry → List Use
+uses_in_scene scene = test_if scene.begins ++ test_if scene.ends
+
+abbrev pub uses_in_scenes : List SceneEntry → List Use
+uses_in_scenes scenes = flat_map uses_in_scene scenes
 
 -- ---- all of it
 
--- tables 8 to 12 are those of a story: no grammar so far, 2,000 rules and 50 scenes at most; whether a book's rules are its own is
--- asked apart
+-- the codes that rules name, and then those that scenes name
+abbrev pub codes_in_tables : RuleTables → List ℕ
+codes_in_tables r = codes_in_rules r.rules ++ codes_in_scenes r.scenes
+
+abbrev pub uses_in_tables : RuleTables → List Use
+uses_in_tables r = uses_in_rules r.rules ++ uses_in_scenes r.scenes
+
+-- tables 8 to 12 are those of a story: no grammar so far, 2,000 rules at most; whether a book's rules are its own is asked apart
 unfoldable pub are_right_rules : Counts → RuleTables → Bool
 are_right_rules z r =
-    are_right_scenes r.scenes && are_right_books (length r.scenes) (length r.rules) r.books && are_right_actions r.actions && (length r.grammar == 0)
+    are_right_scenes z r.scenes && are_right_books (length r.scenes) (length r.rules) r.books && are_right_actions r.actions && (length r.grammar == 0)
     && (nat_le (length r.rules) 2000 && list_all (is_right_rule z) r.rules)

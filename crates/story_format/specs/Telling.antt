@@ -11,10 +11,11 @@ use Rattle.story_format.specs.declared.rule_entry.RuleBody.{RuleBody}
 use Rattle.story_format.specs.declared.rule_entry.RuleBody.TheVariants.{Code}
 use Rattle.story_format.specs.declared.rule_entry.RuleEntry.{RuleEntry}
 use Rattle.story_format.specs.declared.rule_tables.RuleTables.{RuleTables}
+use Rattle.story_format.specs.declared.rule_tables.SceneEntry.{SceneEntry}
 use Rattle.story_format.specs.declared.tables.Entry.{Entry}
 use Rattle.story_format.specs.declared.tables.Tables.{Tables}
 use Rattle.story_format.specs.Codes.{codes_told}
-use Rattle.story_format.specs.RuleChecks.{codes_in_rules}
+use Rattle.story_format.specs.RuleChecks.{codes_in_tables}
 use Rattle.story_format.specs.Facts.{description_code_of, text_at}
 
 -- the object, but for the numbers of its strings and of its code
@@ -77,7 +78,11 @@ AreDescribedAlike c d None (Some m) = ⊥
 AreDescribedAlike c d (Some n) None = ⊥
 AreDescribedAlike c d (Some n) (Some m) = AreAlike c d (code_of c n) (code_of d m)
 
--- ---- rules
+-- ---- rules and scenes
+
+-- whether there is a code
+abbrev pub uncoded_number : ℕ → ℕ
+uncoded_number n = if n == 65535 then 65535 else 0
 
 -- what a rule does, but for the number of its code
 abbrev pub uncoded_body : RuleBody → RuleBody
@@ -86,21 +91,25 @@ uncoded_body body = body
 
 -- a rule, but for the numbers of its codes
 abbrev pub uncoded_rule : RuleEntry → RuleEntry
-uncoded_rule r = record r { condition = if r.condition == 65535 then 65535 else 0; body = uncoded_body r.body }
+uncoded_rule r = record r { condition = uncoded_number r.condition; body = uncoded_body r.body }
+
+-- a scene, but for those of its own
+abbrev pub uncoded_scene : SceneEntry → SceneEntry
+uncoded_scene scene = record { recurring = scene.recurring; begins = uncoded_number scene.begins; ends = uncoded_number scene.ends }
 
 abbrev pub uncoded_rules : RuleTables → RuleTables
-uncoded_rules r = record r { rules = map uncoded_rule r.rules }
+uncoded_rules r = record r { rules = map uncoded_rule r.rules; scenes = map uncoded_scene r.scenes }
 
--- the codes that rules of two stories name, in turn, say the same
+-- the codes that rules and scenes of two stories name, in turn, say the same
 abbrev pub AreCodedAlike : Codes → Codes → List ℕ → List ℕ → Type 0
 AreCodedAlike c d ns ms = AllZip (λ n m. AreAlike c d (code_of c n) (code_of d m)) ns ms
 
--- Two stories say the same: each object by its texts and what its code says, each rule by what its codes say, and all else as it
--- is.
+-- Two stories say the same: each object by its texts and what its code says, each rule and each scene by what its codes say, and all
+-- else as it is.
 pub record AreToldAlike (t u : Tables) : Type 0 where
   pub objects : told_objects t ≡ told_objects u
   pub descriptions : (o : ℕ) → AreDescribedAlike (codes_told t) (codes_told u) (description_code_of t o) (description_code_of u o)
   pub world : t.world ≡ u.world
   pub ways : t.ways ≡ u.ways
   pub rules : uncoded_rules t.rules ≡ uncoded_rules u.rules
-  pub rule_codes : AreCodedAlike (codes_told t) (codes_told u) (codes_in_rules t.rules.rules) (codes_in_rules u.rules.rules)
+  pub rule_codes : AreCodedAlike (codes_told t) (codes_told u) (codes_in_tables t.rules) (codes_in_tables u.rules)

@@ -266,12 +266,12 @@ pub fn codes_named(alloc: Global, entries: &[Entry]) -> Result<Vec<u16>, AllocEr
     Ok(numbers)
 }
 
-/// The codes that objects name, and then those that rules name.
+/// The codes that objects name, then those that rules name, and then those that scenes name.
 pub fn heads_named(alloc: Global, tables: &Tables) -> Result<Vec<u16>, AllocError>
     ensures { IfOk result (λ numbers. numbers.items ≡ heads_named tables.now) }
 {
     let mut numbers = codes_named(alloc, tables.objects.as_slice())?;
-    add_codes(&mut numbers, tables.rules.rules.as_slice())?;
+    add_codes(&mut numbers, &tables.rules)?;
     Ok(numbers)
 }
 

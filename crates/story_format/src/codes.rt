@@ -13,19 +13,20 @@ use play_meaning::Use;
 use std::alloc::{AllocError, Global};
 use story_code::Verified;
 
-/// What the codes are for that objects, and then rules, name: so many descriptions, and the rules' tests and bodies.
+/// What the codes are for that objects, rules and scenes name: so many descriptions, the rules' tests and bodies, and the scenes'
+/// tests.
 fn uses_of(alloc: Global, tables: &Tables) -> Result<Vec<Use>, AllocError>
     ensures { IfOk result (λ uses. uses.items ≡ uses_of tables.now) }
 {
     let described = codes_named(alloc, tables.objects.as_slice())?;
     let mut uses = Vec::new(alloc);
     uses.resize(described.len(), Use::Describing)?;
-    add_uses(&mut uses, tables.rules.rules.as_slice())?;
+    add_uses(&mut uses, &tables.rules)?;
     Ok(uses)
 }
 
-/// The codes, each verified for what it is for, if they are a table of which the objects and the rules name the first in
-/// turn, and everything is named.
+/// The codes, each verified for what it is for, if they are a table of which the objects, the rules and the scenes name the first
+/// in turn, and everything is named.
 pub fn codes_of(alloc: Global, tables: &Tables) -> Result<Option<Vec<Verified>>, AllocError>
     ensures { IfOk result (λ found. MatchOption found (AreSound tables.now → ⊥) (λ codes. AreCodesOf tables.now codes.items × AreSound tables.now)) }
 {

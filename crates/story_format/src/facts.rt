@@ -1,5 +1,5 @@
 //! What a story gives to play besides texts and ways: kinds, properties and doors, and what objects begin with.
-ghost use Rattle.std.specs.Prelude.{◌≡◌, IfOk, count_by, length};
+ghost use Rattle.std.specs.Prelude.{◌≡◌, ◌≤◌, IfOk, count_by, length};
 ghost use Rattle.std.specs.Int.{cast_signed, w32};
 ghost use Rattle.world_meaning.specs.Declarations.{has_property, is_had};
 ghost use Rattle.story_format.specs.Facts.{way_in};
@@ -178,8 +178,10 @@ impl Story {
     }
 
     /// How many scenes there are.
+    #[tactic(auto, using(crate::proofs::RightRules::few_scenes))]
     pub fn scene_count(&self) -> usize
-        ensures { result ≡ length self.now.rules.scenes }
+        ensures count { result ≡ length self.now.rules.scenes }
+        ensures few { result ≤ 50 }
     {
         self.tables().rules.scenes.as_slice().len()
     }

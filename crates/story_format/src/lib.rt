@@ -52,6 +52,6 @@ pub use laws::{
 };
 pub use loading::load;
 pub use rule_entry::{Aspect, KindAspect, PropertySide, RuleBody, RuleEntry};
-pub use rule_tables::ActionEntry;
+pub use rule_tables::{ActionEntry, SceneEntry};
 pub use story::Story;
 pub use writing::write;

@@ -192,28 +192,29 @@ fn are_right_books(scenes: usize, rules: usize, books: &[Book]) -> bool
 }
 
 #[tactic(auto, unfolding(crate::specs::RuleChecks::is_right_scene))]
-fn is_right_scene(scene: &SceneEntry) -> bool
-    ensures { result ≡ is_right_scene scene.now }
+fn is_right_scene(counts: &Counts, scene: &SceneEntry) -> bool
+    ensures { result ≡ is_right_scene counts.now scene.now }
 {
-    scene.recurring <= 1 && scene.begins == NONE && scene.ends == NONE
+    scene.recurring <= 1
+        && is_code_or_none(counts.codes, scene.begins)
+        && is_code_or_none(counts.codes, scene.ends)
 }
 
-fn each_scene_is_right(scenes: &[SceneEntry]) -> bool
-    ensures { result ≡ list_all is_right_scene scenes.now }
+fn each_scene_is_right(counts: &Counts, scenes: &[SceneEntry]) -> bool
+    ensures { result ≡ list_all (is_right_scene counts.now) scenes.now }
 {
-    scenes.iter().all(is_right_scene)
+    scenes.iter().all(|scene| is_right_scene(counts, scene))
 }
 
-/// Whether there are few scenes, which nothing begins or ends.
-fn are_right_scenes(scenes: &[SceneEntry]) -> bool
-    ensures { result ≡ are_right_scenes scenes.now }
+/// Whether there are few scenes, begun and ended by codes that are there.
+fn are_right_scenes(counts: &Counts, scenes: &[SceneEntry]) -> bool
+    ensures { result ≡ are_right_scenes counts.now scenes.now }
 {
-    scenes.len() <= MOST_SCENES && each_scene_is_right(scenes)
+    scenes.len() <= MOST_SCENES && each_scene_is_right(counts, scenes)
 }
 
 /// Whether tables 8 to 12 are those of a story: the sixteen actions and behind them the author's, no grammar so far, rules
-/// that name what is there, books that list such, and scenes that nothing begins or ends. Whether a book's rules are its own
-/// is asked apart.
+/// and scenes that name what is there, and books that list such. Whether a book's rules are its own is asked apart.
 #[tactic(auto, unfolding(crate::specs::RuleChecks::are_right_rules))]
 pub fn are_right_rules(
     alloc: Global,
@@ -225,7 +226,7 @@ pub fn are_right_rules(
     let actions = are_right_actions(alloc, rules.actions.as_slice())?;
     let scenes = rules.scenes.as_slice();
     Ok(
-        are_right_scenes(scenes)
+        are_right_scenes(counts, scenes)
             && are_right_books(
                 scenes.len(),
                 rules.rules.as_slice().len(),

@@ -1,4 +1,4 @@
-//! Tables 8 to 12: actions, grammar, rules, books and scenes. Nothing begins or ends a scene yet.
+//! Tables 8 to 12: actions, grammar, rules, books and scenes.
 ghost use Rattle.std.specs.Prelude.{◌≡◌};
 
 use crate::field::{Field, read_fields, skip_fields, write_fields};
@@ -100,13 +100,13 @@ impl Field for Book {
 }
 
 /// A scene, as table 12 has it.
-#[derive(Debug, Drop)]
+#[derive(Clone, Copy, Debug)]
 pub struct SceneEntry {
     /// 1 if it may happen again.
     pub recurring: u8,
-    /// The code of what begins it.
+    /// The code of the test by which it begins; 65,535 where there is none.
     pub begins: u16,
-    /// The code of what ends it.
+    /// The code of the test by which it ends.
     pub ends: u16,
 }
 

@@ -1,6 +1,6 @@
 use Rattle.std.proofs.Common.{◌≡◌, ◌++◌, length}
 use Rattle.story_format.specs.RuleChecks.{uses_in_rules}
-use Rattle.story_format.proofs.rule_codes.add_uses.Given as goal
+use Rattle.story_format.proofs.rule_codes.add_rule_uses.Given as goal
 
 abbrev pub invariant-loop-rest : goal.invariant-loop-rest
 invariant-loop-rest l = l.uses.items ++ uses_in_rules l.rest ≡ l.initial.uses.items ++ uses_in_rules l.rules
