@@ -3,6 +3,7 @@ pub mod Coming
 mod DoneRules
 pub mod Ending
 pub mod Falling
+mod Following
 pub mod Forward
 mod Lasting
 mod Levels
@@ -12,7 +13,6 @@ pub mod AlikeSessions
 pub mod TaleRules
 pub mod TaleBodies
 pub mod TaleGames
-pub mod StoryTurns
 mod Running
 mod Saying
 mod OneStep

@@ -1,5 +1,5 @@
 -- When a rule of a story's tables applies, and what a story's test answers.
-use Rattle.std.specs.Prelude.{ℕ, Bool, true, false, List, [], Ok, if◌then◌else◌}
+use Rattle.std.specs.Prelude.{ℕ, Bool, true, false, [], Ok, if◌then◌else◌}
 use Rattle.play_meaning.specs.Attempts.{Attempt}
 use Rattle.play_meaning.specs.CodedStories.{CodedRule, answer_or, head_of}
 use Rattle.play_meaning.specs.Codes.{test_of}
@@ -7,9 +7,7 @@ use Rattle.play_meaning.specs.Rules.{is_about}
 use Rattle.play_meaning.specs.Scripts.{undescribed}
 use Rattle.play_meaning.specs.Worlds.{World}
 use Rattle.play_meaning.specs.declared.action.ActionNow.{ActionNow}
-use Rattle.story_code.specs.Runs.{IsTestAt}
-use Rattle.story_code.specs.Soundness.{Judged}
-use Rattle.story_format.specs.Codes.{AreCodesOf, codes_told}
+use Rattle.story_format.specs.Codes.{codes_told}
 use Rattle.story_format.specs.declared.tables.Tables.{Tables}
 use Rattle.world_store.specs.StorySettings.{setting_of}
 
@@ -20,7 +18,3 @@ rule_applies t rule now w = if is_about (setting_of t) w now (head_of rule) then
 -- what the test of this number answers, with no object of a loop
 abbrev pub test_answer : Tables → ActionNow → ℕ → World → Attempt Bool
 test_answer t now n w = test_of (codes_told t) (undescribed (setting_of t)) now n [] w
-
--- a code of the story is a test that stands inside no loop
-abbrev pub IsTestOf : Tables → ℕ → Type 0
-IsTestOf t n = (judged : List Judged) → AreCodesOf t judged → IsTestAt judged n 0

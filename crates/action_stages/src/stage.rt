@@ -3,12 +3,12 @@ ghost use Rattle.std.specs.Prelude.{◌≡◌, ◌≤◌, Err, OnErr, OnOk};
 ghost use Rattle.play_meaning.specs.Acting.{act};
 ghost use Rattle.play_meaning.specs.Consulting.{consult};
 ghost use Rattle.play_meaning.specs.Progress.{fresh, say};
-ghost use Rattle.play_meaning.specs.Turns.{count_turn, no_action};
+ghost use Rattle.play_meaning.specs.Turns.{count_turn, follow, no_action};
 ghost use Rattle.standard_rules.specs.HostTables.{rule_count};
-ghost use Rattle.story_format.specs.Codes.{AreCodesOf};
+ghost use Rattle.story_format.specs.Codes.{AreCodesOf, IsTestOf};
 ghost use Rattle.world_meaning.specs.declared.session.Abandon.TheVariants.{Memory};
 ghost use Rattle.action_stages.specs.Answering.{Answers, Comes, asked};
-ghost use Rattle.action_stages.specs.Applying.{IsTestOf, test_answer};
+ghost use Rattle.action_stages.specs.Applying.{test_answer};
 ghost use Rattle.action_stages.specs.Bodies.{AreCodesIn};
 ghost use Rattle.action_stages.specs.Performing.{below, ended_so, performed};
 ghost use Rattle.action_stages.specs.Stages.{story_of, progress_of, tables_of};
@@ -30,6 +30,9 @@ use world_store::World;
 
 /// The highest turn count.
 const MOST_TURNS: u32 = 2_147_483_647;
+
+/// How many levels actions and rulebooks may be nested below what is done outside an action.
+const LEVELS: u8 = 16;
 
 /// The action that stands for none.
 const NO_ACTION: ActionNow = ActionNow {
@@ -121,6 +124,21 @@ pub fn consult(
 {
     let codes = codes_of(stage.story);
     consult_in(alloc, codes, stage, book, now, depth)
+}
+
+/// Follows a rulebook outside an action: its decision is dropped.
+///
+/// # Errors
+/// As `consult`.
+#[tactic(auto, using(crate::proofs::Following::followed_so, crate::proofs::Following::followed_not))]
+pub fn follow(alloc: Global, stage: &mut Stage<'_>, book: u16) -> Result<(), Abandon>
+    requires told { tables_of stage.old ≡ story_of stage.old }
+    ensures answer { Answers result (λ done. progress_of stage.new) (follow (game_in_play (story_of stage.old)) book (progress_of stage.old)) }
+    ensures story { story_of stage.new ≡ story_of stage.old }
+    ensures tables { tables_of stage.new ≡ story_of stage.old }
+{
+    consult(alloc, stage, book, &NO_ACTION, LEVELS)?;
+    Ok(())
 }
 
 /// Performs an action, with so many levels left below: its stages in order, up to the first decision; an action that nothing

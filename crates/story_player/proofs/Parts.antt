@@ -1,19 +1,12 @@
 -- What the parts of a turn come to, one behind the other, is what the turn comes to.
-use Rattle.std.proofs.Common.{◌≡◌, ◌∙◌, ap, refl, List, [], ◌∷◌, Option, Ok, Err}
+use Rattle.std.proofs.Common.{◌≡◌, ◌∙◌, ap, refl, List, [], ◌∷◌, Ok, Err}
 use Rattle.world_meaning.specs.declared.session.Abandon.{Abandon}
 use Rattle.play_meaning.specs.Acting.{progress_of as left_at}
 use Rattle.play_meaning.specs.Attempts.{Attempt, next}
-use Rattle.play_meaning.specs.Consulting.{every_turn_book, play_begins_book}
 use Rattle.play_meaning.specs.Progress.{Asked, Progress}
-use Rattle.play_meaning.specs.Turns.{count_turn, follow, look_round, opening, parts, perform, turn, unless_over}
-use Rattle.play_meaning.specs.declared.action.ActionNow.{ActionNow}
+use Rattle.play_meaning.specs.Turns.{parts, unless_over}
 use Rattle.play_meaning.specs.declared.outcome.Outcome.{Outcome}
-use Rattle.story_format.specs.Spells.{IsStory}
-use Rattle.story_format.specs.declared.tables.Tables.{Tables}
-use Rattle.action_stages.proofs.StoryTurns.{opening_parts, turn_parts}
-use Rattle.action_stages.specs.Answering.{asked}
 use Rattle.action_stages.specs.Performing.{Performed, ended_so, performed}
-use Rattle.action_stages.specs.StoryPlay.{game_in_play}
 
 -- ---- where play has come to, whatever was decided
 
@@ -34,19 +27,10 @@ pub performed_not : (attempt : Attempt Asked) (reason : Abandon) → performed a
 unfolding left_of
 performed_not attempt reason is = left_is attempt ∙ ap left_of is
 
-pub followed_so : (attempt : Attempt Asked) (p : Progress) (decision : Option Outcome) → attempt ≡ Ok (asked p decision) → left_at attempt ≡ Ok p
-followed_so attempt p decision is = ap left_at is
-
-pub followed_not : (attempt : Attempt Asked) (reason : Abandon) → attempt ≡ Err reason → left_at attempt ≡ Err reason
-followed_not attempt reason is = ap left_at is
-
 -- ---- parts one behind the other
 
 abbrev pub Part : Type 0
 Part = Progress → Attempt Progress
-
-pub two_parts : (a b : Part) (p q r : Progress) → unless_over p.world.ended a p ≡ Ok q → unless_over q.world.ended b q ≡ Ok r → parts (a ∷ b ∷ []) p ≡ Ok r
-two_parts a b p q r first second = rw (first, second) refl
 
 pub first_breaks : (a : Part) (more : List Part) (p : Progress) (reason : Abandon) → unless_over p.world.ended a p ≡ Err reason → parts (a ∷ more) p ≡ Err reason
 first_breaks a more p reason first = rw first refl
@@ -54,39 +38,25 @@ first_breaks a more p reason first = rw first refl
 pub second_breaks : (a b : Part) (more : List Part) (p q : Progress) (reason : Abandon) → unless_over p.world.ended a p ≡ Ok q → unless_over q.world.ended b q ≡ Err reason → parts (a ∷ b ∷ more) p ≡ Err reason
 second_breaks a b more p q reason first second = rw (first, second) refl
 
--- ---- a turn
+pub third_breaks : (a b c : Part) (more : List Part) (p q r : Progress) (reason : Abandon) → unless_over p.world.ended a p ≡ Ok q → unless_over q.world.ended b q ≡ Ok r
+    → unless_over r.world.ended c r ≡ Err reason → parts (a ∷ b ∷ c ∷ more) p ≡ Err reason
+third_breaks a b c more p q r reason first second third = rw (first, second, third) refl
 
-module _ (t : Tables) (story : IsStory t) (now : ActionNow) (p : Progress) where
-  abbrev behind : Part
-  behind = parts (follow (game_in_play t) every_turn_book ∷ count_turn ∷ [])
+pub two_parts : (a b : Part) (p q r : Progress) → unless_over p.world.ended a p ≡ Ok q → unless_over q.world.ended b q ≡ Ok r → parts (a ∷ b ∷ []) p ≡ Ok r
+two_parts a b p q r first second = rw (first, second) refl
 
-  pub turn_comes : (q r : Progress) → unless_over p.world.ended (perform (game_in_play t) now) p ≡ Ok q
-      → parts (follow (game_in_play t) every_turn_book ∷ count_turn ∷ []) q ≡ Ok r → turn (game_in_play t) now p ≡ Ok r
-  turn_comes q r first second = turn_parts t story now p ∙ ap (λ attempt. next attempt behind) first ∙ second
+pub three_parts : (a b c : Part) (p q r s : Progress) → unless_over p.world.ended a p ≡ Ok q → unless_over q.world.ended b q ≡ Ok r → unless_over r.world.ended c r ≡ Ok s
+    → parts (a ∷ b ∷ c ∷ []) p ≡ Ok s
+three_parts a b c p q r s first second third = rw (first, second, third) refl
 
-  pub turn_stops : (reason : Abandon) → unless_over p.world.ended (perform (game_in_play t) now) p ≡ Err reason → turn (game_in_play t) now p ≡ Err reason
-  turn_stops reason first = turn_parts t story now p ∙ ap (λ attempt. next attempt behind) first
+pub ruleset parts_rules = (first_breaks, second_breaks, third_breaks, two_parts, three_parts)
 
-  pub turn_stops_behind : (q : Progress) (reason : Abandon) → unless_over p.world.ended (perform (game_in_play t) now) p ≡ Ok q
-      → parts (follow (game_in_play t) every_turn_book ∷ count_turn ∷ []) q ≡ Err reason → turn (game_in_play t) now p ≡ Err reason
-  turn_stops_behind q reason first second = turn_parts t story now p ∙ ap (λ attempt. next attempt behind) first ∙ second
+-- ---- a part, and all those behind it
 
--- ---- the opening
+pub comes_behind : (a : Part) (more : List Part) (p q r : Progress) → unless_over p.world.ended a p ≡ Ok q → parts more q ≡ Ok r → parts (a ∷ more) p ≡ Ok r
+comes_behind a more p q r first rest = ap (λ attempt. next attempt (parts more)) first ∙ rest
 
-module _ (t : Tables) (story : IsStory t) (p : Progress) where
-  abbrev beginning : Part
-  beginning = follow (game_in_play t) play_begins_book
+pub breaks_behind : (a : Part) (more : List Part) (p q : Progress) (reason : Abandon) → unless_over p.world.ended a p ≡ Ok q → parts more q ≡ Err reason → parts (a ∷ more) p ≡ Err reason
+breaks_behind a more p q reason first rest = ap (λ attempt. next attempt (parts more)) first ∙ rest
 
-  abbrev looking : Part
-  looking = perform (game_in_play t) look_round
-
-  pub opening_comes : (q r : Progress) → unless_over p.world.ended (follow (game_in_play t) play_begins_book) p ≡ Ok q
-      → unless_over q.world.ended (perform (game_in_play t) look_round) q ≡ Ok r → opening (game_in_play t) p ≡ Ok r
-  opening_comes q r first second = opening_parts t story p ∙ two_parts beginning looking p q r first second
-
-  pub opening_stops : (reason : Abandon) → unless_over p.world.ended (follow (game_in_play t) play_begins_book) p ≡ Err reason → opening (game_in_play t) p ≡ Err reason
-  opening_stops reason first = opening_parts t story p ∙ first_breaks beginning (looking ∷ []) p reason first
-
-  pub opening_stops_behind : (q : Progress) (reason : Abandon) → unless_over p.world.ended (follow (game_in_play t) play_begins_book) p ≡ Ok q
-      → unless_over q.world.ended (perform (game_in_play t) look_round) q ≡ Err reason → opening (game_in_play t) p ≡ Err reason
-  opening_stops_behind q reason first second = opening_parts t story p ∙ second_breaks beginning looking [] p q reason first second
+pub ruleset behind_rules = (comes_behind, first_breaks, breaks_behind)

@@ -1,18 +1,18 @@
 //! Turns and the opening over a stage: their parts in order, each of which is skipped once the story has ended.
 ghost use Rattle.std.specs.Prelude.{◌≡◌, [], ◌∷◌, Ok};
-ghost use Rattle.play_meaning.specs.Consulting.{every_turn_book};
-ghost use Rattle.play_meaning.specs.Turns.{count_turn, follow, look_round, no_action, opening, parts, perform, turn, unless_over};
+ghost use Rattle.play_meaning.specs.Consulting.{every_turn_book, play_begins_book};
+ghost use Rattle.play_meaning.specs.Turns.{count_turn, follow, look_round, opening, parts, pass, perform, turn, unless_over};
 ghost use Rattle.action_stages.specs.Answering.{Answers, Comes};
 ghost use Rattle.action_stages.specs.Stages.{progress_of, story_of, tables_of};
 ghost use Rattle.action_stages.specs.StoryPlay.{game_in_play};
 ghost use Rattle.story_player.specs.Turns.{done_in};
 
-use action_stages::{Stage, consult, count_turn, perform};
+use action_stages::{Stage, count_turn, follow, perform};
 use play_meaning::standard_actions::LOOKING;
 use play_meaning::{ActNo, ActionNow};
+use scenes::pass;
 use std::alloc::Global;
 use world_meaning::Abandon;
-use world_store::worlds_are_whole;
 
 /// How many levels actions and rulebooks may be nested below a line's own.
 const LEVELS: u8 = 16;
@@ -22,18 +22,6 @@ const EVERY_TURN: u16 = 6;
 
 /// The rulebook of when play begins.
 const PLAY_BEGINS: u16 = 7;
-
-/// No action.
-fn no_action() -> ActionNow
-    ensures { result ≡ no_action }
-{
-    ActionNow {
-        action: ActNo::NONE,
-        noun: None,
-        second: None,
-        silent: false,
-    }
-}
 
 /// The action of looking round.
 fn look_round() -> ActionNow
@@ -56,18 +44,6 @@ fn act(alloc: Global, stage: &mut Stage<'_>, now: ActionNow) -> Result<(), Aband
     ensures tables { tables_of stage.new ≡ story_of stage.old }
 {
     perform(alloc, stage, now, LEVELS)?;
-    Ok(())
-}
-
-/// Follows a rulebook outside an action.
-#[tactic(auto, using(crate::proofs::Parts::followed_so, crate::proofs::Parts::followed_not))]
-fn follow(alloc: Global, stage: &mut Stage<'_>, book: u16) -> Result<(), Abandon>
-    requires told { tables_of stage.old ≡ story_of stage.old }
-    ensures answer { Answers result (λ done. progress_of stage.new) (follow (game_in_play (story_of stage.old)) book (progress_of stage.old)) }
-    ensures story { story_of stage.new ≡ story_of stage.old }
-    ensures tables { tables_of stage.new ≡ story_of stage.old }
-{
-    consult(alloc, stage, book, &no_action(), LEVELS)?;
     Ok(())
 }
 
@@ -97,6 +73,19 @@ fn follow_unless_over(alloc: Global, stage: &mut Stage<'_>, book: u16) -> Result
     }
 }
 
+/// Makes a scene pass, unless the story has ended.
+fn pass_unless_over(alloc: Global, stage: &mut Stage<'_>) -> Result<(), Abandon>
+    requires told { tables_of stage.old ≡ story_of stage.old }
+    ensures answer { Answers result (λ done. progress_of stage.new) (unless_over (progress_of stage.old).world.ended (pass (game_in_play (story_of stage.old))) (progress_of stage.old)) }
+    ensures story { story_of stage.new ≡ story_of stage.old }
+    ensures tables { tables_of stage.new ≡ story_of stage.old }
+{
+    match stage.world().ended() {
+        Some(_) => Ok(()),
+        None => Ok(pass(alloc, stage)?),
+    }
+}
+
 /// Counts the turn, if there is a number for it, unless the story has ended.
 fn count_unless_over(stage: &mut Stage<'_>) -> Result<(), Abandon>
     requires told { tables_of stage.old ≡ story_of stage.old }
@@ -110,44 +99,69 @@ fn count_unless_over(stage: &mut Stage<'_>) -> Result<(), Abandon>
     }
 }
 
-/// The parts of a turn behind its action: the every turn rules, and the count.
-#[tactic(auto, using(crate::proofs::Parts::two_parts, crate::proofs::Parts::first_breaks, crate::proofs::Parts::second_breaks))]
-fn behind_action(alloc: Global, stage: &mut Stage<'_>) -> Result<(), Abandon>
+/// The parts of a turn behind its first scene pass: the every turn rules, the count, and the second scene pass.
+#[tactic(auto, using(crate::proofs::Parts::parts_rules))]
+fn behind_pass(alloc: Global, stage: &mut Stage<'_>) -> Result<(), Abandon>
     requires told { tables_of stage.old ≡ story_of stage.old }
-    ensures answer { Answers result (λ done. progress_of stage.new) (parts (follow (game_in_play (story_of stage.old)) every_turn_book ∷ count_turn ∷ []) (progress_of stage.old)) }
+    ensures answer { Answers result (λ done. progress_of stage.new) (parts (follow (game_in_play (story_of stage.old)) every_turn_book ∷ count_turn ∷ pass (game_in_play (story_of stage.old)) ∷ []) (progress_of stage.old)) }
     ensures story { story_of stage.new ≡ story_of stage.old }
     ensures tables { tables_of stage.new ≡ story_of stage.old }
 {
     follow_unless_over(alloc, stage, EVERY_TURN)?;
     count_unless_over(stage)?;
+    pass_unless_over(alloc, stage)?;
     Ok(())
 }
 
-/// A turn: the action, the every turn rules, the count (*Writing with Inform*, chapter 9).
-#[tactic(auto, using(crate::proofs::Parts::turn_comes, crate::proofs::Parts::turn_stops, crate::proofs::Parts::turn_stops_behind))]
+/// The parts of a turn behind its action: a scene pass, and those behind it.
+#[tactic(auto, using(crate::proofs::Parts::behind_rules))]
+fn behind_action(alloc: Global, stage: &mut Stage<'_>) -> Result<(), Abandon>
+    requires told { tables_of stage.old ≡ story_of stage.old }
+    ensures answer { Answers result (λ done. progress_of stage.new) (parts (pass (game_in_play (story_of stage.old)) ∷ follow (game_in_play (story_of stage.old)) every_turn_book ∷ count_turn ∷ pass (game_in_play (story_of stage.old)) ∷ []) (progress_of stage.old)) }
+    ensures story { story_of stage.new ≡ story_of stage.old }
+    ensures tables { tables_of stage.new ≡ story_of stage.old }
+{
+    pass_unless_over(alloc, stage)?;
+    behind_pass(alloc, stage)?;
+    Ok(())
+}
+
+/// A turn: the action, a scene pass, the every turn rules, the count, a scene pass (*Writing with Inform*, chapters 9 and 10).
+#[tactic(auto, using(crate::proofs::Parts::behind_rules), unfolding(play_meaning::specs::Turns::turn))]
 fn turn(alloc: Global, stage: &mut Stage<'_>, now: ActionNow) -> Result<(), Abandon>
     requires told { tables_of stage.old ≡ story_of stage.old }
     ensures answer { Answers result (λ done. progress_of stage.new) (turn (game_in_play (story_of stage.old)) now (progress_of stage.old)) }
     ensures story { story_of stage.new ≡ story_of stage.old }
     ensures tables { tables_of stage.new ≡ story_of stage.old }
 {
-    worlds_are_whole(stage.world());
     act_unless_over(alloc, stage, now)?;
     behind_action(alloc, stage)?;
     Ok(())
 }
 
-/// The opening: the rules of when play begins, and looking.
-#[tactic(auto, using(crate::proofs::Parts::opening_comes, crate::proofs::Parts::opening_stops, crate::proofs::Parts::opening_stops_behind))]
+/// The parts of the opening behind its scene pass: the rules of when play begins, and looking.
+#[tactic(auto, using(crate::proofs::Parts::parts_rules))]
+fn begin_play(alloc: Global, stage: &mut Stage<'_>) -> Result<(), Abandon>
+    requires told { tables_of stage.old ≡ story_of stage.old }
+    ensures answer { Answers result (λ done. progress_of stage.new) (parts (follow (game_in_play (story_of stage.old)) play_begins_book ∷ perform (game_in_play (story_of stage.old)) look_round ∷ []) (progress_of stage.old)) }
+    ensures story { story_of stage.new ≡ story_of stage.old }
+    ensures tables { tables_of stage.new ≡ story_of stage.old }
+{
+    follow_unless_over(alloc, stage, PLAY_BEGINS)?;
+    act_unless_over(alloc, stage, look_round())?;
+    Ok(())
+}
+
+/// The opening: a scene pass, the rules of when play begins, and looking.
+#[tactic(auto, using(crate::proofs::Parts::behind_rules), unfolding(play_meaning::specs::Turns::opening))]
 pub(crate) fn opening(alloc: Global, stage: &mut Stage<'_>) -> Result<(), Abandon>
     requires told { tables_of stage.old ≡ story_of stage.old }
     ensures answer { Answers result (λ done. progress_of stage.new) (opening (game_in_play (story_of stage.old)) (progress_of stage.old)) }
     ensures story { story_of stage.new ≡ story_of stage.old }
     ensures tables { tables_of stage.new ≡ story_of stage.old }
 {
-    worlds_are_whole(stage.world());
-    follow_unless_over(alloc, stage, PLAY_BEGINS)?;
-    act_unless_over(alloc, stage, look_round())?;
+    pass_unless_over(alloc, stage)?;
+    begin_play(alloc, stage)?;
     Ok(())
 }
 
