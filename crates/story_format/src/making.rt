@@ -92,10 +92,12 @@ fn strings_of(
 ) -> Result<Strings, AllocError>
     ensures { IfOk result (λ strings. strings ≡ strings_of (all_worded worded.now) (origins_said (contents_meant contents.now))) }
 {
+    let texts = contents.texts.as_slice();
+    let rules = contents.rules.as_slice();
     let mut strings = Strings::new(alloc);
     mention_entries(alloc, &mut strings, worded)?;
-    mention_texts(alloc, &mut strings, contents.texts.as_slice())?;
-    mention_rules(alloc, &mut strings, contents.rules.as_slice())?;
+    mention_texts(alloc, &mut strings, texts)?;
+    mention_rules(alloc, &mut strings, rules)?;
     Ok(strings)
 }
 
