@@ -192,7 +192,7 @@ save("L7_last_of_another", [standard(6)] * 1999 + [standard(7)], [], books=in_ev
 save("L5_listed_behind", [standard(6)] * 2000, [], books=in_every_turn(list(range(2001))))
 save("L5_many_scenes", [], [], books=[[]] * LONGEST, scenes=[(0, NONE16, NONE16)] * LONGEST)
 dark = b"\x19" + b"\x0b" * (LONGEST - 3) + b"\x3b"
-save("plays_scenes", [], [dark] * 100, books=[[]] * 108, scenes=[(1, 2 * n + 1, 2 * n + 2) for n in range(50)])
+save("plays_scenes", [], [dark[:1] + dark[-8192:]] * 100, books=[[]] * 108, scenes=[(1, 2 * n + 1, 2 * n + 2) for n in range(50)])
 save("L6_scenes_of_one_test", [], [dark], books=[[]] * 108, scenes=[(1, 1, 1)] * 50)
 save("L5_tests_backwards", [], [dark] * 2, books=[[]] * 10, scenes=[(0, 2, 1)])
 save("L5_many_actions", [], [], actions=ACTIONS + [bytes([1, 1, 255, 0])] * (LONGEST - len(ACTIONS)))
