@@ -65,6 +65,9 @@ save_rule("rule_patterns", "Before x", " during x when x is y", ", rule fails.")
 save_rule("rule_pattern_words", "Before taking", " x", ", rule fails.")
 save_rule("rule_adjectives", "Before taking", " lit", " thing, rule fails.")
 save_rule("rule_scenes", "When x", " begins", ", rule fails.")
+save("scene_whens", "x begins when ")
+save_rule("scene_conditions", "The storm is a scene. The storm begins when in darkness", " or in darkness", ".")
+save_rule("scene_changes", "The storm is a scene.\n", "The storm ends when in darkness.\n", "")
 blocks = "".join("\t" * n + "if x is y:\n" for n in range(1, 700))
 open("rule_blocks.i7", "w").write(hall + "Every turn:\n" + blocks)
 open("rules_many.i7", "w").write(hall + "Every turn, rule fails.\n" * ((longest - len(hall)) // 24))
@@ -188,6 +191,10 @@ save("L7_last_again", [standard(6)] * 2000, [], books=in_every_turn([*range(2000
 save("L7_last_of_another", [standard(6)] * 1999 + [standard(7)], [], books=in_every_turn(list(range(2000))))
 save("L5_listed_behind", [standard(6)] * 2000, [], books=in_every_turn(list(range(2001))))
 save("L5_many_scenes", [], [], books=[[]] * LONGEST, scenes=[(0, NONE16, NONE16)] * LONGEST)
+dark = b"\x19" + b"\x0b" * (LONGEST - 3) + b"\x3b"
+save("plays_scenes", [], [dark[:1] + dark[-8192:]] * 100, books=[[]] * 108, scenes=[(1, 2 * n + 1, 2 * n + 2) for n in range(50)])
+save("L6_scenes_of_one_test", [], [dark], books=[[]] * 108, scenes=[(1, 1, 1)] * 50)
+save("L5_tests_backwards", [], [dark] * 2, books=[[]] * 10, scenes=[(0, 2, 1)])
 save("L5_many_actions", [], [], actions=ACTIONS + [bytes([1, 1, 255, 0])] * (LONGEST - len(ACTIONS)))
 save("L5_many_standard_actions", [], [], actions=(ACTIONS * LONGEST)[:LONGEST])
 def about(action):
@@ -222,11 +229,11 @@ for source in *.i7; do
   want=1
   limit=$space
   case $source in
-    rooms.i7 | one_room.i7 | rule_phrases.i7 | rules_of_patterns.i7 | listings_of_rules.i7 | listings_of_long_names.i7 | listings_of_one_rule.i7) want=0 limit=unlimited ;;
+    rooms.i7 | one_room.i7 | rule_phrases.i7 | scene_conditions.i7 | rules_of_patterns.i7 | listings_of_rules.i7 | listings_of_long_names.i7 | listings_of_one_rule.i7) want=0 limit=unlimited ;;
     action_of_* | action_named_as_actions.i7 | action_without_end.i7 | actions_of_long_names.i7 | actions_of_many_words.i7) want=0 limit=unlimited ;;
     rules_of_actions.i7 | listings_of_actions.i7 | rulebooks_of_actions.i7) want=0 limit=unlimited ;;
     actions_in_places.i7 | actions_many.i7 | actions_of_one_name.i7 | actions_of_near_names.i7 | actions_of_one_front.i7 | actions_tried.i7) limit=unlimited ;;
-    closed_texts.i7 | rule_colons.i7 | rule_pattern_words.i7 | rule_substitutions.i7 | rules_many.i7 | long_*) limit=unlimited ;;
+    closed_texts.i7 | rule_colons.i7 | scene_changes.i7 | rule_pattern_words.i7 | rule_substitutions.i7 | rules_many.i7 | long_*) limit=unlimited ;;
   esac
   (ulimit -v "$limit"; exec timeout 1 "$program" compile "$source" story) 2>err </dev/null
   status=$?

@@ -52,7 +52,7 @@ FAULTS = {
         'Every turn (this is the room heading rule), say "x".', 'Before taking the zorb (this is the can\'t take scenery rule), say "x".',
         "Taking is an action applying to one thing.", "The Putting It On are an action out of world.",
         "A gazing IT through is an action applying to nothing.", "The report waiting rules is a rulebook.",
-        "Check gazing it through rules are a rulebook."],
+        "Check gazing it through rules are a rulebook.", "The storm ends when in darkness. Storm ends when the squall is lit."],
     "C7 UnknownName": [
         'Before taking the zorb, say "x".', 'Every turn in the zorb, say "x".', 'A tidy rule during the squall, say "x".',
         'When the squall ends, say "x".', 'Check frobbing, say "x".', 'Instead of taking the box when the zorb is lit, say "x".',
@@ -65,7 +65,8 @@ FAULTS = {
         'A zorb rule is listed last in the zorb rules.', 'The of the rule is not listed in any rulebook.',
         'The room heading rule is listed last in the zorb rules.', 'The list worn rule is listed last in the storm rules.',
         'The list worn rule is listed first in the when play begins rules.', 'The room body rule is listed last in the carry out looking rules.',
-        'The room body text rule is listed first in the carry out rules.', 'The mark visited rule is listed last in carry out frobbing rules.'],
+        'The room body text rule is listed first in the carry out rules.', 'The mark visited rule is listed last in carry out frobbing rules.',
+        'The squall begins when in darkness.', 'The calm day begins when the zorb is lit.', 'The box ends when in darkness.'],
     "C8 WrongKind": [
         'Every turn in the box, say "x".', 'Before looking in a thing, say "x".', f'A tidy rule in a {MANY_LIT}thing, say "x".',
         f'After taking {MANY_LIT}things in the box, say "x".', f'Every turn in the box, say "[list of {MANY_LIT}things]".',
@@ -75,7 +76,8 @@ FAULTS = {
         'A standard report taking rule is listed last in after rules.'],
     "C12 TooMany": [
         f'Before taking {MANY_LIT}things, say "x".', f'Every turn in {MANY_DARK}rooms, say "x".', f'Every turn, say "[list of {MANY_LIT}things]".',
-        f'Check putting something on {MANY_LIT}things, say "x".', f'Before looking when the box is {MANY_LIT}thing, say "x".'],
+        f'Check putting something on {MANY_LIT}things, say "x".', f'Before looking when the box is {MANY_LIT}thing, say "x".',
+        f"The storm begins when the box is a {MANY_LIT}thing."],
 }
 
 
@@ -218,6 +220,12 @@ def fault(chance, code, books, actions):
     return chance.choice(FAULTS[code])
 
 
+def changes(chance):
+    """Sentences that say on what some of the scenes begin and end."""
+    told = [f"{scene} {edge} when {chance.choice(CONDITIONS)}." for scene in ["The storm", "Calm day"] for edge in ["begins", "ends"]]
+    return chance.sample(told, chance.randrange(len(told) + 1))
+
+
 def mixed(chance, told, more):
     """These paragraphs, with more at any places among them; each in its order."""
     places = sorted(chance.choices(range(len(told) + 1), k=len(more)))
@@ -246,7 +254,7 @@ def taken(scratch, chance):
     actions, own = declarations(chance)
     told, books = rules(chance, chance.randrange(1, 60), own)
     paragraphs = mixed(chance, [sentence for sentence, _ in told], listings(chance, books, own))
-    source = "\n\n".join([WORLD, *mixed(chance, paragraphs, actions)])
+    source = "\n\n".join([WORLD, *mixed(chance, paragraphs, [*actions, *changes(chance)])])
     answer, t = compiled(scratch, source)
     if t is None:
         return answer, "taken"

@@ -1,5 +1,5 @@
 #!/usr/bin/env bash
-# Plays five rows, each as a source and as a compiled story, with each allocation of the run refused in turn. Each
+# Plays six rows, each as a source and as a compiled story, with each allocation of the run refused in turn. Each
 # run must end in one of two ways: with status 4, the one line `i7story: out of memory` and no transcript; or
 # with status 0 and the transcript in which at most one reply is that of the abandoned turn.
 # Use: tests/refused_memory.sh PROGRAM
@@ -38,6 +38,33 @@ def asking(refused):
     return hall + "".join(f"\n>{command}\n{reply}" for command, reply in zip(commands, replies, strict=True)) + "\n>"
 
 
+def storming(refused):
+    """The transcript of the row of the storm that comes again while the score is at least 1 and goes while it is at least 2."""
+    score, storms, text = 0, False, "Hall\n"
+
+    def passed():
+        nonlocal storms, text
+        if storms and score >= 2:
+            storms, text = False, text + "Calm.\n"
+        if not storms and score >= 1:
+            storms, text = True, text + "Thunder.\n"
+
+    for place, command in enumerate(commands):
+        text += f"\n>{command}\n"
+        if place == refused:
+            text += ABANDONED
+            continue
+        text += "Time passes.\n"
+        passed()
+        score += 1
+        passed()
+    return text + "\n>"
+
+
+if row.name == "storm_comes_again":
+    for refused in [None, 0, 1, 2]:
+        (scratch / f"may{refused}").write_text(storming(refused))
+    sys.exit()
 if row.name == "which_box_is_meant":
     for refused in [None, 0, 1, 2, 3]:
         (scratch / f"may{refused}").write_text(asking(refused))
@@ -120,7 +147,7 @@ PY
 
 passed=0
 failed=0
-for name in two_rooms lamp_in_a_dark_room doors_between_rooms rules_and_scenes which_box_is_meant; do
+for name in two_rooms lamp_in_a_dark_room doors_between_rooms rules_and_scenes which_box_is_meant storm_comes_again; do
   row=$here/rows/$name
   "$program" compile "$row/source.i7" "$scratch/story" || exit 1
   expected || exit 1

@@ -10,6 +10,7 @@ COMMENT = re.compile(r'("[^"]*")|\[[^]]*\]')
 FINAL = re.compile(r"[.?!]'?$|$")
 NEXT = re.compile(r'\s+["A-Z]|\s*$')
 RULEBOOK = re.compile(r"(?:an? |the |some )?(.+) rules (?:is|are) a rulebook\.?", re.I | re.S)
+CHANGE = re.compile(r"(?:an? |the |some )?(?P<scene>.+?) (?P<edge>begins|ends) when .+", re.I)
 SCENE = re.compile(r"(?:an? |the |some )?(.+?) (?:is|are) a (recurring )?scene\.?", re.I | re.S)
 # A sentence that declares an action: what it applies to, and whether it requires light or is out of world.
 SLOT = "one (?:visible |carried )?thing"
@@ -256,6 +257,20 @@ def listing_of(sentence):
     return found and (key_of(found["rule"]), (found["at"] or "nowhere").lower(), found["book"])
 
 
+def changes_of(told, scenes, heads):
+    """Of which scenes sentences that are no rules say that they begin, and of which that they end, each as its name and the verb."""
+    found = [CHANGE.fullmatch(" ".join(sentence.split())) for sentence, head in zip(told, heads) if not head]
+    return {(change["scene"].lower(), change["edge"].lower()) for change in found if change and change["scene"].lower() in scenes}
+
+
+def scenes_from(code, scenes, changes):
+    """Table 12, where the first code of a scene's tests has this number."""
+    for name, recurs in scenes.items():
+        begins, ends = ((name, edge) in changes for edge in ["begins", "ends"])
+        yield int(recurs), code if begins else NONE16, code + begins if ends else NONE16
+        code += begins + ends
+
+
 def closeness(said):
     """How closely a noun or a place is told: as an object, or by a kind, how deep it is, and by how many adjectives."""
     if said[0] == 2:
@@ -285,7 +300,8 @@ def tables_of(source, described, objects=()):
     told = list(sentences(source))
     rulebooks, scenes = declared(told)
     actions = actions_of(told)
-    heads = [head for sentence in told if (head := head_of(sentence, rulebooks, scenes, objects, actions))]
+    found = [head_of(sentence, rulebooks, scenes, objects, actions) for sentence in told]
+    heads = list(filter(None, found))
     rules, code, names = standard_rules(), described, list(STANDARD_NAMES)
     for head, asks, name in heads:
         rules.append((*head, code if asks else NONE16, (0, code + asks)))
@@ -301,5 +317,5 @@ def tables_of(source, described, objects=()):
     return {
         "actions": [entry for _, entry in actions], "grammar": [], "rules": rules,
         "books": [in_order(rules, book, listed) for book in range(BUILT_IN_BOOKS + 2 * len(scenes) + len(rulebooks))],
-        "scenes": [(int(recurs), NONE16, NONE16) for recurs in scenes.values()],
+        "scenes": list(scenes_from(code, scenes, changes_of(told, scenes, found))),
     }

@@ -1,5 +1,5 @@
 -- What a story's entries of actions, rules and scenes tell is what the tale says of them.
-use Rattle.std.proofs.Common.{◌≡◌, ◌∙◌, ap, refl, ℕ, zero, suc, ◌≤◌, arith, Bool, true, false, eqb, List, [], ◌∷◌, map, Option, Some, None, inl, inr}
+use Rattle.std.proofs.Common.{◌≡◌, ◌∙◌, ap, refl, ℕ, zero, suc, ◌≤◌, arith, true, false, eqb, List, [], ◌∷◌, map, Option, Some, None, inl, inr}
 use Rattle.std.specs.Prelude.{◌&&◌, slice_get, slice_index_or}
 use Rattle.std.specs.List.{AllZip}
 use Rattle.std.specs.Option.{option_map}
@@ -7,26 +7,25 @@ use Rattle.std.proofs.lemmas.Bool.{eqb-true, ne_eqb, cases_Bool}
 use Rattle.play_meaning.specs.CodedStories.{answer_or, begins_by, coded_condition, coded_is_about, ends_by, head_of}
 use Rattle.play_meaning.specs.Codes.{Codes}
 use Rattle.play_meaning.specs.Rules.{Anything, Aspect, Exactly, OfKind, Rule, is_about, is_action, is_happening, is_met}
-use Rattle.play_meaning.specs.Scripts.{begins_in, condition_holds, ends_in, rule_condition, rule_holds, rule_is_about, undescribed}
+use Rattle.play_meaning.specs.Scripts.{Scene, begins_in, condition_holds, ends_in, rule_condition, rule_holds, rule_is_about, undescribed}
 use Rattle.play_meaning.specs.Settings.{Setting}
 use Rattle.play_meaning.specs.StandardActions.{no_needs}
 use Rattle.play_meaning.specs.Trees.{Adjective, Condition}
 use Rattle.play_meaning.specs.Worlds.{World, location_of}
 use Rattle.play_meaning.specs.declared.action.ActionNow.{ActionNow}
-use Rattle.story_format.specs.Carrying.{AsksFor, AsksSo, CarriesRule, IsAnsweredBy, asked_by, code_if_some, need_told}
+use Rattle.story_format.specs.Carrying.{AsksFor, AsksSo, CarriesRule, CarriesScene, IsAnsweredBy, asked_by, code_if_some, need_told}
 use Rattle.story_format.specs.Facts.{rules_in}
-use Rattle.story_format.specs.RuleMaking.{scene_entry}
 use Rattle.story_format.specs.declared.rule_entry.Aspect.{Aspect as Asked}
 use Rattle.story_format.specs.declared.rule_entry.Aspect.TheVariants as aspects
 use Rattle.story_format.specs.declared.rule_entry.PropertySide.{PropertySide}
 use Rattle.story_format.specs.declared.rule_entry.RuleEntry.{RuleEntry}
 use Rattle.story_format.specs.declared.rule_tables.ActionEntry.{ActionEntry}
 use Rattle.story_format.specs.declared.rule_tables.Book.{Book}
+use Rattle.story_format.specs.declared.rule_tables.SceneEntry.{SceneEntry}
 use Rattle.world_meaning.specs.declared.needs.Needs.{Needs}
 use Rattle.world_meaning.specs.declared.needs.Slot.{Slot}
 use Rattle.world_meaning.specs.declared.needs.Slot.TheVariants.{Absent, Carried, Touched, Visible}
 use Rattle.action_stages.specs.StoryPlay.{adjective_told, aspect_told, needs_in, needs_told, rule_told, scene_told, slot_of}
-use Rattle.story_format.specs.TaleScripts.{idle_scene}
 
 -- ---- by places
 
@@ -158,19 +157,28 @@ books_at (book ∷ books) (suc n) = books_at books n
 
 -- ---- scenes
 
-pub scenes_recur : (scenes : List Bool) → map (λ scene. scene.recurs) (map scene_told (map scene_entry scenes)) ≡ map (λ scene. scene.recurs) (map idle_scene scenes)
-scenes_recur [] = refl
-scenes_recur (true ∷ scenes) = ap (λ all. true ∷ all) (scenes_recur scenes)
-scenes_recur (false ∷ scenes) = ap (λ all. false ∷ all) (scenes_recur scenes)
+pub scenes_recur : (c : Codes) (entries : List SceneEntry) (scenes : List Scene) → AllZip (CarriesScene c) entries scenes → map (λ scene. scene.recurs) (map scene_told entries) ≡ map (λ scene. scene.recurs) scenes
+scenes_recur c [] [] zip = refl
+scenes_recur c [] (scene ∷ scenes) zip = absurd zip
+scenes_recur c (e ∷ entries) [] zip = absurd zip
+scenes_recur c (e ∷ entries) (scene ∷ scenes) zip = λ i. zip.0.recurs i ∷ scenes_recur c entries scenes zip.1 i
 
-pub never_begins : (c : Codes) (s r : Setting) (now : ActionNow) (w : World) (scenes : List Bool) (n : ℕ)
-    → answer_or false c s now w (begins_by (slice_get (map scene_told (map scene_entry scenes)) n)) ≡ condition_holds r now w (begins_in (slice_get (map idle_scene scenes) n))
-never_begins c s r now w [] n = refl
-never_begins c s r now w (recurs ∷ scenes) zero = refl
-never_begins c s r now w (recurs ∷ scenes) (suc n) = never_begins c s r now w scenes n
+holding : (c : Codes) (s : Setting) (now : ActionNow) (w : World) (code : Option ℕ) (condition : Option Condition) → IsAnsweredBy c code condition
+    → answer_or false c s now w code ≡ condition_holds s now w condition
+holding c s now w None None is = refl
+holding c s now w None (Some condition) is = absurd is
+holding c s now w (Some n) None is = absurd is
+holding c s now w (Some n) (Some condition) is = is (undescribed s) now w
 
-pub never_ends : (c : Codes) (s r : Setting) (now : ActionNow) (w : World) (scenes : List Bool) (n : ℕ)
-    → answer_or false c s now w (ends_by (slice_get (map scene_told (map scene_entry scenes)) n)) ≡ condition_holds r now w (ends_in (slice_get (map idle_scene scenes) n))
-never_ends c s r now w [] n = refl
-never_ends c s r now w (recurs ∷ scenes) zero = refl
-never_ends c s r now w (recurs ∷ scenes) (suc n) = never_ends c s r now w scenes n
+module _ (c : Codes) (s : Setting) (now : ActionNow) (w : World) (entries : List SceneEntry) (scenes : List Scene) (n : ℕ) (zip : AllZip (CarriesScene c) entries scenes) where
+  pub begins_at : answer_or false c s now w (begins_by (slice_get (map scene_told entries) n)) ≡ condition_holds s now w (begins_in (slice_get scenes n))
+  begins_at =
+      told_at scene_told (λ e. answer_or false c s now w (begins_by e)) entries n
+      ∙ at_place (CarriesScene c) (λ e. answer_or false c s now w (begins_by (option_map scene_told e))) (λ scene. condition_holds s now w (begins_in scene)) refl entries scenes n
+      (λ e scene there carries. holding c s now w (code_if_some e.begins) scene.begins carries.begins) zip
+
+  pub ends_at : answer_or false c s now w (ends_by (slice_get (map scene_told entries) n)) ≡ condition_holds s now w (ends_in (slice_get scenes n))
+  ends_at =
+      told_at scene_told (λ e. answer_or false c s now w (ends_by e)) entries n
+      ∙ at_place (CarriesScene c) (λ e. answer_or false c s now w (ends_by (option_map scene_told e))) (λ scene. condition_holds s now w (ends_in scene)) refl entries scenes n
+      (λ e scene there carries. holding c s now w (code_if_some e.ends) scene.ends carries.ends) zip

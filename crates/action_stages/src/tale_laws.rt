@@ -1,12 +1,10 @@
 //! What holds of the play of stories that are compiled: it is that of the tale that the source means, rule by rule.
 ghost use Rattle.std.specs.Prelude.{◌≡◌, ℕ, List, Option};
 ghost use Rattle.play_meaning.specs.Games.{Game};
-ghost use Rattle.play_meaning.specs.Rules.{Rule};
 ghost use Rattle.play_meaning.specs.Scripts.{game_of};
 ghost use Rattle.play_meaning.specs.Sessions.{State, opened};
 ghost use Rattle.play_meaning.specs.Transcripts.{exchanges};
-ghost use Rattle.play_meaning.specs.Trees.{Text};
-ghost use Rattle.rule_order.specs.declared.listing.ListingSentence.{ListingSentence};
+ghost use Rattle.story_format.specs.Contents.{Contents};
 ghost use Rattle.story_format.specs.Holding.{AreHeld, IsHeld};
 ghost use Rattle.story_format.specs.Making.{tables_of};
 ghost use Rattle.story_format.specs.TaleScripts.{whole_script};
@@ -15,10 +13,10 @@ ghost use Rattle.action_stages.specs.Alike.{ArePlayedAlike};
 ghost use Rattle.action_stages.specs.StoryPlay.{game_in_play};
 
 /// The game of a tale's tables, whose rules are codes and whose rulebooks are stored in their order, is played as the tale's own,
-/// whose rules are what its sentences say: rulebooks and actions come to the same, however deep they are nested.
+/// whose rules are what its sentences say: rulebooks and actions come to the same, however deep they are nested, and its scenes begin
+/// and end on the same.
 pub fn stories_are_played_as_their_tales()
-    ensures { (t : Tale) (texts : List Text) (listings : List ListingSentence) (rules : List Rule) → IsHeld t → AreHeld t texts rules
-        → ArePlayedAlike (game_in_play (tables_of t texts listings rules)) (game_of (whole_script t texts listings rules)) }
+    ensures { (t : Tale) (said : Contents) → IsHeld t → AreHeld t said → ArePlayedAlike (game_in_play (tables_of t said)) (game_of (whole_script t said)) }
 {}
 
 /// Games that are played alike have the same opening, and the same answers to the same lines.

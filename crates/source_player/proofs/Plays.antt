@@ -25,22 +25,20 @@ use Rattle.source_player.specs.declared.source_run.SourceRunFault.{SourceRunFaul
 use Rattle.source_player.specs.declared.source_run.SourceRunFault.TheVariants.{Source, Story, Start, Run}
 
 -- the story's game is played as the tale's
-pub same_play : (source bytes : List ℕ) (compiled : IsCompiled source bytes) (story : Tables) → Spells bytes story → ArePlayedAlike (game_in_play story) (game_meant compiled.tale compiled.texts compiled.listings compiled.rules)
+pub same_play : (source bytes : List ℕ) (compiled : IsCompiled source bytes) (story : Tables) → Spells bytes story → ArePlayedAlike (game_in_play story) (game_meant compiled.tale compiled.said)
 same_play source bytes compiled story spells =
-    let same : story ≡ tables_of compiled.tale compiled.texts compiled.listings compiled.rules = same_story bytes story compiled.tables spells compiled.spells ∙ compiled.tables_are in
+    let same : story ≡ tables_of compiled.tale compiled.said = same_story bytes story compiled.tables spells compiled.spells ∙ compiled.tables_are in
     let held = tale_held compiled.means.sentences compiled.tale (says_ranged source compiled.means.sentences compiled.means.says) compiled.means.meant.tale_is in
-    subst (λ (t : Tables). ArePlayedAlike (game_in_play t) (game_meant compiled.tale compiled.texts compiled.listings compiled.rules)) (sym same) (played_alike compiled.tale compiled.texts compiled.listings compiled.rules held compiled.held)
+    subst (λ (t : Tables). ArePlayedAlike (game_in_play t) (game_meant compiled.tale compiled.said)) (sym same) (played_alike compiled.tale compiled.said held compiled.held)
 
 pub played_source : (source bytes : List ℕ) (echo : Bool) (unread rest held now : Option (List ℕ)) (result : Result Ending SourceRunFault) → IsCompiled source bytes → IfOk result (PlayedStory bytes echo (streams_of unread held) (streams_of rest now)) → IfOk result (PlayedSource source echo (streams_of unread held) (streams_of rest now))
 played_source source bytes echo unread rest held now (Err fault) compiled played = tt
 played_source source bytes echo unread rest held now (Ok ending) compiled played = record {
   tale = compiled.tale;
-  texts = compiled.texts;
-  rules = compiled.rules;
-  listings = compiled.listings;
+  said = compiled.said;
   means = compiled.means;
   held = compiled.held;
-  played = game_alike (game_in_play played.story) (game_meant compiled.tale compiled.texts compiled.listings compiled.rules) (same_play source bytes compiled played.story played.spells) echo (streams_of unread held) (streams_of rest now) ending played.played;
+  played = game_alike (game_in_play played.story) (game_meant compiled.tale compiled.said) (same_play source bytes compiled played.story played.spells) echo (streams_of unread held) (streams_of rest now) ending played.played;
 }
 
 -- what was compiled is a story: of its faults only memory is left
@@ -50,18 +48,16 @@ story_fault source bytes fault compiled refused = not_refused bytes compiled.tab
 pub left_source : (stored : ℕ) (source bytes : List ℕ) (echo : Bool) (unread rest held now : Option (List ℕ)) (result : Result Ending SourceRunFault) → IsCompiled source bytes → IfErr result (λ fault. LeavesStory fault stored bytes echo (streams_of unread held) (streams_of rest now)) → IfErr result (λ fault. LeavesSource fault stored source echo (streams_of unread held) (streams_of rest now))
 left_source stored source bytes echo unread rest held now (Ok ending) compiled left = tt
 left_source stored source bytes echo unread rest held now (Err (Source fault)) compiled left = absurd left
-left_source stored source bytes echo unread rest held now (Err (Story fault)) compiled left = (story_fault source bytes fault compiled left, record { tale = compiled.tale; texts = compiled.texts; rules = compiled.rules; listings = compiled.listings; means = compiled.means; held = compiled.held })
-left_source stored source bytes echo unread rest held now (Err (Start fault)) compiled left = (left.0, record { tale = compiled.tale; texts = compiled.texts; rules = compiled.rules; listings = compiled.listings; means = compiled.means; held = compiled.held })
+left_source stored source bytes echo unread rest held now (Err (Story fault)) compiled left = (story_fault source bytes fault compiled left, record { tale = compiled.tale; said = compiled.said; means = compiled.means; held = compiled.held })
+left_source stored source bytes echo unread rest held now (Err (Start fault)) compiled left = (left.0, record { tale = compiled.tale; said = compiled.said; means = compiled.means; held = compiled.held })
 left_source stored source bytes echo unread rest held now (Err (Run fault)) compiled left = (
   left.0,
   record {
     tale = compiled.tale;
-    texts = compiled.texts;
-    rules = compiled.rules;
-    listings = compiled.listings;
+    said = compiled.said;
     means = compiled.means;
     held = compiled.held;
-    broke = broken_game_alike (game_in_play left.1.story) (game_meant compiled.tale compiled.texts compiled.listings compiled.rules) (same_play source bytes compiled left.1.story left.1.spells) fault echo (streams_of unread held) (streams_of rest now) left.1.broke;
+    broke = broken_game_alike (game_in_play left.1.story) (game_meant compiled.tale compiled.said) (same_play source bytes compiled left.1.story left.1.spells) fault echo (streams_of unread held) (streams_of rest now) left.1.broke;
   },
 )
 

@@ -5,9 +5,7 @@ use Rattle.world_meaning.specs.declared.tale.Tale.{Tale}
 use Rattle.play_meaning.specs.Games.{Game}
 use Rattle.play_meaning.specs.Sessions.{State, opened}
 use Rattle.play_meaning.specs.Transcripts.{IsPlay}
-use Rattle.play_meaning.specs.Rules.{Rule}
-use Rattle.play_meaning.specs.Trees.{Text}
-use Rattle.rule_order.specs.declared.listing.ListingSentence.{ListingSentence}
+use Rattle.story_format.specs.Contents.{Contents}
 use Rattle.story_format.specs.Holding.{AreHeld}
 use Rattle.story_format.specs.Refusals.{IsRefused as IsNoStory}
 use Rattle.story_format.specs.Spells.{Spells}
@@ -46,24 +44,20 @@ pub record BrokeOffStory (fault : RunFault) (bytes : List ℕ) (echo : Bool) (be
   pub broke : BrokeOffGame fault (game_in_play story) echo before after
 
 -- The headline: a source of which there is a story file was played, in the game of the tale that its sentences mean, of what its
--- descriptions say, and of its rules, each consulted in its place.
+-- descriptions say, of its rules, each consulted in its place, and of its scenes.
 pub record PlayedSource (source : List ℕ) (echo : Bool) (before after : Streams) (ending : Ending) : Type 0 where
   pub tale : Tale
-  pub texts : List Text
-  pub rules : List Rule
-  pub listings : List ListingSentence
-  pub means : Means source tale texts rules listings
-  pub held : AreHeld tale texts rules
-  pub played : PlayedGame (game_meant tale texts listings rules) echo before after ending
+  pub said : Contents
+  pub means : Means source tale said
+  pub held : AreHeld tale said
+  pub played : PlayedGame (game_meant tale said) echo before after ending
 
 pub record BrokeOffSource (fault : RunFault) (source : List ℕ) (echo : Bool) (before after : Streams) : Type 0 where
   pub tale : Tale
-  pub texts : List Text
-  pub rules : List Rule
-  pub listings : List ListingSentence
-  pub means : Means source tale texts rules listings
-  pub held : AreHeld tale texts rules
-  pub broke : BrokeOffGame fault (game_meant tale texts listings rules) echo before after
+  pub said : Contents
+  pub means : Means source tale said
+  pub held : AreHeld tale said
+  pub broke : BrokeOffGame fault (game_meant tale said) echo before after
 
 -- whether play had begun
 abbrev pub is_of_run : SourceRunFault → Bool
@@ -87,11 +81,9 @@ pub record IsSpelled (bytes : List ℕ) : Type 0 where
 -- a source whose sentences mean a tale, of which a story file says the descriptions and rules
 pub record IsMeant (source : List ℕ) : Type 0 where
   pub tale : Tale
-  pub texts : List Text
-  pub rules : List Rule
-  pub listings : List ListingSentence
-  pub means : Means source tale texts rules listings
-  pub held : AreHeld tale texts rules
+  pub said : Contents
+  pub means : Means source tale said
+  pub held : AreHeld tale said
 
 -- Why bytes aren't played to their end as a story, where there are so many stored rules: they are none, the story that they are
 -- isn't begun, for want of stored rules or of memory, or the run broke off.
@@ -112,13 +104,11 @@ LeavesSource (Run fault) stored source echo before after = (stored ≡ 61) × Br
 -- A source was played over bytes of commands: the transcript is the play of all of them.
 pub record PlayedBytes (source commands : List ℕ) (echo : Bool) (transcript : List ℕ) (ending : Ending) : Type 0 where
   pub tale : Tale
-  pub texts : List Text
-  pub rules : List Rule
-  pub listings : List ListingSentence
-  pub means : Means source tale texts rules listings
-  pub held : AreHeld tale texts rules
+  pub said : Contents
+  pub means : Means source tale said
+  pub held : AreHeld tale said
   pub last : State
-  pub play : IsPlay (game_meant tale texts listings rules) echo (opened (game_meant tale texts listings rules)).state commands transcript last
+  pub play : IsPlay (game_meant tale said) echo (opened (game_meant tale said)).state commands transcript last
   pub ended : last.ending ≡ Some ending
 
 -- Why a source isn't played over bytes of commands, where there are so many stored rules: what playing it leaves, where the

@@ -1,5 +1,5 @@
--- How many texts a tale has, and the sentences, texts and rules that the compiler hands on, by their names in the definitions.
-use Rattle.std.proofs.Common.{◌≡◌, ◌∙◌, refl, subst, sym, ℕ, ◌+◌, List, [], ◌∷◌, ◌++◌, length, inl, inr, ◌⊎◌, arith}
+-- How many texts a tale has, and the outcome of a source by what its sentences say.
+use Rattle.std.proofs.Common.{◌≡◌, ◌∙◌, refl, subst, ℕ, ◌+◌, List, [], ◌∷◌, ◌++◌, length, inl, inr, ◌⊎◌, arith}
 use Rattle.std.specs.Prelude.{Option, None, Some, true}
 use Rattle.std.specs.List.{list_all}
 use Rattle.world_meaning.specs.Faults.{out_of_memory}
@@ -7,29 +7,25 @@ use Rattle.world_meaning.specs.declared.fault.Fault.{Fault}
 use Rattle.world_meaning.specs.declared.needs.Needs.{Needs}
 use Rattle.world_meaning.specs.declared.tale.Object.{Object}
 use Rattle.world_meaning.specs.declared.tale.Tale.{Tale}
-use Rattle.play_meaning.specs.Rules.{Rule}
 use Rattle.play_meaning.specs.TranslatedScripts.{in_list}
 use Rattle.play_meaning.specs.Trees.{Text}
-use Rattle.play_meaning.specs.declared.tree.rule.MeantRule.{MeantRule as KeptRule}
-use Rattle.play_meaning.specs.declared.tree.said.Text.{Text as KeptText}
 use Rattle.i7_conditions.specs.Scopes.{Scope}
 use Rattle.i7_sentences.specs.declared.sentence.Sentence.{Sentence}
-use Rattle.rule_order.specs.declared.listing.ListingSentence.{ListingSentence}
 use Rattle.code_table.specs.declared.fault.TableFault.{TableFault}
 use Rattle.code_table.specs.declared.fault.TableFault.TheVariants.{Memory}
+use Rattle.story_format.specs.Contents.{Contents}
 use Rattle.story_format.specs.Holding.{AreHeld, AreNotHeld, AreOf, IsHeld, has_first_noun}
 use Rattle.story_format.specs.Making.{code_count, codes_in, tables_of}
 use Rattle.story_format.specs.Spells.{Spells}
 use Rattle.story_format.proofs.Carried.{tale_carried}
 use Rattle.story_file.specs.Compilations.{IsCompiled, IsRefused, IsToldAs, Means, Says, memory, unheld, unmeant}
 use Rattle.story_file.specs.Meanings.{AreMeant, AreRefused, AreTexts, descriptions_of, scope_said}
-use Rattle.story_file.specs.Rules.{rules_kept}
-use Rattle.story_file.specs.Texts.{texts_kept}
 use Rattle.story_file.proofs.Held.{tale_held}
 use Rattle.story_file.proofs.Outcomes.{refused_so}
 use Rattle.story_file.proofs.Counted.{acts_are}
 use Rattle.story_file.proofs.Ranges.{says_first_nouns, says_ranged}
 use Rattle.story_file.proofs.RulesOf.{acts_few, as_many, few_rules, rules_named}
+use Rattle.story_file.proofs.ScenesOf.{scenes_recur}
 
 -- ---- how many texts there are
 
@@ -44,17 +40,6 @@ described (object ∷ objects) = by object.description (described objects)
 texts_counted : (s : Scope) (objects : List Object) (texts : List Text) → AreTexts s objects texts → length texts ≡ codes_in objects
 texts_counted s objects texts are = as_many _ (descriptions_of objects) texts are ∙ described objects
 
--- ---- texts and rules that are handed on
-
-pub of_lent : (F : List Text → List Rule → Type 0) (texts lent_texts : List KeptText) (rules lent_rules : List KeptRule) → lent_texts ≡ texts → lent_rules ≡ rules
-    → F (texts_kept lent_texts) (rules_kept lent_rules) → F (texts_kept texts) (rules_kept rules)
-of_lent F texts lent_texts rules lent_rules same_texts same_rules held =
-    subst (λ (all : List KeptRule). F (texts_kept texts) (rules_kept all)) same_rules (subst (λ (all : List KeptText). F (texts_kept all) (rules_kept lent_rules)) same_texts held)
-
-pub for_lent : (F : List Text → List Rule → Type 0) (texts lent_texts : List KeptText) (rules lent_rules : List KeptRule) → lent_texts ≡ texts → lent_rules ≡ rules
-    → F (texts_kept texts) (rules_kept rules) → F (texts_kept lent_texts) (rules_kept lent_rules)
-for_lent F texts lent_texts rules lent_rules same_texts same_rules held = of_lent F lent_texts texts lent_rules rules (sym same_texts) (sym same_rules) held
-
 -- ---- a source's outcome, by what its sentences say
 
 module _ (source : List ℕ) (sentences lent : List Sentence) (says : Says source sentences) (same : lent ≡ sentences) where
@@ -63,50 +48,46 @@ module _ (source : List ℕ) (sentences lent : List Sentence) (says : Says sourc
   refused_by fault (inl refused) = unmeant (record { sentences = sentences; says = says; refused = refused_so _ _ _ same refused })
   refused_by fault (inr is) = memory says.spells.readable.short is
 
-  module _ (tale : Tale) (texts : List Text) (rules : List Rule) (listings : List ListingSentence) (meant : AreMeant lent tale texts rules listings) where
-    means : Means source tale texts rules listings
-    means = record { sentences = sentences; says = says; meant = subst (λ (all : List Sentence). AreMeant all tale texts rules listings) same meant }
+  module _ (tale : Tale) (said : Contents) (meant : AreMeant lent tale said) where
+    means : Means source tale said
+    means = record { sentences = sentences; says = says; meant = subst (λ (all : List Sentence). AreMeant all tale said) same meant }
 
     pub is_held : IsHeld tale
     unfolding means
     is_held = tale_held sentences tale (says_ranged source sentences says) means.meant.tale_is
 
-    pub are_of : AreOf tale texts rules
+    pub are_of : AreOf tale said
     unfolding means
     are_of = record {
-      many = texts_counted (scope_said lent) tale.objects texts meant.texts_are;
-      few = few_rules lent tale texts rules listings meant;
-      few_actions = acts_few lent tale texts rules listings meant;
+      many = texts_counted (scope_said lent) tale.objects said.texts meant.texts_are;
+      few = few_rules lent tale said meant;
+      few_actions = acts_few lent tale said meant;
       first_nouns = subst (λ (all : List Needs). list_all has_first_noun all ≡ true) (acts_are sentences tale means.meant.tale_is) (says_first_nouns source sentences says);
-      named = rules_named lent tale texts rules listings meant;
+      named = rules_named lent tale said meant;
+      scenes = scenes_recur lent tale said meant;
     }
 
-    pub compiled_by : (bytes : List ℕ) → AreHeld tale texts rules → Spells bytes (tables_of tale texts listings rules) → IsCompiled source bytes
+    pub compiled_by : (bytes : List ℕ) → AreHeld tale said → Spells bytes (tables_of tale said) → IsCompiled source bytes
     unfolding means
     compiled_by bytes held spells = record {
       tale = tale;
-      texts = texts;
-      rules = rules;
-      listings = listings;
+      said = said;
       means = means;
       held = held;
-      tables = tables_of tale texts listings rules;
+      tables = tables_of tale said;
       tables_are = refl;
-      carries = tale_carried tale texts listings rules is_held held;
+      carries = tale_carried tale said is_held held;
       spells = spells;
     }
 
-    pub unheld_by : (objects : List Object) (reason : TableFault) (fault : Fault) → objects ≡ tale.objects → AreNotHeld tale texts rules reason
-        → IsToldAs lent objects reason fault ⊎ ((reason ≡ Memory) × (fault ≡ out_of_memory)) → IsRefused source fault
+    pub unheld_by : (reason : TableFault) (fault : Fault) → AreNotHeld tale said reason → IsToldAs lent tale reason fault ⊎ ((reason ≡ Memory) × (fault ≡ out_of_memory)) → IsRefused source fault
     unfolding means
-    unheld_by objects reason fault are not_held (inl told) = unheld (record {
+    unheld_by reason fault not_held (inl told) = unheld (record {
       tale = tale;
-      texts = texts;
-      rules = rules;
-      listings = listings;
+      said = said;
       means = means;
       reason = reason;
       not_held = not_held;
-      told = subst (λ (os : List Object). IsToldAs sentences os reason fault) are (subst (λ (all : List Sentence). IsToldAs all objects reason fault) same told);
+      told = subst (λ (all : List Sentence). IsToldAs all tale reason fault) same told;
     })
-    unheld_by objects reason fault are not_held (inr is) = memory says.spells.readable.short is.1
+    unheld_by reason fault not_held (inr is) = memory says.spells.readable.short is.1

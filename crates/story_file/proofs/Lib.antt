@@ -11,4 +11,5 @@ pub mod Outcomes
 pub mod Ranges
 pub mod Resolving
 pub mod RulesOf
+pub mod ScenesOf
 pub mod Understood

@@ -1,13 +1,13 @@
 -- A source has one outcome: its tokens are one list, and so its sentences, and so its tale.
-use Rattle.std.proofs.Common.{◌≡◌, ◌≢◌, ℕ, List, [], ◌∷◌, map, Ok, Err, ap, refl, subst, sym, ◌∙◌}
+use Rattle.std.proofs.Common.{◌≡◌, ◌≢◌, Bool, ℕ, List, [], ◌∷◌, map, Ok, Err, ap, refl, subst, sym, ◌∙◌}
 use Rattle.std.specs.Prelude.{Result}
 use Rattle.std.specs.List.{AllZip}
 use Rattle.world_meaning.specs.declared.fault.Fault.{Fault}
 use Rattle.world_meaning.specs.declared.fault.FaultCode.TheVariants.{Memory}
-use Rattle.world_meaning.specs.declared.tale.Object.{Object}
 use Rattle.world_meaning.specs.declared.tale.Tale.{Tale}
 use Rattle.play_meaning.specs.Patterns.{rule_meant}
 use Rattle.play_meaning.specs.Rules.{Rule}
+use Rattle.play_meaning.specs.Scripts.{Scene}
 use Rattle.play_meaning.specs.Trees.{Text}
 use Rattle.i7_conditions.specs.Scopes.{Scope}
 use Rattle.i7_lexer.proofs.LawLemmas.{spelled-refused, tokens-same}
@@ -27,28 +27,29 @@ use Rattle.i7_resolution.specs.declared.resolution.Resolution.TheVariants.{Refus
 use Rattle.i7_resolution.specs.declared.resolution.Resolved.{Resolved}
 use Rattle.rule_order.specs.declared.listing.ListingSentence.{ListingSentence}
 use Rattle.code_table.specs.declared.fault.TableFault.{TableFault}
-use Rattle.code_table.specs.declared.fault.TableFault.TheVariants.{LongRule, LongText, TooMany, Memory as NoMemory}
+use Rattle.code_table.specs.declared.fault.TableFault.TheVariants.{LongRule, LongScene, LongText, TooMany, Memory as NoMemory}
+use Rattle.story_format.specs.Contents.{Contents}
 use Rattle.story_format.specs.Holding.{AreHeld, NeverHeldAndNot}
 use Rattle.story_file.specs.Compilations.{IsCompiled, IsRefused, IsToldAs, Means, Says, memory, unheld as untold, unmeant as unsaid, unread, unspelled}
 use Rattle.story_file.specs.Meanings.{AreMeant, AreRefused, AreTexts, descriptions_of, known_said, scope_said, unmeant, unresolved}
-use Rattle.story_file.specs.Rules.{listings_told, rules_told}
+use Rattle.story_file.specs.Rules.{listings_told, rules_told, scenes_told}
 
 -- what is known of texts and of what is resolved: each means one thing
 abbrev pub IsOneText : Type 0
 IsOneText = (s : Scope) (pieces : List TextPiece) (text other : Text) → IsText s pieces text → IsText s pieces other → text ≡ other
 
 abbrev pub IsOneResolution : Type 0
-IsOneResolution = (k : Known) (sentences : List Sentence) (told other : Resolution) → IsResolution k sentences told → IsResolution k sentences other → resolution_meant told ≡ resolution_meant other
+IsOneResolution = (k : Known) (recurring : List Bool) (sentences : List Sentence) (told other : Resolution) → IsResolution k recurring sentences told → IsResolution k recurring sentences other → resolution_meant told ≡ resolution_meant other
 
 pub same_sentences : (source : List ℕ) (v w : List Sentence) → Says source v → Says source w → v ≡ w
 same_sentences source v w first second =
     let tokens : first.tokens ≡ second.tokens = tokens-same source first.tokens second.tokens first.spells second.spells in
     sentences_same second.tokens v w (subst (λ ts. HasSentences ts v) tokens first.reads) second.reads
 
-abbrev pub said : Tale → Result Tale Fault
-said tale = Ok tale
+abbrev pub meant_as : Tale → Result Tale Fault
+meant_as tale = Ok tale
 
-pub same_ok : (tale other : Tale) → said tale ≡ said other → tale ≡ other
+pub same_ok : (tale other : Tale) → meant_as tale ≡ meant_as other → tale ≡ other
 same_ok tale other same = cc
 
 -- ---- what descriptions say
@@ -79,54 +80,71 @@ author_of meant = record {
 }
 
 abbrev rules_of : ResolutionMeant → List Rule
-rules_of (All rules texts listings) = map author_of rules
+rules_of (All rules texts listings scenes) = map author_of rules
 rules_of (NoneFor fault) = []
 
 authored : (rules : List SourceRule) → map (λ told. rule_meant told.rule) rules ≡ map author_of (map source_rule_meant rules)
 authored [] = refl
 authored (rule ∷ rules) = ap (λ (all : List Rule). rule_meant rule.rule ∷ all) (authored rules)
 
-rules_once : IsOneResolution → (k : Known) (sentences : List Sentence) (one other : Resolved) → IsResolution k sentences (Understood one) → IsResolution k sentences (Understood other) → rules_told one ≡ rules_told other
-rules_once law k sentences one other is again =
-    authored one.rules.items ∙ ap rules_of (law k sentences (Understood one) (Understood other) is again) ∙ sym (authored other.rules.items)
+rules_once : IsOneResolution → (k : Known) (recurring : List Bool) (sentences : List Sentence) (one other : Resolved) → IsResolution k recurring sentences (Understood one) → IsResolution k recurring sentences (Understood other) → rules_told one ≡ rules_told other
+rules_once law k recurring sentences one other is again =
+    authored one.rules.items ∙ ap rules_of (law k recurring sentences (Understood one) (Understood other) is again) ∙ sym (authored other.rules.items)
 
 -- ---- where sentences list rules
 
 abbrev listings_of : ResolutionMeant → List ListingSentence
-listings_of (All rules texts listings) = listings
+listings_of (All rules texts listings scenes) = listings
 listings_of (NoneFor fault) = []
 
-listings_once : IsOneResolution → (k : Known) (sentences : List Sentence) (one other : Resolved) → IsResolution k sentences (Understood one) → IsResolution k sentences (Understood other) → listings_told one ≡ listings_told other
-listings_once law k sentences one other is again = ap listings_of (law k sentences (Understood one) (Understood other) is again)
+listings_once : IsOneResolution → (k : Known) (recurring : List Bool) (sentences : List Sentence) (one other : Resolved) → IsResolution k recurring sentences (Understood one) → IsResolution k recurring sentences (Understood other) → listings_told one ≡ listings_told other
+listings_once law k recurring sentences one other is again = ap listings_of (law k recurring sentences (Understood one) (Understood other) is again)
+
+-- ---- scenes
+
+abbrev scenes_of : ResolutionMeant → List Scene
+scenes_of (All rules texts listings scenes) = scenes
+scenes_of (NoneFor fault) = []
+
+scenes_once : IsOneResolution → (k : Known) (recurring : List Bool) (sentences : List Sentence) (one other : Resolved) → IsResolution k recurring sentences (Understood one) → IsResolution k recurring sentences (Understood other) → scenes_told one ≡ scenes_told other
+scenes_once law k recurring sentences one other is again = ap scenes_of (law k recurring sentences (Understood one) (Understood other) is again)
 
 -- ---- tales
 
-module _ (text_law : IsOneText) (law : IsOneResolution) (sentences : List Sentence) (tale other : Tale) (texts others : List Text) (rules more : List Rule) (listings again : List ListingSentence) (one : AreMeant sentences tale texts rules listings) (second : AreMeant sentences other others more again) where
+module _ (text_law : IsOneText) (law : IsOneResolution) (sentences : List Sentence) (tale other : Tale) (said others : Contents) (one : AreMeant sentences tale said) (second : AreMeant sentences other others) where
   tale_once : tale ≡ other
   tale_once = same_ok tale other (sym one.tale_is ∙ second.tale_is)
 
-  texts_once : texts ≡ others
+  abbrev k : Known
+  k = known_said sentences tale
+
+  abbrev recurring : List Bool
+  recurring = tale.declared.scenes
+
+  texts_once : said.texts ≡ others.texts
   texts_once =
-      same_texts text_law (scope_said sentences) (descriptions_of tale.objects) texts others one.texts_are
-      (subst (λ (t : Tale). AreTexts (scope_said sentences) t.objects others) (sym tale_once) second.texts_are)
+      same_texts text_law (scope_said sentences) (descriptions_of tale.objects) said.texts others.texts one.texts_are
+      (subst (λ (t : Tale). AreTexts (scope_said sentences) t.objects others.texts) (sym tale_once) second.texts_are)
 
-  resolved_again : IsResolution (known_said sentences tale) sentences (Understood second.resolved)
-  resolved_again = subst (λ (t : Tale). IsResolution (known_said sentences t) sentences (Understood second.resolved)) (sym tale_once) second.resolved_is
+  resolved_again : IsResolution k recurring sentences (Understood second.resolved)
+  resolved_again = subst (λ (t : Tale). IsResolution (known_said sentences t) t.declared.scenes sentences (Understood second.resolved)) (sym tale_once) second.resolved_is
 
-  meant_rules_once : rules ≡ more
-  meant_rules_once = one.rules_are ∙ rules_once law (known_said sentences tale) sentences one.resolved second.resolved one.resolved_is resolved_again ∙ sym second.rules_are
+  meant_rules_once : said.rules ≡ others.rules
+  meant_rules_once = one.rules_are ∙ rules_once law k recurring sentences one.resolved second.resolved one.resolved_is resolved_again ∙ sym second.rules_are
 
-  meant_listings_once : listings ≡ again
-  meant_listings_once = one.listings_are ∙ listings_once law (known_said sentences tale) sentences one.resolved second.resolved one.resolved_is resolved_again ∙ sym second.listings_are
+  meant_listings_once : said.listings ≡ others.listings
+  meant_listings_once = one.listings_are ∙ listings_once law k recurring sentences one.resolved second.resolved one.resolved_is resolved_again ∙ sym second.listings_are
 
-  meant_once : (tale ≡ other) × ((texts ≡ others) × ((rules ≡ more) × (listings ≡ again)))
-  meant_once = (tale_once, (texts_once, (meant_rules_once, meant_listings_once)))
+  meant_scenes_once : said.scenes ≡ others.scenes
+  meant_scenes_once = one.scenes_are ∙ scenes_once law k recurring sentences one.resolved second.resolved one.resolved_is resolved_again ∙ sym second.scenes_are
 
-pub same_tale : IsOneText → IsOneResolution → (source : List ℕ) (tale other : Tale) (texts others : List Text) (rules more : List Rule) (listings again : List ListingSentence) → Means source tale texts rules listings → Means source other others more again
-    → (tale ≡ other) × ((texts ≡ others) × ((rules ≡ more) × (listings ≡ again)))
-same_tale text_law law source tale other texts others rules more listings again first second =
+  meant_once : (tale ≡ other) × (said ≡ others)
+  meant_once = (tale_once, λ i. record { texts = texts_once i; rules = meant_rules_once i; listings = meant_listings_once i; scenes = meant_scenes_once i })
+
+pub same_tale : IsOneText → IsOneResolution → (source : List ℕ) (tale other : Tale) (said others : Contents) → Means source tale said → Means source other others → (tale ≡ other) × (said ≡ others)
+same_tale text_law law source tale other said others first second =
     let sentences = same_sentences source first.sentences second.sentences first.says second.says in
-    meant_once text_law law second.sentences tale other texts others rules more listings again (subst (λ (all : List Sentence). AreMeant all tale texts rules listings) sentences first.meant) second.meant
+    meant_once text_law law second.sentences tale other said others (subst (λ (all : List Sentence). AreMeant all tale said) sentences first.meant) second.meant
 
 pub ok_not_err : (tale : Tale) (fault : Fault) → Ok tale ≡ Err fault → ⊥
 ok_not_err tale fault same = absurd cc
@@ -134,18 +152,18 @@ ok_not_err tale fault same = absurd cc
 -- ---- refusals
 
 -- what is resolved isn't refused
-resolved_or_refused : IsOneResolution → (k : Known) (sentences : List Sentence) (resolved : Resolved) (fault : Fault) → IsResolution k sentences (Understood resolved) → IsResolution k sentences (Refused fault) → ⊥
-resolved_or_refused law k sentences resolved fault is refused =
-    let same : resolution_meant (Understood resolved) ≡ resolution_meant (Refused fault) = law k sentences (Understood resolved) (Refused fault) is refused in
+resolved_or_refused : IsOneResolution → (k : Known) (recurring : List Bool) (sentences : List Sentence) (resolved : Resolved) (fault : Fault) → IsResolution k recurring sentences (Understood resolved) → IsResolution k recurring sentences (Refused fault) → ⊥
+resolved_or_refused law k recurring sentences resolved fault is refused =
+    let same : resolution_meant (Understood resolved) ≡ resolution_meant (Refused fault) = law k recurring sentences (Understood resolved) (Refused fault) is refused in
     absurd cc
 
 -- sentences that mean a tale aren't refused
-meant_or_refused : IsOneResolution → (sentences : List Sentence) (tale : Tale) (texts : List Text) (rules : List Rule) (listings : List ListingSentence) (fault : Fault) → AreMeant sentences tale texts rules listings → AreRefused sentences fault → ⊥
-meant_or_refused law sentences tale texts rules listings fault meant (unmeant refused) = ok_not_err tale fault (sym meant.tale_is ∙ refused)
-meant_or_refused law sentences tale texts rules listings fault meant (unresolved refused) =
+meant_or_refused : IsOneResolution → (sentences : List Sentence) (tale : Tale) (said : Contents) (fault : Fault) → AreMeant sentences tale said → AreRefused sentences fault → ⊥
+meant_or_refused law sentences tale said fault meant (unmeant refused) = ok_not_err tale fault (sym meant.tale_is ∙ refused)
+meant_or_refused law sentences tale said fault meant (unresolved refused) =
     let same = same_ok tale refused.tale (sym meant.tale_is ∙ refused.tale_is) in
-    resolved_or_refused law (known_said sentences tale) sentences meant.resolved fault meant.resolved_is
-    (subst (λ (t : Tale). IsResolution (known_said sentences t) sentences (Refused fault)) (sym same) refused.refused)
+    resolved_or_refused law (known_said sentences tale) tale.declared.scenes sentences meant.resolved fault meant.resolved_is
+    (subst (λ (t : Tale). IsResolution (known_said sentences t) t.declared.scenes sentences (Refused fault)) (sym same) refused.refused)
 
 -- where the same sentences stand they are refused so too
 pub refused_so : (sentences others : List Sentence) (fault : Fault) → sentences ≡ others → AreRefused sentences fault → AreRefused others fault
@@ -153,11 +171,12 @@ refused_so sentences others fault same = subst (λ (all : List Sentence). AreRef
 
 -- ---- stories
 
-told_never : (sentences : List Sentence) (objects : List Object) (reason : TableFault) (fault : Fault) → reason ≡ NoMemory → IsToldAs sentences objects reason fault → ⊥
-told_never sentences objects (LongText number) fault is told = absurd cc
-told_never sentences objects (LongRule number) fault is told = absurd cc
-told_never sentences objects TooMany fault is told = absurd cc
-told_never sentences objects NoMemory fault is told = told
+told_never : (sentences : List Sentence) (tale : Tale) (reason : TableFault) (fault : Fault) → reason ≡ NoMemory → IsToldAs sentences tale reason fault → ⊥
+told_never sentences tale (LongText number) fault is told = absurd cc
+told_never sentences tale (LongRule number) fault is told = absurd cc
+told_never sentences tale (LongScene number) fault is told = absurd cc
+told_never sentences tale TooMany fault is told = absurd cc
+told_never sentences tale NoMemory fault is told = told
 
 pub not_both : IsOneText → IsOneResolution → NeverHeldAndNot → (source bytes : List ℕ) (fault : Fault) → fault.code ≢ Memory → IsCompiled source bytes → IsRefused source fault → ⊥
 not_both text_law law held_law source bytes fault other compiled (unspelled refused) =
@@ -168,9 +187,9 @@ not_both text_law law held_law source bytes fault other compiled (unread refused
     spelled_refused says.tokens compiled.means.sentences fault says.reads other (subst (λ ts. IsUnread ts fault) tokens refused.unread)
 not_both text_law law held_law source bytes fault other compiled (unsaid refused) =
     let sentences = same_sentences source refused.sentences compiled.means.sentences refused.says compiled.means.says in
-    meant_or_refused law compiled.means.sentences compiled.tale compiled.texts compiled.rules compiled.listings fault compiled.means.meant (subst (λ all. AreRefused all fault) sentences refused.refused)
+    meant_or_refused law compiled.means.sentences compiled.tale compiled.said fault compiled.means.meant (subst (λ all. AreRefused all fault) sentences refused.refused)
 not_both text_law law held_law source bytes fault other compiled (untold refused) =
-    let same = same_tale text_law law source compiled.tale refused.tale compiled.texts refused.texts compiled.rules refused.rules compiled.listings refused.listings compiled.means refused.means in
-    let held : AreHeld refused.tale refused.texts refused.rules = subst (AreHeld refused.tale refused.texts) same.1.1.0 (subst (λ (texts : List Text). AreHeld refused.tale texts compiled.rules) same.1.0 (subst (λ (tale : Tale). AreHeld tale compiled.texts compiled.rules) same.0 compiled.held)) in
-    told_never refused.means.sentences refused.tale.objects refused.reason fault (held_law refused.tale refused.texts refused.rules refused.reason held refused.not_held) refused.told
+    let same = same_tale text_law law source compiled.tale refused.tale compiled.said refused.said compiled.means refused.means in
+    let held : AreHeld refused.tale refused.said = subst (AreHeld refused.tale) same.1 (subst (λ (tale : Tale). AreHeld tale compiled.said) same.0 compiled.held) in
+    told_never refused.means.sentences refused.tale refused.reason fault (held_law refused.tale refused.said refused.reason held refused.not_held) refused.told
 not_both text_law law held_law source bytes fault other compiled (memory short is) = other (ap (λ f. f.code) is)

@@ -1,5 +1,6 @@
--- Where nothing refuses sentences, all that is resolved of them is what their rules, texts and listings say, and their actions are few.
-use Rattle.std.proofs.Common.{◌≡◌, ◌≤◌, refl, ℕ, zero, suc, List, [], ◌∷◌, length, arith}
+-- Where nothing refuses sentences, all that is resolved of them is what their rules, texts, listings and scenes say, and their actions
+-- are few.
+use Rattle.std.proofs.Common.{◌≡◌, ◌≤◌, refl, Bool, ℕ, zero, suc, List, [], ◌∷◌, length, arith}
 use Rattle.std.specs.Prelude.{Option, None, Some, option_map, slice_get}
 use Rattle.world_meaning.specs.declared.fault.FaultCode.{FaultCode}
 use Rattle.world_meaning.specs.declared.fault.FaultCode.TheVariants.{TooMany, Twice}
@@ -19,8 +20,8 @@ unfaulted code (Some line) (Says other) resolved is = absurd cc
 unfaulted code (Some line) (Refused fault) resolved is = absurd cc
 
 -- nothing of the actions refuses
-pub resolved_before : (k : Known) (sentences : List Sentence) (resolved : Resolved) (is : IsResolution k sentences (Says resolved)) → (action_over (actions_declared sentences) ≡ None) × (Says resolved ≡ is.before)
-resolved_before k sentences resolved is =
+pub resolved_before : (k : Known) (recurring : List Bool) (sentences : List Sentence) (resolved : Resolved) (is : IsResolution k recurring sentences (Says resolved)) → (action_over (actions_declared sentences) ≡ None) × (Says resolved ≡ is.before)
+resolved_before k recurring sentences resolved is =
     let few = with_fault TooMany (action_over (actions_declared sentences)) is.before in
     let apart = with_fault Twice (action_twice (actions_declared sentences)) few in
     let books = unfaulted Twice (book_twice (actions_in sentences) sentences) apart resolved is.told_is in
@@ -32,5 +33,5 @@ few_before [] n none = omega arith
 few_before (action ∷ actions) zero none = absurd cc
 few_before (action ∷ actions) (suc n) none = omega (arith, few_before actions n none)
 
-pub few_actions : (k : Known) (sentences : List Sentence) (resolved : Resolved) → IsResolution k sentences (Says resolved) → length (actions_declared sentences) ≤ 184
-few_actions k sentences resolved is = few_before (actions_declared sentences) 184 (resolved_before k sentences resolved is).0
+pub few_actions : (k : Known) (recurring : List Bool) (sentences : List Sentence) (resolved : Resolved) → IsResolution k recurring sentences (Says resolved) → length (actions_declared sentences) ≤ 184
+few_actions k recurring sentences resolved is = few_before (actions_declared sentences) 184 (resolved_before k recurring sentences resolved is).0

@@ -13,7 +13,7 @@ use Rattle.world_meaning.specs.declared.tale.Tale.{Tale}
 use Rattle.play_meaning.specs.Patterns.{pattern_meant, rule_meant}
 use Rattle.play_meaning.specs.declared.tree.rule.MeantRule.{MeantRule}
 use Rattle.play_meaning.specs.Rules.{Anything, Aspect, Exactly, OfKind, Rule}
-use Rattle.play_meaning.specs.Trees.{Adjective, NotSo, Quality, Text, Touchable, Visible}
+use Rattle.play_meaning.specs.Trees.{Adjective, NotSo, Quality, Touchable, Visible}
 use Rattle.i7_actions.specs.Actions.{standard_actions}
 use Rattle.i7_conditions.specs.There.{AreThere, Counts}
 use Rattle.i7_patterns.specs.There.{AsksWhatIs, is_aspect_of, is_one_of, is_quality_of}
@@ -37,9 +37,11 @@ use Rattle.i7_resolution.specs.declared.resolution.Resolution.TheVariants as res
 use Rattle.i7_resolution.specs.declared.resolution.Resolved.{Resolved}
 use Rattle.i7_resolution.specs.declared.source_listings.ListingsFound.{ListingsFound}
 use Rattle.i7_resolution.specs.declared.source_listings.ListingsFound.TheVariants as listed
+use Rattle.i7_resolution.specs.declared.source_scenes.ScenesFound.{ScenesFound}
+use Rattle.i7_resolution.specs.declared.source_scenes.ScenesFound.TheVariants as staged
 use Rattle.i7_resolution.specs.declared.source_texts.TextsFound.{TextsFound}
 use Rattle.i7_resolution.specs.declared.source_texts.TextsFound.TheVariants as found
-use Rattle.rule_order.specs.declared.listing.ListingSentence.{ListingSentence}
+use Rattle.story_format.specs.Contents.{Contents}
 use Rattle.story_format.specs.Holding.{Named, is_asked, is_of, is_property, is_there, named_by, named_in}
 use Rattle.story_format.specs.RuleMaking.{book_count}
 use Rattle.story_file.specs.Meanings.{AreMeant, known_said}
@@ -53,19 +55,20 @@ abbrev resolved_or : Resolved → Resolution → Resolved
 resolved_or other (resolution.Says resolved) = resolved
 resolved_or other (resolution.Refused fault) = other
 
-pub told_by : (k : Known) (sentences : List Sentence) (rules : RulesFound) (texts : TextsFound) (listings : ListingsFound) (resolved : Resolved) → resolution.Says resolved ≡ joined rules texts listings → IsRulesFound k sentences rules
-    → AreTold k (reverse (rules_in sentences)) (reverse resolved.rules.items)
-told_by k sentences (ruled.Says rules) (found.Says texts) (listed.Says listings) resolved told are =
+told_by : (k : Known) (sentences : List Sentence) (rules : RulesFound) (texts : TextsFound) (listings : ListingsFound) (scenes : ScenesFound) (resolved : Resolved)
+    → resolution.Says resolved ≡ joined rules texts listings scenes → IsRulesFound k sentences rules → AreTold k (reverse (rules_in sentences)) (reverse resolved.rules.items)
+told_by k sentences (ruled.Says rules) (found.Says texts) (listed.Says listings) (staged.Says scenes) resolved told are =
     subst (λ (r : Resolved). AreTold k (reverse (rules_in sentences)) (reverse r.rules.items)) (sym (ap (resolved_or resolved) told)) are
-told_by k sentences (ruled.Says rules) (found.Says texts) (listed.Refused fault) resolved told are = absurd cc
-told_by k sentences (ruled.Says rules) (found.Refused fault) listings resolved told are = absurd cc
-told_by k sentences (ruled.Refused fault) texts listings resolved told are = absurd cc
+told_by k sentences (ruled.Says rules) (found.Says texts) (listed.Says listings) (staged.Refused fault) resolved told are = absurd cc
+told_by k sentences (ruled.Says rules) (found.Says texts) (listed.Refused fault) scenes resolved told are = absurd cc
+told_by k sentences (ruled.Says rules) (found.Refused fault) listings scenes resolved told are = absurd cc
+told_by k sentences (ruled.Refused fault) texts listings scenes resolved told are = absurd cc
 
 -- where nothing refuses the sentences
-told_all : (k : Known) (sentences : List Sentence) (resolved : Resolved) → IsResolution k sentences (resolution.Says resolved) → AreTold k (reverse (rules_in sentences)) (reverse resolved.rules.items)
-told_all k sentences resolved is =
+told_all : (k : Known) (recurring : List Bool) (sentences : List Sentence) (resolved : Resolved) → IsResolution k recurring sentences (resolution.Says resolved) → AreTold k (reverse (rules_in sentences)) (reverse resolved.rules.items)
+told_all k recurring sentences resolved is =
     let whole = is.is_joined in
-    told_by k sentences whole.rules whole.texts whole.listings resolved ((resolved_before k sentences resolved is).1 ∙ whole.told_is) whole.rules_are
+    told_by k sentences whole.rules whole.texts whole.listings whole.scenes resolved ((resolved_before k recurring sentences resolved is).1 ∙ whole.told_is) whole.rules_are
 
 -- ---- there are few
 
@@ -194,23 +197,23 @@ module _ (k : Known) (d : Declared) (y : Counts) (there : AreThere y k.meanings 
 
 -- ---- all of it
 
-pub few_rules : (sentences : List Sentence) (tale : Tale) (texts : List Text) (rules : List Rule) (listings : List ListingSentence) → AreMeant sentences tale texts rules listings → length rules ≤ 1939
-few_rules sentences tale texts rules listings meant =
-    let told = told_all (known_said sentences tale) sentences meant.resolved meant.resolved_is in
+pub few_rules : (sentences : List Sentence) (tale : Tale) (said : Contents) → AreMeant sentences tale said → length said.rules ≤ 1939
+few_rules sentences tale said meant =
+    let told = told_all (known_said sentences tale) tale.declared.scenes sentences meant.resolved meant.resolved_is in
     let few = few_told (known_said sentences tale) (reverse (rules_in sentences)) meant.resolved.rules.items told in
     subst (λ (all : List Rule). length all ≤ 1939) (sym meant.rules_are) (omega (arith, few, length-map meant.resolved.rules.items (λ (one : SourceRule). rule_meant one.rule)))
 
-pub acts_few : (sentences : List Sentence) (tale : Tale) (texts : List Text) (rules : List Rule) (listings : List ListingSentence) → AreMeant sentences tale texts rules listings → length tale.declared.actions ≤ 184
-acts_few sentences tale texts rules listings meant =
-    omega (arith, actions_are sentences tale meant.tale_is, few_actions (known_said sentences tale) sentences meant.resolved meant.resolved_is)
+pub acts_few : (sentences : List Sentence) (tale : Tale) (said : Contents) → AreMeant sentences tale said → length tale.declared.actions ≤ 184
+acts_few sentences tale said meant =
+    omega (arith, actions_are sentences tale meant.tale_is, few_actions (known_said sentences tale) tale.declared.scenes sentences meant.resolved meant.resolved_is)
 
 -- of books that there are, about what there is
-pub rules_named : (sentences : List Sentence) (tale : Tale) (texts : List Text) (rules : List Rule) (listings : List ListingSentence) → AreMeant sentences tale texts rules listings → list_all (is_of (named_in tale)) rules ≡ true
-rules_named sentences tale texts rules listings meant =
+pub rules_named : (sentences : List Sentence) (tale : Tale) (said : Contents) → AreMeant sentences tale said → list_all (is_of (named_in tale)) said.rules ≡ true
+rules_named sentences tale said meant =
     let k = known_said sentences tale in
-    let told = told_all k sentences meant.resolved meant.resolved_is in
+    let told = told_all k tale.declared.scenes sentences meant.resolved meant.resolved_is in
     let acts : length k.actions ≡ 16 + length tale.declared.actions =
-    known_counted sentences (few_actions k sentences meant.resolved meant.resolved_is) ∙ ap (λ (n : ℕ). 16 + n) (sym (actions_are sentences tale meant.tale_is)) in
+    known_counted sentences (few_actions k tale.declared.scenes sentences meant.resolved meant.resolved_is) ∙ ap (λ (n : ℕ). 16 + n) (sym (actions_are sentences tale meant.tale_is)) in
     subst (λ (all : List Rule). list_all (is_of (named_in tale)) all ≡ true) (sym meant.rules_are)
     (told_rules_of k tale.declared (counts_of sentences tale) (names_are_there sentences tale meant.tale_is) acts (rulebooks_counted sentences tale meant.tale_is)
     (scenes_counted sentences tale meant.tale_is) refl refl refl (length tale.objects) refl (reverse (rules_in sentences)) meant.resolved.rules.items told.each)

@@ -1,5 +1,5 @@
 -- The texts that describe a tale's objects are understood where nothing refuses the texts of its sentences, and say one thing each.
-use Rattle.std.proofs.Common.{◌≡◌, ◌∙◌, ap, refl, subst, sym, ℕ, suc, List, [], ◌∷◌, ◌++◌, Ok, Some}
+use Rattle.std.proofs.Common.{◌≡◌, ◌∙◌, ap, refl, subst, sym, Bool, ℕ, suc, List, [], ◌∷◌, ◌++◌, Ok, Some}
 use Rattle.std.specs.Prelude.{Option, None, reverse, slice_get}
 use Rattle.std.specs.List.{All}
 use Rattle.std.proofs.lemmas.List.{append_assoc, reverse-append}
@@ -17,6 +17,8 @@ use Rattle.i7_resolution.specs.declared.resolution.Resolved.{Resolved}
 use Rattle.i7_resolution.specs.declared.source_texts.SourceText.{SourceText}
 use Rattle.i7_resolution.specs.declared.source_listings.ListingsFound.{ListingsFound}
 use Rattle.i7_resolution.specs.declared.source_listings.ListingsFound.TheVariants as listed
+use Rattle.i7_resolution.specs.declared.source_scenes.ScenesFound.{ScenesFound}
+use Rattle.i7_resolution.specs.declared.source_scenes.ScenesFound.TheVariants as staged
 use Rattle.i7_resolution.specs.declared.source_texts.TextsFound.{TextsFound}
 use Rattle.i7_resolution.specs.declared.source_texts.TextsFound.TheVariants as found
 use Rattle.i7_conditions.specs.Scopes.{Scope}
@@ -86,12 +88,13 @@ turned texts bytes among = record {
 -- ---- what is known of it
 
 -- what is told of sentences' texts where all is understood
-told_of : (k : Known) (sentences : List Sentence) (rules : RulesFound) (texts : TextsFound) (listings : ListingsFound) (resolved : Resolved) → Understood resolved ≡ joined rules texts listings → IsTextsFound k sentences texts
+told_of : (k : Known) (sentences : List Sentence) (rules : RulesFound) (texts : TextsFound) (listings : ListingsFound) (scenes : ScenesFound) (resolved : Resolved) → Understood resolved ≡ joined rules texts listings scenes → IsTextsFound k sentences texts
     → (told : List SourceText) × AreTold k (reverse (texts_in sentences)) told
-told_of k sentences (ruled.Says rules) (found.Says texts) (listed.Says listings) resolved told are = (reverse texts.items, are)
-told_of k sentences (ruled.Says rules) (found.Says texts) (listed.Refused fault) resolved told are = absurd cc
-told_of k sentences (ruled.Says rules) (found.Refused fault) listings resolved told are = absurd cc
-told_of k sentences (ruled.Refused fault) texts listings resolved told are = absurd cc
+told_of k sentences (ruled.Says rules) (found.Says texts) (listed.Says listings) (staged.Says scenes) resolved told are = (reverse texts.items, are)
+told_of k sentences (ruled.Says rules) (found.Says texts) (listed.Says listings) (staged.Refused fault) resolved told are = absurd cc
+told_of k sentences (ruled.Says rules) (found.Says texts) (listed.Refused fault) scenes resolved told are = absurd cc
+told_of k sentences (ruled.Says rules) (found.Refused fault) listings scenes resolved told are = absurd cc
+told_of k sentences (ruled.Refused fault) texts listings scenes resolved told are = absurd cc
 
 abbrev Never : (TextAt → ℕ → Type 0) → TextAt → Type 0
 Never Bad t = (line : ℕ) → Bad t line → ⊥
@@ -115,10 +118,10 @@ readable_by : (s : Scope) (description : Option (List ℕ)) → ((bytes : List �
 readable_by s None each = tt
 readable_by s (Some bytes) each = each bytes refl
 
-pub readable : DescriptionsAreWritten → (k : Known) (sentences : List Sentence) (tale : Tale) (resolved : Resolved) → tale_said sentences ≡ Ok tale → IsResolution k sentences (Understood resolved) → AreReadable (scope_among k []) tale.objects
-readable law k sentences tale resolved means is =
+pub readable : DescriptionsAreWritten → (k : Known) (recurring : List Bool) (sentences : List Sentence) (tale : Tale) (resolved : Resolved) → tale_said sentences ≡ Ok tale → IsResolution k recurring sentences (Understood resolved) → AreReadable (scope_among k []) tale.objects
+readable law k recurring sentences tale resolved means is =
     let whole = is.is_joined in
-    let told = told_of k sentences whole.rules whole.texts whole.listings resolved ((resolved_before k sentences resolved is).1 ∙ whole.told_is) whole.texts_are in
+    let told = told_of k sentences whole.rules whole.texts whole.listings whole.scenes resolved ((resolved_before k recurring sentences resolved is).1 ∙ whole.told_is) whole.texts_are in
     by_number (scope_among k []) tale.objects (λ o object at. readable_by (scope_among k []) object.description (λ bytes described.
     let here : description_of tale o ≡ Some bytes = ap description_in at ∙ described in
     let written = law sentences tale o bytes means here in

@@ -1,8 +1,11 @@
--- The lines of descriptions and rules.
-use Rattle.std.specs.Prelude.{ℕ, Bool, true, false, List, [], ◌∷◌, Option, None, Some, filter, slice_get, bytes_eq, if◌then◌else◌}
+-- The lines of descriptions, rules and scenes.
+use Rattle.std.specs.Prelude.{ℕ, Bool, true, false, List, [], ◌∷◌, map, Option, None, Some, filter, slice_get, bytes_eq, ◌==◌, if◌then◌else◌}
+use Rattle.std.specs.List.{range_with_len}
 use Rattle.world_meaning.specs.declared.tale.Object.{Object}
+use Rattle.i7_conditions.specs.Clauses.{scene_named}
+use Rattle.i7_conditions.specs.Scopes.{Scope}
 use Rattle.i7_sentences.specs.declared.sentence.Assertion.{Assertion}
-use Rattle.i7_sentences.specs.declared.sentence.Assertion.TheVariants.{Description, DescriptionOf, Rule}
+use Rattle.i7_sentences.specs.declared.sentence.Assertion.TheVariants.{Description, DescriptionOf, Rule, SceneChange}
 use Rattle.i7_sentences.specs.declared.sentence.Sentence.{Sentence}
 use Rattle.story_file.specs.Meanings.{descriptions_of}
 
@@ -38,3 +41,27 @@ line_of_sentence (Some sentence) = sentence.line
 -- the line of the rule of this number, counted from 0 in the order of the sentences; 1 where there is none
 abbrev pub line_of_rule : List Sentence → ℕ → ℕ
 line_of_rule sentences number = line_of_sentence (slice_get (filter (λ sentence. is_rule sentence.said) sentences) number)
+
+-- ---- scenes
+
+abbrev pub is_some_of : ℕ → Option ℕ → Bool
+is_some_of number None = false
+is_some_of number (Some n) = n == number
+
+-- what is asserted says on what the scene of this number begins or ends
+abbrev pub changes_scene : Scope → ℕ → Assertion → Bool
+changes_scene s number (SceneChange change) = is_some_of number (scene_named s change.scene)
+changes_scene s number _ = false
+
+-- the line of the first sentence that says on what a scene begins or ends; 1 where there is none
+abbrev pub line_of_scene : Scope → List Sentence → ℕ → ℕ
+line_of_scene s [] number = 1
+line_of_scene s (sentence ∷ sentences) number = if changes_scene s number sentence.said then sentence.line else line_of_scene s sentences number
+
+-- of each of so many scenes
+abbrev pub scene_lines : Scope → List Sentence → ℕ → List ℕ
+scene_lines s sentences count = map (line_of_scene s sentences) (range_with_len 0 count)
+
+abbrev pub line_in : Option ℕ → ℕ
+line_in None = 1
+line_in (Some line) = line

@@ -1,11 +1,10 @@
--- The tale that sentences mean, what its descriptions say, its rules, where sentences list rules, and what refuses sentences.
+-- The tale that sentences mean, what is said of it, and what refuses sentences.
 use Rattle.std.specs.Prelude.{◌≡◌, ◌||◌, ℕ, List, [], Ok, Err}
 use Rattle.std.specs.List.{AllZip, flat_map, list_any}
 use Rattle.world_meaning.specs.declared.fault.Fault.{Fault}
 use Rattle.world_meaning.specs.declared.tale.Object.{Object}
 use Rattle.world_meaning.specs.declared.tale.Tale.{Tale}
 use Rattle.play_meaning.specs.TranslatedScripts.{in_list}
-use Rattle.play_meaning.specs.Rules.{Rule}
 use Rattle.play_meaning.specs.Trees.{Text}
 use Rattle.i7_conditions.specs.Operators.{holds_operator}
 use Rattle.i7_conditions.specs.Scopes.{Scope}
@@ -18,10 +17,10 @@ use Rattle.i7_resolution.specs.declared.resolution.Resolution.TheVariants.{Refus
 use Rattle.i7_resolution.specs.declared.resolution.Resolved.{Resolved}
 use Rattle.i7_rules.specs.Knowns.{Known}
 use Rattle.i7_sentences.specs.declared.sentence.Sentence.{Sentence}
-use Rattle.rule_order.specs.declared.listing.ListingSentence.{ListingSentence}
-use Rattle.story_file.specs.Rules.{listings_told, rules_told}
+use Rattle.story_format.specs.Contents.{Contents}
+use Rattle.story_file.specs.Rules.{listings_told, rules_told, scenes_told}
 
--- ---- what rules, texts and sentences that list rules may name
+-- ---- what rules, texts, scenes and sentences that list rules may name
 
 -- where the sentences mean this tale
 abbrev pub known_said : List Sentence → Tale → Known
@@ -57,24 +56,25 @@ AreTexts s objects texts = AllZip (SaysIn s) (descriptions_of objects) texts
 
 -- ---- the tale
 
--- Sentences mean this tale, whose descriptions say these texts, in the order of the objects, and whose rules are these, listed so,
--- both in the order of the sentences.
-pub record AreMeant (sentences : List Sentence) (tale : Tale) (texts : List Text) (rules : List Rule) (listings : List ListingSentence) : Type 0 where
+-- Sentences mean this tale, of which this is said: its descriptions say these texts, in the order of the objects, its rules are these,
+-- listed so, both in the order of the sentences, and its scenes begin and end so.
+pub record AreMeant (sentences : List Sentence) (tale : Tale) (said : Contents) : Type 0 where
   pub tale_is : tale_said sentences ≡ Ok tale
   pub resolved : Resolved
-  pub resolved_is : IsResolution (known_said sentences tale) sentences (Says resolved)
-  pub texts_are : AreTexts (scope_said sentences) tale.objects texts
-  pub rules_are : rules ≡ rules_told resolved
-  pub listings_are : listings ≡ listings_told resolved
+  pub resolved_is : IsResolution (known_said sentences tale) tale.declared.scenes sentences (Says resolved)
+  pub texts_are : AreTexts (scope_said sentences) tale.objects said.texts
+  pub rules_are : said.rules ≡ rules_told resolved
+  pub listings_are : said.listings ≡ listings_told resolved
+  pub scenes_are : said.scenes ≡ scenes_told resolved
 
--- What rules, texts and sentences that list rules name, or how rulebooks and actions are named, how much there is of them, or how the
--- lines of rules stand, refuses sentences that mean a tale.
+-- What rules, texts, scenes and sentences that list rules name, or how rulebooks and actions are named, how much there is of them, or
+-- how the lines of rules stand, refuses sentences that mean a tale.
 pub record AreUnresolved (sentences : List Sentence) (fault : Fault) : Type 0 where
   pub tale : Tale
   pub tale_is : tale_said sentences ≡ Ok tale
-  pub refused : IsResolution (known_said sentences tale) sentences (Refused fault)
+  pub refused : IsResolution (known_said sentences tale) tale.declared.scenes sentences (Refused fault)
 
--- Sentences are refused for what they say of the world, or for their rules, texts, listings and actions.
+-- Sentences are refused for what they say of the world, or for their rules, texts, listings, scenes and actions.
 pub data AreRefused (sentences : List Sentence) (fault : Fault) : Type 0 where
   unmeant : tale_said sentences ≡ Err fault → AreRefused sentences fault
   unresolved : AreUnresolved sentences fault → AreRefused sentences fault

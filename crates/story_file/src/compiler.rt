@@ -1,10 +1,12 @@
 //! The compiler: from a source's bytes to a story's.
-ghost use Rattle.std.specs.Prelude.{◌≡◌, ◌⊎◌, IfErr, IfOk, MatchResult, OnOk};
+ghost use Rattle.std.specs.Prelude.{◌≡◌, ◌⊎◌, IfErr, IfOk, MatchResult, length};
 ghost use Rattle.code_table.specs.declared.fault.TableFault.TheVariants.{Memory};
 ghost use Rattle.story_file.specs.Compilations.{IsCompiled, IsRefused, IsToldAs, Says};
+ghost use Rattle.story_file.specs.Lines.{scene_lines};
+ghost use Rattle.story_file.specs.Meanings.{scope_said};
 ghost use Rattle.world_meaning.specs.Faults.{out_of_memory};
 
-use crate::lines::{line_of_description, line_of_rule};
+use crate::lines::{line_in, line_of_description, line_of_rule};
 use crate::long_strings::line_of_long_string;
 use crate::meaning::tale_meant;
 use code_table::TableFault;
@@ -12,7 +14,7 @@ use i7_lexer::lex;
 use i7_sentences::{Sentence, read};
 use std::alloc::Global;
 use story_format::write;
-use world_meaning::{Fault, FaultCode, Object};
+use world_meaning::{Fault, FaultCode, Tale};
 
 /// The sentences that the source says.
 fn sentences_said(alloc: Global, source: &[u8]) -> Result<Vec<Sentence>, Fault>
@@ -24,18 +26,29 @@ fn sentences_said(alloc: Global, source: &[u8]) -> Result<Vec<Sentence>, Fault>
     Ok(sentences)
 }
 
-/// How it is told that no story file says the descriptions of these objects, or the rules.
-fn fault_told(sentences: &[Sentence], objects: &[Object], fault: TableFault) -> Fault
-    ensures { IsToldAs sentences.now objects.now fault result ⊎ ((fault ≡ Memory) × (result ≡ out_of_memory)) }
+/// How it is told that no story file says the descriptions of a tale's objects, the rules, or the scenes, of which these are the
+/// lines.
+fn fault_told(
+    sentences: &[Sentence],
+    tale: &Tale,
+    scene_lines: &[u32],
+    fault: TableFault,
+) -> Fault
+    requires { scene_lines.now ≡ scene_lines (scope_said sentences.now) sentences.now (length tale.now.declared.scenes) }
+    ensures { IsToldAs sentences.now tale.now fault result ⊎ ((fault ≡ Memory) × (result ≡ out_of_memory)) }
 {
     match fault {
         TableFault::LongText(number) => Fault {
             code: FaultCode::TooMany,
-            line: line_of_description(sentences, objects, number),
+            line: line_of_description(sentences, tale.objects.as_slice(), number),
         },
         TableFault::LongRule(number) => Fault {
             code: FaultCode::TooMany,
             line: line_of_rule(sentences, number),
+        },
+        TableFault::LongScene(number) => Fault {
+            code: FaultCode::TooMany,
+            line: line_in(scene_lines, number),
         },
         TableFault::TooMany => Fault {
             code: FaultCode::TooMany,
@@ -46,8 +59,8 @@ fn fault_told(sentences: &[Sentence], objects: &[Object], fault: TableFault) -> 
 }
 
 /// The story file of a source, or the refusal that stands: that of the first step that refuses, each
-/// step being the lexer, the reader of sentences, the tale, the rules with the sentences that list them and the texts that
-/// describe, and the story's codes (C12), in this order.
+/// step being the lexer, the reader of sentences, the tale, the rules with the sentences that list them, the texts that
+/// describe and the scenes, and the story's codes (C12), in this order.
 pub fn compile(alloc: Global, source: &[u8]) -> Result<Vec<u8>, Fault>
     ensures { MatchResult result (λ bytes. IsCompiled source.now bytes.items) (IsRefused source.now) }
 {
@@ -57,14 +70,11 @@ pub fn compile(alloc: Global, source: &[u8]) -> Result<Vec<u8>, Fault>
         Ok(meant) => meant,
         Err(fault) => return Err(fault),
     };
-    match write(
-        alloc,
-        &meant.tale,
-        meant.texts.as_slice(),
-        meant.rules.as_slice(),
-        meant.listings.as_slice(),
-    ) {
+    match write(alloc, &meant.tale, &meant.contents) {
         Ok(bytes) => Ok(bytes),
-        Err(fault) => Err(fault_told(sentences, meant.tale.objects.as_slice(), fault)),
+        Err(fault) => {
+            let lines = meant.scene_lines.as_slice();
+            Err(fault_told(sentences, &meant.tale, lines, fault))
+        }
     }
 }

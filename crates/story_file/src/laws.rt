@@ -1,11 +1,9 @@
 //! What holds of every source, by the definitions alone.
 ghost use Rattle.std.specs.Prelude.{◌≡◌, ◌≢◌, ℕ, List};
-ghost use Rattle.play_meaning.specs.Rules.{Rule};
-ghost use Rattle.play_meaning.specs.Trees.{Text};
 ghost use Rattle.world_meaning.specs.declared.fault.Fault.{Fault};
 ghost use Rattle.world_meaning.specs.declared.fault.FaultCode.TheVariants.{Memory};
 ghost use Rattle.world_meaning.specs.declared.tale.Tale.{Tale};
-ghost use Rattle.rule_order.specs.declared.listing.ListingSentence.{ListingSentence};
+ghost use Rattle.story_format.specs.Contents.{Contents};
 ghost use Rattle.story_file.specs.ActionNumbers.{NounsAgree, StandardNamesAgree};
 ghost use Rattle.story_file.specs.Compilations.{IsCompiled, IsRefused, Means};
 
@@ -13,9 +11,9 @@ use i7_phrases::one_text_is_meant;
 use i7_resolution::one_resolution;
 use story_format::never_held_and_not;
 
-/// No source means two tales, or the same with other descriptions or other rules, or with rules that are listed otherwise.
+/// No source means two tales, or says two things of one.
 pub fn one_tale()
-    ensures { (source : List ℕ) (tale other : Tale) (texts others : List Text) (rules more : List Rule) (listings again : List ListingSentence) → Means source tale texts rules listings → Means source other others more again → (tale ≡ other) × ((texts ≡ others) × ((rules ≡ more) × (listings ≡ again))) }
+    ensures { (source : List ℕ) (tale other : Tale) (said others : Contents) → Means source tale said → Means source other others → (tale ≡ other) × (said ≡ others) }
 {
     one_text_is_meant();
     one_resolution();

@@ -1,10 +1,13 @@
-//! The lines of descriptions and rules.
-ghost use Rattle.std.specs.Prelude.{◌≡◌, slice_get};
+//! The lines of descriptions, rules and scenes.
+ghost use Rattle.std.specs.Prelude.{◌≡◌, IfOk, slice_get};
 ghost use Rattle.std.specs.Option.{option_map};
-ghost use Rattle.story_file.specs.Lines.{describes_with, is_rule, line_of, line_of_description, line_of_rule};
+ghost use Rattle.i7_conditions.specs.Scopes.{scope_of};
+ghost use Rattle.story_file.specs.Lines.{changes_scene, describes_with, is_rule, is_some_of, line_in, line_of, line_of_description, line_of_rule, line_of_scene, scene_lines};
 ghost use Rattle.story_file.specs.Meanings.{descriptions_of};
 
+use i7_conditions::{Scope, scene_named};
 use i7_sentences::{Assertion, Sentence};
+use std::alloc::{AllocError, Global};
 use world_meaning::{Object, TextBytes};
 
 /// Whether what is asserted describes with this text.
@@ -81,5 +84,77 @@ pub fn line_of_description(sentences: &[Sentence], objects: &[Object], number: u
     match description_at(objects, number) {
         None => 1,
         Some(text) => line_of(sentences, text.as_slice()),
+    }
+}
+
+fn is_some_of(number: usize, scene: Option<u8>) -> bool
+    ensures { result ≡ is_some_of number scene }
+{
+    match scene {
+        None => false,
+        Some(scene) => usize::from(scene) == number,
+    }
+}
+
+/// Whether what is asserted says on what the scene of this number begins or ends.
+fn changes_scene(
+    alloc: Global,
+    scope: &Scope<'_>,
+    number: usize,
+    said: &Assertion,
+) -> Result<bool, AllocError>
+    ensures { IfOk result (λ changes. changes ≡ changes_scene (scope_of scope.now) number said.now) }
+{
+    match said {
+        Assertion::SceneChange(change) => {
+            let scene = scene_named(alloc, scope, change.scene.as_slice())?;
+            Ok(is_some_of(number, scene))
+        }
+        _ => Ok(false),
+    }
+}
+
+/// The line of the first sentence that says on what the scene of this number begins or ends; 1 where there is none.
+fn line_of_scene(
+    alloc: Global,
+    scope: &Scope<'_>,
+    sentences: &[Sentence],
+    number: usize,
+) -> Result<u32, AllocError>
+    ensures { IfOk result (λ line. line ≡ line_of_scene (scope_of scope.now) sentences.now number) }
+{
+    let mut rest = sentences;
+    while let [sentence, after @ ..] = rest {
+        if changes_scene(alloc, scope, number, &sentence.said)? {
+            return Ok(sentence.line);
+        }
+        rest = after;
+    }
+    Ok(1)
+}
+
+/// The line of the first sentence that says on what a scene begins or ends, of each of so many scenes.
+pub fn scene_lines(
+    alloc: Global,
+    scope: &Scope<'_>,
+    sentences: &[Sentence],
+    count: usize,
+) -> Result<Vec<u32>, AllocError>
+    ensures { IfOk result (λ lines. lines.items ≡ scene_lines (scope_of scope.now) sentences.now count) }
+{
+    let mut lines = Vec::new(alloc);
+    for number in 0..count {
+        lines.push(line_of_scene(alloc, scope, sentences, number)?)?;
+    }
+    Ok(lines)
+}
+
+/// One of these lines; 1 where there is none.
+pub fn line_in(lines: &[u32], number: usize) -> u32
+    ensures { result ≡ line_in (slice_get lines.now number) }
+{
+    match lines.get(number) {
+        None => 1,
+        Some(line) => *line,
     }
 }

@@ -1,40 +1,40 @@
-//! From sentences to the tale that they mean, what its descriptions say, its rules, and where they list rules.
-ghost use Rattle.std.specs.Prelude.{◌≡◌, ◌⊎◌, Ok as Said, IfErr, IfOk};
+//! From sentences to the tale that they mean, and what they say of it.
+ghost use Rattle.std.specs.Prelude.{◌≡◌, ◌⊎◌, Ok as Said, IfErr, IfOk, length};
 ghost use Rattle.i7_kinds.specs.Tales.{tale_said};
 ghost use Rattle.i7_resolution.specs.Resolutions.{IsResolution, known_in, scope_in};
+ghost use Rattle.story_format.specs.Contents.{contents_meant};
 ghost use Rattle.world_meaning.specs.Faults.{out_of_memory};
-ghost use Rattle.story_file.specs.Meanings.{AreMeant, AreRefused, AreTexts, known_said};
-ghost use Rattle.story_file.specs.Rules.{listings_told, rules_kept, rules_told};
-ghost use Rattle.story_file.specs.Texts.{AreReadable, texts_kept};
+ghost use Rattle.story_file.specs.Lines.{scene_lines};
+ghost use Rattle.story_file.specs.Meanings.{AreMeant, AreRefused, AreTexts, known_said, scope_said};
+ghost use Rattle.story_file.specs.Rules.{listings_told, rules_told, scenes_told};
+ghost use Rattle.story_file.specs.Texts.{AreReadable};
 
+use crate::lines::scene_lines;
 use crate::rules::rules_of;
 use crate::texts::texts_of;
 use i7_claims::Claimed;
+use i7_conditions::Scope;
 use i7_kinds::tale_of;
 use i7_names::{SourceNames, names_in};
 use i7_resolution::{Resolution, Resolved, resolution_of};
 use i7_sentences::Sentence;
-use play_meaning::tree::{MeantRule, Text};
-use rule_order::ListingSentence;
 use std::alloc::{AllocError, Global};
+use story_format::Contents;
 use world_meaning::{Fault, Tale};
 
-/// A tale, what its descriptions say, in the order of the objects that have one, its rules, and the sentences that list rules,
-/// both in the order of the source.
+/// A tale and what is said of it, and of each scene the line of the first sentence that says on what it begins or ends.
 #[derive(Drop)]
 pub struct Meant {
     pub tale: Tale,
-    pub texts: Vec<Text>,
-    pub rules: Vec<MeantRule>,
-    pub listings: Vec<ListingSentence>,
+    pub contents: Contents,
+    pub scene_lines: Vec<u32>,
 }
 
 /// The same without the tale.
 #[derive(Drop)]
 struct Kept {
-    texts: Vec<Text>,
-    rules: Vec<MeantRule>,
-    listings: Vec<ListingSentence>,
+    contents: Contents,
+    scene_lines: Vec<u32>,
 }
 
 /// What the names of sentences stand for that mean this tale, and what is resolved of them.
@@ -45,38 +45,85 @@ fn resolution_said(
 ) -> Result<(SourceNames, Resolution), AllocError>
     requires meant { tale_said claimed.now ≡ Said tale.now }
     ensures names { IfOk result (λ found. known_in found.0 tale.now claimed.now ≡ known_said claimed.now tale.now) }
-    ensures told { IfOk result (λ found. IsResolution (known_said claimed.now tale.now) claimed.now found.1) }
+    ensures told { IfOk result (λ found. IsResolution (known_said claimed.now tale.now) tale.now.declared.scenes claimed.now found.1) }
 {
     let names = names_in(alloc, claimed)?;
     let told = resolution_of(alloc, &names, tale, claimed.sentences())?;
     Ok((names, told))
 }
 
-/// What is kept beside a tale that the sentences mean, where so much is resolved of them.
-fn kept_of(
+/// What is said of a tale that the sentences mean, where so much is resolved of them.
+fn contents_of(
     alloc: Global,
     names: &SourceNames,
     tale: &Tale,
     resolved: Resolved,
-) -> Result<Kept, AllocError>
+) -> Result<Contents, AllocError>
     requires { AreReadable (scope_in names.now) tale.now.objects }
-    ensures texts { IfOk result (λ kept. AreTexts (scope_in names.now) tale.now.objects (texts_kept kept.texts.items)) }
-    ensures rules { IfOk result (λ kept. rules_kept kept.rules.items ≡ rules_told resolved) }
-    ensures listings { IfOk result (λ kept. kept.listings.items ≡ listings_told resolved) }
+    ensures texts { IfOk result (λ said. AreTexts (scope_in names.now) tale.now.objects (contents_meant said).texts) }
+    ensures rules { IfOk result (λ said. (contents_meant said).rules ≡ rules_told resolved) }
+    ensures listings { IfOk result (λ said. (contents_meant said).listings ≡ listings_told resolved) }
+    ensures scenes { IfOk result (λ said. (contents_meant said).scenes ≡ scenes_told resolved) }
 {
     let texts = texts_of(alloc, names, tale.objects.as_slice())?;
     let rules = rules_of(alloc, resolved.rules)?;
-    Ok(Kept {
+    Ok(Contents {
         texts,
         rules,
         listings: resolved.listings,
+        scenes: resolved.scenes,
+    })
+}
+
+/// The lines of the scenes, where the names of sentences stand for this.
+fn lines_of(
+    alloc: Global,
+    names: &SourceNames,
+    tale: &Tale,
+    sentences: &[Sentence],
+) -> Result<Vec<u32>, AllocError>
+    ensures { IfOk result (λ lines. lines.items ≡ scene_lines (scope_in names.now) sentences.now (length tale.now.declared.scenes)) }
+{
+    let scope = Scope {
+        names: &names.names,
+        repeats: &[],
+    };
+    scene_lines(
+        alloc,
+        &scope,
+        sentences,
+        tale.declared.scenes.as_slice().len(),
+    )
+}
+
+/// What is kept beside a tale, where so much is resolved of the sentences that mean it.
+fn kept_of(
+    alloc: Global,
+    names: &SourceNames,
+    tale: &Tale,
+    sentences: &[Sentence],
+    resolved: Resolved,
+) -> Result<Kept, AllocError>
+    requires { AreReadable (scope_in names.now) tale.now.objects }
+    ensures texts { IfOk result (λ kept. AreTexts (scope_in names.now) tale.now.objects (contents_meant kept.contents).texts) }
+    ensures rules { IfOk result (λ kept. (contents_meant kept.contents).rules ≡ rules_told resolved) }
+    ensures listings { IfOk result (λ kept. (contents_meant kept.contents).listings ≡ listings_told resolved) }
+    ensures scenes { IfOk result (λ kept. (contents_meant kept.contents).scenes ≡ scenes_told resolved) }
+    ensures lines { IfOk result (λ kept. kept.scene_lines.items ≡ scene_lines (scope_in names.now) sentences.now (length tale.now.declared.scenes)) }
+{
+    let contents = contents_of(alloc, names, tale, resolved)?;
+    let scene_lines = lines_of(alloc, names, tale, sentences)?;
+    Ok(Kept {
+        contents,
+        scene_lines,
     })
 }
 
 /// What is kept beside a tale that the sentences mean, or why they are refused.
 fn meant_of(alloc: Global, claimed: &Claimed<'_>, tale: &Tale) -> Result<Kept, Fault>
     requires { tale_said claimed.now ≡ Said tale.now }
-    ensures meant { IfOk result (λ kept. AreMeant claimed.now tale.now (texts_kept kept.texts.items) (rules_kept kept.rules.items) kept.listings.items) }
+    ensures meant { IfOk result (λ kept. AreMeant claimed.now tale.now (contents_meant kept.contents)) }
+    ensures lines { IfOk result (λ kept. kept.scene_lines.items ≡ scene_lines (scope_said claimed.now) claimed.now (length tale.now.declared.scenes)) }
     ensures refused { IfErr result (λ fault. AreRefused claimed.now fault ⊎ (fault ≡ out_of_memory)) }
 {
     let Ok((names, told)) = resolution_said(alloc, claimed, tale) else {
@@ -84,31 +131,34 @@ fn meant_of(alloc: Global, claimed: &Claimed<'_>, tale: &Tale) -> Result<Kept, F
     };
     match told {
         Resolution::Refused(fault) => Err(fault),
-        Resolution::Says(resolved) => match kept_of(alloc, &names, tale, resolved) {
-            Ok(kept) => Ok(kept),
-            Err(_) => Err(Fault::OUT_OF_MEMORY),
-        },
+        Resolution::Says(resolved) => {
+            match kept_of(alloc, &names, tale, claimed.sentences(), resolved) {
+                Ok(kept) => Ok(kept),
+                Err(_) => Err(Fault::OUT_OF_MEMORY),
+            }
+        }
     }
 }
 
 /// The tale that sentences mean, with what is kept beside it, or why they are refused, by what they claim.
 fn meant_by(alloc: Global, claimed: &Claimed<'_>) -> Result<Meant, Fault>
-    ensures meant { IfOk result (λ meant. AreMeant claimed.now meant.tale (texts_kept meant.texts.items) (rules_kept meant.rules.items) meant.listings.items) }
+    ensures meant { IfOk result (λ meant. AreMeant claimed.now meant.tale (contents_meant meant.contents)) }
+    ensures lines { IfOk result (λ meant. meant.scene_lines.items ≡ scene_lines (scope_said claimed.now) claimed.now (length meant.tale.declared.scenes)) }
     ensures refused { IfErr result (λ fault. AreRefused claimed.now fault ⊎ (fault ≡ out_of_memory)) }
 {
     let tale = tale_of(alloc, claimed)?;
     let kept = meant_of(alloc, claimed, &tale)?;
     Ok(Meant {
         tale,
-        texts: kept.texts,
-        rules: kept.rules,
-        listings: kept.listings,
+        contents: kept.contents,
+        scene_lines: kept.scene_lines,
     })
 }
 
-/// The tale that sentences mean, what its descriptions say, its rules, and where they list rules, or why they are refused.
+/// The tale that sentences mean, and what they say of it, or why they are refused.
 pub fn tale_meant(alloc: Global, sentences: &[Sentence]) -> Result<Meant, Fault>
-    ensures meant { IfOk result (λ meant. AreMeant sentences.now meant.tale (texts_kept meant.texts.items) (rules_kept meant.rules.items) meant.listings.items) }
+    ensures meant { IfOk result (λ meant. AreMeant sentences.now meant.tale (contents_meant meant.contents)) }
+    ensures lines { IfOk result (λ meant. meant.scene_lines.items ≡ scene_lines (scope_said sentences.now) sentences.now (length meant.tale.declared.scenes)) }
     ensures refused { IfErr result (λ fault. AreRefused sentences.now fault ⊎ (fault ≡ out_of_memory)) }
 {
     match Claimed::new(alloc, sentences) {

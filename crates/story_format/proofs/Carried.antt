@@ -1,5 +1,5 @@
 -- The tables of a tale say of each object what the tale says.
-use Rattle.std.proofs.Common.{◌≡◌, ℕ, zero, suc, ◌+◌, ◌-◌, ◌<◌, ◌==◌, Bool, true, false, cond, eqb, List, [], ◌∷◌, ◌++◌, length, map, take, drop, Option, Some, None, refl, sym, subst, ap, ◌∙◌, arith, inl, inr, if◌then◌else◌}
+use Rattle.std.proofs.Common.{◌≡◌, ℕ, zero, suc, ◌+◌, ◌-◌, ◌<◌, ◌≤◌, append_assoc, ◌==◌, Bool, true, false, cond, eqb, List, [], ◌∷◌, ◌++◌, length, map, take, drop, Option, Some, None, refl, sym, subst, ap, ◌∙◌, arith, inl, inr, if◌then◌else◌}
 use Rattle.std.specs.Prelude.{min, slice_get, is_none, is_some}
 use Rattle.std.specs.List.{AllByRecursion, AllZip, list_all, flat_map}
 use Rattle.std.proofs.lemmas.Bool.{ne_eqb, cases_Bool, and_parts}
@@ -24,7 +24,6 @@ use Rattle.play_meaning.specs.Codes.{Codes}
 use Rattle.play_meaning.specs.Grounds.{said_by_code}
 use Rattle.play_meaning.specs.Scripts.{says, undescribed}
 use Rattle.play_meaning.specs.Settings.{Setting}
-use Rattle.play_meaning.specs.Rules.{Rule}
 use Rattle.play_meaning.specs.Trees.{Text}
 use Rattle.play_meaning.specs.Worlds.{World}
 use Rattle.play_meaning.specs.Order.{book_of}
@@ -33,28 +32,29 @@ use Rattle.play_meaning.specs.StandardRules.{standard_rules}
 use Rattle.play_meaning.specs.Tales.{setting_of}
 use Rattle.play_meaning.specs.declared.action.ActionNow.{ActionNow}
 use Rattle.play_meaning.specs.declared.operand.Counts.{Counts}
-use Rattle.rule_order.specs.declared.listing.ListingSentence.{ListingSentence}
 use Rattle.code_table.specs.Emitted.{AllFit, codes_of_origins}
-use Rattle.code_table.specs.Origins.{Describes, Origin, origins_of, strings_of_origin}
+use Rattle.code_table.specs.Origins.{Describes, Origin, strings_of_origin}
 use Rattle.code_table.proofs.Said.{text_said}
-use Rattle.story_format.specs.Carrying.{AsksFor, Carries, CarriesRule}
+use Rattle.story_format.specs.Carrying.{AsksFor, Carries, CarriesRule, CarriesScene}
 use Rattle.story_format.specs.Codes.{codes_told}
+use Rattle.story_format.specs.Contents.{Contents, origins_said}
 use Rattle.story_format.specs.Facts.{description_code_in, description_code_of, exits_at, holder_in, is_room_in, name_in, rooms_before, rules_listed, text_at, way_in, words_in}
 use Rattle.story_format.proofs.AboutRules.{IsSmall, small_names}
 use Rattle.story_format.proofs.ActionLemmas.{actions_ask}
 use Rattle.story_format.specs.Holding.{counts_in, named_in, AreHeld, IsHeld}
-use Rattle.story_format.specs.RuleMaking.{rule_entries, rules_of, standard_entries}
+use Rattle.story_format.specs.RuleMaking.{codes_of_rules, rule_entries, rules_of, standard_entries}
 use Rattle.story_format.specs.Making.{Worded, code_count, code_number, codes_in, described_in, entries_of, entry_of, entry_strings, place_holder, story_rules, strings_of, strings_said, tables_of, tables_with, text_in, text_of, ways_of, worded, worded_at, worded_from, world_of}
 use Rattle.story_format.specs.Placed.{is_room_entry}
 use Rattle.story_format.proofs.StoryLemmas.{all_at, few_begin, get_dropped, parts, player_parts}
 use Rattle.story_format.proofs.Known.{found_by_number, is_known, said_known}
 use Rattle.story_format.proofs.OrderLemmas.{at_most_one}
-use Rattle.story_format.proofs.RuleLemmas.{origins_in}
+use Rattle.story_format.proofs.RuleLemmas.{codes_counted_of, origins_in}
+use Rattle.story_format.proofs.SceneLemmas.{origins_in_scenes}
 use Rattle.story_format.proofs.OwnBooks.{all_within, books_listed}
 use Rattle.story_format.proofs.ListedRules.{zip_listed}
-use Rattle.story_format.proofs.RulesCarried.{all_standard_carried, carried_so, rules_carried}
+use Rattle.story_format.proofs.RulesCarried.{all_standard_carried, carried_so, rules_carried, scenes_carried}
 use Rattle.story_format.proofs.StandardRuleRows.{zip_append}
-use Rattle.story_format.proofs.SoundLemmas.{bytes_enough, bytes_few, bytes_told}
+use Rattle.story_format.proofs.SoundLemmas.{bytes_enough, bytes_few, bytes_told, origins_counted}
 use Rattle.story_format.proofs.EntryLemmas.{counted_more, counted_same, entry_room, objects_back, objects_in}
 use Rattle.story_format.proofs.TableLemmas.{all_known, entries_counted, entry_strings_known, knows}
 use Rattle.story_format.proofs.Stories.{described_back, few_objects}
@@ -177,18 +177,18 @@ origins_stand : (ws : List Worded) (origins : List Origin) → length (strings_o
     → AllByRecursion (λ bytes. text_at (strings_of ws origins) (number_in (strings_of ws origins) bytes) ≡ bytes) (strings_of_origin origin)
 origins_stand ws origins few n origin at = let strings = strings_of ws origins in strings_stand strings (strings_of_origin origin) (origin_known strings origins n origin (said_known ws origins) at) few
 
-described_at : (texts : List Text) (rules : List Rule) (n : ℕ) (text : Text) → slice_get texts n ≡ Some text → slice_get (origins_of texts rules) n ≡ Some (Describes text)
-described_at texts rules n text at = get_front (map Describes texts) (origins_in rules) n (Describes text) (slice_get-map Describes texts n ∙ ap (option_map Describes) at)
+described_at : (texts : List Text) (behind : List Origin) (n : ℕ) (text : Text) → slice_get texts n ≡ Some text → slice_get (map Describes texts ++ behind) n ≡ Some (Describes text)
+described_at texts behind n text at = get_front (map Describes texts) behind n (Describes text) (slice_get-map Describes texts n ∙ ap (option_map Describes) at)
 
-module _ (z : Counts) (c : Codes) (string : List ℕ → ℕ) (texts : List Text) (rules : List Rule) (fit : AllFit z string (origins_of texts rules)) (codes : c.codes ≡ codes_of_origins string (origins_of texts rules))
-    (strings : (n : ℕ) (origin : Origin) → slice_get (origins_of texts rules) n ≡ Some origin → AllByRecursion (λ bytes. text_at c.strings (string bytes) ≡ bytes) (strings_of_origin origin)) where
-  described_so : (s : Setting) (now : ActionNow) (w : World) (n : Option ℕ) (text : Option Text) → Told texts n text → said_by_code c s now w n ≡ says (undescribed s) now w text
+module _ (z : Counts) (c : Codes) (string : List ℕ → ℕ) (said : Contents) (fit : AllFit z string (origins_said said)) (codes : c.codes ≡ codes_of_origins string (origins_said said))
+    (strings : (n : ℕ) (origin : Origin) → slice_get (origins_said said) n ≡ Some origin → AllByRecursion (λ bytes. text_at c.strings (string bytes) ≡ bytes) (strings_of_origin origin)) where
+  described_so : (s : Setting) (now : ActionNow) (w : World) (n : Option ℕ) (text : Option Text) → Told said.texts n text → said_by_code c s now w n ≡ says (undescribed s) now w text
   described_so s now w None None told = refl
   described_so s now w None (Some text) told = absurd told
   described_so s now w (Some n) None told = absurd told
   described_so s now w (Some n) (Some text) told =
-      let at = described_at texts rules n text told in
-      text_said string z c (origins_of texts rules) n text (undescribed s) now w fit codes at (strings n (Describes text) at)
+      let at = described_at said.texts (origins_in said.rules ++ origins_in_scenes said.scenes) n text told in
+      text_said string z c (origins_said said) n text (undescribed s) now w fit codes at (strings n (Describes text) at)
 
 -- ---- ways
 
@@ -271,61 +271,82 @@ start_carried parents rooms strings (player ∷ others) h =
 
 -- ---- all of it
 
-module _ (t : Tale) (texts : List Text) (listings : List ListingSentence) (rules : List Rule) (held : IsHeld t) (are : AreHeld t texts rules) where
-  code_says : (o : ℕ) (s : Setting) (now : ActionNow) (w : World) → said_by_code (codes_told (tables_of t texts listings rules)) s now w (description_code_of (tables_of t texts listings rules) o) ≡ says (undescribed s) now w (text_of t texts o)
+module _ (t : Tale) (c : Contents) (held : IsHeld t) (are : AreHeld t c) where
+  abbrev told : Codes
+  told = codes_told (tables_of t c)
+
+  abbrev ws : List Worded
+  ws = worded t.objects
+
+  abbrev origins : List Origin
+  origins = origins_said c
+
+  code_says : (o : ℕ) (s : Setting) (now : ActionNow) (w : World) → said_by_code told s now w (description_code_of (tables_of t c) o) ≡ says (undescribed s) now w (text_of t c.texts o)
   unfolding tables_with
   code_says o s now w =
-      let ws = worded t.objects in
-      let origins = origins_of texts rules in
       let strings = strings_of ws origins in
       let back : objects_in ws ≡ t.objects = objects_back 0 t.objects in
       let le = few_objects t held in
-      let many : length texts ≡ 0 + codes_in (objects_in ws) = omega (arith, are.are_of.many, ap codes_in back) in
-      described_so (counts_in t texts rules) (codes_told (tables_of t texts listings rules)) (number_in strings) texts rules are.fit (bytes_told strings origins are.said) (origins_stand ws origins are.few) s now w
-      (description_code_of (tables_of t texts listings rules) o) (text_of t texts o)
-      (subst (λ objects. Told texts (description_code_in (slice_get (entries_of strings 0 ws) o)) (text_in objects texts o)) back (descriptions_told strings texts ws 0 o (omega (arith, le)) many))
+      let many : length c.texts ≡ 0 + codes_in (objects_in ws) = omega (arith, are.are_of.many, ap codes_in back) in
+      described_so (counts_in t c) (codes_told (tables_of t c)) (number_in strings) c are.fit (bytes_told strings origins are.said) (origins_stand ws origins are.few) s now w
+      (description_code_of (tables_of t c) o) (text_of t c.texts o)
+      (subst (λ objects. Told c.texts (description_code_in (slice_get (entries_of strings 0 ws) o)) (text_in objects c.texts o)) back (descriptions_told strings c.texts ws 0 o (omega (arith, le)) many))
 
   small : IsSmall (named_in t)
   small = small_names t.declared (length t.objects) (few_begin t.declared.kinds (sorts_in t).rooms t.objects held.made.begins) are.are_of.few_actions held.made.declared
 
-  author_so : AllZip (CarriesRule (codes_told (tables_of t texts listings rules))) (rule_entries (described_in (worded t.objects)) rules) rules
+  first_code : described_in ws ≡ length (map Describes c.texts)
+  first_code = described_back t ∙ sym are.are_of.many ∙ sym (length-map c.texts Describes)
+
+  -- how many codes there are
+  room : described_in ws + (length (origins_in c.rules) + length (origins_in_scenes c.scenes)) ≤ 65535
+  room =
+      let strings = strings_of ws origins in
+      omega (arith, first_code, length-map c.texts Describes, origins_counted c.texts c.rules c.scenes, bytes_enough strings origins, bytes_few strings origins are.said)
+
+  author_so : AllZip (CarriesRule told) (rule_entries (described_in ws) c.rules) c.rules
   unfolding tables_with rules_of
   author_so =
-      let ws = worded t.objects in
-      let origins = origins_of texts rules in
       let strings = strings_of ws origins in
-      let next : described_in ws ≡ length (map Describes texts) = described_back t ∙ sym are.are_of.many ∙ sym (length-map texts Describes) in
-      rules_carried (counts_in t texts rules) (codes_told (tables_of t texts listings rules)) (number_in strings) origins are.fit (bytes_told strings origins are.said) (origins_stand ws origins are.few)
-      (named_in t) small rules (map Describes texts)
-      (described_in ws) are.are_of.named next refl (omega (arith, next, length-append (map Describes texts) (origins_in rules), bytes_enough strings origins, bytes_few strings origins are.said))
+      rules_carried (counts_in t c) (codes_told (tables_of t c)) (number_in strings) origins are.fit (bytes_told strings origins are.said) (origins_stand ws origins are.few)
+      (named_in t) small c.rules (map Describes c.texts) (origins_in_scenes c.scenes) (described_in ws) are.are_of.named first_code refl (omega (arith, room))
 
-  rules_so : AllZip (CarriesRule (codes_told (tables_of t texts listings rules))) (tables_of t texts listings rules).rules.rules (story_rules listings rules)
+  rules_so : AllZip (CarriesRule told) (tables_of t c).rules.rules (story_rules c.listings c.rules)
   unfolding tables_with rules_of
   rules_so =
-      let codes = codes_told (tables_of t texts listings rules) in
-      let author = rule_entries (described_in (worded t.objects)) rules in
-      zip_listed (CarriesRule codes) (carried_so codes) listings 0 (standard_entries ++ author) (standard_rules ++ rules)
-      (zip_append (CarriesRule codes) standard_entries standard_rules author rules (all_standard_carried codes (named_in t) small (omega arith) (omega arith)) author_so)
+      let codes = codes_told (tables_of t c) in
+      let author = rule_entries (described_in ws) c.rules in
+      zip_listed (CarriesRule codes) (carried_so codes) c.listings 0 (standard_entries ++ author) (standard_rules ++ c.rules)
+      (zip_append (CarriesRule codes) standard_entries standard_rules author c.rules (all_standard_carried codes (named_in t) small (omega arith) (omega arith)) author_so)
 
-  books_so : (book : ℕ) → rules_listed (tables_of t texts listings rules) book ≡ book_of (setting_of t) (story_rules listings rules) book
+  scenes_so : AllZip (CarriesScene told) (tables_of t c).rules.scenes c.scenes
   unfolding tables_with rules_of
-  books_so book = books_listed t listings rules (all_within (named_in t) listings rules (omega arith) are.are_of.named) book
+  scenes_so =
+      let strings = strings_of ws origins in
+      let front = map Describes c.texts ++ origins_in c.rules in
+      let next : described_in ws + codes_of_rules c.rules ≡ length front = omega (arith, first_code, codes_counted_of c.rules, length-append (map Describes c.texts) (origins_in c.rules)) in
+      let parts : origins ≡ front ++ origins_in_scenes c.scenes = sym (append_assoc (map Describes c.texts) (origins_in c.rules) (origins_in_scenes c.scenes)) in
+      scenes_carried (counts_in t c) (codes_told (tables_of t c)) (number_in strings) origins are.fit (bytes_told strings origins are.said)
+      c.scenes front (described_in ws + codes_of_rules c.rules) next parts (omega (arith, room, codes_counted_of c.rules))
 
-  actions_so : AllZip AsksFor (tables_of t texts listings rules).rules.actions (standard_needs ++ t.declared.actions)
+  books_so : (book : ℕ) → rules_listed (tables_of t c) book ≡ book_of (setting_of t) (story_rules c.listings c.rules) book
+  unfolding tables_with rules_of
+  books_so book = books_listed t c.listings c.rules (all_within (named_in t) c.listings c.rules (omega arith) are.are_of.named) book
+
+  actions_so : AllZip AsksFor (tables_of t c).rules.actions (standard_needs ++ t.declared.actions)
   unfolding tables_with rules_of
   actions_so = actions_ask t.declared.actions
 
-  pub tale_carried : Carries (tables_of t texts listings rules) t texts listings rules
+  pub tale_carried : Carries (tables_of t c) t c
   unfolding tables_with world_of
   tale_carried =
-      let ws = worded t.objects in
-      let strings = strings_of ws (origins_of texts rules) in
+      let strings = strings_of ws origins in
       let back : objects_in ws ≡ t.objects = objects_back 0 t.objects in
       let le = few_objects t held in
       let parents = t.declared.kinds in
       let sorts = sorts_in t in
       let exits : list_all (has_right_exits parents sorts) (objects_in ws) ≡ true = ap (list_all (has_right_exits parents sorts)) back ∙ held.made.exits in
-      let known = words_known ws (origins_of texts rules) in
+      let known = words_known ws origins in
       record {
         count = entries_counted strings 0 ws ∙ sym (length_mapped (λ (w : Worded). w.object) ws) ∙ ap length back;
         names = λ o. names_carried strings ws 0 o known are.few ∙ ap (λ (objects : List Object). told_name (slice_get objects o)) back;
@@ -337,4 +358,5 @@ module _ (t : Tale) (texts : List Text) (listings : List ListingSentence) (rules
         actions = actions_so;
         rules_are = rules_so;
         books = books_so;
+        scenes_are = scenes_so;
       }

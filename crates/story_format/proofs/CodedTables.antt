@@ -1,29 +1,26 @@
--- The tables of a tale are those without codes, with the bytes of what its texts say and of its rules.
+-- The tables of a tale are those without codes, with the bytes of what its texts say, of its rules and of its scenes.
 use Rattle.std.proofs.Common.{◌≡◌, ◌∙◌, ◌<◌, ap, refl, sym, subst, ℕ, Bool, true, false, ◌&&◌, nat_lt, List, [], ◌∷◌, length, arith}
 use Rattle.std.specs.Prelude.{OnOk, Result, Ok, Err, map}
 use Rattle.std.specs.List.{list_all}
 use Rattle.std.proofs.lemmas.Bool.{and_parts, lt-ltb, ltb-true, and_from}
 use Rattle.world_meaning.specs.declared.tale.Tale.{Tale}
 use Rattle.object_words.specs.Mentions.{number_in}
-use Rattle.play_meaning.specs.Rules.{Rule}
-use Rattle.play_meaning.specs.Trees.{Text}
 use Rattle.play_meaning.specs.declared.instruction.Instruction.{Instruction}
-use Rattle.rule_order.specs.declared.listing.ListingSentence.{ListingSentence}
 use Rattle.code_table.specs.Emitted.{AllFit, CanBeSaid, HaveNoTable, codes_of_origins}
 use Rattle.code_table.specs.Laws.{NeverTableAndNone}
-use Rattle.code_table.specs.Origins.{origins_of}
+use Rattle.code_table.specs.Origins.{Origin}
 use Rattle.code_table.specs.declared.fault.TableFault.{TableFault}
-use Rattle.code_table.specs.declared.fault.TableFault.TheVariants.{LongRule, LongText, TooMany, Memory}
+use Rattle.code_table.specs.declared.fault.TableFault.TheVariants.{LongRule, LongScene, LongText, TooMany, Memory}
 use Rattle.play_meaning.specs.declared.operand.Counts.{Counts}
 use Rattle.story_code.specs.Emits.{AreSpelled}
 use Rattle.story_code.specs.Spelling.{spelling}
 use Rattle.story_format.specs.Codes.{counts_of}
+use Rattle.story_format.specs.Contents.{Contents, origins_said}
 use Rattle.story_format.specs.Holding.{AreHeld, AreNotHeld, AreOf, AreTooMany, IsHeld, NeverHeldAndNot, counts_in, has_short_texts, is_short}
-use Rattle.story_format.specs.Making.{books_of, code_bytes, strings_of, strings_said, tables_but_codes, tables_of, tables_with, worded}
+use Rattle.story_format.specs.Making.{books_of, code_bytes, strings_said, strings_with, tables_but_codes, tables_of, tables_with, worded}
 use Rattle.story_format.specs.declared.tables.Tables.{Tables}
 use Rattle.story_format.proofs.EntryLemmas.{objects_back}
 use Rattle.story_format.proofs.Fits.{strings_short}
-use Rattle.story_format.proofs.ListedCounts.{counts_without}
 use Rattle.story_format.proofs.Known.{all_known_too, said_known}
 use Rattle.story_format.proofs.TableLemmas.{all_good_words}
 
@@ -37,52 +34,55 @@ pub on_both : {T E P Q R : Type 0} (r : Result T E) → OnOk r P → OnOk r Q �
 on_both (Ok x) p q f = f p q
 on_both (Err e) p q f = tt
 
-module _ (t : Tale) (texts : List Text) (listings : List ListingSentence) (rules : List Rule) (strings : List (List ℕ)) (tables : Tables) (strings_are : strings ≡ strings_of (worded t.objects) (origins_of texts rules))
-    (tables_are : tables ≡ tables_but_codes t.declared (books_of t listings rules) (worded t.objects) rules (strings_of (worded t.objects) (origins_of texts rules))) where
-  pub coded_is : (coded : Tables) → coded ≡ record tables { codes = code_bytes strings (origins_of texts rules) } → coded ≡ tables_of t texts listings rules
+module _ (t : Tale) (c : Contents) (strings : List (List ℕ)) (tables : Tables) (strings_are : strings ≡ strings_with t c)
+    (tables_are : tables ≡ tables_but_codes t.declared (books_of t c.listings c.rules) (worded t.objects) c.rules c.scenes (strings_with t c)) where
+  abbrev os : List Origin
+  os = origins_said c
+
+  pub coded_is : (coded : Tables) → coded ≡ record tables { codes = code_bytes strings os } → coded ≡ tables_of t c
   unfolding tables_with
-  coded_is coded is = is ∙ (λ i. record (tables_are i) { codes = code_bytes (strings_are i) (origins_of texts rules) })
+  coded_is coded is = is ∙ (λ i. record (tables_are i) { codes = code_bytes (strings_are i) os })
 
   -- ---- strings that are few and short
 
   module _ (lent : List (List ℕ)) (lent_are : lent ≡ tables.strings) (b : Bool) (told : b ≡ (nat_lt (length lent) 65535 && list_all is_short lent)) where
-    all_are : lent ≡ strings_of (worded t.objects) (origins_of texts rules)
+    all_are : lent ≡ strings_with t c
     all_are = lent_are ∙ ap (λ (x : Tables). x.strings) tables_are
 
-    pub too_many : IsHeld t → b ≡ false → AreTooMany t (origins_of texts rules)
+    pub too_many : IsHeld t → b ≡ false → AreTooMany t c
     too_many held no_room few short_said =
-        let strings = strings_of (worded t.objects) (origins_of texts rules) in
+        let strings = strings_with t c in
         let names : list_all has_short_texts t.objects ≡ true = held.texts in
-        let short = strings_short (worded t.objects) (origins_of texts rules) (ap (list_all has_short_texts) (objects_back 0 t.objects) ∙ names) (all_good_words 0 t.objects names) short_said in
+        let short = strings_short (worded t.objects) os (ap (list_all has_short_texts) (objects_back 0 t.objects) ∙ names) (all_good_words 0 t.objects names) short_said in
         let room : (nat_lt (length strings) 65535 && list_all is_short strings) ≡ true = and_from (nat_lt (length strings) 65535) (list_all is_short strings) (lt-ltb (length strings) 65535 few) short in
         let never : true ≡ false = sym room ∙ ap (λ l. nat_lt (length l) 65535 && list_all is_short l) (sym all_are) ∙ sym told ∙ no_room in
         absurd cc
 
-    pub are_held : AreOf t texts rules → b ≡ true → AllFit (counts_of tables) (number_in strings) (origins_of texts rules) → CanBeSaid (number_in strings) (origins_of texts rules) → AreHeld t texts rules
+    pub are_held : AreOf t c → b ≡ true → AllFit (counts_of tables) (number_in strings) os → CanBeSaid (number_in strings) os → AreHeld t c
     unfolding counts_of tables_with
     are_held are_of room fit said =
-        let os = origins_of texts rules in
-        let every = strings_of (worded t.objects) os in
+        let every = strings_with t c in
         let parts = and_parts (nat_lt (length every) 65535) (list_all is_short every) (ap (λ l. nat_lt (length l) 65535 && list_all is_short l) (sym all_are) ∙ sym told ∙ room) in
         record {
           are_of = are_of;
           short = all_known_too is_short every (strings_said os) (said_known (worded t.objects) os) parts.1;
           few = ltb-true (length every) 65535 parts.0;
-          fit = subst (λ (z : Counts). AllFit z (number_in every) os) (ap counts_of tables_are ∙ counts_without t listings rules every) (subst (λ l. AllFit (counts_of tables) (number_in l) os) strings_are fit);
+          fit = subst (λ (z : Counts). AllFit z (number_in every) os) (ap counts_of tables_are) (subst (λ l. AllFit (counts_of tables) (number_in l) os) strings_are fit);
           said = subst (λ l. CanBeSaid (number_in l) os) strings_are said;
         }
 
   -- ---- what isn't said
 
   abbrev Long : TableFault → Counts → List (List ℕ) → Type 0
-  Long fault z l = HaveNoTable z (number_in l) texts rules fault
+  Long fault z l = HaveNoTable z (number_in l) c.texts c.rules c.scenes fault
 
-  moved : (fault : TableFault) → HaveNoTable (counts_of tables) (number_in strings) texts rules fault → HaveNoTable (counts_of (tables_but_codes t.declared (books_of t [] rules) (worded t.objects) rules (strings_of (worded t.objects) (origins_of texts rules)))) (number_in (strings_of (worded t.objects) (origins_of texts rules))) texts rules fault
-  moved fault none =
-      let every = strings_of (worded t.objects) (origins_of texts rules) in
-      subst (λ (z : Counts). Long fault z every) (ap counts_of tables_are ∙ counts_without t listings rules every) (subst (Long fault (counts_of tables)) strings_are none)
+  abbrev uncoded : Tables
+  uncoded = tables_but_codes t.declared (books_of t c.listings c.rules) (worded t.objects) c.rules c.scenes (strings_with t c)
 
-  long_text : (number : ℕ) → HaveNoTable (counts_of tables) (number_in strings) texts rules (LongText number) → AreNotHeld t texts rules (LongText number)
+  moved : (fault : TableFault) → Long fault (counts_of tables) strings → Long fault (counts_of uncoded) (strings_with t c)
+  moved fault none = subst (λ (z : Counts). Long fault z (strings_with t c)) (ap counts_of tables_are) (subst (Long fault (counts_of tables)) strings_are none)
+
+  long_text : (number : ℕ) → Long (LongText number) (counts_of tables) strings → AreNotHeld t c (LongText number)
   unfolding counts_of tables_with
   long_text number none =
       let there = moved (LongText number) none in
@@ -95,7 +95,7 @@ module _ (t : Tale) (texts : List Text) (listings : List ListingSentence) (rules
         long = record { fit = there.long.fit; said = there.long.said; long = there.long.long };
       }
 
-  long_rule : (number : ℕ) → HaveNoTable (counts_of tables) (number_in strings) texts rules (LongRule number) → AreNotHeld t texts rules (LongRule number)
+  long_rule : (number : ℕ) → Long (LongRule number) (counts_of tables) strings → AreNotHeld t c (LongRule number)
   unfolding counts_of tables_with
   long_rule number none =
       let there = moved (LongRule number) none in
@@ -112,14 +112,33 @@ module _ (t : Tale) (texts : List Text) (listings : List ListingSentence) (rules
         long = record { fit = there.long.fit; said = there.long.said; long = there.long.long };
       }
 
-  pub none_so : (fault : TableFault) → HaveNoTable (counts_of tables) (number_in strings) texts rules fault → AreNotHeld t texts rules fault
+  long_scene : (number : ℕ) → Long (LongScene number) (counts_of tables) strings → AreNotHeld t c (LongScene number)
+  unfolding counts_of tables_with
+  long_scene number none =
+      let there = moved (LongScene number) none in
+      record {
+        before = there.before;
+        scene = there.scene;
+        behind = there.behind;
+        parts = there.parts;
+        place = there.place;
+        front = there.front;
+        origin = there.origin;
+        back = there.back;
+        within = there.within;
+        long = record { fit = there.long.fit; said = there.long.said; long = there.long.long };
+      }
+
+  pub none_so : (fault : TableFault) → Long fault (counts_of tables) strings → AreNotHeld t c fault
   none_so (LongText number) long = long_text number long
   none_so (LongRule number) long = long_rule number long
-  none_so TooMany many = λ few short. subst (λ l. 65535 < length (codes_of_origins (number_in l) (origins_of texts rules))) strings_are many
+  none_so (LongScene number) long = long_scene number long
+  none_so TooMany many = λ few short. subst (λ l. 65535 < length (codes_of_origins (number_in l) os)) strings_are many
   none_so Memory none = tt
 
 pub never_both : NeverTableAndNone → NeverHeldAndNot
-never_both law t texts rules (LongText number) are long = law (counts_in t texts rules) (number_in (strings_of (worded t.objects) (origins_of texts rules))) texts rules (LongText number) are.fit are.said long
-never_both law t texts rules (LongRule number) are long = law (counts_in t texts rules) (number_in (strings_of (worded t.objects) (origins_of texts rules))) texts rules (LongRule number) are.fit are.said long
-never_both law t texts rules TooMany are none = absurd (omega (arith, none are.few are.short, are.said.few))
-never_both law t texts rules Memory are none = refl
+never_both law t c (LongText number) are long = law (counts_in t c) (number_in (strings_with t c)) c.texts c.rules c.scenes (LongText number) are.fit are.said long
+never_both law t c (LongRule number) are long = law (counts_in t c) (number_in (strings_with t c)) c.texts c.rules c.scenes (LongRule number) are.fit are.said long
+never_both law t c (LongScene number) are long = law (counts_in t c) (number_in (strings_with t c)) c.texts c.rules c.scenes (LongScene number) are.fit are.said long
+never_both law t c TooMany are none = absurd (omega (arith, none are.few are.short, are.said.few))
+never_both law t c Memory are none = refl

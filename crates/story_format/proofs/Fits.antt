@@ -24,6 +24,7 @@ use Rattle.world_meaning.specs.declared.tale.Object.{Object}
 use Rattle.object_words.specs.Mentions.{mention, number_or_none, number_in}
 use Rattle.code_table.specs.Origins.{Origin}
 use Rattle.play_meaning.specs.Rules.{Rule}
+use Rattle.play_meaning.specs.Scripts.{Scene}
 use Rattle.object_words.proofs.StringLemmas.{length_mapped}
 use Rattle.story_format.specs.Formats.{fits_optional}
 use Rattle.story_format.specs.declared.rule_tables.Book.{Book}
@@ -218,11 +219,11 @@ ways_few parents (w ∷ ws) =
 
 -- ---- all of it
 
-pub tables_fit : (d : Declared) (books : List Book) (objects : List Object) (rules : List Rule) (said : List Origin) → IsWellMade (record { declared = d; objects = objects }) → list_all has_short_texts objects ≡ true → list_all has_few_words (worded objects) ≡ true
+pub tables_fit : (d : Declared) (books : List Book) (objects : List Object) (rules : List Rule) (scenes : List Scene) (said : List Origin) → length scenes ≡ length d.scenes → IsWellMade (record { declared = d; objects = objects }) → list_all has_short_texts objects ≡ true → list_all has_few_words (worded objects) ≡ true
     → length d.actions ≤ 184 → length rules ≤ 1939 → AreRightBooks d books (61 + length rules) → list_all (is_of (named_by d (length objects))) rules ≡ true → length (strings_of (worded objects) said) < 65535 → list_all is_short (strings_said said) ≡ true → length (code_bytes (strings_of (worded objects) said) said) < 65536 → list_all is_short (code_bytes (strings_of (worded objects) said) said) ≡ true
-    → tables_layout.format.fits (tables_with d books (worded objects) rules said) ≡ true
+    → tables_layout.format.fits (tables_with d books (worded objects) rules scenes said) ≡ true
 unfolding tables_layout tables_with
-tables_fit d books objects rules said made texts few_words few_actions few_rules known_books named few short few_codes codes_short =
+tables_fit d books objects rules scenes said same made texts few_words few_actions few_rules known_books named few short few_codes codes_short =
     let ws = worded objects in
     let strings = strings_of ws said in
     let back : objects_in ws ≡ objects = objects_back 0 objects in
@@ -239,5 +240,5 @@ tables_fit d books objects rules said made texts few_words few_actions few_rules
     let exits = all_weaker (lead_rightly sorts) exits_layout.format.fits (exits_fit d.kinds (kinds_of objects) few_of_kinds) (flat_map (ways_of d.kinds) ws) (rooms_lead d.kinds sorts ws (ap (list_all (has_right_exits d.kinds sorts)) back ∙ made.exits)) in
     let code_few : ltb (length (code_bytes strings said)) 65536 ≡ true = lt-ltb _ _ few_codes in
     let declared = declared_parts d made.declared in
-    let rules_so = rule_tables_fit d books (named_by d (length objects)) rules (described_in ws) declared.scenes declared.rulebooks few_rules known_books few_actions (small_names d (length objects) few_objects few_actions made.declared) named in
+    let rules_so = rule_tables_fit d books (named_by d (length objects)) rules scenes (described_in ws) same declared.scenes declared.rulebooks few_rules known_books few_actions (small_names d (length objects) few_objects few_actions made.declared) named in
     rw (string_count, strings_fit, world_fits d made.declared, entry_count, entries, way_count, exits, rules_so, code_few, codes_short) refl

@@ -7,6 +7,7 @@ pub mod ReadingLemmas
 pub mod FaultLemmas
 pub mod Known
 pub mod OrderLemmas
+pub mod SceneLemmas
 pub mod SoundLemmas
 pub mod WordFacts
 pub mod EntryLemmas
@@ -17,7 +18,6 @@ pub mod StandardRuleRows
 pub mod ListedRules
 pub mod OnceLemmas
 pub mod OwnBooks
-pub mod ListedCounts
 pub mod RuleLemmas
 pub mod Stories
 pub mod RulesCarried
@@ -38,3 +38,4 @@ pub mod ToldRules
 pub mod ToldStories
 pub mod CodedTables
 pub mod RightRules
+pub mod Turns

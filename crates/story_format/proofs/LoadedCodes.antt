@@ -23,7 +23,7 @@ use Rattle.story_format.specs.declared.tables.Entry.{Entry}
 use Rattle.story_format.specs.declared.tables.Tables.{Tables}
 use Rattle.story_format.proofs.Naming.{named_within}
 use Rattle.story_format.proofs.RoomLemmas.{right_parts}
-use Rattle.story_format.proofs.RuleLemmas.{turn_parted}
+use Rattle.story_format.proofs.Turns.{turn_parted}
 use Rattle.story_format.proofs.StoryLemmas.{all_at, last_of_five, three}
 
 pub loaded_sound : (t : Tables) (judged : List Judged) → AreCodesOf t judged → AreSoundTogether judged

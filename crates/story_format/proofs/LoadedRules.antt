@@ -22,7 +22,8 @@ use Rattle.story_format.specs.declared.rule_entry.RuleBody.TheVariants.{Code, St
 use Rattle.story_format.specs.declared.rule_entry.RuleEntry.{RuleEntry}
 use Rattle.story_format.specs.declared.rule_tables.SceneEntry.{SceneEntry}
 use Rattle.story_format.specs.declared.tables.Tables.{Tables}
-use Rattle.story_format.proofs.RuleLemmas.{length_replicated, rule_counted, scene_counted, tests_counted, turn_parted, uses_counted}
+use Rattle.story_format.proofs.RuleLemmas.{length_replicated, rule_counted, scene_counted, tests_counted, uses_counted}
+use Rattle.story_format.proofs.Turns.{turn_parted}
 use Rattle.story_format.proofs.StoryLemmas.{behind_there}
 
 -- a code that is named, behind so many, has this use

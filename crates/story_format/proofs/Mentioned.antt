@@ -1,4 +1,4 @@
--- The strings that are mentioned of texts and rules are those that they say.
+-- The strings that are mentioned of texts and rules are those that these and scenes say.
 use Rattle.std.proofs.Common.{◌≡◌, ◌∙◌, ap, sym, refl, ℕ, List, [], ◌∷◌, ◌++◌, Option, None, Some}
 use Rattle.std.proofs.lemmas.Grind.{flat_map-append}
 use Rattle.std.proofs.lemmas.List.{append-nil}
@@ -9,6 +9,9 @@ use Rattle.object_words.proofs.Folds.{fold_both}
 use Rattle.play_meaning.specs.Meant.{parts_meant, piece_meant, pieces_meant, said_meant, text_meant}
 use Rattle.play_meaning.specs.Patterns.{rule_meant}
 use Rattle.play_meaning.specs.Rules.{Rule}
+use Rattle.play_meaning.specs.ScenesMeant.{scene_meant}
+use Rattle.play_meaning.specs.Scripts.{Scene}
+use Rattle.play_meaning.specs.TranslatedScripts.{in_list}
 use Rattle.play_meaning.specs.Translation.{strings_of_body, strings_of_text}
 use Rattle.play_meaning.specs.Trees as tree
 use Rattle.play_meaning.specs.Trees.{Condition}
@@ -17,8 +20,9 @@ use Rattle.play_meaning.specs.declared.tree.said.Piece.TheVariants as piece
 use Rattle.play_meaning.specs.declared.tree.said.Said.{Said}
 use Rattle.play_meaning.specs.declared.tree.said.Said.TheVariants as said
 use Rattle.play_meaning.specs.declared.tree.rule.MeantRule.{MeantRule}
+use Rattle.play_meaning.specs.declared.tree.scene.MeantScene.{MeantScene}
 use Rattle.play_meaning.specs.declared.tree.said.Text.{Text}
-use Rattle.code_table.specs.Origins.{Describes, origins_meant, origins_of_rule, strings_of_origin}
+use Rattle.code_table.specs.Origins.{Asks, Describes, origins_meant, origins_of_rule, origins_of_scene, strings_of_origin}
 use Rattle.story_format.specs.Making.{strings_said}
 use Rattle.story_format.specs.Mentioning.{part_strings, piece_strings, rule_strings, text_strings}
 
@@ -63,6 +67,19 @@ pub mentioned_on : (all a b c s t u v : List (List ℕ)) → s ≡ [] → t ≡ 
 mentioned_on all a b c s t u v none one two three is =
     three ∙ ap (λ x. fold mention x c) two ∙ sym (fold_both mention t b c) ∙ ap (fold mention t) (sym is) ∙ ap (λ x. fold mention x all) (one ∙ ap (λ x. fold mention x a) none) ∙ sym (fold_both mention [] a all)
 
-pub all_mentioned : (texts : List Text) (rules : List MeantRule) → strings_said (origins_meant texts rules) ≡ flat_map text_strings texts ++ flat_map rule_strings rules
-all_mentioned texts rules =
-    flat_map-append strings_of_origin (map Describes (map text_meant texts)) (flat_map origins_of_rule (map rule_meant rules)) ∙ (λ i. texts_mentioned texts i ++ rules_mentioned rules i)
+-- scenes say none
+asked_silent : (conditions : List Condition) → flat_map strings_of_origin (map Asks conditions) ≡ []
+asked_silent [] = refl
+asked_silent (condition ∷ conditions) = asked_silent conditions
+
+scenes_silent : (scenes : List Scene) → flat_map strings_of_origin (flat_map origins_of_scene scenes) ≡ []
+scenes_silent [] = refl
+scenes_silent (scene ∷ scenes) =
+    flat_map-append strings_of_origin (origins_of_scene scene) (flat_map origins_of_scene scenes) ∙ (λ i. asked_silent (in_list scene.begins ++ in_list scene.ends) i ++ scenes_silent scenes i)
+
+pub all_mentioned : (texts : List Text) (rules : List MeantRule) (scenes : List MeantScene) → strings_said (origins_meant texts rules scenes) ≡ flat_map text_strings texts ++ flat_map rule_strings rules
+all_mentioned texts rules scenes =
+    let asked = flat_map origins_of_scene (map scene_meant scenes) in
+    let told = flat_map origins_of_rule (map rule_meant rules) in
+    flat_map-append strings_of_origin (map Describes (map text_meant texts)) (told ++ asked)
+    ∙ (λ i. texts_mentioned texts i ++ (flat_map-append strings_of_origin told asked ∙ (λ j. rules_mentioned rules j ++ scenes_silent (map scene_meant scenes) j) ∙ append-nil (flat_map rule_strings rules)) i)

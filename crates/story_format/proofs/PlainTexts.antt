@@ -1,5 +1,5 @@
--- A story file says descriptions that say bytes alone.
-use Rattle.std.proofs.Common.{◌≡◌, ◌∙◌, ap, sym, refl, ℕ, suc, ◌+◌, ◌<◌, ◌≤◌, true, List, [], ◌∷◌, length, Option, Some, None, arith}
+-- A story file says descriptions that say bytes alone, where there is no rule and nothing begins or ends a scene.
+use Rattle.std.proofs.Common.{◌≡◌, ◌∙◌, ap, sym, refl, subst, Bool, ◌++◌, ℕ, suc, ◌+◌, ◌<◌, ◌≤◌, true, List, [], ◌∷◌, length, Option, Some, None, arith}
 use Rattle.std.specs.Prelude.{map}
 use Rattle.std.specs.List.{AllByRecursion, flat_map, list_all}
 use Rattle.std.proofs.lemmas.Bool.{lt-ltb, and_parts}
@@ -10,10 +10,11 @@ use Rattle.play_meaning.specs.TranslatedScripts.{emitted_in_turn}
 use Rattle.play_meaning.specs.Translation.{Emitted, seq, text_part}
 use Rattle.play_meaning.specs.declared.operand.Counts.{Counts}
 use Rattle.code_table.specs.Emitted.{AllFit, CanBeSaid}
-use Rattle.code_table.specs.Origins.{Origin, origins_of, part_of}
+use Rattle.code_table.specs.Origins.{Describes, Origin, origins_of, origins_of_scene, part_of}
 use Rattle.story_code.specs.Emitting.{can_say_all}
 use Rattle.story_format.specs.Codes.{counts_of, small}
-use Rattle.story_format.specs.Holding.{PlainTextsAreHeld, counts_in, is_short}
+use Rattle.story_format.specs.Contents.{origins_said}
+use Rattle.story_format.specs.Holding.{PlainTextsAreHeld, counts_in, idle_scene, is_short, plain_contents}
 use Rattle.story_format.specs.Making.{codes_in, strings_of, strings_said, tables_with, worded}
 use Rattle.story_format.proofs.EntryLemmas.{objects_back, objects_in}
 use Rattle.story_format.proofs.Fits.{few_strings}
@@ -24,7 +25,7 @@ use Rattle.story_format.proofs.Stories.{few_objects}
 -- ---- texts that say bytes
 
 abbrev Plain : List (List ℕ) → List Origin
-Plain xs = origins_of (map plain xs) []
+Plain xs = origins_of (map plain xs) [] []
 
 strings_plain : (xs : List (List ℕ)) → strings_said (Plain xs) ≡ xs
 strings_plain [] = refl
@@ -61,6 +62,16 @@ module _ (string : List ℕ → ℕ) where
         few = omega (arith, few, one_code first xs, ap length (none_tested first xs), length-append (map (λ e. e.code) (Emitted_from first xs)) (flat_map (λ e. e.tests) (Emitted_from first xs)));
       }
 
+-- ---- scenes that nothing begins or ends
+
+none_asked : (scenes : List Bool) → flat_map origins_of_scene (map idle_scene scenes) ≡ []
+none_asked [] = refl
+none_asked (recurs ∷ scenes) = none_asked scenes
+
+idle_recur : (scenes : List Bool) → map (λ scene. scene.recurs) (map idle_scene scenes) ≡ scenes
+idle_recur [] = refl
+idle_recur (recurs ∷ scenes) = ap (λ more. recurs ∷ more) (idle_recur scenes)
+
 -- ---- numbers
 
 number_small : (o : Option ℕ) → number_or_none o < 65536
@@ -90,8 +101,9 @@ unfolding tables_with counts_of
 plain_held t xs held few_actions nouns many short =
     let ws = worded t.objects in
     let texts = map plain xs in
-    let origins = Plain xs in
-    let said : strings_said origins ≡ xs = strings_plain xs in
+    let none : origins_said (plain_contents t xs) ≡ Plain xs = ap (λ asked. map Describes texts ++ asked) (none_asked t.declared.scenes) in
+    let origins = origins_said (plain_contents t xs) in
+    let said : strings_said origins ≡ xs = ap strings_said none ∙ strings_plain xs in
     let strings = strings_of ws origins in
     let le = few_objects t held in
     let back : codes_in (objects_in ws) ≡ codes_in t.objects = ap codes_in (objects_back 0 t.objects) in
@@ -100,9 +112,9 @@ plain_held t xs held few_actions nouns many short =
     let few : length strings < 65535 = omega (arith, few_strings ws origins held.words, ap length said, few_bytes, le) in
     let known : list_all (is_known strings) xs ≡ true = ap (list_all (is_known strings)) (sym said) ∙ said_known ws origins in
     record {
-      are_of = record { many = length-map xs plain ∙ many; few = omega arith; named = refl; few_actions = few_actions; first_nouns = nouns };
+      are_of = record { many = length-map xs plain ∙ many; few = omega arith; named = refl; scenes = idle_recur t.declared.scenes; few_actions = few_actions; first_nouns = nouns };
       short = ap (list_all is_short) said ∙ short;
       few = few;
-      fit = fit_plain (number_in strings) (counts_in t texts []) xs (all_within strings xs (small (length strings)) (omega (arith, few)) known few);
-      said = can_be_said (number_in strings) xs (named_small strings) few_bytes;
+      fit = subst (λ os. AllFit (counts_in t (plain_contents t xs)) (number_in strings) os) (sym none) (fit_plain (number_in strings) (counts_in t (plain_contents t xs)) xs (all_within strings xs (small (length strings)) (omega (arith, few)) known few));
+      said = subst (CanBeSaid (number_in strings)) (sym none) (can_be_said (number_in strings) xs (named_small strings) few_bytes);
     }

@@ -1,25 +1,25 @@
 -- The rules of a tale: their codes are named in turn, each for its use, and their tables are a story's.
-use Rattle.std.proofs.Common.{◌≡◌, ℕ, zero, suc, ◌+◌, ◌<◌, ◌≤◌, Bool, true, false, ◌||◌, ltb, leb, eqb, List, [], ◌∷◌, ◌++◌, length, map, Option, Some, None, refl, sym, ap, ◌∙◌, arith, inl, inr, length-append, append_nil}
+use Rattle.std.proofs.Common.{◌≡◌, ℕ, zero, suc, ◌+◌, ◌<◌, ◌≤◌, true, false, ltb, leb, eqb, List, [], ◌∷◌, ◌++◌, length, map, Option, Some, None, refl, sym, ap, ◌∙◌, arith, inl, inr, length-append}
 use Rattle.std.specs.Prelude.{min, replicate}
 use Rattle.std.specs.List.{flat_map, list_all}
-use Rattle.std.proofs.lemmas.Bool.{lt-ltb, le-leb, ne_eqb, eq-eqb, or_right, cases_Bool, and_from, and_parts}
+use Rattle.std.proofs.lemmas.Bool.{lt-ltb, le-leb, ne_eqb, eq-eqb, cases_Bool, and_from, and_parts}
 use Rattle.std.proofs.lemmas.List.{length-map, map-append}
 use Rattle.std.proofs.lemmas.List.Folds.{list_all-append}
 use Rattle.std.proofs.lemmas.Grind.{flat_map-append}
 use Rattle.world_meaning.specs.declared.declared.Declared.{Declared}
 use Rattle.play_meaning.specs.Rules.{Rule}
+use Rattle.play_meaning.specs.Scripts.{Scene}
 use Rattle.play_meaning.specs.StandardRules.{rules_of_closing, rules_of_dropping, rules_of_examining, rules_of_going, rules_of_inserting, rules_of_inventory, rules_of_looking, rules_of_opening, rules_of_putting, rules_of_switching, rules_of_taking, rules_of_wearing, standard_rules}
 use Rattle.play_meaning.specs.Trees.{Condition}
 use Rattle.play_meaning.specs.declared.operand.Counts.{Counts}
 use Rattle.play_meaning.specs.declared.operand.Use.{Use}
-use Rattle.play_meaning.specs.declared.operand.Use.TheVariants.{Test}
 use Rattle.code_table.specs.Origins.{Origin, origins_of_rule, use_for}
 use Rattle.story_format.specs.Checks.{codes_named}
 use Rattle.story_format.specs.Holding.{Named, has_first_noun, is_of}
-use Rattle.story_format.specs.Layout.{aspect_layout, body_layout, book_layout, kind_aspect_layout, rule_layout, rules_layout, scene_layout, side_layout}
+use Rattle.story_format.specs.Layout.{aspect_layout, body_layout, book_layout, kind_aspect_layout, rule_layout, rules_layout, side_layout}
 use Rattle.story_format.specs.Making.{Worded, described_in, entries_of}
-use Rattle.story_format.specs.RuleChecks.{are_right_books, are_right_rules, code_if, code_of_body, codes_in_rule, codes_in_rules, codes_in_scene, codes_in_scenes, codes_in_tables, is_number_or_none, is_right_body, is_right_rule, is_right_scene, lists_what_is_there, test_if, use_in_body, uses_in_rule, uses_in_rules, uses_in_scene, uses_in_scenes, uses_in_tables}
-use Rattle.story_format.specs.RuleMaking.{all_entries, book_count, condition_count, condition_number, entry_with, first_own_book, rule_count, rule_entries, rule_entry, rules_of, scene_entry, standard_entries, standard_entry, standard_from}
+use Rattle.story_format.specs.RuleChecks.{are_right_books, are_right_rules, code_if, code_of_body, codes_in_rule, codes_in_rules, codes_in_scene, codes_in_scenes, codes_in_tables, is_number_or_none, is_right_body, is_right_rule, lists_what_is_there, test_if, use_in_body, uses_in_rule, uses_in_rules, uses_in_scene, uses_in_scenes, uses_in_tables}
+use Rattle.story_format.specs.RuleMaking.{all_entries, book_count, codes_of_rules, condition_count, condition_number, entry_with, first_own_book, rule_count, rule_entries, rule_entry, rules_of, scene_entries, standard_entries, standard_entry, standard_from}
 use Rattle.story_format.specs.Soundness.{are_in_turn}
 use Rattle.story_format.specs.declared.rule_entry.RuleBody.{RuleBody}
 use Rattle.story_format.specs.declared.rule_entry.RuleBody.TheVariants.{Code, Standard, Unknown}
@@ -30,26 +30,44 @@ use Rattle.story_format.specs.declared.rule_tables.SceneEntry.{SceneEntry}
 use Rattle.story_format.proofs.AboutRules.{IsSmall, aspect_fits, aspect_right, named_of, named_parts, number_fits, number_right}
 use Rattle.story_format.proofs.ActionLemmas.{action_count, actions_fit, actions_right}
 use Rattle.story_format.proofs.OrderLemmas.{codes_counted, codes_in_turn}
+use Rattle.story_format.proofs.SceneLemmas.{condition_fits, condition_right, each_scene_right, length_scenes, origins_in_scenes, scenes_fit, scenes_in_turn, scenes_used}
+use Rattle.story_format.proofs.Turns.{turn_joined}
 use Rattle.story_format.proofs.StandardRuleRows.{all_bare, each_of, no_codes, no_uses, standard_count}
 
--- ---- numbers in turn
+-- ---- each code that rules and scenes name has its use
 
-pub turn_joined : (ns ms : List ℕ) (next : ℕ) → are_in_turn next ns ≡ true → are_in_turn (next + length ns) ms ≡ true → are_in_turn next (ns ++ ms) ≡ true
-unfolding are_in_turn
-turn_joined [] ms next h k = let same : next ≡ next + 0 = omega arith in ap (λ n. are_in_turn n ms) same ∙ k
-turn_joined (n ∷ ns) ms next h k =
-    let t = and_parts (eqb n next) (are_in_turn (next + 1) ns) h in
-    let there : (next + 1) + length ns ≡ next + suc (length ns) = omega arith in
-    and_from (eqb n next) (are_in_turn (next + 1) (ns ++ ms)) t.0 (turn_joined ns ms (next + 1) t.1 (ap (λ m. are_in_turn m ms) there ∙ k))
+pub tests_counted : (n : ℕ) → length (test_if n) ≡ length (code_if n)
+tests_counted n =
+    elim (cases_Bool (eqb n 65535)) [
+      | inl none ↦ rw none refl
+      | inr some ↦ rw some refl
+    ]
 
-pub turn_parted : (ns ms : List ℕ) (next : ℕ) → are_in_turn next (ns ++ ms) ≡ true → (are_in_turn next ns ≡ true) × (are_in_turn (next + length ns) ms ≡ true)
-unfolding are_in_turn
-turn_parted [] ms next h = let same : next + 0 ≡ next = omega arith in (refl, ap (λ n. are_in_turn n ms) same ∙ h)
-turn_parted (n ∷ ns) ms next h =
-    let t = and_parts (eqb n next) (are_in_turn (next + 1) (ns ++ ms)) h in
-    let later = turn_parted ns ms (next + 1) t.1 in
-    let there : next + suc (length ns) ≡ (next + 1) + length ns = omega arith in
-    (and_from (eqb n next) (are_in_turn (next + 1) ns) t.0 later.0, ap (λ m. are_in_turn m ms) there ∙ later.1)
+body_counted : (b : RuleBody) → length (use_in_body b) ≡ length (code_of_body b)
+body_counted (Code n) = refl
+body_counted (Standard n) = refl
+body_counted (Unknown n) = refl
+
+pub rule_counted : (r : RuleEntry) → length (uses_in_rule r) ≡ length (codes_in_rule r)
+rule_counted r =
+    length-append (test_if r.condition) (use_in_body r.body) ∙ (λ i. tests_counted r.condition i + body_counted r.body i) ∙ sym (length-append (code_if r.condition) (code_of_body r.body))
+
+pub scene_counted : (scene : SceneEntry) → length (uses_in_scene scene) ≡ length (codes_in_scene scene)
+scene_counted scene =
+    length-append (test_if scene.begins) (test_if scene.ends) ∙ (λ i. tests_counted scene.begins i + tests_counted scene.ends i) ∙ sym (length-append (code_if scene.begins) (code_if scene.ends))
+
+all_counted : {X : Type 0} (codes : X → List ℕ) (uses : X → List Use) → ((x : X) → length (uses x) ≡ length (codes x)) → (xs : List X) → length (flat_map uses xs) ≡ length (flat_map codes xs)
+all_counted codes uses counted [] = refl
+all_counted codes uses counted (x ∷ xs) =
+    length-append (uses x) (flat_map uses xs) ∙ (λ i. counted x i + all_counted codes uses counted xs i) ∙ sym (length-append (codes x) (flat_map codes xs))
+
+pub uses_counted : (rules : List RuleEntry) → length (uses_in_rules rules) ≡ length (codes_in_rules rules)
+uses_counted rules = all_counted codes_in_rule uses_in_rule rule_counted rules
+
+pub tables_counted : (r : RuleTables) → length (uses_in_tables r) ≡ length (codes_in_tables r)
+tables_counted r =
+    length-append (uses_in_rules r.rules) (uses_in_scenes r.scenes) ∙ (λ i. uses_counted r.rules i + all_counted codes_in_scene uses_in_scene scene_counted r.scenes i)
+    ∙ sym (length-append (codes_in_rules r.rules) (codes_in_scenes r.scenes))
 
 -- ---- the codes of a rule
 
@@ -123,80 +141,47 @@ codes_in_all rules next = flat_map-append codes_in_rule standard_entries (rule_e
 uses_in_all : (rules : List Rule) (next : ℕ) → uses_in_rules (all_entries next rules) ≡ uses_in_rules (rule_entries next rules)
 uses_in_all rules next = flat_map-append uses_in_rule standard_entries (rule_entries next rules) ∙ ap (λ uses. uses ++ uses_in_rules (rule_entries next rules)) no_uses
 
--- nor do scenes that nothing begins or ends
+-- the codes of the author's rules, and behind them those of scenes
 
-no_tests : (scenes : List Bool) → codes_in_scenes (map scene_entry scenes) ≡ []
-no_tests [] = refl
-no_tests (recurs ∷ scenes) = no_tests scenes
+pub codes_counted_of : (rules : List Rule) → codes_of_rules rules ≡ length (origins_in rules)
+codes_counted_of [] = refl
+codes_counted_of (rule ∷ rules) = ap (λ n. rule_count rule + n) (codes_counted_of rules) ∙ sym (counted_more rule rules)
 
-no_test_uses : (scenes : List Bool) → uses_in_scenes (map scene_entry scenes) ≡ []
-no_test_uses [] = refl
-no_test_uses (recurs ∷ scenes) = no_test_uses scenes
+abbrev behind : ℕ → List Rule → ℕ
+behind next rules = next + codes_of_rules rules
 
-pub codes_in_made : (d : Declared) (books : List Book) (rules : List Rule) (next : ℕ) → codes_in_tables (rules_of d books next rules) ≡ codes_in_rules (rule_entries next rules)
+pub codes_in_made : (d : Declared) (books : List Book) (rules : List Rule) (scenes : List Scene) (next : ℕ)
+    → codes_in_tables (rules_of d books next rules scenes) ≡ codes_in_rules (rule_entries next rules) ++ codes_in_scenes (scene_entries (behind next rules) scenes)
 unfolding rules_of
-codes_in_made d books rules next =
-    ap (λ tests. codes_in_rules (all_entries next rules) ++ tests) (no_tests d.scenes) ∙ append_nil (codes_in_rules (all_entries next rules)) ∙ codes_in_all rules next
+codes_in_made d books rules scenes next = ap (λ codes. codes ++ codes_in_scenes (scene_entries (behind next rules) scenes)) (codes_in_all rules next)
 
-pub uses_in_made : (d : Declared) (books : List Book) (rules : List Rule) (next : ℕ) → uses_in_tables (rules_of d books next rules) ≡ uses_in_rules (rule_entries next rules)
+pub uses_in_made : (d : Declared) (books : List Book) (rules : List Rule) (scenes : List Scene) (next : ℕ) → next + (length (origins_in rules) + length (origins_in_scenes scenes)) ≤ 65535
+    → uses_in_tables (rules_of d books next rules scenes) ≡ map use_for (origins_in rules) ++ map use_for (origins_in_scenes scenes)
 unfolding rules_of
-uses_in_made d books rules next =
-    ap (λ uses. uses_in_rules (all_entries next rules) ++ uses) (no_test_uses d.scenes) ∙ append_nil (uses_in_rules (all_entries next rules)) ∙ uses_in_all rules next
+uses_in_made d books rules scenes next le =
+    let there = codes_counted_of rules in
+    λ i. (uses_in_all rules next ∙ rules_used rules next (omega (arith, le))) i ++ scenes_used scenes (behind next rules) (omega (arith, le, there)) i
 
--- the codes that the entries of objects and of the author's rules name
-abbrev pub heads_by : List (List ℕ) → List Worded → List Rule → List ℕ
-heads_by strings ws rules = codes_named (entries_of strings 0 ws) ++ codes_in_rules (rule_entries (described_in ws) rules)
+-- the codes that the entries of objects, of the author's rules and of scenes name
+abbrev pub heads_by : List (List ℕ) → List Worded → List Rule → List Scene → List ℕ
+heads_by strings ws rules scenes = codes_named (entries_of strings 0 ws) ++ (codes_in_rules (rule_entries (described_in ws) rules) ++ codes_in_scenes (scene_entries (behind (described_in ws) rules) scenes))
 
-pub heads_in_turn : (strings : List (List ℕ)) (ws : List Worded) (rules : List Rule) → length ws ≤ 1000 → described_in ws + length (origins_in rules) ≤ 65535 → are_in_turn 0 (heads_by strings ws rules) ≡ true
-heads_in_turn strings ws rules few le =
+codes_long : (rules : List Rule) (next : ℕ) → next + length (origins_in rules) ≤ 65535 → length (codes_in_rules (rule_entries next rules)) ≡ length (origins_in rules)
+codes_long rules next le =
+    sym (uses_counted (rule_entries next rules)) ∙ ap length (rules_used rules next le) ∙ length-map (origins_in rules) use_for
+
+pub heads_in_turn : (strings : List (List ℕ)) (ws : List Worded) (rules : List Rule) (scenes : List Scene) → length ws ≤ 1000 → described_in ws + (length (origins_in rules) + length (origins_in_scenes scenes)) ≤ 65535 → are_in_turn 0 (heads_by strings ws rules scenes) ≡ true
+heads_in_turn strings ws rules scenes few le =
     let described = codes_counted strings ws 0 (omega (arith, few)) in
     let there : 0 + length (codes_named (entries_of strings 0 ws)) ≡ described_in ws = omega (arith, described) in
-    turn_joined (codes_named (entries_of strings 0 ws)) (codes_in_rules (rule_entries (described_in ws) rules)) 0 (codes_in_turn strings ws 0 (omega (arith, few)))
-    (ap (λ n. are_in_turn n (codes_in_rules (rule_entries (described_in ws) rules))) there ∙ rules_in_turn rules (described_in ws) le)
-
--- ---- each code that rules and scenes name has its use
-
-pub tests_counted : (n : ℕ) → length (test_if n) ≡ length (code_if n)
-tests_counted n =
-    elim (cases_Bool (eqb n 65535)) [
-      | inl none ↦ rw none refl
-      | inr some ↦ rw some refl
-    ]
-
-body_counted : (b : RuleBody) → length (use_in_body b) ≡ length (code_of_body b)
-body_counted (Code n) = refl
-body_counted (Standard n) = refl
-body_counted (Unknown n) = refl
-
-pub rule_counted : (r : RuleEntry) → length (uses_in_rule r) ≡ length (codes_in_rule r)
-rule_counted r =
-    length-append (test_if r.condition) (use_in_body r.body) ∙ (λ i. tests_counted r.condition i + body_counted r.body i) ∙ sym (length-append (code_if r.condition) (code_of_body r.body))
-
-pub scene_counted : (scene : SceneEntry) → length (uses_in_scene scene) ≡ length (codes_in_scene scene)
-scene_counted scene =
-    length-append (test_if scene.begins) (test_if scene.ends) ∙ (λ i. tests_counted scene.begins i + tests_counted scene.ends i) ∙ sym (length-append (code_if scene.begins) (code_if scene.ends))
-
-all_counted : {X : Type 0} (codes : X → List ℕ) (uses : X → List Use) → ((x : X) → length (uses x) ≡ length (codes x)) → (xs : List X) → length (flat_map uses xs) ≡ length (flat_map codes xs)
-all_counted codes uses counted [] = refl
-all_counted codes uses counted (x ∷ xs) =
-    length-append (uses x) (flat_map uses xs) ∙ (λ i. counted x i + all_counted codes uses counted xs i) ∙ sym (length-append (codes x) (flat_map codes xs))
-
-pub uses_counted : (rules : List RuleEntry) → length (uses_in_rules rules) ≡ length (codes_in_rules rules)
-uses_counted rules = all_counted codes_in_rule uses_in_rule rule_counted rules
-
-pub tables_counted : (r : RuleTables) → length (uses_in_tables r) ≡ length (codes_in_tables r)
-tables_counted r =
-    length-append (uses_in_rules r.rules) (uses_in_scenes r.scenes) ∙ (λ i. uses_counted r.rules i + all_counted codes_in_scene uses_in_scene scene_counted r.scenes i)
-    ∙ sym (length-append (codes_in_rules r.rules) (codes_in_scenes r.scenes))
+    let rule_codes = codes_in_rules (rule_entries (described_in ws) rules) in
+    let scene_codes = codes_in_scenes (scene_entries (behind (described_in ws) rules) scenes) in
+    let long : described_in ws + length rule_codes ≡ behind (described_in ws) rules = omega (arith, codes_long rules (described_in ws) (omega (arith, le)), codes_counted_of rules) in
+    let own = scenes_in_turn scenes (behind (described_in ws) rules) (omega (arith, le, codes_counted_of rules)) in
+    let more = turn_joined rule_codes scene_codes (described_in ws) (rules_in_turn rules (described_in ws) (omega (arith, le))) (ap (λ n. are_in_turn n scene_codes) long ∙ own) in
+    turn_joined (codes_named (entries_of strings 0 ws)) (rule_codes ++ scene_codes) 0 (codes_in_turn strings ws 0 (omega (arith, few))) (ap (λ n. are_in_turn n (rule_codes ++ scene_codes)) there ∙ more)
 
 -- ---- a rule's entry is right
-
-condition_right : (next count : ℕ) (c : Option Condition) → next + condition_count c < count → count ≤ 65535 → ((eqb (condition_number next c) 65535) || ltb (condition_number next c) count) ≡ true
-condition_right next count None lt le = refl
-condition_right next count (Some condition) lt le =
-    let first : min next 65535 ≡ next = omega (arith, lt, le) in
-    let there : ltb next count ≡ true = lt-ltb _ _ (omega (arith, lt)) in
-    rw first (or_right (eqb next 65535) (ltb next count) there)
 
 entry_right : (z : Counts) (rule : Rule) (condition : ℕ) (body : RuleBody) → is_of (named_of z) rule ≡ true → is_number_or_none 65535 z.codes condition ≡ true → is_right_body z.codes body ≡ true → is_right_rule z (entry_with rule condition body) ≡ true
 unfolding is_right_rule
@@ -218,7 +203,7 @@ unfolding is_right_body
 rule_right z next rule is lt le =
     let own : min (next + condition_count rule.condition) 65535 ≡ next + condition_count rule.condition = omega (arith, lt, le) in
     let there : is_right_body z.codes (Code (min (next + condition_count rule.condition) 65535)) ≡ true = rw own (lt-ltb _ _ lt) in
-    entry_right z rule (condition_number next rule.condition) (Code (min (next + condition_count rule.condition) 65535)) is (condition_right next z.codes rule.condition lt le) there
+    entry_right z rule (condition_number next rule.condition) (Code (min (next + condition_count rule.condition) 65535)) is (condition_right next z.codes rule.condition (omega (arith, lt)) le) there
 
 pub rules_right : (z : Counts) (rules : List Rule) (next : ℕ) → list_all (is_of (named_of z)) rules ≡ true → next + length (origins_in rules) ≤ z.codes → z.codes ≤ 65535 → list_all (is_right_rule z) (rule_entries next rules) ≡ true
 unfolding rule_entries
@@ -248,7 +233,7 @@ pub length_standard : length standard_entries ≡ 61
 unfolding standard_entries standard_rules rules_of_looking rules_of_examining rules_of_taking rules_of_dropping rules_of_putting rules_of_inserting rules_of_opening rules_of_closing rules_of_going rules_of_wearing rules_of_inventory rules_of_switching
 length_standard = refl
 
--- ---- books and scenes
+-- ---- books
 
 pub length_replicated : {A : Type 0} (a : A) (n : ℕ) → length (replicate n a) ≡ n
 length_replicated a zero = refl
@@ -258,15 +243,6 @@ books_right : (scenes own rules : ℕ) (books : List Book) → own ≤ 100 → l
 unfolding are_right_books
 books_right scenes own rules books le count there =
     rw (le-leb (first_own_book scenes) (length books) (omega (arith, count)), le-leb (length books) (first_own_book scenes + 100) (omega (arith, count, le))) there
-
-scene_right : (z : Counts) (recurs : Bool) → is_right_scene z (scene_entry recurs) ≡ true
-unfolding is_right_scene
-scene_right z true = refl
-scene_right z false = refl
-
-each_scene_right : (z : Counts) (scenes : List Bool) → list_all (is_right_scene z) (map scene_entry scenes) ≡ true
-each_scene_right z [] = refl
-each_scene_right z (recurs ∷ scenes) = and_from (is_right_scene z (scene_entry recurs)) (list_all (is_right_scene z) (map scene_entry scenes)) (scene_right z recurs) (each_scene_right z scenes)
 
 pub length_entries : (rules : List Rule) (next : ℕ) → length (rule_entries next rules) ≡ length rules
 unfolding rule_entries
@@ -288,23 +264,21 @@ pub record AreRightBooks (d : Declared) (books : List Book) (count : ℕ) : Type
   pub fit : list_all book_layout.format.fits books ≡ true
 
 -- tables 8 to 12 are right, where there are so many codes and these books
-pub rule_tables_right : (d : Declared) (books : List Book) (z : Counts) (rules : List Rule) (next : ℕ) → length d.scenes ≤ 50 → d.rulebooks ≤ 100 → length rules ≤ 1939 → AreRightBooks d books (61 + length rules) → length d.actions ≤ 184 → list_all has_first_noun d.actions ≡ true → 16 ≤ z.actions → 8 ≤ z.books
-    → list_all (is_of (named_of z)) rules ≡ true → next + length (origins_in rules) ≤ z.codes → z.codes ≤ 65535 → are_right_rules z (rules_of d books next rules) ≡ true
+pub rule_tables_right : (d : Declared) (books : List Book) (z : Counts) (rules : List Rule) (scenes : List Scene) (next : ℕ) → length scenes ≡ length d.scenes → length d.scenes ≤ 50 → d.rulebooks ≤ 100 → length rules ≤ 1939 → AreRightBooks d books (61 + length rules) → length d.actions ≤ 184 → list_all has_first_noun d.actions ≡ true → 16 ≤ z.actions → 8 ≤ z.books
+    → list_all (is_of (named_of z)) rules ≡ true → next + (length (origins_in rules) + length (origins_in_scenes scenes)) ≤ z.codes → z.codes ≤ 65535 → are_right_rules z (rules_of d books next rules scenes) ≡ true
 unfolding are_right_rules rules_of
-rule_tables_right d books z rules next few_scenes few_own few known few_actions nouns actions built_in named le codes =
-    let count : length (map scene_entry d.scenes) ≡ length d.scenes = length-map d.scenes scene_entry in
-    let scenes : leb (length (map scene_entry d.scenes)) 50 ≡ true = le-leb _ _ (omega (arith, count, few_scenes)) in
+rule_tables_right d books z rules scenes next same few_scenes few_own few known few_actions nouns actions built_in named le codes =
+    let entries = scene_entries (behind next rules) scenes in
+    let count : length entries ≡ length d.scenes = length_scenes scenes (behind next rules) ∙ same in
+    let scene_few : leb (length entries) 50 ≡ true = le-leb _ _ (omega (arith, count, few_scenes)) in
+    let scenes_so = each_scene_right z scenes (behind next rules) (omega (arith, le, codes_counted_of rules)) codes in
     let many = length_all rules next in
-    let own_books : are_right_books (length (map scene_entry d.scenes)) (length (all_entries next rules)) books ≡ true =
+    let own_books : are_right_books (length entries) (length (all_entries next rules)) books ≡ true =
     (λ i. are_right_books (count i) (many i) books) ∙ books_right (length d.scenes) d.rulebooks (61 + length rules) books few_own known.count_is known.there in
     let few_entries : leb (length (all_entries next rules)) 2000 ≡ true = le-leb _ _ (omega (arith, many, few)) in
-    rw (scenes, each_scene_right z d.scenes, own_books, actions_right d.actions few_actions nouns, few_entries) (all_right z rules next actions built_in named le codes)
+    rw (scene_few, scenes_so, own_books, actions_right d.actions few_actions nouns, few_entries) (all_right z rules next actions built_in named (omega (arith, le)) codes)
 
 -- ---- there is room for each in its bytes
-
-condition_fits : (next : ℕ) (c : Option Condition) → ltb (condition_number next c) 65536 ≡ true
-condition_fits next None = refl
-condition_fits next (Some condition) = lt-ltb _ _ (omega arith)
 
 rule_fits : (z : Named) (next : ℕ) (rule : Rule) → IsSmall z → is_of z rule ≡ true → rule_layout.format.fits (rule_entry next rule) ≡ true
 unfolding rule_layout body_layout
@@ -329,15 +303,6 @@ rules_fit z (rule ∷ rules) next small named =
     let t = and_parts (is_of z rule) (list_all (is_of z) rules) named in
     and_from (rule_layout.format.fits (rule_entry next rule)) (list_all rule_layout.format.fits (rule_entries (next + rule_count rule) rules)) (rule_fits z next rule small t.0) (rules_fit z rules (next + rule_count rule) small t.1)
 
-scene_fits : (recurs : Bool) → scene_layout.format.fits (scene_entry recurs) ≡ true
-unfolding scene_layout
-scene_fits true = refl
-scene_fits false = refl
-
-scenes_fit : (scenes : List Bool) → list_all scene_layout.format.fits (map scene_entry scenes) ≡ true
-scenes_fit [] = refl
-scenes_fit (recurs ∷ scenes) = and_from (scene_layout.format.fits (scene_entry recurs)) (list_all scene_layout.format.fits (map scene_entry scenes)) (scene_fits recurs) (scenes_fit scenes)
-
 standard_fit : list_all rule_layout.format.fits standard_entries ≡ true
 unfolding rule_layout body_layout aspect_layout kind_aspect_layout side_layout standard_entries standard_rules rules_of_looking rules_of_examining rules_of_taking rules_of_dropping rules_of_putting rules_of_inserting rules_of_opening rules_of_closing rules_of_going rules_of_wearing rules_of_inventory rules_of_switching
 standard_fit = refl
@@ -347,11 +312,11 @@ all_fit z rules next small named =
     list_all-append rule_layout.format.fits standard_entries (rule_entries next rules)
     ∙ and_from (list_all rule_layout.format.fits standard_entries) (list_all rule_layout.format.fits (rule_entries next rules)) standard_fit (rules_fit z rules next small named)
 
-pub rule_tables_fit : (d : Declared) (books : List Book) (z : Named) (rules : List Rule) (next : ℕ) → length d.scenes ≤ 50 → d.rulebooks ≤ 100 → length rules ≤ 1939 → AreRightBooks d books (61 + length rules) → length d.actions ≤ 184 → IsSmall z
-    → list_all (is_of z) rules ≡ true → rules_layout.format.fits (rules_of d books next rules) ≡ true
+pub rule_tables_fit : (d : Declared) (books : List Book) (z : Named) (rules : List Rule) (scenes : List Scene) (next : ℕ) → length scenes ≡ length d.scenes → length d.scenes ≤ 50 → d.rulebooks ≤ 100 → length rules ≤ 1939 → AreRightBooks d books (61 + length rules) → length d.actions ≤ 184 → IsSmall z
+    → list_all (is_of z) rules ≡ true → rules_layout.format.fits (rules_of d books next rules scenes) ≡ true
 unfolding rules_layout rules_of
-rule_tables_fit d books z rules next few_scenes few_own few known few_actions small named =
-    let scene_count : ltb (length (map scene_entry d.scenes)) 65536 ≡ true = lt-ltb _ _ (omega (arith, length-map d.scenes scene_entry, few_scenes)) in
+rule_tables_fit d books z rules scenes next same few_scenes few_own few known few_actions small named =
+    let scene_few : ltb (length (scene_entries (behind next rules) scenes)) 65536 ≡ true = lt-ltb _ _ (omega (arith, length_scenes scenes (behind next rules), same, few_scenes)) in
     let all : ltb (length books) 65536 ≡ true = lt-ltb _ _ (omega (arith, known.count_is, few_scenes, few_own)) in
     let rule_few : ltb (length (all_entries next rules)) 65536 ≡ true = lt-ltb _ _ (omega (arith, length_all rules next, few)) in
-    rw (action_count d.actions few_actions, actions_fit d.actions, rule_few, all_fit z rules next small named, all, known.fit, scene_count) (scenes_fit d.scenes)
+    rw (action_count d.actions few_actions, actions_fit d.actions, rule_few, all_fit z rules next small named, all, known.fit, scene_few) (scenes_fit scenes (behind next rules))

@@ -1,4 +1,4 @@
--- The codes of texts and rules that bytes can say are sound, and each string is named.
+-- The codes of texts, rules and scenes that bytes can say are sound, and each string is named.
 use Rattle.std.proofs.Common.{◌≡◌, ℕ, suc, ◌+◌, ◌<◌, ◌≤◌, true, ◌&&◌, nat_lt, List, [], ◌∷◌, ◌++◌, length, map, refl, sym, subst, ap, ◌∙◌, arith, length-append}
 use Rattle.std.specs.Prelude.{replicate}
 use Rattle.std.specs.List.{AllByRecursion, flat_map, list_all}
@@ -11,6 +11,7 @@ use Rattle.play_meaning.specs.Instructions.{sizes}
 use Rattle.play_meaning.specs.TranslatedScripts.{emitted_in_turn}
 use Rattle.play_meaning.specs.Translation.{Emitted}
 use Rattle.play_meaning.specs.Rules.{Rule}
+use Rattle.play_meaning.specs.Scripts.{Scene}
 use Rattle.play_meaning.specs.Trees.{Text}
 use Rattle.code_table.specs.Origins.{Describes, Origin, origins_of, part_of, use_for}
 use Rattle.play_meaning.specs.declared.instruction.Instruction.{Instruction}
@@ -34,7 +35,8 @@ use Rattle.story_format.specs.RuleChecks.{uses_in_tables}
 use Rattle.story_format.specs.RuleMaking.{rules_of}
 use Rattle.story_format.specs.declared.rule_tables.Book.{Book}
 use Rattle.story_format.proofs.OrderLemmas.{codes_counted, numbers_named, strings_all_named}
-use Rattle.story_format.proofs.RuleLemmas.{codes_in_made, heads_in_turn, origins_in, rules_used, uses_in_made}
+use Rattle.story_format.proofs.RuleLemmas.{codes_in_made, heads_in_turn, origins_in, uses_in_made}
+use Rattle.story_format.proofs.SceneLemmas.{origins_in_scenes}
 
 -- ---- bytes can say each code
 
@@ -101,38 +103,46 @@ described_used : (texts : List Text) → map use_for (map Describes texts) ≡ r
 described_used [] = refl
 described_used (text ∷ texts) = ap (λ uses. Describing ∷ uses) (described_used texts)
 
-origins_used : (texts : List Text) (rules : List Rule) → map use_for (origins_of texts rules) ≡ replicate (length texts) Describing ++ map use_for (origins_in rules)
-origins_used texts rules = map-append use_for (map Describes texts) (origins_in rules) ∙ ap (λ uses. uses ++ map use_for (origins_in rules)) (described_used texts)
+origins_used : (texts : List Text) (rules : List Rule) (scenes : List Scene)
+    → map use_for (origins_of texts rules scenes) ≡ replicate (length texts) Describing ++ (map use_for (origins_in rules) ++ map use_for (origins_in_scenes scenes))
+origins_used texts rules scenes =
+    map-append use_for (map Describes texts) (origins_in rules ++ origins_in_scenes scenes)
+    ∙ (λ i. described_used texts i ++ map-append use_for (origins_in rules) (origins_in_scenes scenes) i)
 
-pub origins_counted : (texts : List Text) (rules : List Rule) → length (origins_of texts rules) ≡ length texts + length (origins_in rules)
-origins_counted texts rules = length-append (map Describes texts) (origins_in rules) ∙ ap (λ n. n + length (origins_in rules)) (length-map texts Describes)
+pub origins_counted : (texts : List Text) (rules : List Rule) (scenes : List Scene) → length (origins_of texts rules scenes) ≡ length texts + (length (origins_in rules) + length (origins_in_scenes scenes))
+origins_counted texts rules scenes =
+    length-append (map Describes texts) (origins_in rules ++ origins_in_scenes scenes)
+    ∙ (λ i. length-map texts Describes i + length-append (origins_in rules) (origins_in_scenes scenes) i)
 
 -- ---- the codes of a tale
 
-pub tables_sound : (d : Declared) (books : List Book) (ws : List Worded) (texts : List Text) (rules : List Rule) → length (strings_of ws (origins_of texts rules)) < 65535 → length ws ≤ 1000 → length texts ≡ described_in ws
-    → AllFit (counts_of (tables_with d books ws rules (origins_of texts rules))) (number_in (strings_of ws (origins_of texts rules))) (origins_of texts rules) → CanBeSaid (number_in (strings_of ws (origins_of texts rules))) (origins_of texts rules)
-    → AreSound (tables_with d books ws rules (origins_of texts rules))
-unfolding strings_read tables_with counts_of rules_of
-tables_sound d books ws texts rules few short many fit said =
-    let origins = origins_of texts rules in
-    let strings = strings_of ws origins in
-    let bytes = code_bytes strings origins in
-    let z = counts_of (tables_with d books ws rules origins) in
-    let found = origins_table z (number_in strings) origins fit said in
-    let count : length bytes ≡ small (length bytes) = omega (arith, bytes_few strings origins said) in
-    let all = origins_counted texts rules in
-    let room : described_in ws + length (origins_in rules) ≤ 65535 = omega (arith, all, many, bytes_enough strings origins, bytes_few strings origins said) in
-    let described : length texts ≡ length (codes_named (entries_of strings 0 ws)) = many ∙ sym (codes_counted strings ws 0 (omega (arith, short))) in
-    let uses : map use_for origins ≡ replicate (length (codes_named (entries_of strings 0 ws))) Describing ++ uses_in_tables (rules_of d books (described_in ws) rules) =
-    origins_used texts rules ∙ (λ i. replicate (described i) Describing ++ sym (uses_in_made d books rules (described_in ws) ∙ rules_used rules (described_in ws) room) i) in
-    record {
-      judged = found.0;
-      table = subst (λ us. IsTableOf (record z { codes = small (length bytes) }) us bytes found.0) uses (subst (λ n. IsTableOf (record z { codes = n }) (map use_for origins) bytes found.0) count found.1);
-      in_turn = ap (λ codes. are_in_turn 0 (codes_named (entries_of strings 0 ws) ++ codes)) (codes_in_made d books rules (described_in ws)) ∙ heads_in_turn strings ws rules short room;
-      named =
-          ap (λ codes. counted_on 0 (flat_map strings_named (entries_of strings 0 ws) ++ strings_in_codes codes)) (bytes_told strings origins said)
-          ∙ ap (counted_on 0) (
-          (λ i. numbers_named strings 0 ws i ++ said_in_order (number_in strings) origins i)
-          ∙ sym (map-append (number_in strings) (flat_map entry_strings ws) (strings_said origins)))
-          ∙ strings_all_named ws origins few;
-    }
+module _ (d : Declared) (books : List Book) (ws : List Worded) (texts : List Text) (rules : List Rule) (scenes : List Scene) where
+  abbrev os : List Origin
+  os = origins_of texts rules scenes
+
+  pub tables_sound : length (strings_of ws os) < 65535 → length ws ≤ 1000 → length texts ≡ described_in ws
+      → AllFit (counts_of (tables_with d books ws rules scenes os)) (number_in (strings_of ws os)) os → CanBeSaid (number_in (strings_of ws os)) os
+      → AreSound (tables_with d books ws rules scenes os)
+  unfolding strings_read tables_with counts_of
+  tables_sound few short many fit said =
+      let strings = strings_of ws os in
+      let bytes = code_bytes strings os in
+      let z = counts_of (tables_with d books ws rules scenes os) in
+      let found = origins_table z (number_in strings) os fit said in
+      let count : length bytes ≡ small (length bytes) = omega (arith, bytes_few strings os said) in
+      let all = origins_counted texts rules scenes in
+      let room : described_in ws + (length (origins_in rules) + length (origins_in_scenes scenes)) ≤ 65535 = omega (arith, all, many, bytes_enough strings os, bytes_few strings os said) in
+      let described : length texts ≡ length (codes_named (entries_of strings 0 ws)) = many ∙ sym (codes_counted strings ws 0 (omega (arith, short))) in
+      let uses : map use_for os ≡ replicate (length (codes_named (entries_of strings 0 ws))) Describing ++ uses_in_tables (rules_of d books (described_in ws) rules scenes) =
+      origins_used texts rules scenes ∙ (λ i. replicate (described i) Describing ++ sym (uses_in_made d books rules scenes (described_in ws) room) i) in
+      record {
+        judged = found.0;
+        table = subst (λ us. IsTableOf (record z { codes = small (length bytes) }) us bytes found.0) uses (subst (λ n. IsTableOf (record z { codes = n }) (map use_for os) bytes found.0) count found.1);
+        in_turn = ap (λ codes. are_in_turn 0 (codes_named (entries_of strings 0 ws) ++ codes)) (codes_in_made d books rules scenes (described_in ws)) ∙ heads_in_turn strings ws rules scenes short room;
+        named =
+            ap (λ codes. counted_on 0 (flat_map strings_named (entries_of strings 0 ws) ++ strings_in_codes codes)) (bytes_told strings os said)
+            ∙ ap (counted_on 0) (
+            (λ i. numbers_named strings 0 ws i ++ said_in_order (number_in strings) os i)
+            ∙ sym (map-append (number_in strings) (flat_map entry_strings ws) (strings_said os)))
+            ∙ strings_all_named ws os few;
+      }

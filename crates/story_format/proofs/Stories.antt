@@ -2,22 +2,22 @@
 use Rattle.std.proofs.Common.{◌≡◌, ◌+◌, ◌≤◌, true, List, length, sym, ap, ◌∙◌, arith}
 use Rattle.world_meaning.specs.WellMade.{sorts_in}
 use Rattle.world_meaning.specs.declared.tale.Tale.{Tale}
+use Rattle.std.proofs.lemmas.List.{length-map}
 use Rattle.object_words.proofs.StringLemmas.{length_mapped}
 use Rattle.play_meaning.specs.Rules.{Rule}
-use Rattle.play_meaning.specs.Trees.{Text}
-use Rattle.object_words.specs.Mentions.{number_in}
-use Rattle.code_table.specs.Origins.{origins_of}
+use Rattle.play_meaning.specs.Scripts.{Scene}
 use Rattle.rule_order.specs.declared.listing.ListingSentence.{ListingSentence}
-use Rattle.story_format.specs.Holding.{AreHeld, IsHeld}
+use Rattle.story_format.specs.Contents.{Contents, origins_said}
+use Rattle.story_format.specs.Holding.{AreHeld, AreOf, IsHeld}
 use Rattle.story_format.specs.Making.{Worded, books_of, code_bytes, codes_in, described_in, strings_of, tables_of, tables_with, worded}
 use Rattle.story_format.specs.RuleMaking.{all_entries, rules_of}
 use Rattle.story_format.specs.Spells.{IsStory, are_ordered}
 use Rattle.story_format.proofs.StoryLemmas.{few_begin}
 use Rattle.story_format.proofs.SoundLemmas.{bytes_enough, bytes_few, bytes_short, origins_counted, tables_sound}
 use Rattle.story_format.proofs.EntryLemmas.{objects_back}
-use Rattle.story_format.proofs.ListedCounts.{fit_listed}
 use Rattle.story_format.proofs.OwnBooks.{books_counted, books_fit, books_own, books_there, have_books, story_count}
 use Rattle.story_format.proofs.RuleLemmas.{AreRightBooks, origins_in}
+use Rattle.story_format.proofs.SceneLemmas.{origins_in_scenes}
 use Rattle.story_format.proofs.TableLemmas.{tables_right}
 use Rattle.story_format.proofs.Fits.{tables_fit}
 
@@ -41,25 +41,32 @@ right_books t listings rules few =
       fit = books_fit t listings rules (61 + length rules) many (omega (arith, few));
     }
 
-tale_ordered : (t : Tale) (texts : List Text) (listings : List ListingSentence) (rules : List Rule) → are_ordered (tables_of t texts listings rules) ≡ true
+tale_ordered : (t : Tale) (c : Contents) → are_ordered (tables_of t c) ≡ true
 unfolding are_ordered tables_with rules_of
-tale_ordered t texts listings rules = books_own t listings rules (all_entries (described_in (worded t.objects)) rules) (have_books listings rules (described_in (worded t.objects)))
+tale_ordered t c = books_own t c.listings c.rules (all_entries (described_in (worded t.objects)) c.rules) (have_books c.listings c.rules (described_in (worded t.objects)))
+
+-- ---- scenes
+
+pub as_many_scenes : (t : Tale) (c : Contents) → AreOf t c → length c.scenes ≡ length t.declared.scenes
+as_many_scenes t c of = sym (length-map c.scenes (λ (scene : Scene). scene.recurs)) ∙ ap length of.scenes
 
 -- ---- all of it
 
-pub tale_is_story : (t : Tale) (texts : List Text) (listings : List ListingSentence) (rules : List Rule) → IsHeld t → AreHeld t texts rules → IsStory (tables_of t texts listings rules)
-tale_is_story t texts listings rules held said =
+pub tale_is_story : (t : Tale) (c : Contents) → IsHeld t → AreHeld t c → IsStory (tables_of t c)
+tale_is_story t c held said =
     let ws = worded t.objects in
-    let origins = origins_of texts rules in
+    let origins = origins_said c in
     let strings = strings_of ws origins in
     let of = said.are_of in
     let few = bytes_few strings origins said.said in
-    let enough : described_in ws + length (origins_in rules) ≤ length (code_bytes strings origins) = omega (arith, origins_counted texts rules, of.many, described_back t, bytes_enough strings origins) in
-    let books = books_of t listings rules in
-    let known = right_books t listings rules of.few in
+    let enough : described_in ws + (length (origins_in c.rules) + length (origins_in_scenes c.scenes)) ≤ length (code_bytes strings origins) =
+    omega (arith, origins_counted c.texts c.rules c.scenes, of.many, described_back t, bytes_enough strings origins) in
+    let books = books_of t c.listings c.rules in
+    let known = right_books t c.listings c.rules of.few in
+    let same = as_many_scenes t c of in
     record {
-      fits = tables_fit t.declared books t.objects rules origins held.made held.texts held.words of.few_actions of.few known of.named said.few said.short few (bytes_short strings origins said.said);
-      right = tables_right t.declared books t.objects rules origins held.made held.texts held.words of.few_actions of.first_nouns of.few known of.named said.few few enough;
-      sound = tables_sound t.declared books ws texts rules said.few (few_objects t held) (of.many ∙ sym (described_back t)) (fit_listed t listings rules texts (number_in strings) origins said.fit) said.said;
-      ordered = tale_ordered t texts listings rules;
+      fits = tables_fit t.declared books t.objects c.rules c.scenes origins same held.made held.texts held.words of.few_actions of.few known of.named said.few said.short few (bytes_short strings origins said.said);
+      right = tables_right t.declared books t.objects c.rules c.scenes origins same held.made held.texts held.words of.few_actions of.first_nouns of.few known of.named said.few few enough;
+      sound = tables_sound t.declared books ws c.texts c.rules c.scenes said.few (few_objects t held) (of.many ∙ sym (described_back t)) said.fit said.said;
+      ordered = tale_ordered t c;
     }

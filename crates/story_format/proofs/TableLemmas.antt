@@ -5,7 +5,7 @@ use Rattle.std.specs.List.{list_any, list_all, flat_map}
 use Rattle.std.specs.Str.{bytes_eq}
 use Rattle.std.specs.Option.{option_map}
 use Rattle.std.proofs.lemmas.Bool.{lt-ltb, eq-eqb, ne_eqb, le-leb, or_right, cases_Bool, and_from, and_parts, not-true}
-use Rattle.std.proofs.lemmas.List.{length-map, take-map}
+use Rattle.std.proofs.lemmas.List.{take-map}
 use Rattle.std.proofs.lemmas.Option.{slice_get-map, get_or_from_slice_get, same_Some}
 use Rattle.std.proofs.lemmas.Slice.Eq.{bytes_eq-Decides}
 use Rattle.world_meaning.specs.declared.article.Article.{Article}
@@ -26,6 +26,7 @@ use Rattle.world_meaning.specs.declared.tale.Object.{Object}
 use Rattle.object_words.specs.Mentions.{number_in}
 use Rattle.code_table.specs.Origins.{Origin}
 use Rattle.play_meaning.specs.Rules.{Rule}
+use Rattle.play_meaning.specs.Scripts.{Scene}
 use Rattle.object_words.specs.Words.{words_for}
 use Rattle.object_words.proofs.StringLemmas.{length_mapped}
 use Rattle.story_format.specs.declared.row.Sizes.{Sizes}
@@ -34,7 +35,7 @@ use Rattle.story_format.specs.declared.tables.Entry.{Entry}
 use Rattle.story_format.specs.Making.{Worded, worded_at, worded_from, worded, code_bytes, code_count, codes_in, described_in, entry_strings, strings_of, strings_said, article_number, relation_number, place_relation, place_holder, code_number, entry_of, entries_of, ways_of, tables_with, world_of}
 use Rattle.story_format.specs.Counts.{counts_of}
 use Rattle.story_format.specs.RuleChecks.{are_right_rules}
-use Rattle.story_format.specs.RuleMaking.{book_count, rules_of, scene_entry}
+use Rattle.story_format.specs.RuleMaking.{book_count, codes_of_rules, rules_of, scene_entries}
 use Rattle.story_format.specs.Holding.{has_first_noun, is_of, named_by, has_few_words, has_short_texts, is_short, is_short_or_none}
 use Rattle.story_format.specs.Sizes.{are_different, is_right_entry}
 use Rattle.story_format.specs.Placed.{is_room_entry, kinds_in, places_in}
@@ -44,6 +45,7 @@ use Rattle.story_format.proofs.EntryLemmas.{kinds_back, objects_back, objects_in
 use Rattle.story_format.proofs.Known.{text_is_itself, found_by_number, is_known, texts_known, any_left, any_right, fold_finds}
 use Rattle.story_format.proofs.OrderLemmas.{at_most_one, in_turn_in_order, strings_distinct, strings_in_order}
 use Rattle.story_format.proofs.RuleLemmas.{AreRightBooks, codes_in_made, heads_by, heads_in_turn, origins_in, rule_tables_right}
+use Rattle.story_format.proofs.SceneLemmas.{length_scenes, origins_in_scenes}
 use Rattle.story_format.proofs.DeclaredLemmas.{all_suit, declared_parts, few_grants, few_kinds, world_right}
 use Rattle.story_format.proofs.AboutRules.{named_of}
 use Rattle.story_format.proofs.ActionLemmas.{length_actions}
@@ -308,39 +310,39 @@ kinds_of_world d = refl
 
 -- ---- how many there are
 
-module _ (d : Declared) (books : List Book) (ws : List Worded) (rules : List Rule) (said : List Origin) where
-  books_counted : length books ≡ book_count d → length d.scenes ≤ 50 → d.rulebooks ≤ 100 → (counts_of (tables_with d books ws rules said)).books ≡ book_count d
+module _ (d : Declared) (books : List Book) (ws : List Worded) (rules : List Rule) (scenes : List Scene) (said : List Origin) where
+  books_counted : length books ≡ book_count d → length d.scenes ≤ 50 → d.rulebooks ≤ 100 → (counts_of (tables_with d books ws rules scenes said)).books ≡ book_count d
   unfolding counts_of tables_with rules_of
   books_counted count few few_own = omega (arith, count, few, few_own)
 
-  actions_counted : length d.actions ≤ 184 → (counts_of (tables_with d books ws rules said)).actions ≡ 16 + length d.actions
+  actions_counted : length d.actions ≤ 184 → (counts_of (tables_with d books ws rules scenes said)).actions ≡ 16 + length d.actions
   unfolding counts_of tables_with rules_of
   actions_counted few = omega (arith, length_actions d.actions, few)
 
-  names_counted : (objects : ℕ) → length books ≡ book_count d → length ws ≡ objects → objects ≤ 1000 → length d.kinds ≤ 100 → length d.flags ≤ 100 → length d.scenes ≤ 50 → d.rulebooks ≤ 100 → length d.actions ≤ 184
-      → named_of (counts_of (tables_with d books ws rules said)) ≡ named_by d objects
+  names_counted : (objects : ℕ) → length scenes ≡ length d.scenes → length books ≡ book_count d → length ws ≡ objects → objects ≤ 1000 → length d.kinds ≤ 100 → length d.flags ≤ 100 → length d.scenes ≤ 50 → d.rulebooks ≤ 100 → length d.actions ≤ 184
+      → named_of (counts_of (tables_with d books ws rules scenes said)) ≡ named_by d objects
   unfolding counts_of tables_with rules_of world_of
-  names_counted objects many count few_objects few_of_kinds few_of_flags few_scenes few_own few_actions =
+  names_counted objects same many count few_objects few_of_kinds few_of_flags few_scenes few_own few_actions =
       let of_objects : min (length (entries_of (strings_of ws said) 0 ws)) 65535 ≡ objects = omega (arith, entries_counted (strings_of ws said) 0 ws, count, few_objects) in
       let of_kinds : min (length d.kinds) 65535 ≡ length d.kinds = omega (arith, few_of_kinds) in
       let of_flags : min (length d.flags) 65535 ≡ length d.flags = omega (arith, few_of_flags) in
-      let of_scenes : min (length (map scene_entry d.scenes)) 65535 ≡ length d.scenes = omega (arith, length-map d.scenes scene_entry, few_scenes) in
+      let of_scenes : min (length (scene_entries (described_in ws + codes_of_rules rules) scenes)) 65535 ≡ length d.scenes = omega (arith, length_scenes scenes (described_in ws + codes_of_rules rules), same, few_scenes) in
       let of_books : min (length books) 65535 ≡ book_count d = omega (arith, many, few_scenes, few_own) in
       λ i. record { books = of_books i; objects = of_objects i; kinds = of_kinds i; flags = of_flags i; scenes = of_scenes i; actions = actions_counted few_actions i }
 
-  codes_counted : length (code_bytes (strings_of ws said) said) < 65536 → (counts_of (tables_with d books ws rules said)).codes ≡ length (code_bytes (strings_of ws said) said)
+  codes_counted : length (code_bytes (strings_of ws said) said) < 65536 → (counts_of (tables_with d books ws rules scenes said)).codes ≡ length (code_bytes (strings_of ws said) said)
   unfolding counts_of tables_with
   codes_counted few = omega (arith, few)
 
-  heads_told : are_named_in_order 0 (heads_by (strings_of ws said) ws rules) ≡ true → are_named_in_order 0 (heads_named (tables_with d books ws rules said)) ≡ true
+  heads_told : are_named_in_order 0 (heads_by (strings_of ws said) ws rules scenes) ≡ true → are_named_in_order 0 (heads_named (tables_with d books ws rules scenes said)) ≡ true
   unfolding tables_with rules_of
-  heads_told h = ap (λ codes. are_named_in_order 0 (codes_named (entries_of (strings_of ws said) 0 ws) ++ codes)) (codes_in_made d books rules (described_in ws)) ∙ h
+  heads_told h = ap (λ codes. are_named_in_order 0 (codes_named (entries_of (strings_of ws said) 0 ws) ++ codes)) (codes_in_made d books rules scenes (described_in ws)) ∙ h
 
-pub tables_right : (d : Declared) (books : List Book) (objects : List Object) (rules : List Rule) (said : List Origin) → IsWellMade (record { declared = d; objects = objects }) → list_all has_short_texts objects ≡ true → list_all has_few_words (worded objects) ≡ true
+pub tables_right : (d : Declared) (books : List Book) (objects : List Object) (rules : List Rule) (scenes : List Scene) (said : List Origin) → length scenes ≡ length d.scenes → IsWellMade (record { declared = d; objects = objects }) → list_all has_short_texts objects ≡ true → list_all has_few_words (worded objects) ≡ true
     → length d.actions ≤ 184 → list_all has_first_noun d.actions ≡ true → length rules ≤ 1939 → AreRightBooks d books (61 + length rules) → list_all (is_of (named_by d (length objects))) rules ≡ true → length (strings_of (worded objects) said) < 65535 → length (code_bytes (strings_of (worded objects) said) said) < 65536
-    → described_in (worded objects) + length (origins_in rules) ≤ length (code_bytes (strings_of (worded objects) said) said) → are_right (tables_with d books (worded objects) rules said) ≡ true
+    → described_in (worded objects) + (length (origins_in rules) + length (origins_in_scenes scenes)) ≤ length (code_bytes (strings_of (worded objects) said) said) → are_right (tables_with d books (worded objects) rules scenes said) ≡ true
 unfolding are_right is_right_frame are_right_objects stand_rightly are_right_ways tables_with
-tables_right d books objects rules said made texts few_words few_actions nouns few_rules known_books named few few_codes enough =
+tables_right d books objects rules scenes said same made texts few_words few_actions nouns few_rules known_books named few few_codes enough =
     let ws = worded objects in
     let strings = strings_of ws said in
     let back : objects_in ws ≡ objects = objects_back 0 objects in
@@ -348,14 +350,14 @@ tables_right d books objects rules said made texts few_words few_actions nouns f
     let parents = d.kinds in
     let sorts = sorts_of parents (kinds_of objects) in
     let few_objects = few_begin parents sorts.rooms objects made.begins in
-    let z = counts_of (tables_with d books ws rules said) in
+    let z = counts_of (tables_with d books ws rules scenes said) in
     let declared = declared_parts d made.declared in
-    let all_codes = codes_counted d books ws rules said few_codes in
-    let built_in : 8 ≤ z.books = omega (arith, books_counted d books ws rules said known_books.count_is declared.scenes declared.rulebooks) in
-    let rules_so : are_right_rules z (rules_of d books (described_in ws) rules) ≡ true =
-    rule_tables_right d books z rules (described_in ws) declared.scenes declared.rulebooks few_rules known_books few_actions nouns (omega (arith, actions_counted d books ws rules said few_actions)) built_in (ap (λ n. list_all (is_of n) rules) (names_counted d books ws rules said (length objects) known_books.count_is count few_objects (few_kinds d.kinds declared.kinds) (few_grants (length d.kinds) d.flags declared.flags) declared.scenes declared.rulebooks few_actions) ∙ named) (omega (arith, enough, all_codes)) (omega (arith, few_codes, all_codes)) in
-    let order : are_named_in_order 0 (heads_named (tables_with d books ws rules said)) ≡ true =
-    heads_told d books ws rules said (in_turn_in_order (heads_by strings ws rules) 0 (heads_in_turn strings ws rules (omega (arith, few_objects, count)) (omega (arith, enough, few_codes)))) in
+    let all_codes = codes_counted d books ws rules scenes said few_codes in
+    let built_in : 8 ≤ z.books = omega (arith, books_counted d books ws rules scenes said known_books.count_is declared.scenes declared.rulebooks) in
+    let rules_so : are_right_rules z (rules_of d books (described_in ws) rules scenes) ≡ true =
+    rule_tables_right d books z rules scenes (described_in ws) same declared.scenes declared.rulebooks few_rules known_books few_actions nouns (omega (arith, actions_counted d books ws rules scenes said few_actions)) built_in (ap (λ n. list_all (is_of n) rules) (names_counted d books ws rules scenes said (length objects) same known_books.count_is count few_objects (few_kinds d.kinds declared.kinds) (few_grants (length d.kinds) d.flags declared.flags) declared.scenes declared.rulebooks few_actions) ∙ named) (omega (arith, enough, all_codes)) (omega (arith, few_codes, all_codes)) in
+    let order : are_named_in_order 0 (heads_named (tables_with d books ws rules scenes said)) ≡ true =
+    heads_told d books ws rules scenes said (in_turn_in_order (heads_by strings ws rules scenes) 0 (heads_in_turn strings ws rules scenes (omega (arith, few_objects, count)) (omega (arith, enough, few_codes)))) in
     let entry_count : leb (length (entries_of strings 0 ws)) 1000 ≡ true = le-leb _ _ (omega (arith, few_objects, count, entries_counted strings 0 ws)) in
     let few_strings : ltb (length strings) 65535 ≡ true = lt-ltb _ _ few in
     let known = all_known strings ws (entry_strings_known ws said) in

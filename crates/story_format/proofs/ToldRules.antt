@@ -10,7 +10,7 @@ use Rattle.story_format.specs.declared.rule_entry.RuleBody.{RuleBody}
 use Rattle.story_format.specs.declared.rule_entry.RuleBody.TheVariants.{Code, Standard, Unknown}
 use Rattle.story_format.specs.declared.rule_entry.RuleEntry.{RuleEntry}
 use Rattle.story_format.specs.declared.rule_tables.SceneEntry.{SceneEntry}
-use Rattle.story_format.proofs.RuleLemmas.{turn_parted}
+use Rattle.story_format.proofs.Turns.{turn_parted}
 
 -- ---- numbers
 

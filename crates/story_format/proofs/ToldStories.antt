@@ -26,7 +26,8 @@ use Rattle.story_format.specs.Soundness.{AreSound, are_in_turn, strings_read}
 use Rattle.story_format.specs.Spells.{IsStory}
 use Rattle.story_format.specs.Telling.{AreAlike, AreCodedAlike, AreDescribedAlike, AreToldAlike, ToldObject, told_object, unnumbered}
 use Rattle.story_format.proofs.Naming.{described, next_of, plain}
-use Rattle.story_format.proofs.RuleLemmas.{length_replicated, tables_counted, turn_parted}
+use Rattle.story_format.proofs.RuleLemmas.{length_replicated, tables_counted}
+use Rattle.story_format.proofs.Turns.{turn_parted}
 use Rattle.story_format.proofs.StoryLemmas.{last_of_five}
 use Rattle.story_format.proofs.Telling.{all_within, is_within, mentioned_on, same_number, same_numbers}
 use Rattle.story_format.proofs.ToldRules.{at_each, rules_again, scenes_again}

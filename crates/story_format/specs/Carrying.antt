@@ -1,7 +1,8 @@
 -- Tables that carry a tale: they say of each object's name, words and ways, and of the start, what the tale says; its
 -- description's code says its text; its actions ask for the same; its rules are about the same, and their codes answer their
--- conditions and do their bodies; and its books list them in the order in which they are asked, as sentences list them.
-use Rattle.std.specs.Prelude.{◌≡◌, ℕ, zero, suc, Bool, true, false, ◌||◌, [], ◌∷◌, ◌++◌, count_by, is_some, length, map, slice_get, List, Option, None, Some, if◌then◌else◌, ◌==◌}
+-- conditions and do their bodies; its books list them in the order in which they are asked, as sentences list them; and the codes of
+-- its scenes answer when they begin and end.
+use Rattle.std.specs.Prelude.{◌≡◌, ℕ, zero, suc, Bool, true, false, ◌||◌, [], ◌∷◌, ◌++◌, count_by, is_some, length, map, slice_get, Option, None, Some, if◌then◌else◌, ◌==◌}
 use Rattle.std.specs.List.{AllZip}
 use Rattle.std.specs.Option.{option_map}
 use Rattle.play_meaning.specs.Codes.{Codes, RunsTo, test_of}
@@ -11,12 +12,12 @@ use Rattle.play_meaning.specs.Order.{book_of}
 use Rattle.play_meaning.specs.Progress.{Progress}
 use Rattle.play_meaning.specs.Rules.{Anything, Aspect, Exactly, OfKind, Rule}
 use Rattle.play_meaning.specs.Saying.{Telling}
-use Rattle.play_meaning.specs.Scripts.{says, scope_of, undescribed}
+use Rattle.play_meaning.specs.Scripts.{Scene, says, scope_of, undescribed}
 use Rattle.play_meaning.specs.Settings.{Setting}
 use Rattle.play_meaning.specs.StandardActions.{standard_needs}
 use Rattle.play_meaning.specs.StandardRules.{standard_rules}
 use Rattle.play_meaning.specs.Tales.{setting_of}
-use Rattle.play_meaning.specs.Trees.{Adjective, Body, Condition, First, NotSo, Quality, Second, Text}
+use Rattle.play_meaning.specs.Trees.{Adjective, Body, Condition, First, NotSo, Quality, Second}
 use Rattle.play_meaning.specs.Truth.{truth_in}
 use Rattle.play_meaning.specs.Worlds.{World}
 use Rattle.play_meaning.specs.declared.action.ActionNow.{ActionNow}
@@ -26,7 +27,6 @@ use Rattle.world_meaning.specs.declared.needs.Slot.{Slot}
 use Rattle.world_meaning.specs.declared.needs.Slot.TheVariants.{Absent, Visible, Touched, Carried}
 use Rattle.world_meaning.specs.declared.tale.Tale.{Tale}
 use Rattle.object_words.specs.Words.{words_of as told_words}
-use Rattle.rule_order.specs.declared.listing.ListingSentence.{ListingSentence}
 use Rattle.story_format.specs.declared.rule_entry.Aspect.{Aspect as Asked}
 use Rattle.story_format.specs.declared.rule_entry.Aspect.TheVariants as aspects
 use Rattle.story_format.specs.declared.rule_entry.PropertySide.{PropertySide}
@@ -34,8 +34,10 @@ use Rattle.story_format.specs.declared.rule_entry.RuleBody.{RuleBody}
 use Rattle.story_format.specs.declared.rule_entry.RuleBody.TheVariants.{Code, Standard}
 use Rattle.story_format.specs.declared.rule_entry.RuleEntry.{RuleEntry}
 use Rattle.story_format.specs.declared.rule_tables.ActionEntry.{ActionEntry}
+use Rattle.story_format.specs.declared.rule_tables.SceneEntry.{SceneEntry}
 use Rattle.story_format.specs.declared.tables.Tables.{Tables}
 use Rattle.story_format.specs.Codes.{codes_told}
+use Rattle.story_format.specs.Contents.{Contents}
 use Rattle.story_format.specs.Facts.{description_code_of, name_of, object_count_of, rules_listed, start_of, way_of, words_of}
 use Rattle.story_format.specs.Making.{story_rules, text_of}
 
@@ -109,21 +111,29 @@ pub record CarriesRule (c : Codes) (r : RuleEntry) (rule : Rule) : Type 0 where
   pub condition : IsAnsweredBy c (code_if_some r.condition) rule.condition
   pub body : IsDoneBy c r.body rule.body
 
+-- ---- scenes
+
+pub record CarriesScene (c : Codes) (e : SceneEntry) (scene : Scene) : Type 0 where
+  pub recurs : (e.recurring == 1) ≡ scene.recurs
+  pub begins : IsAnsweredBy c (code_if_some e.begins) scene.begins
+  pub ends : IsAnsweredBy c (code_if_some e.ends) scene.ends
+
 -- ---- all of it
 
--- where these texts are said of the objects that are described, in order, these sentences list rules, and these are the author's
-pub record Carries (tables : Tables) (tale : Tale) (texts : List Text) (listings : List ListingSentence) (rules : List Rule) : Type 0 where
+-- where this is said of the tale
+pub record Carries (tables : Tables) (tale : Tale) (said : Contents) : Type 0 where
   pub count : object_count_of tables ≡ length tale.objects
   pub names : (o : ℕ) → name_of tables o ≡ told_name tale o
   pub words : (o : ℕ) → words_of tables o ≡ told_words tale o
   pub described : (o : ℕ) → is_some (description_code_of tables o) ≡ is_some (told_description tale o)
   -- whatever the setting, the action and the world are
-  pub descriptions : (o : ℕ) (s : Setting) (now : ActionNow) (w : World) → said_by_code (codes_told tables) s now w (description_code_of tables o) ≡ says (undescribed s) now w (text_of tale texts o)
+  pub descriptions : (o : ℕ) (s : Setting) (now : ActionNow) (w : World) → said_by_code (codes_told tables) s now w (description_code_of tables o) ≡ says (undescribed s) now w (text_of tale said.texts o)
   pub ways : (o direction : ℕ) → way_of tables o direction ≡ told_way tale o direction
   pub start : start_of tables ≡ told_start tale
   -- the sixteen, and behind them the author's
   pub actions : AllZip AsksFor tables.rules.actions (standard_needs ++ tale.declared.actions)
   -- those that every story has, and behind them the author's
-  pub rules_are : AllZip (CarriesRule (codes_told tables)) tables.rules.rules (story_rules listings rules)
+  pub rules_are : AllZip (CarriesRule (codes_told tables)) tables.rules.rules (story_rules said.listings said.rules)
   -- each book lists its rules in the order in which they are asked
-  pub books : (book : ℕ) → rules_listed tables book ≡ book_of (setting_of tale) (story_rules listings rules) book
+  pub books : (book : ℕ) → rules_listed tables book ≡ book_of (setting_of tale) (story_rules said.listings said.rules) book
+  pub scenes_are : AllZip (CarriesScene (codes_told tables)) tables.rules.scenes said.scenes

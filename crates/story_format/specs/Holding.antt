@@ -1,4 +1,4 @@
--- The tales that a story file holds, and the texts and rules that it says of them.
+-- The tales that a story file holds, and what it says of them.
 use Rattle.std.specs.Prelude.{◌≡◌, ◌<◌, ◌≤◌, ℕ, ◌+◌, Bool, true, false, ◌&&◌, nat_lt, nat_le, List, [], length, map, Option, Some, None}
 use Rattle.std.specs.List.{list_all}
 use Rattle.world_meaning.specs.WellMade.{IsWellMade}
@@ -8,15 +8,16 @@ use Rattle.world_meaning.specs.declared.tale.Object.{Object}
 use Rattle.world_meaning.specs.declared.tale.Tale.{Tale}
 use Rattle.object_words.specs.Mentions.{number_in}
 use Rattle.play_meaning.specs.Rules.{Anything, Aspect, Exactly, OfKind, Rule}
-use Rattle.play_meaning.specs.Trees.{Adjective, NotSo, Quality, Text}
+use Rattle.play_meaning.specs.Scripts.{Scene}
+use Rattle.play_meaning.specs.Trees.{Adjective, NotSo, Quality}
 use Rattle.play_meaning.specs.StandardRules.{plain}
 use Rattle.play_meaning.specs.declared.operand.Counts.{Counts}
-use Rattle.code_table.specs.Emitted.{AllFit, CanBeSaid, IsLongRule, IsLongText, codes_of_origins}
-use Rattle.code_table.specs.Origins.{Origin, origins_of}
+use Rattle.code_table.specs.Emitted.{AllFit, CanBeSaid, IsLongRule, IsLongScene, IsLongText, codes_of_origins}
 use Rattle.code_table.specs.declared.fault.TableFault.{TableFault}
-use Rattle.code_table.specs.declared.fault.TableFault.TheVariants.{LongText, LongRule, TooMany, Memory}
+use Rattle.code_table.specs.declared.fault.TableFault.TheVariants.{LongText, LongRule, LongScene, TooMany, Memory}
 use Rattle.story_format.specs.Codes.{counts_of}
-use Rattle.story_format.specs.Making.{Worded, codes_in, strings_of, strings_said, tables_of, worded}
+use Rattle.story_format.specs.Contents.{Contents, origins_said}
+use Rattle.story_format.specs.Making.{Worded, codes_in, strings_said, strings_with, tables_of, worded}
 use Rattle.story_format.specs.RuleMaking.{book_count, noun_count}
 
 abbrev pub is_short : List ℕ → Bool
@@ -81,50 +82,55 @@ is_of z rule =
 abbrev pub has_first_noun : Needs → Bool
 has_first_noun needs = nat_le (noun_count needs.second) (noun_count needs.noun)
 
--- What may be said of a tale: a text of each description, and rules, with the sixty-one 2,000 at most. Its actions are 200 at
--- most with the sixteen.
-pub record AreOf (t : Tale) (texts : List Text) (rules : List Rule) : Type 0 where
-  pub many : length texts ≡ codes_in t.objects
-  pub few : length rules ≤ 1939
-  pub named : list_all (is_of (named_in t)) rules ≡ true
+-- What may be said of a tale: a text of each description, rules, with the sixty-one 2,000 at most, and the tale's scenes. Its actions
+-- are 200 at most with the sixteen.
+pub record AreOf (t : Tale) (c : Contents) : Type 0 where
+  pub many : length c.texts ≡ codes_in t.objects
+  pub few : length c.rules ≤ 1939
+  pub named : list_all (is_of (named_in t)) c.rules ≡ true
+  pub scenes : map (λ scene. scene.recurs) c.scenes ≡ t.declared.scenes
   pub few_actions : length t.declared.actions ≤ 184
   pub first_nouns : list_all has_first_noun t.declared.actions ≡ true
 
-abbrev pub strings_in : Tale → List Origin → List (List ℕ)
-strings_in t origins = strings_of (worded t.objects) origins
+-- how many there are of what codes name
+abbrev pub counts_in : Tale → Contents → Counts
+counts_in t c = counts_of (tables_of t c)
 
--- how many there are of what codes name: as many, wherever sentences list the rules
-abbrev pub counts_in : Tale → List Text → List Rule → Counts
-counts_in t texts rules = counts_of (tables_of t texts [] rules)
-
--- The texts of its descriptions, in the order of the objects, and the rules that a story file says: strings of 65,535 bytes at
--- most, no more than two bytes number, of texts and rules that fit what is there and whose codes bytes can say.
-pub record AreHeld (t : Tale) (texts : List Text) (rules : List Rule) : Type 0 where
-  pub are_of : AreOf t texts rules
-  pub short : list_all is_short (strings_said (origins_of texts rules)) ≡ true
-  pub few : length (strings_in t (origins_of texts rules)) < 65535
-  pub fit : AllFit (counts_in t texts rules) (number_in (strings_in t (origins_of texts rules))) (origins_of texts rules)
-  pub said : CanBeSaid (number_in (strings_in t (origins_of texts rules))) (origins_of texts rules)
+-- What a story file says of a tale: strings of 65,535 bytes at most, no more than two bytes number, of texts, rules and scenes that fit
+-- what is there and whose codes bytes can say.
+pub record AreHeld (t : Tale) (c : Contents) : Type 0 where
+  pub are_of : AreOf t c
+  pub short : list_all is_short (strings_said (origins_said c)) ≡ true
+  pub few : length (strings_with t c) < 65535
+  pub fit : AllFit (counts_in t c) (number_in (strings_with t c)) (origins_said c)
+  pub said : CanBeSaid (number_in (strings_with t c)) (origins_said c)
 
 -- unless there are too many strings, or one is too long, there are too many codes
-abbrev pub AreTooMany : Tale → List Origin → Type 0
-AreTooMany t origins = length (strings_in t origins) < 65535 → list_all is_short (strings_said origins) ≡ true → 65535 < length (codes_of_origins (number_in (strings_in t origins)) origins)
+abbrev pub AreTooMany : Tale → Contents → Type 0
+AreTooMany t c = length (strings_with t c) < 65535 → list_all is_short (strings_said (origins_said c)) ≡ true → 65535 < length (codes_of_origins (number_in (strings_with t c)) (origins_said c))
 
--- why a story file doesn't say texts and rules: one is the first whose code is too long, or there is too much of them
-abbrev pub AreNotHeld : Tale → List Text → List Rule → TableFault → Type 0
-AreNotHeld t texts rules (LongText number) =
-    IsLongText (counts_in t texts rules) (number_in (strings_in t (origins_of texts rules))) (length (origins_of texts rules)) texts number
-AreNotHeld t texts rules (LongRule number) =
-    IsLongRule (counts_in t texts rules) (number_in (strings_in t (origins_of texts rules))) (length (origins_of texts rules)) texts rules number
-AreNotHeld t texts rules TooMany = AreTooMany t (origins_of texts rules)
-AreNotHeld t texts rules Memory = Unit {0}
+-- why a story file doesn't say it: a text, a rule or a scene is the first whose code is too long, or there is too much
+abbrev pub AreNotHeld : Tale → Contents → TableFault → Type 0
+AreNotHeld t c (LongText number) = IsLongText (counts_in t c) (number_in (strings_with t c)) (length (origins_said c)) c.texts number
+AreNotHeld t c (LongRule number) = IsLongRule (counts_in t c) (number_in (strings_with t c)) (length (origins_said c)) c.texts c.rules number
+AreNotHeld t c (LongScene number) = IsLongScene (counts_in t c) (number_in (strings_with t c)) (length (origins_said c)) c.texts c.rules c.scenes number
+AreNotHeld t c TooMany = AreTooMany t c
+AreNotHeld t c Memory = Unit {0}
 
--- what a story file says isn't among what it doesn't, memory aside
+-- what a story file says of a tale isn't among what it doesn't, memory aside
 abbrev pub NeverHeldAndNot : Type 0
-NeverHeldAndNot = (t : Tale) (texts : List Text) (rules : List Rule) (fault : TableFault) → AreHeld t texts rules → AreNotHeld t texts rules fault → fault ≡ Memory
+NeverHeldAndNot = (t : Tale) (c : Contents) (fault : TableFault) → AreHeld t c → AreNotHeld t c fault → fault ≡ Memory
 
--- texts of bytes alone, each at most 65,535, are said where there is no rule, and the actions may be said
+-- a scene that nothing begins or ends
+abbrev pub idle_scene : Bool → Scene
+idle_scene recurs = record { recurs = recurs; begins = None; ends = None }
+
+-- texts of bytes alone, where there is no rule and nothing begins or ends a scene
+abbrev pub plain_contents : Tale → List (List ℕ) → Contents
+plain_contents t bytes = record { texts = map plain bytes; rules = []; listings = []; scenes = map idle_scene t.declared.scenes }
+
+-- they are said where each is at most 65,535 bytes, and the actions may be said
 abbrev pub PlainTextsAreHeld : Type 0
 PlainTextsAreHeld =
     (t : Tale) (bytes : List (List ℕ)) → IsHeld t → length t.declared.actions ≤ 184 → list_all has_first_noun t.declared.actions ≡ true → length bytes ≡ codes_in t.objects → list_all is_short bytes ≡ true
-    → AreHeld t (map plain bytes) []
+    → AreHeld t (plain_contents t bytes)

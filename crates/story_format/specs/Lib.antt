@@ -7,6 +7,7 @@ pub mod KindTables
 pub mod Layout
 pub mod Sizes
 pub mod Once
+pub mod Contents
 pub mod Counts
 pub mod RuleMaking
 pub mod RuleHeadings

@@ -14,14 +14,16 @@ use Rattle.world_meaning.specs.declared.declared.Declared.{Declared}
 use Rattle.world_meaning.specs.Kinds.{is_under, room_kind}
 use Rattle.play_meaning.specs.Order.{book_of}
 use Rattle.play_meaning.specs.Rules.{Rule}
+use Rattle.play_meaning.specs.Scripts.{Scene}
 use Rattle.play_meaning.specs.StandardRules.{standard_rules}
 use Rattle.play_meaning.specs.Tales.{setting_of}
 use Rattle.play_meaning.specs.Trees.{Text}
 use Rattle.code_table.specs.Emitted.{codes_of_origins}
-use Rattle.code_table.specs.Origins.{Origin, origins_of, strings_of_origin}
+use Rattle.code_table.specs.Origins.{Origin, strings_of_origin}
 use Rattle.rule_order.specs.Listings.{listed_by}
 use Rattle.rule_order.specs.declared.listing.ListingSentence.{ListingSentence}
 use Rattle.story_code.specs.Spelling.{spelling}
+use Rattle.story_format.specs.Contents.{Contents, origins_said}
 use Rattle.story_format.specs.RuleMaking.{book_count, rules_of}
 use Rattle.story_format.specs.declared.rule_tables.Book.{Book}
 use Rattle.story_format.specs.declared.tables.Entry.{Entry}
@@ -146,31 +148,30 @@ books_of t listings rules = map (λ book. record { rules = book_of (setting_of t
 -- ---- all of it
 
 -- the tables, but for the codes
-abbrev pub tables_but_codes : Declared → List Book → List Worded → List Rule → List (List ℕ) → Tables
-tables_but_codes d books ws rules strings = record {
+abbrev pub tables_but_codes : Declared → List Book → List Worded → List Rule → List Scene → List (List ℕ) → Tables
+tables_but_codes d books ws rules scenes strings = record {
   strings = strings;
   world = world_of d;
   objects = entries_of strings 0 ws;
   ways = flat_map (ways_of d.kinds) ws;
-  rules = rules_of d books (described_in ws) rules;
+  rules = rules_of d books (described_in ws) rules scenes;
   codes = [];
 }
 
--- the bytes of the codes of descriptions and rules, each string by its number
+-- the bytes of the codes of descriptions, rules and scenes, each string by its number
 abbrev pub code_bytes : List (List ℕ) → List Origin → List (List ℕ)
 code_bytes strings origins = map spelling (codes_of_origins (number_in strings) origins)
 
-unfoldable pub tables_with : Declared → List Book → List Worded → List Rule → List Origin → Tables
-tables_with d books ws rules origins = record (tables_but_codes d books ws rules (strings_of ws origins)) { codes = code_bytes (strings_of ws origins) origins }
+unfoldable pub tables_with : Declared → List Book → List Worded → List Rule → List Scene → List Origin → Tables
+tables_with d books ws rules scenes origins = record (tables_but_codes d books ws rules scenes (strings_of ws origins)) { codes = code_bytes (strings_of ws origins) origins }
 
--- the tables of a tale whose descriptions say these texts, in the order of the objects that are described, and whose rules are
--- these, listed as these sentences say
-abbrev pub tables_of : Tale → List Text → List ListingSentence → List Rule → Tables
-tables_of t texts listings rules = tables_with t.declared (books_of t listings rules) (worded t.objects) rules (origins_of texts rules)
+-- the tables of a tale of which this is said
+abbrev pub tables_of : Tale → Contents → Tables
+tables_of t c = tables_with t.declared (books_of t c.listings c.rules) (worded t.objects) c.rules c.scenes (origins_said c)
 
 -- its strings
-abbrev pub strings_with : Tale → List Text → List Rule → List (List ℕ)
-strings_with t texts rules = strings_of (worded t.objects) (origins_of texts rules)
+abbrev pub strings_with : Tale → Contents → List (List ℕ)
+strings_with t c = strings_of (worded t.objects) (origins_said c)
 
 -- ---- what is said of each object
 

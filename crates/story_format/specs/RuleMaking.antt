@@ -1,8 +1,9 @@
 -- The rule tables of a tale: the sixteen actions and behind them the author's, the rules that every story has and behind them
--- its own, with what they are about and the numbers of their codes, its books, its scenes without what begins or ends them.
+-- its own, with what they are about and the numbers of their codes, its books, and its scenes, with the numbers of theirs.
 use Rattle.std.specs.Prelude.{ℕ, ◌+◌, ◌*◌, Bool, List, [], ◌∷◌, ◌++◌, length, map, min, Option, None, Some, if◌then◌else◌}
 use Rattle.world_meaning.specs.declared.declared.Declared.{Declared}
 use Rattle.play_meaning.specs.Rules.{Anything, Aspect, Exactly, OfKind, Rule}
+use Rattle.play_meaning.specs.Scripts.{Scene}
 use Rattle.play_meaning.specs.StandardActions.{standard_needs}
 use Rattle.play_meaning.specs.StandardRules.{standard_rules}
 use Rattle.play_meaning.specs.Trees as tree
@@ -129,15 +130,35 @@ first_own_book scenes = 8 + 2 * scenes
 abbrev pub book_count : Declared → ℕ
 book_count d = first_own_book (length d.scenes) + d.rulebooks
 
-abbrev pub scene_entry : Bool → SceneEntry
-scene_entry recurs = record { recurring = mark_if 1 recurs; begins = 65535; ends = 65535 }
+-- how many codes rules have
+abbrev pub codes_of_rules : List Rule → ℕ
+codes_of_rules [] = 0
+codes_of_rules (rule ∷ rules) = rule_count rule + codes_of_rules rules
 
--- tables 8 to 12 of what a source declares, of its books and of its rules, the first code of these having this number
-unfoldable pub rules_of : Declared → List Book → ℕ → List Rule → RuleTables
-rules_of d books next rules = record {
+-- how many codes a scene has
+abbrev pub scene_count : Scene → ℕ
+scene_count scene = condition_count scene.begins + condition_count scene.ends
+
+-- the next code is that of the condition on which it begins, if there is one
+abbrev pub scene_entry : ℕ → Scene → SceneEntry
+scene_entry next scene = record {
+  recurring = mark_if 1 scene.recurs;
+  begins = condition_number next scene.begins;
+  ends = condition_number (next + condition_count scene.begins) scene.ends;
+}
+
+-- an entry for each scene; each condition has the next code
+unfoldable pub scene_entries : ℕ → List Scene → List SceneEntry
+scene_entries next [] = []
+scene_entries next (scene ∷ scenes) = scene_entry next scene ∷ scene_entries (next + scene_count scene) scenes
+
+-- tables 8 to 12 of what a source declares, of its books, of its rules, the first code of these having this number, and of its scenes,
+-- whose codes stand behind them
+unfoldable pub rules_of : Declared → List Book → ℕ → List Rule → List Scene → RuleTables
+rules_of d books next rules scenes = record {
   actions = action_entries d.actions;
   grammar = [];
   rules = all_entries next rules;
   books = books;
-  scenes = map scene_entry d.scenes;
+  scenes = scene_entries (next + codes_of_rules rules) scenes;
 }

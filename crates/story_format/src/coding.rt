@@ -1,23 +1,20 @@
-//! The tables of a tale with the codes of what its descriptions and its rules say.
-ghost use Rattle.std.specs.Prelude.{◌≡◌, ◌&&◌, IfErr, IfOk, OnOk, length, map, nat_lt};
+//! The tables of a tale with the codes of what its descriptions and its rules say, and of what its scenes begin and end on.
+ghost use Rattle.std.specs.Prelude.{◌≡◌, ◌&&◌, IfErr, IfOk, OnOk, length, nat_lt};
 ghost use Rattle.std.specs.List.{list_all};
 ghost use Rattle.object_words.specs.Mentions.{number_in};
-ghost use Rattle.play_meaning.specs.Meant.{text_meant};
-ghost use Rattle.play_meaning.specs.Patterns.{rule_meant};
 ghost use Rattle.code_table.specs.Emitted.{AllFit, CanBeSaid, HaveNoTable};
-ghost use Rattle.code_table.specs.Origins.{origins_meant};
 ghost use Rattle.story_format.specs.Codes.{counts_of};
+ghost use Rattle.story_format.specs.Contents.{contents_meant, origins_said};
 ghost use Rattle.story_format.specs.Holding.{AreHeld, AreNotHeld, AreOf, IsHeld, is_short};
 ghost use Rattle.story_format.specs.Making.{code_bytes, tables_of};
 
+use crate::contents::Contents;
 use crate::counts::counts_of;
 use crate::making::uncoded;
 use crate::table::Table;
 use crate::tables::Tables;
 use code_table::{TableFault, code_table};
 use object_words::Strings;
-use play_meaning::tree::{MeantRule, Text};
-use rule_order::ListingSentence;
 use std::alloc::Global;
 use world_meaning::{Tale, TextBytes};
 
@@ -40,20 +37,22 @@ fn are_few(strings: &[TextBytes]) -> bool
     strings.len() < 65535 && are_short(strings)
 }
 
-/// The tables with the codes of the texts and of the rules.
+/// The tables with the codes of what is said.
 fn with_codes(
     alloc: Global,
     strings: &Strings,
     tables: Tables,
-    texts: &[Text],
-    rules: &[MeantRule],
+    contents: &Contents,
 ) -> Result<Tables, TableFault>
-    ensures coded { IfOk result (λ coded. coded ≡ record tables { codes = code_bytes strings.now (origins_meant texts.now rules.now) }) }
-    ensures fit { OnOk result (AllFit (counts_of tables) (number_in strings.now) (origins_meant texts.now rules.now)) }
-    ensures said { OnOk result (CanBeSaid (number_in strings.now) (origins_meant texts.now rules.now)) }
-    ensures none { IfErr result (HaveNoTable (counts_of tables) (number_in strings.now) (map text_meant texts.now) (map rule_meant rules.now)) }
+    ensures coded { IfOk result (λ coded. coded ≡ record tables { codes = code_bytes strings.now (origins_said (contents_meant contents.now)) }) }
+    ensures fit { OnOk result (AllFit (counts_of tables) (number_in strings.now) (origins_said (contents_meant contents.now))) }
+    ensures said { OnOk result (CanBeSaid (number_in strings.now) (origins_said (contents_meant contents.now))) }
+    ensures none { IfErr result (HaveNoTable (counts_of tables) (number_in strings.now) (contents_meant contents.now).texts (contents_meant contents.now).rules (contents_meant contents.now).scenes) }
 {
-    match code_table(alloc, &counts_of(&tables), strings, texts, rules) {
+    let texts = contents.texts.as_slice();
+    let rules = contents.rules.as_slice();
+    let scenes = contents.scenes.as_slice();
+    match code_table(alloc, &counts_of(&tables), strings, texts, rules, scenes) {
         Ok(codes) => {
             let mut tables = tables;
             tables.codes = Table::new(codes);
@@ -63,32 +62,25 @@ fn with_codes(
     }
 }
 
-/// The tables of a tale whose descriptions say these texts, in the order of the objects, and whose rules are these, all rules
-/// being listed as these sentences say.
+/// The tables of a tale of which this is said.
 ///
 /// # Errors
 ///
 /// `LongText` with the number of the first text whose code is too long, `LongRule` with that of the first rule of whose
-/// codes one is, `TooMany` only where there are more codes or strings than two bytes number, or a string is too long, and
-/// `Memory`.
-pub fn tables_of(
-    alloc: Global,
-    tale: &Tale,
-    texts: &[Text],
-    rules: &[MeantRule],
-    listings: &[ListingSentence],
-) -> Result<Tables, TableFault>
+/// codes one is, `LongScene` with that of the first such scene, `TooMany` only where there are more codes or strings than two
+/// bytes number, or a string is too long, and `Memory`.
+pub fn tables_of(alloc: Global, tale: &Tale, contents: &Contents) -> Result<Tables, TableFault>
     requires held { IsHeld tale.now }
-    requires are_of { AreOf tale.now (map text_meant texts.now) (map rule_meant rules.now) }
-    ensures tables { IfOk result (λ tables. tables ≡ tables_of tale.now (map text_meant texts.now) listings.now (map rule_meant rules.now)) }
-    ensures said { OnOk result (AreHeld tale.now (map text_meant texts.now) (map rule_meant rules.now)) }
-    ensures none { IfErr result (AreNotHeld tale.now (map text_meant texts.now) (map rule_meant rules.now)) }
+    requires are_of { AreOf tale.now (contents_meant contents.now) }
+    ensures tables { IfOk result (λ tables. tables ≡ tables_of tale.now (contents_meant contents.now)) }
+    ensures said { OnOk result (AreHeld tale.now (contents_meant contents.now)) }
+    ensures none { IfErr result (AreNotHeld tale.now (contents_meant contents.now)) }
 {
-    let Ok((strings, tables)) = uncoded(alloc, tale, texts, rules, listings) else {
+    let Ok((strings, tables)) = uncoded(alloc, tale, contents) else {
         return Err(TableFault::Memory);
     };
     if !are_few(tables.strings.as_slice()) {
         return Err(TableFault::TooMany);
     }
-    with_codes(alloc, &strings, tables, texts, rules)
+    with_codes(alloc, &strings, tables, contents)
 }

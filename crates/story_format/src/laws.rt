@@ -1,8 +1,5 @@
 //! What holds of stories whatever the bytes are.
 ghost use Rattle.std.specs.Prelude.{◌≡◌, ◌≢◌, ◌⊎◌, ℕ, List, true};
-ghost use Rattle.play_meaning.specs.Rules.{Rule};
-ghost use Rattle.play_meaning.specs.Trees.{Text};
-ghost use Rattle.rule_order.specs.declared.listing.ListingSentence.{ListingSentence};
 ghost use Rattle.world_meaning.specs.Sorts.{is_at};
 ghost use Rattle.world_meaning.specs.Standing.{is_at_or_none};
 ghost use Rattle.world_meaning.specs.declared.tale.Tale.{Tale};
@@ -10,6 +7,7 @@ ghost use Rattle.story_format.specs.declared.fault.LoadFault.{LoadFault};
 ghost use Rattle.story_format.specs.declared.fault.LoadFault.TheVariants.{Memory};
 ghost use Rattle.story_format.specs.declared.tables.Tables.{Tables};
 ghost use Rattle.story_format.specs.Carrying.{Carries};
+ghost use Rattle.story_format.specs.Contents.{Contents};
 ghost use Rattle.story_format.specs.Facts.{start_of, way_of};
 ghost use Rattle.story_format.specs.Formats.{IsBytes};
 ghost use Rattle.story_format.specs.Placed.{sorts_in};
@@ -46,26 +44,25 @@ pub fn spelled_or_refused()
     ensures { (bytes : List ℕ) → IsBytes bytes → ((tables : Tables) × Spells bytes tables) ⊎ ((fault : LoadFault) × (fault ≢ Memory) × IsRefused fault bytes) }
 {}
 
-/// The tables of a tale that a story file holds, with texts of its descriptions and rules that it says, are a story's, however
-/// sentences list the rules.
+/// The tables of a tale that a story file holds, and of which it says this, are a story's.
 pub fn tales_are_stories()
-    ensures { (tale : Tale) (texts : List Text) (listings : List ListingSentence) (rules : List Rule) → IsHeld tale → AreHeld tale texts rules → IsStory (tables_of tale texts listings rules) }
+    ensures { (tale : Tale) (said : Contents) → IsHeld tale → AreHeld tale said → IsStory (tables_of tale said) }
 {}
 
 /// They say of each object's name and ways, and of the start, what the tale says, of each object the text that describes
-/// it, of each action what it asks for, of each rule what it asks and does, and of each rulebook in which order it asks its
-/// rules, as sentences list them.
+/// it, of each action what it asks for, of each rule what it asks and does, of each rulebook in which order it asks its rules, as
+/// sentences list them, and of each scene on what it begins and ends.
 pub fn story_carries_tale()
-    ensures { (tale : Tale) (texts : List Text) (listings : List ListingSentence) (rules : List Rule) → IsHeld tale → AreHeld tale texts rules → Carries (tables_of tale texts listings rules) tale texts listings rules }
+    ensures { (tale : Tale) (said : Contents) → IsHeld tale → AreHeld tale said → Carries (tables_of tale said) tale said }
 {}
 
-/// A story file says descriptions that say bytes alone, each at most 65,535, where there is no rule, and 184 actions of the
-/// author's at most, none with a second noun alone.
+/// A story file says descriptions that say bytes alone, each at most 65,535, where there is no rule, nothing begins or ends a
+/// scene, and there are 184 actions of the author's at most, none with a second noun alone.
 pub fn plain_texts_are_held()
     ensures { PlainTextsAreHeld }
 {}
 
-/// Texts and rules that a story file says are not held for no reason but memory.
+/// What a story file says of a tale is not held for no reason but memory.
 pub fn never_held_and_not()
     ensures { NeverHeldAndNot }
 {

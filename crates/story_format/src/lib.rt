@@ -7,6 +7,7 @@ mod book_rules;
 mod checks;
 mod codes;
 mod coding;
+mod contents;
 mod counts;
 mod fact_laws;
 mod facts;
@@ -42,6 +43,7 @@ mod world_making;
 mod world_tables;
 mod writing;
 
+pub use contents::Contents;
 pub use fact_laws::stories_begin_in_order;
 pub use facts::{door_in, way_in};
 pub use fault::LoadFault;

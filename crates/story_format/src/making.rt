@@ -1,13 +1,13 @@
 //! The tables of a tale, but for their codes.
-ghost use Rattle.std.specs.Prelude.{◌≡◌, ◌≤◌, ◌++◌, List, [], ◌∷◌, length, IfOk, OnOk, fold, map};
+ghost use Rattle.std.specs.Prelude.{◌≡◌, ◌≤◌, [], length, IfOk, OnOk, fold, map};
 ghost use Rattle.std.specs.List.{flat_map};
 ghost use Rattle.object_words.specs.Mentions.{mention, number_in};
 ghost use Rattle.object_words.specs.Words.{words_for};
-ghost use Rattle.code_table.specs.Origins.{origins_meant};
-ghost use Rattle.play_meaning.specs.Patterns.{rule_meant};
-ghost use Rattle.story_format.specs.Making.{books_of, worded_from, worded, article_number, relation_number, place_relation, place_holder, code_number, entry_strings, strings_of, entry_of, entries_of, ways_of, described_in, tables_but_codes};
+ghost use Rattle.story_format.specs.Contents.{contents_meant, origins_said};
+ghost use Rattle.story_format.specs.Making.{books_of, worded, article_number, relation_number, place_relation, place_holder, code_number, entry_strings, strings_of, entry_of, entries_of, ways_of, described_in, tables_but_codes};
 ghost use Rattle.story_format.specs.WordedViews.{worded_of, all_worded};
 
+use crate::contents::Contents;
 use crate::mentioning::mention_texts;
 use crate::mentioning_rules::mention_rules;
 use crate::ordering::books_of;
@@ -18,8 +18,6 @@ use crate::table::Table;
 use crate::tables::{Entry, Tables};
 use crate::world_making::{numbers_of, world_of};
 use object_words::{Strings, words_for};
-use play_meaning::tree::{MeantRule, Text};
-use rule_order::ListingSentence;
 use std::alloc::{AllocError, Global};
 use world_meaning::{
     Article, Declared, Exits, KindNo, Listed, Object, Place, Rel, Tale, TextBytes, is_under,
@@ -86,15 +84,16 @@ fn mention_entries(
     Ok(())
 }
 
-/// The strings of a story of these objects, whose descriptions say these texts, and of these rules.
+/// The strings of a story of these objects, and of what is said of them.
 fn strings_of(
     alloc: Global,
     worded: &[Worded<'_>],
-    texts: &[Text],
-    rules: &[MeantRule],
+    contents: &Contents,
 ) -> Result<Strings, AllocError>
-    ensures { IfOk result (λ strings. strings ≡ strings_of (all_worded worded.now) (origins_meant texts.now rules.now)) }
+    ensures { IfOk result (λ strings. strings ≡ strings_of (all_worded worded.now) (origins_said (contents_meant contents.now))) }
 {
+    let texts = contents.texts.as_slice();
+    let rules = contents.rules.as_slice();
     let mut strings = Strings::new(alloc);
     mention_entries(alloc, &mut strings, worded)?;
     mention_texts(alloc, &mut strings, texts)?;
@@ -262,25 +261,28 @@ fn described_in(worded: &[Worded<'_>]) -> usize
     count
 }
 
-/// The tables of what is declared, objects with their words, and rules, but for the codes.
+/// The tables of what is declared, objects with their words, rules and scenes, but for the codes.
 fn tables_but_codes(
     alloc: Global,
     declared: &Declared,
     books: Table<Book>,
     worded: &[Worded<'_>],
-    rules: &[MeantRule],
+    contents: &Contents,
     strings: &Strings,
 ) -> Result<Tables, AllocError>
     requires few { described_in (all_worded worded.now) ≤ 1000 }
-    requires few_rules { length rules.now ≤ 1939 }
-    ensures { IfOk result (λ tables. tables ≡ tables_but_codes declared.now books (all_worded worded.now) (map rule_meant rules.now) strings.now) }
+    requires few_rules { length contents.now.rules.items ≤ 1939 }
+    requires few_scenes { length contents.now.scenes.items ≤ 50 }
+    ensures { IfOk result (λ tables. tables ≡ tables_but_codes declared.now books (all_worded worded.now) (contents_meant contents.now).rules (contents_meant contents.now).scenes strings.now) }
 {
+    let rules = contents.rules.as_slice();
+    let scenes = contents.scenes.as_slice();
     Ok(Tables {
         strings: table_of(alloc, strings)?,
         world: world_of(alloc, declared)?,
         objects: entries_of(alloc, strings, worded)?,
         ways: ways_of(alloc, declared.kinds.as_slice(), worded)?,
-        rules: rules_of(alloc, declared, books, described_in(worded), rules)?,
+        rules: rules_of(alloc, declared, books, described_in(worded), rules, scenes)?,
         codes: empty(alloc),
     })
 }
@@ -289,22 +291,23 @@ fn tables_but_codes(
 pub fn uncoded(
     alloc: Global,
     tale: &Tale,
-    texts: &[Text],
-    rules: &[MeantRule],
-    listings: &[ListingSentence],
+    contents: &Contents,
 ) -> Result<(Strings, Tables), AllocError>
     requires few { described_in (worded tale.now.objects) ≤ 1000 }
     requires few_kinds { length tale.now.declared.kinds ≤ 255 }
-    requires few_rules { length rules.now ≤ 1939 }
+    requires few_rules { length contents.now.rules.items ≤ 1939 }
+    requires few_told { length contents.now.scenes.items ≤ 50 }
     requires few_scenes { length tale.now.declared.scenes ≤ 50 }
     requires few_books { tale.now.declared.rulebooks ≤ 100 }
-    ensures strings { IfOk result (λ made. made.0 ≡ strings_of (worded tale.now.objects) (origins_meant texts.now rules.now)) }
-    ensures tables { IfOk result (λ made. made.1 ≡ tables_but_codes tale.now.declared (books_of tale.now listings.now (map rule_meant rules.now)) (worded tale.now.objects) (map rule_meant rules.now) (strings_of (worded tale.now.objects) (origins_meant texts.now rules.now))) }
+    ensures strings { IfOk result (λ made. made.0 ≡ strings_of (worded tale.now.objects) (origins_said (contents_meant contents.now))) }
+    ensures tables { IfOk result (λ made. made.1 ≡ tables_but_codes tale.now.declared (books_of tale.now (contents_meant contents.now).listings (contents_meant contents.now).rules) (worded tale.now.objects)
+        (contents_meant contents.now).rules (contents_meant contents.now).scenes (strings_of (worded tale.now.objects) (origins_said (contents_meant contents.now)))) }
 {
     let worded = with_words(alloc, tale.objects.as_slice())?;
     let worded = worded.as_slice();
-    let strings = strings_of(alloc, worded, texts, rules)?;
+    let strings = strings_of(alloc, worded, contents)?;
+    let (rules, listings) = (contents.rules.as_slice(), contents.listings.as_slice());
     let books = books_of(alloc, tale, rules, listings)?;
-    let tables = tables_but_codes(alloc, &tale.declared, books, worded, rules, &strings)?;
+    let tables = tables_but_codes(alloc, &tale.declared, books, worded, contents, &strings)?;
     Ok((strings, tables))
 }

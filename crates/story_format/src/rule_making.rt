@@ -1,8 +1,10 @@
 //! The rule tables of a tale.
-ghost use Rattle.std.specs.Prelude.{◌≡◌, ◌≤◌, ◌++◌, IfOk, OnOk, length, map, min};
-ghost use Rattle.play_meaning.specs.Meant.{adjective_meant};
+ghost use Rattle.std.specs.Prelude.{◌≡◌, ◌≤◌, ◌+◌, ◌*◌, ◌++◌, IfOk, OnOk, length, map, min};
+ghost use Rattle.std.specs.Option.{option_map};
+ghost use Rattle.play_meaning.specs.Meant.{adjective_meant, condition_meant};
 ghost use Rattle.play_meaning.specs.Patterns.{aspect_meant, rule_meant};
-ghost use Rattle.story_format.specs.RuleMaking.{all_entries, aspect_entry, book_count, condition_number, number_or_none, rule_count, rule_entries, rule_entry, rules_of, scene_entry, side_of};
+ghost use Rattle.play_meaning.specs.ScenesMeant.{scene_meant};
+ghost use Rattle.story_format.specs.RuleMaking.{all_entries, aspect_entry, book_count, codes_of_rules, condition_count, condition_number, number_or_none, rule_count, rule_entries, rule_entry, rules_of, scene_count, scene_entries, scene_entry, side_of};
 
 use crate::actions::{action_entries, mark_if};
 use crate::place::NONE;
@@ -11,7 +13,7 @@ use crate::rule_tables::{Book, RuleTables, SceneEntry};
 use crate::standard_rules::standard_entries;
 use crate::table::Table;
 use play_meaning::ActNo;
-use play_meaning::tree::{self, Adjective, MeantRule, Quality, Side};
+use play_meaning::tree::{self, Adjective, Condition, MeantRule, MeantScene, Quality, Side};
 use std::alloc::{AllocError, Global};
 use world_meaning::{Declared, Listed};
 
@@ -22,12 +24,22 @@ fn small(number: usize) -> u16
     number.min(65_535) as u16
 }
 
-fn condition_number(next: usize, rule: &MeantRule) -> u16
-    ensures { result ≡ condition_number next (rule_meant rule.now).condition }
+fn condition_number(next: usize, condition: &Option<Condition>) -> u16
+    ensures { result ≡ condition_number next (option_map condition_meant condition.now) }
 {
-    match rule.head.condition {
+    match condition {
         None => NONE,
         Some(_) => small(next),
+    }
+}
+
+/// How many codes a condition has: one, if there is one.
+fn condition_count(condition: &Option<Condition>) -> usize
+    ensures { result ≡ condition_count (option_map condition_meant condition.now) }
+{
+    match condition {
+        None => 0,
+        Some(_) => 1,
     }
 }
 
@@ -35,10 +47,22 @@ fn condition_number(next: usize, rule: &MeantRule) -> u16
 fn rule_count(rule: &MeantRule) -> usize
     ensures { result ≡ rule_count (rule_meant rule.now) }
 {
-    match rule.head.condition {
-        None => 1,
-        Some(_) => 2,
+    condition_count(&rule.head.condition) + 1
+}
+
+/// How many codes rules have.
+fn codes_of_rules(rules: &[MeantRule]) -> usize
+    requires few_rules { length rules.now ≤ 1939 }
+    ensures count { result ≡ codes_of_rules (map rule_meant rules.now) }
+    ensures few { result ≤ 2 * length rules.now }
+{
+    let mut count = 0usize;
+    let mut rest = rules;
+    while let [rule, after @ ..] = rest {
+        count += rule_count(rule);
+        rest = after;
     }
+    count
 }
 
 /// The number of an action or of a scene, if one is asked for.
@@ -107,7 +131,7 @@ fn rule_entry(alloc: Global, next: usize, rule: &MeantRule) -> Result<RuleEntry,
         second: aspect_entry(alloc, &pattern.second)?,
         place: aspect_entry(alloc, &pattern.place)?,
         scene: number_or_none(pattern.scene),
-        condition: condition_number(next, rule),
+        condition: condition_number(next, &rule.head.condition),
         body: RuleBody::Code(small(next + rule_count(rule) - 1)),
     })
 }
@@ -150,23 +174,45 @@ fn all_entries(
     Ok(Table::new(entries))
 }
 
-fn scene_entry(recurs: bool) -> SceneEntry
-    ensures { result ≡ scene_entry recurs }
+/// The entry of a scene whose first code has this number.
+fn scene_entry(next: usize, scene: &MeantScene) -> SceneEntry
+    requires { next ≤ 5000 }
+    ensures { result ≡ scene_entry next (scene_meant scene.now) }
 {
     SceneEntry {
-        recurring: mark_if(1, recurs),
-        begins: NONE,
-        ends: NONE,
+        recurring: mark_if(1, scene.recurs),
+        begins: condition_number(next, &scene.begins),
+        ends: condition_number(next + condition_count(&scene.begins), &scene.ends),
     }
 }
 
-fn scene_entries(alloc: Global, scenes: &[bool]) -> Result<Vec<SceneEntry>, AllocError>
-    ensures { IfOk result (λ entries. entries.items ≡ map scene_entry scenes.now) }
+/// How many codes a scene has: one for each of its conditions.
+fn scene_count(scene: &MeantScene) -> usize
+    ensures { result ≡ scene_count (scene_meant scene.now) }
 {
-    scenes
-        .iter()
-        .map(|recurs| scene_entry(*recurs))
-        .collect(alloc)
+    condition_count(&scene.begins) + condition_count(&scene.ends)
+}
+
+/// The entries of scenes, the first code having this number.
+#[tactic(auto, unfolding(crate::specs::RuleMaking::scene_entries), using(object_words::proofs::Folds::one_behind))]
+fn scene_entries(
+    alloc: Global,
+    first: usize,
+    scenes: &[MeantScene],
+) -> Result<Vec<SceneEntry>, AllocError>
+    requires few { first ≤ 4900 }
+    requires few_scenes { length scenes.now ≤ 50 }
+    ensures { IfOk result (λ entries. entries.items ≡ scene_entries first (map scene_meant scenes.now)) }
+{
+    let mut entries = Vec::new(alloc);
+    let mut next = first;
+    let mut rest = scenes;
+    while let [scene, after @ ..] = rest {
+        entries.push(scene_entry(next, scene))?;
+        next += scene_count(scene);
+        rest = after;
+    }
+    Ok(entries)
 }
 
 /// How many books there are: eight, two for each scene, and the author's own.
@@ -178,7 +224,8 @@ pub fn book_count(declared: &Declared) -> u16
     (8 + 2 * declared.scenes.as_slice().len() + declared.rulebooks) as u16
 }
 
-/// Tables 8 to 12 of what a source declares, of its books and of its rules, the first code of these having this number.
+/// Tables 8 to 12 of what a source declares, of its books, of its rules, the first code of these having this number, and of its
+/// scenes, whose codes stand behind them.
 #[tactic(auto, unfolding(crate::specs::RuleMaking::rules_of))]
 pub fn rules_of(
     alloc: Global,
@@ -186,16 +233,19 @@ pub fn rules_of(
     books: Table<Book>,
     first: usize,
     rules: &[MeantRule],
+    scenes: &[MeantScene],
 ) -> Result<RuleTables, AllocError>
     requires few { first ≤ 1000 }
     requires few_rules { length rules.now ≤ 1939 }
-    ensures { IfOk result (λ made. made ≡ rules_of declared.now books first (map rule_meant rules.now)) }
+    requires few_scenes { length scenes.now ≤ 50 }
+    ensures { IfOk result (λ made. made ≡ rules_of declared.now books first (map rule_meant rules.now) (map scene_meant scenes.now)) }
 {
+    let behind = first + codes_of_rules(rules);
     Ok(RuleTables {
         actions: action_entries(alloc, declared.actions.as_slice())?,
         grammar: Table::new(Vec::new(alloc)),
         rules: all_entries(alloc, first, rules)?,
         books,
-        scenes: Table::new(scene_entries(alloc, declared.scenes.as_slice())?),
+        scenes: Table::new(scene_entries(alloc, behind, scenes)?),
     })
 }

@@ -1,18 +1,16 @@
 //! Writing a tale as a story.
-ghost use Rattle.std.specs.Prelude.{◌≡◌, IfErr, IfOk, OnOk, ◌++◌, length, map};
-ghost use Rattle.play_meaning.specs.Meant.{text_meant};
-ghost use Rattle.play_meaning.specs.Patterns.{rule_meant};
+ghost use Rattle.std.specs.Prelude.{◌≡◌, IfErr, IfOk, OnOk, ◌++◌};
+ghost use Rattle.story_format.specs.Contents.{contents_meant};
 ghost use Rattle.story_format.specs.Holding.{AreHeld, AreNotHeld, AreOf, IsHeld};
 ghost use Rattle.story_format.specs.Layout.{tables_layout};
 ghost use Rattle.story_format.specs.Making.{tables_of};
 ghost use Rattle.story_format.specs.Spells.{IsStory, Spells, head};
 
 use crate::coding::tables_of;
+use crate::contents::Contents;
 use crate::field::Field;
 use crate::tables::Tables;
 use code_table::TableFault;
-use play_meaning::tree::{MeantRule, Text};
-use rule_order::ListingSentence;
 use std::alloc::{AllocError, Global};
 use world_meaning::Tale;
 
@@ -34,29 +32,21 @@ fn spelling(alloc: Global, tables: &Tables) -> Result<Vec<u8>, AllocError>
     Ok(bytes)
 }
 
-/// The bytes of the story of a tale whose descriptions say these texts, in the order of the objects that are described, and
-/// whose rules are these, in the order of the source, listed as these sentences say of all rules of the story, by number: what
-/// the head of a rule says of its listing doesn't count.
+/// The bytes of the story of a tale of which this is said.
 ///
 /// # Errors
 ///
 /// `LongText` with the number of the first text whose code is too long, `LongRule` with that of the first rule of whose
-/// codes one is, `TooMany` only where the story would have more than 65,535 codes or 65,534 strings, or a string of more
-/// than 65,535 bytes, and `Memory`.
-pub fn write(
-    alloc: Global,
-    tale: &Tale,
-    texts: &[Text],
-    rules: &[MeantRule],
-    listings: &[ListingSentence],
-) -> Result<Vec<u8>, TableFault>
+/// codes one is, `LongScene` with that of the first such scene, `TooMany` only where the story would have more than 65,535 codes
+/// or 65,534 strings, or a string of more than 65,535 bytes, and `Memory`.
+pub fn write(alloc: Global, tale: &Tale, contents: &Contents) -> Result<Vec<u8>, TableFault>
     requires held { IsHeld tale.now }
-    requires are_of { AreOf tale.now (map text_meant texts.now) (map rule_meant rules.now) }
-    ensures spelled { IfOk result (λ bytes. Spells bytes.items (tables_of tale.now (map text_meant texts.now) listings.now (map rule_meant rules.now))) }
-    ensures said { OnOk result (AreHeld tale.now (map text_meant texts.now) (map rule_meant rules.now)) }
-    ensures none { IfErr result (AreNotHeld tale.now (map text_meant texts.now) (map rule_meant rules.now)) }
+    requires are_of { AreOf tale.now (contents_meant contents.now) }
+    ensures spelled { IfOk result (λ bytes. Spells bytes.items (tables_of tale.now (contents_meant contents.now))) }
+    ensures said { OnOk result (AreHeld tale.now (contents_meant contents.now)) }
+    ensures none { IfErr result (AreNotHeld tale.now (contents_meant contents.now)) }
 {
-    match tables_of(alloc, tale, texts, rules, listings) {
+    match tables_of(alloc, tale, contents) {
         Ok(tables) => match spelling(alloc, &tables) {
             Ok(bytes) => Ok(bytes),
             Err(_) => Err(TableFault::Memory),

@@ -23,23 +23,23 @@ use Rattle.play_meaning.specs.StandardGrammar.{standard_grammar}
 use Rattle.play_meaning.specs.Grounds.{said_by_code}
 use Rattle.play_meaning.specs.PlainTales.{script_of, story_of_script}
 use Rattle.play_meaning.specs.Scripts.{says, undescribed}
-use Rattle.play_meaning.specs.Rules.{Rule}
-use Rattle.play_meaning.specs.Trees.{Text}
 use Rattle.play_meaning.specs.Worlds.{World}
 use Rattle.play_meaning.specs.declared.action.ActionNow.{ActionNow}
 use Rattle.play_meaning.specs.Tales.{door_in as told_door, door_on as told_door_on, in_object, is_true_at_start, number_at_start, place_of_number, setting_of as told_setting, start_of}
-use Rattle.rule_order.specs.declared.listing.ListingSentence.{ListingSentence}
 use Rattle.story_format.specs.Codes.{codes_told}
+use Rattle.story_format.specs.Contents.{Contents}
 use Rattle.story_format.specs.Facts.{description_code_of, exits_at}
 use Rattle.play_meaning.specs.Worlds.{not_begun}
-use Rattle.story_format.specs.RuleMaking.{rules_of, scene_entry}
-use Rattle.story_format.specs.Holding.{AreHeld, IsHeld}
+use Rattle.story_format.specs.RuleMaking.{codes_of_rules, rules_of, scene_entries}
+use Rattle.story_format.specs.Holding.{AreHeld, AreOf, IsHeld}
 use Rattle.story_format.specs.InPlay.{article_in, article_numbered, door_in, has_in, is_of_in, number_from, start_number, start_numbers, start_flags, start_variable, starts_true}
-use Rattle.story_format.specs.Making.{Worded, article_number, code_count, entries_of, entry_of, numbers_of, strings_with, tables_of, tables_with, text_of, variable_of, ways_of, worded, worded_at, worded_from, world_of}
+use Rattle.story_format.specs.Making.{Worded, article_number, code_count, described_in, entries_of, entry_of, numbers_of, strings_with, tables_of, tables_with, text_of, variable_of, ways_of, worded, worded_at, worded_from, world_of}
 use Rattle.story_format.specs.declared.tables.Entry.{Entry}
 use Rattle.story_format.proofs.Carried.{exits_found, object_found, tale_carried}
 use Rattle.story_format.proofs.DeclaredLemmas.{declared_parts}
 use Rattle.story_format.proofs.EntryLemmas.{objects_back, objects_in, places_back}
+use Rattle.story_format.proofs.SceneLemmas.{length_scenes}
+use Rattle.story_format.proofs.Stories.{as_many_scenes}
 use Rattle.story_format.proofs.StoryLemmas.{all_at}
 use Rattle.world_store.specs.StartWorlds.{start_world}
 use Rattle.world_store.specs.StoryGames.{plain_story}
@@ -113,12 +113,12 @@ doors_found parents sorts strings ws o direction (Some w) e h =
 
 -- ---- what never changes
 
-settings_agree : (t : Tale) (texts : List Text) (listings : List ListingSentence) (rules : List Rule) → IsHeld t → AreHeld t texts rules → SettingsAgree (setting_of (tables_of t texts listings rules)) (told_setting t)
+settings_agree : (t : Tale) (c : Contents) → IsHeld t → AreHeld t c → SettingsAgree (setting_of (tables_of t c)) (told_setting t)
 unfolding setting_of told_setting tables_with world_of entry_of
-settings_agree t texts listings rules held said =
-    let carries = tale_carried t texts listings rules held said in
+settings_agree t c held said =
+    let carries = tale_carried t c held said in
     let ws = worded t.objects in
-    let strings = strings_with t texts rules in
+    let strings = strings_with t c in
     let parents = t.declared.kinds in
     let back : objects_in ws ≡ t.objects = objects_back 0 t.objects in
     let exits : list_all (has_right_exits parents (sorts_in t)) (objects_in ws) ≡ true = ap (list_all (has_right_exits parents (sorts_in t))) back ∙ held.made.exits in
@@ -150,45 +150,48 @@ number_started d property strings next w h =
       | inr isnt ↦ rw isnt refl
     ]
 
-flags_started : (t : Tale) (texts : List Text) (listings : List ListingSentence) (rules : List Rule) → IsHeld t → (property : ℕ) → start_flags (tables_of t texts listings rules) property ≡ map (is_true_at_start property) t.objects
+flags_started : (t : Tale) (c : Contents) → IsHeld t → (property : ℕ) → start_flags (tables_of t c) property ≡ map (is_true_at_start property) t.objects
 unfolding tables_with entry_of
-flags_started t texts listings rules held property = said_of_all (suits_kind t.declared) (starts_true property) (is_true_at_start property) (λ strings next w h. refl) (strings_with t texts rules) 0 0 t.objects held.made.suited
+flags_started t c held property = said_of_all (suits_kind t.declared) (starts_true property) (is_true_at_start property) (λ strings next w h. refl) (strings_with t c) 0 0 t.objects held.made.suited
 
-numbers_started : (t : Tale) (texts : List Text) (listings : List ListingSentence) (rules : List Rule) → IsHeld t → (property : ℕ) → start_numbers (tables_of t texts listings rules) property ≡ map (number_at_start t.declared property) t.objects
+numbers_started : (t : Tale) (c : Contents) → IsHeld t → (property : ℕ) → start_numbers (tables_of t c) property ≡ map (number_at_start t.declared property) t.objects
 unfolding tables_with
-numbers_started t texts listings rules held property = said_of_all (suits_kind t.declared) (start_number (world_of t.declared) property) (number_at_start t.declared property) (number_started t.declared property) (strings_with t texts rules) 0 0 t.objects held.made.suited
+numbers_started t c held property = said_of_all (suits_kind t.declared) (start_number (world_of t.declared) property) (number_at_start t.declared property) (number_started t.declared property) (strings_with t c) 0 0 t.objects held.made.suited
 
 -- no scene has begun
-none_begun : (scenes : List Bool) → replicate (length (map scene_entry scenes)) not_begun ≡ map (λ recurs. not_begun) scenes
+none_begun : (scenes : List Bool) → replicate (length scenes) not_begun ≡ map (λ recurs. not_begun) scenes
 none_begun [] = refl
 none_begun (recurs ∷ scenes) = ap (λ all. not_begun ∷ all) (none_begun scenes)
 
-one_start : (t : Tale) (texts : List Text) (listings : List ListingSentence) (rules : List Rule) → IsHeld t → start_world (tables_of t texts listings rules) ≡ start_of t
+one_start : (t : Tale) (c : Contents) → IsHeld t → AreOf t c → start_world (tables_of t c) ≡ start_of t
 unfolding start_world start_of tables_with world_of rules_of
-one_start t texts listings rules held =
-    let places = places_back (strings_with t texts rules) 0 (worded t.objects) ∙ ap (λ (objects : List Object). map (λ object. object.place) objects) (objects_back 0 t.objects) in
+one_start t c held of =
+    let places = places_back (strings_with t c) 0 (worded t.objects) ∙ ap (λ (objects : List Object). map (λ object. object.place) objects) (objects_back 0 t.objects) in
     let variables = variables_back t.declared.variables (declared_parts t.declared held.made.declared).variables in
+    let many : length (scene_entries (described_in (worded t.objects) + codes_of_rules c.rules) c.scenes) ≡ length t.declared.scenes =
+    length_scenes c.scenes (described_in (worded t.objects) + codes_of_rules c.rules) ∙ as_many_scenes t c of in
+    let begun = ap (λ n. replicate n not_begun) many ∙ none_begun t.declared.scenes in
     λ i. record {
       places = places i;
-      flags = map (λ property. flags_started t texts listings rules held property i) (range_with_len 0 (length t.declared.flags));
-      numbers = map (λ property. numbers_started t texts listings rules held property i) (range_with_len 0 (length t.declared.numbers));
+      flags = map (λ property. flags_started t c held property i) (range_with_len 0 (length t.declared.flags));
+      numbers = map (λ property. numbers_started t c held property i) (range_with_len 0 (length t.declared.numbers));
       variables = variables i;
-      scenes = none_begun t.declared.scenes i;
+      scenes = begun i;
       turns = 1;
       ended = None;
     }
 
 -- ---- all of it
 
-pub tables_game : (t : Tale) (texts : List Text) (listings : List ListingSentence) (rules : List Rule) → IsHeld t → AreHeld t texts rules → plain_story (tables_of t texts listings rules) ≡ story_of_script (script_of t (text_of t texts))
+pub tables_game : (t : Tale) (c : Contents) → IsHeld t → AreHeld t c → plain_story (tables_of t c) ≡ story_of_script (script_of t (text_of t c.texts))
 unfolding plain_story script_of story_of_script
-tables_game t texts listings rules held said =
-    let setting = one_setting (setting_of (tables_of t texts listings rules)) (told_setting t) (settings_agree t texts listings rules held said) in
-    let start = one_start t texts listings rules held in
-    let carries = tale_carried t texts listings rules held said in
+tables_game t c held said =
+    let setting = one_setting (setting_of (tables_of t c)) (told_setting t) (settings_agree t c held said) in
+    let start = one_start t c held said.are_of in
+    let carries = tale_carried t c held said in
     let described : (o : ℕ) (now : ActionNow) (w : World)
-    → said_by_code (codes_told (tables_of t texts listings rules)) (setting_of (tables_of t texts listings rules)) now w (description_code_of (tables_of t texts listings rules) o) ≡ says (undescribed (told_setting t)) now w (text_of t texts o) =
-    λ o now w. carries.descriptions o (setting_of (tables_of t texts listings rules)) now w ∙ ap (λ s. says (undescribed s) now w (text_of t texts o)) setting in
+    → said_by_code (codes_told (tables_of t c)) (setting_of (tables_of t c)) now w (description_code_of (tables_of t c) o) ≡ says (undescribed (told_setting t)) now w (text_of t c.texts o) =
+    λ o now w. carries.descriptions o (setting_of (tables_of t c)) now w ∙ ap (λ s. says (undescribed s) now w (text_of t c.texts o)) setting in
     λ i. record {
       setting = setting i;
       start = start i;

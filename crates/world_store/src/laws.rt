@@ -4,11 +4,9 @@ ghost use Rattle.play_meaning.specs.PlainTales.{script_of, story_of_script};
 ghost use Rattle.play_meaning.specs.Seeing.{encloses, has_light, is_visible, root_of};
 ghost use Rattle.play_meaning.specs.Settings.{Setting, direction_kind, thing_kind};
 ghost use Rattle.play_meaning.specs.StoryWorlds.{IsWorldOf};
-ghost use Rattle.play_meaning.specs.Rules.{Rule};
-ghost use Rattle.play_meaning.specs.Trees.{Text};
 ghost use Rattle.play_meaning.specs.Worlds.{World as PlayWorld, is_true_of, number_of, place_of, scene_of, set_flag, set_number, set_place, set_scene, set_variable, variable_of};
 ghost use Rattle.play_meaning.specs.declared.scene.SceneNow.{SceneNow};
-ghost use Rattle.rule_order.specs.declared.listing.ListingSentence.{ListingSentence};
+ghost use Rattle.story_format.specs.Contents.{Contents};
 ghost use Rattle.story_format.specs.Holding.{AreHeld, IsHeld};
 ghost use Rattle.story_format.specs.Making.{tables_of, text_of};
 ghost use Rattle.world_meaning.specs.Sight.{direction};
@@ -37,11 +35,10 @@ pub fn directions_are_directions(world: &World)
     let _ = &world.tree;
 }
 
-/// The tables of a tale that a story file holds, with texts of its descriptions and rules that it says, give the game of the tale
-/// with these texts, however sentences list the rules: the same setting, start, descriptions and reading of lines. The rules are in
-/// neither.
+/// The tables of a tale that a story file holds, and of which it says this, give the game of the tale with these texts: the same
+/// setting, start, descriptions and reading of lines. The rules and what scenes begin and end on are in neither.
 pub fn tables_give_their_tales_game()
-    ensures { (t : Tale) (texts : List Text) (listings : List ListingSentence) (rules : List Rule) → IsHeld t → AreHeld t texts rules → plain_story (tables_of t texts listings rules) ≡ story_of_script (script_of t (text_of t texts)) }
+    ensures { (t : Tale) (c : Contents) → IsHeld t → AreHeld t c → plain_story (tables_of t c) ≡ story_of_script (script_of t (text_of t c.texts)) }
 {}
 
 /// A change of one thing leaves the others.

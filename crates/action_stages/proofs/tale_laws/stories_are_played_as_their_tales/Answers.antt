@@ -2,4 +2,4 @@ use Rattle.action_stages.proofs.TaleGames.{played_alike}
 use Rattle.action_stages.proofs.tale_laws.stories_are_played_as_their_tales.Goals as goal
 
 pub returns : goal.returns
-returns c = λ t texts listings rules held said. played_alike t texts listings rules held said
+returns c = λ t said held are. played_alike t said held are

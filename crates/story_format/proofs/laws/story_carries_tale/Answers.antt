@@ -2,4 +2,4 @@ use Rattle.story_format.proofs.Carried.{tale_carried}
 use Rattle.story_format.proofs.laws.story_carries_tale.Goals as goal
 
 pub returns : goal.returns
-returns c = λ tale texts listings rules held said. tale_carried tale texts listings rules held said
+returns c = λ tale said held are. tale_carried tale said held are

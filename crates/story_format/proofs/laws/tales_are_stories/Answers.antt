@@ -2,4 +2,4 @@ use Rattle.story_format.proofs.Stories.{tale_is_story}
 use Rattle.story_format.proofs.laws.tales_are_stories.Goals as goal
 
 pub returns : goal.returns
-returns c = λ tale texts listings rules held said. tale_is_story tale texts listings rules held said
+returns c = λ tale said held are. tale_is_story tale said held are

@@ -1,18 +1,16 @@
 use Rattle.std.proofs.Common.{◌++◌, subst, sym, ap, ◌∙◌}
-use Rattle.std.specs.Prelude.{map}
-use Rattle.play_meaning.specs.Meant.{text_meant}
-use Rattle.play_meaning.specs.Patterns.{rule_meant}
+use Rattle.story_format.specs.Contents.{contents_meant}
 use Rattle.story_format.specs.Layout.{tables_layout}
 use Rattle.story_format.specs.Spells.{IsStory, head}
 use Rattle.story_format.proofs.Stories.{tale_is_story}
 use Rattle.story_format.proofs.writing.write.Goals as goal
 
 pub spelling-requires : goal.spelling-requires
-spelling-requires c = subst IsStory (sym c.in-Ok.ensures.tables) (tale_is_story c.args.tale.now (map text_meant c.args.texts.now) c.args.listings.now (map rule_meant c.args.rules.now) c.requires.held c.in-Ok.ensures.said)
+spelling-requires c = subst IsStory (sym c.in-Ok.ensures.tables) (tale_is_story c.args.tale.now (contents_meant c.args.contents.now) c.requires.held c.in-Ok.ensures.said)
 
 pub returns-in-Ok-spelling-clause-spelled : goal.returns-in-Ok-spelling-clause-spelled
 returns-in-Ok-spelling-clause-spelled c =
     record {
-      story = tale_is_story c.args.tale.now (map text_meant c.args.texts.now) c.args.listings.now (map rule_meant c.args.rules.now) c.requires.held c.in-Ok.ensures.said;
+      story = tale_is_story c.args.tale.now (contents_meant c.args.contents.now) c.requires.held c.in-Ok.ensures.said;
       spelled = c.in-Ok-spelling.ensures ∙ ap (λ tables. head ++ tables_layout.format.put tables) c.in-Ok.ensures.tables;
     }
