@@ -1,4 +1,3 @@
-use Rattle.std.proofs.Common.{subst, sym, ◌∙◌}
 use Rattle.story_format.specs.Contents.{contents_meant}
 use Rattle.story_file.proofs.Compiled.{are_of, compiled_by, is_held, refused_by, unheld_by}
 use Rattle.story_file.proofs.compiler.compile.Goals as goal

@@ -1,4 +1,4 @@
-use Rattle.std.proofs.Common.{◌≡◌, ◌∙◌, ap, arith, ℕ, List, ◌+◌, ◌-◌, ◌++◌, ◌∷◌, [], map}
+use Rattle.std.proofs.Common.{◌∙◌, ap, arith, ℕ, ◌+◌, ◌-◌, ◌++◌, ◌∷◌, [], map}
 use Rattle.std.specs.List.{range_with_len}
 use Rattle.rule_order.proofs.BookLemmas.{one_more}
 use Rattle.i7_conditions.specs.Scopes.{scope_of}

@@ -8,5 +8,5 @@ pub invariant_of-result : goal.invariant_of-result
 invariant_of-result c =
     kept_begun c.as_ref-told.result.now c.in_ok-atlas.atlas.value _ _ _ _ _
     (c.in_ok-atlas.ensures.ok ∙ c.in_ok-new.ensures ∙ sym c.as_ref-told.ensures) c.in_ok-tree.ensures.tree c.in_ok-flags.ensures c.in_ok-numbers.ensures c.in_ok-variables.ensures
-    (c.in_ok-scenes.ensures.items_if_clones_equal (λ y same. same) ∙ ap (λ n. replicate n not_begun) c.scene_count.ensures)
+    (c.in_ok-scenes.ensures.items_if_clones_equal (λ y same. same) ∙ ap (λ n. replicate n not_begun) c.scene_count.ensures.count)
     c.in_ok-tree.ensures.story
