@@ -127,8 +127,7 @@ module _ (z : Counts) (c : Codes) (string : List ℕ → ℕ) (origins : List Or
       let more = counted_more rule rules in
       let later : next + rule_count rule ≡ length (front ++ origins_of_rule rule) = omega (arith, is, length-append front (origins_of_rule rule), counted rule) in
       let whole : origins ≡ front ++ (origins_of_rule rule ++ (origins_in rules ++ back)) = parts ∙ ap (λ os. front ++ os) (append_assoc (origins_of_rule rule) (origins_in rules) back) in
-      let here = one_carried front rule (origins_in rules ++ back) named_here.0 whole (omega (arith, is, le, more)) in
-      (
+      let here = one_carried front rule (origins_in rules ++ back) named_here.0 whole (omega (arith, is, le, more)) in (
         ap_rule here,
         rules_carried rules (front ++ origins_of_rule rule) back (next + rule_count rule) named_here.1 later (whole ∙ sym (append_assoc front (origins_of_rule rule) (origins_in rules ++ back))) (omega (arith, le, more)),
       )
@@ -178,8 +177,7 @@ module _ (z : Counts) (c : Codes) (string : List ℕ → ℕ) (origins : List Or
   scenes_carried [] front next is parts le = tt
   scenes_carried (scene ∷ scenes) front next is parts le =
       let more = scenes_counted scene scenes in
-      let later : next + scene_count scene ≡ length (front ++ origins_of_scene scene) = omega (arith, is, length-append front (origins_of_scene scene), scene_asked scene) in
-      (
+      let later : next + scene_count scene ≡ length (front ++ origins_of_scene scene) = omega (arith, is, length-append front (origins_of_scene scene), scene_asked scene) in (
         one_scene front scene (origins_in_scenes scenes) next is parts (omega (arith, le, more)),
         scenes_carried scenes (front ++ origins_of_scene scene) (next + scene_count scene) later (parts ∙ sym (append_assoc front (origins_of_scene scene) (origins_in_scenes scenes))) (omega (arith, le, more)),
       )
