@@ -6,8 +6,8 @@ use crate::texts::add_words;
 use crate::tokens::fault_told;
 use i7_lexer::{Lexed, lex};
 use i7_sentences::{
-    Assertion, ListedIn, Rule, RuleBook, RuleListing, RulePhrase, RuleSubject, SceneChange, SceneEdge,
-    Sentence, WordList, read,
+    Assertion, ListedIn, Rule, RuleBook, RuleListing, RulePhrase, RuleSubject, SceneChange,
+    SceneEdge, Sentence, WordList, read,
 };
 use std::alloc::{AllocError, Global};
 
