@@ -1,4 +1,8 @@
+mod EdgesSeen
 mod OneAnswer
 mod OneListing
+mod OneResolution
+mod OneScene
 mod ReadListings
+mod ReadScenes
 mod ReadTexts

@@ -1,37 +1,20 @@
--- No sentences have two answers about where they list rules, or about all that is resolved.
+-- No sentences have two answers about where they list rules.
 use Rattle.std.proofs.Common.{◌≡◌, ℕ, List, [], ◌∷◌, refl, sym, ◌∙◌, ap}
-use Rattle.std.specs.Prelude.{Option, None, Some, reverse}
+use Rattle.std.specs.Prelude.{Some, reverse}
 use Rattle.std.specs.List.{AllZip}
 use Rattle.std.proofs.lemmas.List.{reverse-reverse}
-use Rattle.world_meaning.specs.declared.fault.Fault.{Fault}
 use Rattle.world_meaning.specs.declared.fault.FaultCode.{FaultCode}
-use Rattle.world_meaning.specs.declared.fault.FaultCode.TheVariants.{TooMany, Twice, UnknownName, WrongKind}
+use Rattle.world_meaning.specs.declared.fault.FaultCode.TheVariants.{UnknownName, WrongKind}
 use Rattle.i7_rules.proofs.Lows.{lowest_once, nowhere_there}
 use Rattle.i7_rules.specs.Knowns.{Known}
 use Rattle.i7_rules.specs.RuleList.{RuleAt, rules_in}
-use Rattle.i7_rules.specs.RulesMeant.{RulesMeant, rules_meant}
-use Rattle.i7_rules.specs.RulesMeant as rules
-use Rattle.i7_rules.specs.SourceRules.{IsRulesFound}
-use Rattle.i7_rules.specs.declared.source_rules.RulesFound.{RulesFound}
-use Rattle.i7_rules.specs.declared.source_rules.RulesFound.TheVariants as ruled
 use Rattle.i7_sentences.specs.Lowest.{IsLowest, IsNowhere}
-use Rattle.i7_sentences.specs.ActionDeclarations.{actions_declared}
 use Rattle.i7_sentences.specs.declared.sentence.Sentence.{Sentence}
 use Rattle.rule_order.specs.declared.listing.ListingSentence.{ListingSentence}
 use Rattle.i7_resolution.specs.ListingList.{ListingAt, listings_in}
-use Rattle.i7_resolution.specs.BookNames.{book_twice}
-use Rattle.i7_resolution.specs.Resolutions.{IsJoined, IsResolution, first_if, first_of, joined, with_fault}
-use Rattle.i7_resolution.specs.SourceActions.{action_over, action_twice, actions_in}
-use Rattle.i7_resolution.specs.ResolutionsMeant.{All as Resolved, ResolutionMeant, Refused as Unresolved, resolution_meant}
 use Rattle.i7_resolution.specs.SourceListings.{All, AreFound, AreTold, IsListingsFound, IsMisplaced, IsTold, IsUnknown, ListingsMeant, Refused, Stands, listings_meant}
-use Rattle.i7_resolution.specs.SourceTexts.{IsTextsFound, TextsMeant, texts_meant}
-use Rattle.i7_resolution.specs.SourceTexts as texts
-use Rattle.i7_resolution.specs.declared.resolution.Resolution.{Resolution}
-use Rattle.i7_resolution.specs.declared.resolution.Resolution.TheVariants as told
 use Rattle.i7_resolution.specs.declared.source_listings.ListingsFound.{ListingsFound}
 use Rattle.i7_resolution.specs.declared.source_listings.ListingsFound.TheVariants as found
-use Rattle.i7_resolution.specs.declared.source_texts.TextsFound.{TextsFound}
-use Rattle.i7_resolution.specs.declared.source_texts.TextsFound.TheVariants as texted
 use Rattle.i7_resolution.proofs.ReadListings.{same_rule}
 
 -- ---- listings
@@ -85,74 +68,3 @@ module _ (k : Known) (rules : List RuleAt) where
 
 pub listings_once : (k : Known) (sentences : List Sentence) (a b : ListingsFound) → IsListingsFound k sentences a → IsListingsFound k sentences b → listings_meant a ≡ listings_meant b
 listings_once k sentences a b one other = found_once k (rules_in sentences) (reverse (listings_in sentences)) a b one other
-
--- ---- all three
-
-abbrev texts_refusal : TextsMeant → Option Fault
-texts_refusal (texts.All ts) = None
-texts_refusal (texts.Refused fault) = Some fault
-
-abbrev listings_refusal : ListingsMeant → Option Fault
-listings_refusal (All ls) = None
-listings_refusal (Refused fault) = Some fault
-
-abbrev all_meant : RulesMeant → TextsMeant → ListingsMeant → ResolutionMeant
-all_meant (rules.All rs) (texts.All ts) (All ls) = Resolved rs ts ls
-all_meant (rules.All rs) (texts.All ts) (Refused fault) = Unresolved fault
-all_meant (rules.All rs) (texts.Refused fault) ls = Unresolved (first_if fault (listings_refusal ls))
-all_meant (rules.Refused fault) ts ls = Unresolved (first_if (first_if fault (texts_refusal ts)) (listings_refusal ls))
-
-meant_so : (r : RulesFound) (t : TextsFound) (l : ListingsFound) → resolution_meant (joined r t l) ≡ all_meant (rules_meant r) (texts_meant t) (listings_meant l)
-meant_so (ruled.Says rs) (texted.Says ts) (found.Says ls) = refl
-meant_so (ruled.Says rs) (texted.Says ts) (found.Refused fault) = refl
-meant_so (ruled.Says rs) (texted.Refused fault) (found.Says ls) = refl
-meant_so (ruled.Says rs) (texted.Refused other) (found.Refused fault) = refl
-meant_so (ruled.Refused fault) (texted.Says ts) (found.Says ls) = refl
-meant_so (ruled.Refused third) (texted.Says ts) (found.Refused fault) = refl
-meant_so (ruled.Refused fault) (texted.Refused other) (found.Says ls) = refl
-meant_so (ruled.Refused third) (texted.Refused other) (found.Refused fault) = refl
-
-abbrev pub TextsAreOnce : Type 0
-TextsAreOnce = (k : Known) (sentences : List Sentence) (a b : TextsFound) → IsTextsFound k sentences a → IsTextsFound k sentences b → texts_meant a ≡ texts_meant b
-
-abbrev pub RulesAreOnce : Type 0
-RulesAreOnce = (k : Known) (sentences : List Sentence) (a b : RulesFound) → IsRulesFound k sentences a → IsRulesFound k sentences b → rules_meant a ≡ rules_meant b
-
--- a resolution that may be refused for an action or a rulebook's name
-abbrev before_meant : Fault → ResolutionMeant → ResolutionMeant
-before_meant fault (Resolved rs ts ls) = Unresolved fault
-before_meant fault (Unresolved other) = Unresolved (first_of fault other)
-
-abbrev fault_meant : FaultCode → Option ℕ → ResolutionMeant → ResolutionMeant
-fault_meant code None told = told
-fault_meant code (Some line) told = before_meant (record { code = code; line = line }) told
-
-fault_so : (code : FaultCode) (line : Option ℕ) (told : Resolution) → resolution_meant (with_fault code line told) ≡ fault_meant code line (resolution_meant told)
-fault_so code None told = refl
-fault_so code (Some line) (told.Says resolved) = refl
-fault_so code (Some line) (told.Refused fault) = refl
-
-same_behind : (code : FaultCode) (line : Option ℕ) (a b : Resolution) → resolution_meant a ≡ resolution_meant b → resolution_meant (with_fault code line a) ≡ resolution_meant (with_fault code line b)
-same_behind code line a b same = fault_so code line a ∙ ap (fault_meant code line) same ∙ sym (fault_so code line b)
-
-joined_once : RulesAreOnce → TextsAreOnce → (k : Known) (sentences : List Sentence) (a b : Resolution) → IsJoined k sentences a → IsJoined k sentences b → resolution_meant a ≡ resolution_meant b
-joined_once rules_law texts_law k sentences a b one other =
-    ap resolution_meant one.told_is
-    ∙ meant_so one.rules one.texts one.listings
-    ∙ ap (λ (r : RulesMeant). all_meant r (texts_meant one.texts) (listings_meant one.listings)) (rules_law k sentences one.rules other.rules one.rules_are other.rules_are)
-    ∙ ap (λ (t : TextsMeant). all_meant (rules_meant other.rules) t (listings_meant one.listings)) (texts_law k sentences one.texts other.texts one.texts_are other.texts_are)
-    ∙ ap (all_meant (rules_meant other.rules) (texts_meant other.texts)) (listings_once k sentences one.listings other.listings one.listings_are other.listings_are)
-    ∙ sym (meant_so other.rules other.texts other.listings)
-    ∙ sym (ap resolution_meant other.told_is)
-
-pub resolved_once : RulesAreOnce → TextsAreOnce → (k : Known) (sentences : List Sentence) (a b : Resolution) → IsResolution k sentences a → IsResolution k sentences b → resolution_meant a ≡ resolution_meant b
-resolved_once rules_law texts_law k sentences a b one other =
-    let over = action_over (actions_declared sentences) in
-    let twice = action_twice (actions_declared sentences) in
-    let few : Resolution → Resolution = with_fault TooMany over in
-    let apart : Resolution → Resolution = λ before. with_fault Twice twice (few before) in
-    ap resolution_meant one.told_is
-    ∙ same_behind Twice (book_twice (actions_in sentences) sentences) (apart one.before) (apart other.before)
-    (same_behind Twice twice (few one.before) (few other.before)
-    (same_behind TooMany over one.before other.before (joined_once rules_law texts_law k sentences one.before other.before one.is_joined other.is_joined)))
-    ∙ sym (ap resolution_meant other.told_is)

@@ -5,8 +5,12 @@ pub mod Listings
 pub mod NumberedRules
 pub mod Resolutions
 pub mod ResolutionsMeant
+pub mod SceneChangeList
+pub mod SceneChanges
+pub mod SceneScans
 pub mod SourceActions
 pub mod SourceListings
+pub mod SourceScenes
 pub mod SourceTexts
 pub mod TextList
 pub mod TextScans

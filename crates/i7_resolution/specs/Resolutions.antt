@@ -1,5 +1,5 @@
--- What is resolved of a source: its rules, the texts that describe, and where sentences list rules, or the first refusal for these or
--- for its actions and the names of its rulebooks.
+-- What is resolved of a source: its rules, the texts that describe, where sentences list rules, and when its scenes begin and end, or
+-- the first refusal for these or for its actions and the names of its rulebooks.
 use Rattle.std.specs.Prelude.{◌≡◌, ℕ, ◌==◌, Bool, ◌&&◌, ◌||◌, nat_lt, List, [], Option, None, Some, if◌then◌else◌}
 use Rattle.std.specs.List.{list_any}
 use Rattle.world_meaning.specs.declared.fault.Fault.{Fault}
@@ -19,15 +19,18 @@ use Rattle.i7_sentences.specs.declared.sentence.Sentence.{Sentence}
 use Rattle.i7_resolution.specs.BookNames.{book_twice}
 use Rattle.i7_resolution.specs.SourceActions.{action_over, action_twice, actions_in, known_actions}
 use Rattle.i7_resolution.specs.SourceListings.{IsListingsFound}
+use Rattle.i7_resolution.specs.SourceScenes.{IsScenesFound}
 use Rattle.i7_resolution.specs.SourceTexts.{IsTextsFound}
 use Rattle.i7_resolution.specs.declared.resolution.Resolution.{Resolution}
 use Rattle.i7_resolution.specs.declared.resolution.Resolution.TheVariants.{Refused, Says}
 use Rattle.i7_resolution.specs.declared.source_listings.ListingsFound.{ListingsFound}
 use Rattle.i7_resolution.specs.declared.source_listings.ListingsFound.TheVariants as listed
+use Rattle.i7_resolution.specs.declared.source_scenes.ScenesFound.{ScenesFound}
+use Rattle.i7_resolution.specs.declared.source_scenes.ScenesFound.TheVariants as staged
 use Rattle.i7_resolution.specs.declared.source_texts.TextsFound.{TextsFound}
 use Rattle.i7_resolution.specs.declared.source_texts.TextsFound.TheVariants as texted
 
--- what rules and texts may name: what the names of a source stand for, its rulebooks and scenes, its sentences' actions behind the
+-- what rules, texts and scenes' conditions may name: what the names of a source stand for, its rulebooks and scenes, its sentences' actions behind the
 -- standard ones, and the kinds and objects of its tale
 abbrev pub known_in : SourceNames → Tale → List Sentence → Known
 known_in source tale sentences = record {
@@ -80,11 +83,17 @@ abbrev pub listings_fault : ListingsFound → Option Fault
 listings_fault (listed.Says listings) = None
 listings_fault (listed.Refused fault) = Some fault
 
-abbrev pub joined : RulesFound → TextsFound → ListingsFound → Resolution
-joined (ruled.Says rules) (texted.Says texts) (listed.Says listings) = Says (record { rules = rules; texts = texts; listings = listings })
-joined (ruled.Says rules) (texted.Says texts) (listed.Refused fault) = Refused fault
-joined (ruled.Says rules) (texted.Refused fault) listings = Refused (first_if fault (listings_fault listings))
-joined (ruled.Refused fault) texts listings = Refused (first_if (first_if fault (texts_fault texts)) (listings_fault listings))
+abbrev pub scenes_fault : ScenesFound → Option Fault
+scenes_fault (staged.Says scenes) = None
+scenes_fault (staged.Refused fault) = Some fault
+
+-- all four, or the first refusal
+abbrev pub joined : RulesFound → TextsFound → ListingsFound → ScenesFound → Resolution
+joined (ruled.Says rules) (texted.Says texts) (listed.Says listings) (staged.Says scenes) = Says (record { rules = rules; texts = texts; listings = listings; scenes = scenes })
+joined (ruled.Says rules) (texted.Says texts) (listed.Says listings) (staged.Refused fault) = Refused fault
+joined (ruled.Says rules) (texted.Says texts) (listed.Refused fault) scenes = Refused (first_if fault (scenes_fault scenes))
+joined (ruled.Says rules) (texted.Refused fault) listings scenes = Refused (first_if (first_if fault (listings_fault listings)) (scenes_fault scenes))
+joined (ruled.Refused fault) texts listings scenes = Refused (first_if (first_if (first_if fault (texts_fault texts)) (listings_fault listings)) (scenes_fault scenes))
 
 -- refused so, or before that for what is told already
 abbrev pub refused_before : Fault → Resolution → Resolution
@@ -102,18 +111,21 @@ with_actions sentences told =
     with_fault Twice (book_twice (actions_in sentences) sentences)
     (with_fault Twice (action_twice (actions_declared sentences)) (with_fault TooMany (action_over (actions_declared sentences)) told))
 
--- what is told of a source by what is told of its rules, of its texts, and of the sentences that list rules
-pub record IsJoined (k : Known) (sentences : List Sentence) (told : Resolution) : Type 0 where
+-- what is told of a source by what is told of its rules, of its texts, of the sentences that list rules, and of its scenes, of each of
+-- which it is declared whether it may happen again
+pub record IsJoined (k : Known) (recurring : List Bool) (sentences : List Sentence) (told : Resolution) : Type 0 where
   pub rules : RulesFound
   pub texts : TextsFound
   pub listings : ListingsFound
+  pub scenes : ScenesFound
   pub rules_are : IsRulesFound k sentences rules
   pub texts_are : IsTextsFound k sentences texts
   pub listings_are : IsListingsFound k sentences listings
-  pub told_is : told ≡ joined rules texts listings
+  pub scenes_are : IsScenesFound k recurring sentences scenes
+  pub told_is : told ≡ joined rules texts listings scenes
 
 -- and of the names of its actions and rulebooks, and of how many actions there are
-pub record IsResolution (k : Known) (sentences : List Sentence) (told : Resolution) : Type 0 where
+pub record IsResolution (k : Known) (recurring : List Bool) (sentences : List Sentence) (told : Resolution) : Type 0 where
   pub before : Resolution
-  pub is_joined : IsJoined k sentences before
+  pub is_joined : IsJoined k recurring sentences before
   pub told_is : told ≡ with_actions sentences before

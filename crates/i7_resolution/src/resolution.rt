@@ -5,30 +5,33 @@ ghost use Rattle.i7_phrases.specs.Texts.{found_text, text_is_over};
 ghost use Rattle.i7_rules.specs.Knowns.{known_of};
 ghost use Rattle.i7_sentences.specs.ActionDeclarations.{actions_declared};
 ghost use Rattle.i7_resolution.specs.SourceTexts.{SaysIn};
-ghost use Rattle.i7_resolution.specs.Resolutions.{IsJoined, IsResolution, first_if, first_of, goes_before, joined, known_in, listings_fault, refused_before, scope_in, texts_fault, turn_of, with_actions, with_fault};
+ghost use Rattle.i7_resolution.specs.Resolutions.{IsJoined, IsResolution, first_if, first_of, goes_before, joined, known_in, listings_fault, refused_before, scenes_fault, scope_in, texts_fault, turn_of, with_actions, with_fault};
 ghost use Rattle.i7_resolution.specs.SourceActions.{actions_in, actions_lent};
 
 use crate::action_list::{ActionAt, actions_declared};
 use crate::book_name::book_twice;
 use crate::source_actions::{action_over, action_twice, actions_of, known_actions};
 use crate::source_listings::{ListingsFound, listings_of};
+use crate::source_scenes::{ScenesFound, scenes_of};
 use crate::source_texts::{SourceText, TextsFound, found_in, texts_of};
 use i7_actions::Action;
 use i7_conditions::{Found, Scope};
 use i7_names::SourceNames;
 use i7_rules::{Known, RulesFound, SourceRule, rules_of};
 use i7_sentences::Sentence;
-use play_meaning::tree::Text;
+use play_meaning::tree::{MeantScene, Text};
 use rule_order::ListingSentence;
 use std::alloc::{AllocError, Global};
 use world_meaning::{Fault, FaultCode, Tale, TextBytes};
 
-/// The rules of a source, the texts that describe, and where sentences list rules, each in the order of their sentences.
+/// The rules of a source, the texts that describe, and where sentences list rules, each in the order of their sentences, and its
+/// scenes, by number.
 #[derive(Debug, Drop)]
 pub struct Resolved {
     pub rules: Vec<SourceRule>,
     pub texts: Vec<SourceText>,
     pub listings: Vec<ListingSentence>,
+    pub scenes: Vec<MeantScene>,
 }
 
 /// What is resolved of a source.
@@ -38,7 +41,8 @@ pub enum Resolution {
     Refused(Fault),
 }
 
-/// Where a code comes among those that refuse a source for its rules, texts and listings, and for its actions and rulebooks' names.
+/// Where a code comes among those that refuse a source for its rules, texts, listings and scenes, and for its actions and rulebooks'
+/// names.
 fn turn_of(code: FaultCode) -> u8
     ensures { result ≡ turn_of code }
 {
@@ -100,27 +104,50 @@ fn listings_fault(listings: &ListingsFound) -> Option<Fault>
     }
 }
 
-/// All three, or the first refusal.
-fn joined(rules: RulesFound, texts: TextsFound, listings: ListingsFound) -> Resolution
-    ensures { result ≡ joined rules texts listings }
+/// What refuses a source for what its sentences say of scenes.
+fn scenes_fault(scenes: &ScenesFound) -> Option<Fault>
+    ensures { result ≡ scenes_fault scenes.now }
+{
+    match scenes {
+        ScenesFound::Says(_) => None,
+        ScenesFound::Refused(fault) => Some(*fault),
+    }
+}
+
+/// All four, or the first refusal.
+fn joined(
+    rules: RulesFound,
+    texts: TextsFound,
+    listings: ListingsFound,
+    scenes: ScenesFound,
+) -> Resolution
+    ensures { result ≡ joined rules texts listings scenes }
 {
     match rules {
         RulesFound::Says(rules) => match texts {
             TextsFound::Says(texts) => match listings {
-                ListingsFound::Says(listings) => Resolution::Says(Resolved {
-                    rules,
-                    texts,
-                    listings,
-                }),
-                ListingsFound::Refused(fault) => Resolution::Refused(fault),
+                ListingsFound::Says(listings) => match scenes {
+                    ScenesFound::Says(scenes) => Resolution::Says(Resolved {
+                        rules,
+                        texts,
+                        listings,
+                        scenes,
+                    }),
+                    ScenesFound::Refused(fault) => Resolution::Refused(fault),
+                },
+                ListingsFound::Refused(fault) => {
+                    Resolution::Refused(first_if(fault, scenes_fault(&scenes)))
+                }
             },
             TextsFound::Refused(fault) => {
-                Resolution::Refused(first_if(fault, listings_fault(&listings)))
+                let first = first_if(fault, listings_fault(&listings));
+                Resolution::Refused(first_if(first, scenes_fault(&scenes)))
             }
         },
         RulesFound::Refused(fault) => {
             let first = first_if(fault, texts_fault(&texts));
-            Resolution::Refused(first_if(first, listings_fault(&listings)))
+            let first = first_if(first, listings_fault(&listings));
+            Resolution::Refused(first_if(first, scenes_fault(&scenes)))
         }
     }
 }
@@ -164,18 +191,20 @@ fn with_actions(
     Ok(with_fault(FaultCode::Twice, book, apart))
 }
 
-/// What is told of rules, texts and listings where so much is known.
+/// What is told of rules, texts, listings and scenes where so much is known.
 fn joined_of(
     alloc: Global,
     known: &Known<'_>,
+    recurring: &[bool],
     sentences: &[Sentence],
 ) -> Result<Resolution, AllocError>
-    ensures { IfOk result (λ told. IsJoined (known_of known.now) sentences.now told) }
+    ensures { IfOk result (λ told. IsJoined (known_of known.now) recurring.now sentences.now told) }
 {
     let rules = rules_of(alloc, known, sentences)?;
     let texts = texts_of(alloc, known, sentences)?;
     let listings = listings_of(alloc, known, sentences)?;
-    Ok(joined(rules, texts, listings))
+    let scenes = scenes_of(alloc, known, recurring, sentences)?;
+    Ok(joined(rules, texts, listings, scenes))
 }
 
 /// The names of rulebooks, as they are known.
@@ -203,11 +232,11 @@ pub fn text_said(alloc: Global, names: &SourceNames, text: &[u8]) -> Result<Foun
     Ok(found)
 }
 
-/// The rules of a source, the texts that describe, and where sentences list rules, where its names stand for this and its
-/// sentences mean this tale, or the refusal that stands: each code is looked for in all rules, texts and listings before the
-/// next, and told at its lowest line. These are C9, C7, C8, C12 and C5, as `rules_of`, `texts_of` and `listings_of` have them, C9 of
-/// an action whose name another has and of a rulebook that is named as rules of an action are, and C12 of an action that is one
-/// too many.
+/// The rules of a source, the texts that describe, where sentences list rules, and when its scenes begin and end, where its names
+/// stand for this and its sentences mean this tale, or the refusal that stands: each code is looked for in all rules, texts,
+/// listings and scenes before the next, and told at its lowest line. These are C9, C7, C8, C12 and C5, as `rules_of`, `texts_of`,
+/// `listings_of` and `scenes_of` have them, C9 of an action whose name another has and of a rulebook that is named as rules of an
+/// action are, and C12 of an action that is one too many.
 #[tactic(auto, unfolding(crate::specs::SourceActions::actions_in))]
 pub fn resolution_of(
     alloc: Global,
@@ -216,7 +245,7 @@ pub fn resolution_of(
     sentences: &[Sentence],
 ) -> Result<Resolution, AllocError>
     requires countable { 8 + 2 * names.now.scenes + length names.now.rulebooks ≤ 65535 }
-    ensures { IfOk result (λ told. IsResolution (known_in names.now tale.now sentences.now) sentences.now told) }
+    ensures { IfOk result (λ told. IsResolution (known_in names.now tale.now sentences.now) tale.now.declared.scenes sentences.now told) }
 {
     let declared = actions_declared(alloc, sentences)?;
     let actions = actions_of(alloc, declared.as_slice())?;
@@ -230,6 +259,7 @@ pub fn resolution_of(
         parents: tale.declared.kinds.as_slice(),
         objects: tale.objects.as_slice(),
     };
-    let told = joined_of(alloc, &known, sentences)?;
+    let recurring = tale.declared.scenes.as_slice();
+    let told = joined_of(alloc, &known, recurring, sentences)?;
     Ok(with_actions(alloc, declared.as_slice(), actions, sentences, told)?)
 }
