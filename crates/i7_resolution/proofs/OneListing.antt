@@ -1,6 +1,6 @@
 -- No sentences have two answers about where they list rules.
 use Rattle.std.proofs.Common.{◌≡◌, ℕ, List, [], ◌∷◌, refl, sym, ◌∙◌, ap}
-use Rattle.std.specs.Prelude.{Some, reverse}
+use Rattle.std.specs.Prelude.{reverse}
 use Rattle.std.specs.List.{AllZip}
 use Rattle.std.proofs.lemmas.List.{reverse-reverse}
 use Rattle.world_meaning.specs.declared.fault.FaultCode.{FaultCode}
