@@ -14,16 +14,19 @@ use Rattle.i7_sentences.specs.ActionDeclarations.{ActionAt, action_at, actions_d
 use Rattle.i7_sentences.specs.Assertions.{assertion_of, described, described_object, door_between, number_in, describing_text, side_direction, side_of, way_assertion}
 use Rattle.i7_sentences.specs.Bodies.{body_lines}
 use Rattle.i7_sentences.specs.BodyOrder.{reserved_line}
+use Rattle.i7_sentences.specs.Conditions.{is_condition}
 use Rattle.i7_sentences.specs.Cuts.{Piece, line_in, parts_of}
 use Rattle.i7_sentences.specs.Forms.{Variant}
 use Rattle.i7_sentences.specs.Keywords.{is_sign}
 use Rattle.i7_sentences.specs.Literals.{digits_of, is_negative, literal_of, magnitude}
 use Rattle.i7_sentences.specs.Lowest.{lower_of}
+use Rattle.i7_sentences.specs.Names.{named_in, words_in}
 use Rattle.i7_sentences.specs.Read.{named_heard, plain_heard}
 use Rattle.i7_sentences.specs.Reserved.{has_reserved_among}
 use Rattle.i7_sentences.specs.RuleBodies.{body_phrases, unread_line}
 use Rattle.i7_sentences.specs.RuleHeads.{body_tokens, head_in, is_rule_form}
 use Rattle.i7_sentences.specs.Rules.{head_heard, head_reserved, rule_heard, unless_reserved, unless_unread}
+use Rattle.i7_sentences.specs.SceneChanges.{scene_change}
 use Rattle.i7_sentences.specs.Sources.{IsSentence, Says as Tells, SaysInWords}
 use Rattle.i7_sentences.specs.Words.{word_of}
 use Rattle.i7_sentences.specs.declared.form.Form.{Form}
@@ -35,6 +38,8 @@ use Rattle.i7_sentences.specs.declared.part.PartKind.{PartKind}
 use Rattle.i7_sentences.specs.declared.part.PartKind.TheVariants.{Title, Heading, Sentence as Said}
 use Rattle.i7_sentences.specs.declared.rule.Rule.{Rule}
 use Rattle.i7_sentences.specs.declared.rule_head.Head.{Head}
+use Rattle.i7_sentences.specs.declared.scene_change.SceneEdge.{SceneEdge}
+use Rattle.i7_sentences.specs.declared.scene_change.SceneEdge.TheVariants as edge
 use Rattle.i7_sentences.specs.declared.sentence.Assertion.{Assertion}
 use Rattle.i7_sentences.specs.declared.sentence.Assertion.TheVariants as assertion
 use Rattle.i7_sentences.specs.declared.sentence.Sentence.{Sentence}
@@ -107,6 +112,16 @@ door_ranged door None second = tt
 door_ranged door (Some first) None = tt
 door_ranged door (Some first) (Some second) = tt
 
+asked_ranged : (is_asked : Bool) (said : Assertion) → IsWellSaid said → IsWellFound (if is_asked then Some said else None)
+asked_ranged true said ranged = ranged
+asked_ranged false said ranged = tt
+
+change_ranged : (side : SceneEdge) (letters : List (List Token)) → IsWellFound (scene_change side letters)
+change_ranged side (scene ∷ words ∷ []) = asked_ranged (is_condition (words_in words)) (assertion.SceneChange (record { scene = named_in scene; edge = side; condition = words_in words })) tt
+change_ranged side [] = tt
+change_ranged side (scene ∷ []) = tt
+change_ranged side (scene ∷ words ∷ more ∷ rest) = tt
+
 form_ranged : (f : Form) (letters : List (List Token)) → IsWellFound (assertion_of f letters)
 unfolding assertion_of
 form_ranged form.Description (text ∷ []) = described_ranged (describing_text text)
@@ -128,6 +143,8 @@ form_ranged (form.ActionOnTwo sort) (name ∷ []) = refl
 form_ranged form.Rulebook (name ∷ []) = tt
 form_ranged form.Scene (name ∷ []) = tt
 form_ranged form.RecurringScene (name ∷ []) = tt
+form_ranged form.SceneBegins letters = change_ranged edge.Begins letters
+form_ranged form.SceneEnds letters = change_ranged edge.Ends letters
 form_ranged form.KindOfKind (kind ∷ parent ∷ []) = tt
 form_ranged form.CanBe (kind ∷ first ∷ []) = tt
 form_ranged form.CanBeEither (kind ∷ first ∷ second ∷ []) = tt

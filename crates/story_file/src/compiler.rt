@@ -28,8 +28,8 @@ fn sentences_said(alloc: Global, source: &[u8]) -> Result<Vec<Sentence>, Fault>
 
 /// How it is told that no story file says the descriptions of a tale's objects, the rules, or the scenes, of which these are the
 /// lines.
-fn fault_told(sentences: &[Sentence], tale: &Tale, scene_lines: &[u32], fault: TableFault) -> Fault
-    requires { scene_lines.now ≡ scene_lines (scope_said sentences.now) sentences.now (length tale.now.declared.scenes) }
+fn fault_told(sentences: &[Sentence], tale: &Tale, lines: &[u32], fault: TableFault) -> Fault
+    requires { lines.now ≡ scene_lines (scope_said sentences.now) sentences.now (length tale.now.declared.scenes) }
     ensures { IsToldAs sentences.now tale.now fault result ⊎ ((fault ≡ Memory) × (result ≡ out_of_memory)) }
 {
     match fault {
@@ -43,7 +43,7 @@ fn fault_told(sentences: &[Sentence], tale: &Tale, scene_lines: &[u32], fault: T
         },
         TableFault::LongScene(number) => Fault {
             code: FaultCode::TooMany,
-            line: line_in(scene_lines, number),
+            line: line_in(lines, number),
         },
         TableFault::TooMany => Fault {
             code: FaultCode::TooMany,

@@ -126,17 +126,16 @@ fn meant_of(alloc: Global, claimed: &Claimed<'_>, tale: &Tale) -> Result<Kept, F
     ensures lines { IfOk result (λ kept. kept.scene_lines.items ≡ scene_lines (scope_said claimed.now) claimed.now (length tale.now.declared.scenes)) }
     ensures refused { IfErr result (λ fault. AreRefused claimed.now fault ⊎ (fault ≡ out_of_memory)) }
 {
+    let sentences = claimed.sentences();
     let Ok((names, told)) = resolution_said(alloc, claimed, tale) else {
         return Err(Fault::OUT_OF_MEMORY);
     };
     match told {
         Resolution::Refused(fault) => Err(fault),
-        Resolution::Says(resolved) => {
-            match kept_of(alloc, &names, tale, claimed.sentences(), resolved) {
-                Ok(kept) => Ok(kept),
-                Err(_) => Err(Fault::OUT_OF_MEMORY),
-            }
-        }
+        Resolution::Says(resolved) => match kept_of(alloc, &names, tale, sentences, resolved) {
+            Ok(kept) => Ok(kept),
+            Err(_) => Err(Fault::OUT_OF_MEMORY),
+        },
     }
 }
 

@@ -1,6 +1,6 @@
 use Rattle.std.proofs.Common.{◌≡◌, List, [], length, subst, sym}
 use Rattle.i7_kinds.proofs.Written.{written}
-use Rattle.i7_resolution.specs.Resolutions.{IsResolution}
+use Rattle.i7_resolution.specs.Resolutions.{IsResolution, scope_in}
 use Rattle.i7_rules.specs.Knowns.{Known, scope_among}
 use Rattle.i7_sentences.specs.declared.sentence.Sentence.{Sentence}
 use Rattle.story_format.specs.Contents.{contents_meant}
@@ -37,4 +37,4 @@ returns-in-Ok-kept_of-clause-lines c =
     let count = length c.args.tale.now.declared.scenes in
     let lines = c.in-Ok-kept_of.kept.scene_lines.items in
     subst (λ (k : Known). lines ≡ scene_lines (scope_among k []) sentences count) c.in-Ok.ensures.names
-    (subst (λ (lent : List Sentence). lines ≡ scene_lines (scope_among (known_said_of c.in-Ok.names c.args.tale.now sentences) []) lent count) c.sentences-in-Ok.ensures c.in-Ok-kept_of.ensures.lines)
+    (subst (λ (lent : List Sentence). lines ≡ scene_lines (scope_in c.in-Ok.names) lent count) c.sentences-sentences.ensures c.in-Ok-kept_of.ensures.lines)
