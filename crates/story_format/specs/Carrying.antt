@@ -1,7 +1,7 @@
 -- Tables that carry a tale: they say of each object's name, words and ways, and of the start, what the tale says; its
 -- description's code says its text; its actions ask for the same; its rules are about the same, and their codes answer their
--- conditions and do their bodies; its books list them in the order in which they are asked, as sentences list them; and the codes of
--- its scenes answer when they begin and end.
+-- conditions and do their bodies; its books list them in the order in which they are asked, as sentences list them; the codes of
+-- its scenes answer when they begin and end; and its grammar has the same lines.
 use Rattle.std.specs.Prelude.{◌≡◌, ℕ, zero, suc, Bool, true, false, ◌||◌, [], ◌∷◌, ◌++◌, count_by, is_some, length, map, slice_get, Option, None, Some, if◌then◌else◌, ◌==◌}
 use Rattle.std.specs.List.{AllZip}
 use Rattle.std.specs.Option.{option_map}
@@ -26,7 +26,7 @@ use Rattle.world_meaning.specs.declared.needs.Needs.{Needs}
 use Rattle.world_meaning.specs.declared.needs.Slot.{Slot}
 use Rattle.world_meaning.specs.declared.needs.Slot.TheVariants.{Absent, Visible, Touched, Carried}
 use Rattle.world_meaning.specs.declared.tale.Tale.{Tale}
-use Rattle.object_words.specs.Words.{words_of as told_words}
+use Rattle.command_grammar.specs.Synonyms.{words_told}
 use Rattle.story_format.specs.declared.rule_entry.Aspect.{Aspect as Asked}
 use Rattle.story_format.specs.declared.rule_entry.Aspect.TheVariants as aspects
 use Rattle.story_format.specs.declared.rule_entry.PropertySide.{PropertySide}
@@ -38,8 +38,8 @@ use Rattle.story_format.specs.declared.rule_tables.SceneEntry.{SceneEntry}
 use Rattle.story_format.specs.declared.tables.Tables.{Tables}
 use Rattle.story_format.specs.Codes.{codes_told}
 use Rattle.story_format.specs.Contents.{Contents}
-use Rattle.story_format.specs.Facts.{description_code_of, name_of, object_count_of, rules_listed, start_of, way_of, words_of}
-use Rattle.story_format.specs.Making.{story_rules, text_of}
+use Rattle.story_format.specs.Facts.{description_code_of, name_of, object_count_of, lines_of, rules_listed, start_of, way_of, words_of}
+use Rattle.story_format.specs.Making.{story_lines, story_rules, text_of}
 
 -- ---- actions
 
@@ -124,7 +124,7 @@ pub record CarriesScene (c : Codes) (e : SceneEntry) (scene : Scene) : Type 0 wh
 pub record Carries (tables : Tables) (tale : Tale) (said : Contents) : Type 0 where
   pub count : object_count_of tables ≡ length tale.objects
   pub names : (o : ℕ) → name_of tables o ≡ told_name tale o
-  pub words : (o : ℕ) → words_of tables o ≡ told_words tale o
+  pub words : (o : ℕ) → words_of tables o ≡ words_told said.synonyms tale o
   pub described : (o : ℕ) → is_some (description_code_of tables o) ≡ is_some (told_description tale o)
   -- whatever the setting, the action and the world are
   pub descriptions : (o : ℕ) (s : Setting) (now : ActionNow) (w : World) → said_by_code (codes_told tables) s now w (description_code_of tables o) ≡ says (undescribed s) now w (text_of tale said.texts o)
@@ -137,3 +137,5 @@ pub record Carries (tables : Tables) (tale : Tale) (said : Contents) : Type 0 wh
   -- each book lists its rules in the order in which they are asked
   pub books : (book : ℕ) → rules_listed tables book ≡ book_of (setting_of tale) (story_rules said.listings said.rules) book
   pub scenes_are : AllZip (CarriesScene (codes_told tables)) tables.rules.scenes said.scenes
+  -- the author's, and behind them those that every story understands
+  pub lines_are : lines_of tables ≡ story_lines said.lines

@@ -14,7 +14,7 @@ use Rattle.story_format.specs.declared.tables.Entry.{Entry}
 use Rattle.story_format.specs.declared.tables.Tables.{Tables}
 use Rattle.story_format.specs.Counts.{counts_of}
 use Rattle.story_format.specs.Placed.{is_room_entry, places_in, sorts_in}
-use Rattle.story_format.specs.RuleChecks.{are_right_rules, codes_in_tables}
+use Rattle.story_format.specs.RuleChecks.{are_right_rules, codes_in_tables, strings_in_line}
 use Rattle.story_format.specs.Sizes.{is_right_entry, sizes_of}
 use Rattle.story_format.specs.WorldChecks.{is_right_world, suits_kind}
 
@@ -89,6 +89,10 @@ are_named_in_order next (n ∷ ns) = nat_le n next && are_named_in_order (max ne
 abbrev pub strings_named : Entry → List ℕ
 strings_named e = e.name ∷ e.words
 
+-- the strings that objects name, then those that lines of the grammar name
+unfoldable pub strings_in_tables : Tables → List ℕ
+strings_in_tables t = flat_map strings_named t.objects ++ flat_map strings_in_line t.rules.grammar
+
 abbrev pub is_some_code : ℕ → Bool
 is_some_code n = not (n == 65535)
 
@@ -103,7 +107,7 @@ heads_named t = codes_named t.objects ++ codes_in_tables t.rules
 unfoldable pub are_right_objects : Tables → Bool
 are_right_objects t =
     list_all (is_right_entry (sizes_of t)) t.objects && are_in_place t.strings t.world.kinds (sorts_in t).rooms t.objects && have_words t.strings 0 t.objects && list_all (has_small_words (map is_small t.strings)) t.objects
-    && are_named_in_order 0 (flat_map strings_named t.objects) && are_named_in_order 0 (heads_named t) && list_all (suits_kind t.world) t.objects
+    && are_named_in_order 0 (strings_in_tables t) && are_named_in_order 0 (heads_named t) && list_all (suits_kind t.world) t.objects
 
 -- each object is where it may be, and none stands in itself
 unfoldable pub stand_rightly : Tables → Bool

@@ -1,7 +1,10 @@
 -- What a story file says of a tale: a text of each description, in the order of the objects, the author's rules, where sentences list
--- rules, and the scenes.
+-- rules, the scenes, the author's lines of the grammar, and the words that objects go by besides those of their names.
 use Rattle.std.specs.Prelude.{List, map}
+use Rattle.command_grammar.specs.Lines.{line_meant}
+use Rattle.command_grammar.specs.declared.synonym.Synonym.{Synonym}
 use Rattle.code_table.specs.Origins.{Origin, origins_of}
+use Rattle.play_meaning.specs.Grammar.{Line}
 use Rattle.play_meaning.specs.Meant.{text_meant}
 use Rattle.play_meaning.specs.Patterns.{rule_meant}
 use Rattle.play_meaning.specs.Rules.{Rule}
@@ -16,6 +19,8 @@ pub record Contents : Type 0 where
   pub rules : List Rule
   pub listings : List ListingSentence
   pub scenes : List Scene
+  pub lines : List Line
+  pub synonyms : List Synonym
 
 -- as they are kept
 abbrev pub contents_meant : Kept → Contents
@@ -24,6 +29,8 @@ contents_meant kept = record {
   rules = map rule_meant kept.rules.items;
   listings = kept.listings.items;
   scenes = map scene_meant kept.scenes.items;
+  lines = map line_meant kept.lines.items;
+  synonyms = kept.synonyms.items;
 }
 
 -- what has codes among them

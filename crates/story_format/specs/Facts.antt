@@ -1,5 +1,6 @@
 -- What a story's tables say of its objects and rules, by number; nothing of a number that none has.
 use Rattle.std.specs.Prelude.{ℕ, ◌-◌, Bool, false, ◌==◌, List, [], length, map, take, count_by, slice_get, slice_index_or, Option, Some, None, if◌then◌else◌}
+use Rattle.play_meaning.specs.Grammar.{Direction, Line, Something, Token, Word}
 use Rattle.world_meaning.specs.Tale.{room_beyond}
 use Rattle.world_meaning.specs.declared.exits.Exits.{Exits}
 use Rattle.story_format.specs.Placed.{is_room_entry}
@@ -7,6 +8,7 @@ use Rattle.story_format.specs.declared.rule_entry.RuleBody.{RuleBody}
 use Rattle.story_format.specs.declared.rule_entry.RuleBody.TheVariants.{Code}
 use Rattle.story_format.specs.declared.rule_entry.RuleEntry.{RuleEntry}
 use Rattle.story_format.specs.declared.rule_tables.Book.{Book}
+use Rattle.story_format.specs.declared.rule_tables.LineEntry.{LineEntry}
 use Rattle.story_format.specs.declared.tables.Entry.{Entry}
 use Rattle.story_format.specs.declared.tables.Tables.{Tables}
 
@@ -68,6 +70,19 @@ holder_in (Some entry) = entry.holder
 -- the room in which the player begins
 abbrev pub start_of : Tables → ℕ
 start_of t = holder_in (slice_get t.objects 0)
+
+-- ---- the grammar
+
+-- what a number in a line stands for
+abbrev pub token_in : List (List ℕ) → ℕ → Token
+token_in strings n = if n == 65534 then Something else (if n == 65535 then Direction else Word (text_at strings n))
+
+abbrev pub line_in : List (List ℕ) → LineEntry → Line
+line_in strings e = record { action = e.action; tokens = map (token_in strings) e.tokens }
+
+-- the lines of the grammar, in the order in which they are tried
+abbrev pub lines_of : Tables → List Line
+lines_of t = map (line_in t.strings) t.rules.grammar
 
 -- ---- rules
 

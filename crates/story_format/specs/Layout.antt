@@ -15,7 +15,7 @@ use Rattle.story_format.specs.declared.rule_entry.RuleBody.{RuleBody}
 use Rattle.story_format.specs.declared.rule_entry.RuleBody.TheVariants as bodies
 use Rattle.story_format.specs.declared.rule_entry.RuleEntry.{RuleEntry}
 use Rattle.story_format.specs.declared.rule_tables.ActionEntry.{ActionEntry}
-use Rattle.story_format.specs.declared.rule_tables.GrammarLine.{GrammarLine}
+use Rattle.story_format.specs.declared.rule_tables.LineEntry.{LineEntry}
 use Rattle.story_format.specs.declared.rule_tables.Book.{Book}
 use Rattle.story_format.specs.declared.rule_tables.SceneEntry.{SceneEntry}
 use Rattle.story_format.specs.declared.rule_tables.RuleTables.{RuleTables}
@@ -63,9 +63,9 @@ action_layout = as_record
     (λ a. (a.nouns, (a.noun, (a.second, a.marks)))) (λ p. refl) (λ a. refl)
     (then u8s (then u8s (then u8s u8s)))
 
--- table 9: a grammar line
-unfoldable pub line_layout : Layout GrammarLine
-line_layout = as_record (λ p. record { action = p.0; words = p.1 }) (λ l. (l.action, l.words)) (λ p. refl) (λ l. refl) (then u8s (list_of u16s))
+-- table 9: a line of the grammar
+unfoldable pub line_layout : Layout LineEntry
+line_layout = as_record (λ p. record { action = p.0; tokens = p.1 }) (λ l. (l.action, l.tokens)) (λ p. refl) (λ l. refl) (then u8s (list_of u16s))
 
 -- a property that an aspect asks, and which of its names
 unfoldable pub side_layout : Layout PropertySide

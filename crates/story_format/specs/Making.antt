@@ -12,9 +12,11 @@ use Rattle.world_meaning.specs.declared.tale.Object.{Object}
 use Rattle.world_meaning.specs.declared.tale.Tale.{Tale}
 use Rattle.world_meaning.specs.declared.declared.Declared.{Declared}
 use Rattle.world_meaning.specs.Kinds.{is_under, room_kind}
+use Rattle.play_meaning.specs.Grammar.{Direction, Line, Something, Token, Word}
 use Rattle.play_meaning.specs.Order.{book_of}
 use Rattle.play_meaning.specs.Rules.{Rule}
 use Rattle.play_meaning.specs.Scripts.{Scene}
+use Rattle.play_meaning.specs.StandardGrammar.{standard_lines}
 use Rattle.play_meaning.specs.StandardRules.{standard_rules}
 use Rattle.play_meaning.specs.Tales.{setting_of}
 use Rattle.play_meaning.specs.Trees.{Text}
@@ -26,28 +28,30 @@ use Rattle.story_code.specs.Spelling.{spelling}
 use Rattle.story_format.specs.Contents.{Contents, origins_said}
 use Rattle.story_format.specs.RuleMaking.{book_count, rules_of}
 use Rattle.story_format.specs.declared.rule_tables.Book.{Book}
+use Rattle.story_format.specs.declared.rule_tables.LineEntry.{LineEntry}
 use Rattle.story_format.specs.declared.tables.Entry.{Entry}
 use Rattle.story_format.specs.declared.tables.Tables.{Tables}
 use Rattle.story_format.specs.declared.world_tables.Variable.{Variable}
 use Rattle.story_format.specs.declared.world_tables.WorldTables.{WorldTables}
 use Rattle.object_words.specs.Mentions.{first_mentions, number_in}
-use Rattle.object_words.specs.Words.{words_for}
+use Rattle.command_grammar.specs.Synonyms.{words_said}
+use Rattle.command_grammar.specs.declared.synonym.Synonym.{Synonym}
 
 -- an object, and the words that a command may name it by
 pub record Worded : Type 0 where
   pub object : Object
   pub words : List (List ℕ)
 
-abbrev pub worded_at : ℕ → Object → Worded
-worded_at o object = record { object = object; words = words_for o object.name }
+abbrev pub worded_at : List Synonym → ℕ → Object → Worded
+worded_at synonyms o object = record { object = object; words = words_said synonyms o object.name }
 
-abbrev pub worded_from : ℕ → List Object → List Worded
-worded_from o [] = []
-worded_from o (object ∷ objects) = worded_at o object ∷ worded_from (o + 1) objects
+abbrev pub worded_from : List Synonym → ℕ → List Object → List Worded
+worded_from synonyms o [] = []
+worded_from synonyms o (object ∷ objects) = worded_at synonyms o object ∷ worded_from synonyms (o + 1) objects
 
 -- the objects of a tale with their words, by number
-abbrev pub worded : List Object → List Worded
-worded objects = worded_from 0 objects
+abbrev pub worded : List Synonym → List Object → List Worded
+worded synonyms objects = worded_from synonyms 0 objects
 
 -- how many codes a description has
 abbrev pub code_count : Option (List ℕ) → ℕ
@@ -67,9 +71,22 @@ entry_strings w = w.object.name ∷ w.words
 abbrev pub strings_said : List Origin → List (List ℕ)
 strings_said origins = flat_map strings_of_origin origins
 
--- the strings of a story: those that the objects' entries name, then those that its descriptions and rules say
-unfoldable pub strings_of : List Worded → List Origin → List (List ℕ)
-strings_of ws origins = first_mentions (flat_map entry_strings ws ++ strings_said origins)
+abbrev pub token_strings : Token → List (List ℕ)
+token_strings (Word spelling) = spelling ∷ []
+token_strings Something = []
+token_strings Direction = []
+
+-- the strings that a line of the grammar names
+abbrev pub line_strings : Line → List (List ℕ)
+line_strings line = flat_map token_strings line.tokens
+
+-- the strings that objects' entries name, and then those that lines do
+unfoldable pub texts_named : List Worded → List Line → List (List ℕ)
+texts_named ws lines = flat_map entry_strings ws ++ flat_map line_strings lines
+
+-- the strings of a story: those that are named, then those that its descriptions and rules say
+unfoldable pub strings_of : List (List ℕ) → List Origin → List (List ℕ)
+strings_of named origins = first_mentions (named ++ strings_said origins)
 
 abbrev pub article_number : Article → ℕ
 article_number articles.None = 0
@@ -134,6 +151,20 @@ world_of d = record { kinds = d.kinds; flags = d.flags; numbers = d.numbers; var
 abbrev pub described_in : List Worded → ℕ
 described_in ws = codes_in (map (λ w. w.object) ws)
 
+-- ---- the grammar
+
+-- all lines of a story, in the order in which they are tried: the author's, and behind them those that every story understands
+abbrev pub story_lines : List Line → List Line
+story_lines lines = lines ++ standard_lines
+
+abbrev pub token_number : List (List ℕ) → Token → ℕ
+token_number strings (Word spelling) = number_in strings spelling
+token_number strings Something = 65534
+token_number strings Direction = 65535
+
+abbrev pub line_entry : List (List ℕ) → Line → LineEntry
+line_entry strings line = record { action = line.action; tokens = map (token_number strings) line.tokens }
+
 -- ---- books
 
 -- all rules of a story, by number: those that every story has, and behind them the author's, each listed as the latest sentence
@@ -148,13 +179,13 @@ books_of t listings rules = map (λ book. record { rules = book_of (setting_of t
 -- ---- all of it
 
 -- the tables, but for the codes
-abbrev pub tables_but_codes : Declared → List Book → List Worded → List Rule → List Scene → List (List ℕ) → Tables
-tables_but_codes d books ws rules scenes strings = record {
+abbrev pub tables_but_codes : Declared → List Book → List Worded → List Line → List Rule → List Scene → List (List ℕ) → Tables
+tables_but_codes d books ws lines rules scenes strings = record {
   strings = strings;
   world = world_of d;
   objects = entries_of strings 0 ws;
   ways = flat_map (ways_of d.kinds) ws;
-  rules = rules_of d books (described_in ws) rules scenes;
+  rules = rules_of d (map (line_entry strings) lines) books (described_in ws) rules scenes;
   codes = [];
 }
 
@@ -162,16 +193,20 @@ tables_but_codes d books ws rules scenes strings = record {
 abbrev pub code_bytes : List (List ℕ) → List Origin → List (List ℕ)
 code_bytes strings origins = map spelling (codes_of_origins (number_in strings) origins)
 
-unfoldable pub tables_with : Declared → List Book → List Worded → List Rule → List Scene → List Origin → Tables
-tables_with d books ws rules scenes origins = record (tables_but_codes d books ws rules scenes (strings_of ws origins)) { codes = code_bytes (strings_of ws origins) origins }
+-- with the codes, where these are the strings
+abbrev pub coded_tables : Declared → List Book → List Worded → List Line → List Rule → List Scene → List Origin → List (List ℕ) → Tables
+coded_tables d books ws lines rules scenes origins strings = record (tables_but_codes d books ws lines rules scenes strings) { codes = code_bytes strings origins }
+
+unfoldable pub tables_with : Declared → List Book → List Worded → List Line → List Rule → List Scene → List Origin → Tables
+tables_with d books ws lines rules scenes origins = coded_tables d books ws lines rules scenes origins (strings_of (texts_named ws lines) origins)
 
 -- the tables of a tale of which this is said
 abbrev pub tables_of : Tale → Contents → Tables
-tables_of t c = tables_with t.declared (books_of t c.listings c.rules) (worded t.objects) c.rules c.scenes (origins_said c)
+tables_of t c = tables_with t.declared (books_of t c.listings c.rules) (worded c.synonyms t.objects) (story_lines c.lines) c.rules c.scenes (origins_said c)
 
 -- its strings
 abbrev pub strings_with : Tale → Contents → List (List ℕ)
-strings_with t c = strings_of (worded t.objects) (origins_said c)
+strings_with t c = strings_of (texts_named (worded c.synonyms t.objects) (story_lines c.lines)) (origins_said c)
 
 -- ---- what is said of each object
 

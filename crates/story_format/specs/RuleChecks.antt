@@ -1,5 +1,5 @@
 -- What tables 8 to 12 of a story say, where there are so many of what they name.
-use Rattle.std.specs.Prelude.{ℕ, ◌+◌, Bool, true, false, ◌&&◌, ◌||◌, ◌==◌, nat_le, nat_lt, List, [], ◌∷◌, ◌++◌, length, if◌then◌else◌}
+use Rattle.std.specs.Prelude.{ℕ, ◌+◌, Bool, true, false, ◌&&◌, ◌||◌, ◌==◌, nat_le, nat_lt, List, [], ◌∷◌, ◌++◌, Option, None, Some, count_by, filter, length, slice_get, if◌then◌else◌}
 use Rattle.std.specs.List.{flat_map, list_all}
 use Rattle.play_meaning.specs.declared.operand.Counts.{Counts}
 use Rattle.play_meaning.specs.declared.operand.Use.{Use}
@@ -13,6 +13,7 @@ use Rattle.story_format.specs.declared.rule_entry.RuleBody.TheVariants as bodies
 use Rattle.story_format.specs.declared.rule_entry.RuleEntry.{RuleEntry}
 use Rattle.story_format.specs.declared.rule_tables.ActionEntry.{ActionEntry}
 use Rattle.story_format.specs.declared.rule_tables.Book.{Book}
+use Rattle.story_format.specs.declared.rule_tables.LineEntry.{LineEntry}
 use Rattle.story_format.specs.declared.rule_tables.RuleTables.{RuleTables}
 use Rattle.story_format.specs.declared.rule_tables.SceneEntry.{SceneEntry}
 
@@ -38,6 +39,33 @@ is_right_action a = nat_le a.nouns 2 && is_right_need (nat_le 1 a.nouns) a.noun 
 -- 200 at most
 unfoldable pub are_right_actions : List ActionEntry → Bool
 are_right_actions actions = nat_le (length actions) 200 && begin_with_actions actions (action_entries []) && list_all is_right_action actions
+
+-- ---- table 9: the grammar
+
+-- a slot for a thing, or for a direction
+abbrev pub is_slot_number : ℕ → Bool
+is_slot_number n = nat_le 65534 n
+
+-- or one of so many strings
+abbrev pub is_right_token : ℕ → ℕ → Bool
+is_right_token strings n = is_slot_number n || nat_lt n strings
+
+-- the action is there, and has so many nouns
+abbrev pub has_nouns : ℕ → Option ActionEntry → Bool
+has_nouns count None = false
+has_nouns count (Some a) = a.nouns == count
+
+-- 32 tokens at most, and as many slots among them as the action has nouns
+unfoldable pub is_right_line : Counts → List ActionEntry → LineEntry → Bool
+is_right_line z actions e =
+    has_nouns (count_by is_slot_number e.tokens) (slice_get actions e.action) && nat_le (length e.tokens) 32 && list_all (is_right_token z.strings) e.tokens
+
+abbrev pub are_right_lines : Counts → List ActionEntry → List LineEntry → Bool
+are_right_lines z actions lines = nat_le (length lines) 65535 && list_all (is_right_line z actions) lines
+
+-- the numbers of strings that a line names
+abbrev pub strings_in_line : LineEntry → List ℕ
+strings_in_line e = filter (λ n. nat_lt n 65534) e.tokens
 
 -- ---- table 10: rules
 
@@ -140,8 +168,8 @@ codes_in_tables r = codes_in_rules r.rules ++ codes_in_scenes r.scenes
 abbrev pub uses_in_tables : RuleTables → List Use
 uses_in_tables r = uses_in_rules r.rules ++ uses_in_scenes r.scenes
 
--- tables 8 to 12 are those of a story: no grammar so far, 2,000 rules at most; whether a book's rules are its own is asked apart
+-- tables 8 to 12 are those of a story: 2,000 rules at most; whether a book's rules are its own is asked apart
 unfoldable pub are_right_rules : Counts → RuleTables → Bool
 are_right_rules z r =
-    are_right_scenes z r.scenes && are_right_books (length r.scenes) (length r.rules) r.books && are_right_actions r.actions && (length r.grammar == 0)
+    are_right_scenes z r.scenes && are_right_books (length r.scenes) (length r.rules) r.books && are_right_actions r.actions && are_right_lines z r.actions r.grammar
     && (nat_le (length r.rules) 2000 && list_all (is_right_rule z) r.rules)

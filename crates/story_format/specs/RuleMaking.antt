@@ -1,5 +1,6 @@
--- The rule tables of a tale: the sixteen actions and behind them the author's, the rules that every story has and behind them
--- its own, with what they are about and the numbers of their codes, its books, and its scenes, with the numbers of theirs.
+-- The rule tables of a tale: the sixteen actions and behind them the author's, the lines of its grammar, the rules that every story has
+-- and behind them its own, with what they are about and the numbers of their codes, its books, and its scenes, with the numbers of
+-- theirs.
 use Rattle.std.specs.Prelude.{ℕ, ◌+◌, ◌*◌, Bool, List, [], ◌∷◌, ◌++◌, length, map, min, Option, None, Some, if◌then◌else◌}
 use Rattle.world_meaning.specs.declared.declared.Declared.{Declared}
 use Rattle.play_meaning.specs.Rules.{Anything, Aspect, Exactly, OfKind, Rule}
@@ -19,6 +20,7 @@ use Rattle.story_format.specs.declared.rule_entry.RuleBody.TheVariants as bodies
 use Rattle.story_format.specs.declared.rule_entry.RuleEntry.{RuleEntry}
 use Rattle.story_format.specs.declared.rule_tables.ActionEntry.{ActionEntry}
 use Rattle.story_format.specs.declared.rule_tables.Book.{Book}
+use Rattle.story_format.specs.declared.rule_tables.LineEntry.{LineEntry}
 use Rattle.story_format.specs.declared.rule_tables.RuleTables.{RuleTables}
 use Rattle.story_format.specs.declared.rule_tables.SceneEntry.{SceneEntry}
 
@@ -152,12 +154,12 @@ unfoldable pub scene_entries : ℕ → List Scene → List SceneEntry
 scene_entries next [] = []
 scene_entries next (scene ∷ scenes) = scene_entry next scene ∷ scene_entries (next + scene_count scene) scenes
 
--- tables 8 to 12 of what a source declares, of its books, of its rules, the first code of these having this number, and of its scenes,
+-- tables 8 to 12 of what a source declares, of the entries of its lines, of its books, of its rules, the first code of these having this number, and of its scenes,
 -- whose codes stand behind them
-unfoldable pub rules_of : Declared → List Book → ℕ → List Rule → List Scene → RuleTables
-rules_of d books next rules scenes = record {
+unfoldable pub rules_of : Declared → List LineEntry → List Book → ℕ → List Rule → List Scene → RuleTables
+rules_of d lines books next rules scenes = record {
   actions = action_entries d.actions;
-  grammar = [];
+  grammar = lines;
   rules = all_entries next rules;
   books = books;
   scenes = scene_entries (next + codes_of_rules rules) scenes;

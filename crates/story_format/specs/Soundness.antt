@@ -1,11 +1,10 @@
 -- Which codes are a story's: the objects and the rules name the first of them in turn, behind these are the tests that codes
 -- name, and each string is named.
 use Rattle.std.specs.Prelude.{◌≡◌, ℕ, ◌+◌, ◌==◌, Bool, true, false, ◌&&◌, List, [], ◌∷◌, ◌++◌, length, map, Option, None, Some}
-use Rattle.std.specs.List.{flat_map}
 use Rattle.code_table.specs.Strings.{counted_on, strings_of}
 use Rattle.story_code.specs.Soundness.{Judged}
 use Rattle.story_format.specs.declared.tables.Tables.{Tables}
-use Rattle.story_format.specs.Checks.{heads_named, strings_named}
+use Rattle.story_format.specs.Checks.{heads_named, strings_in_tables}
 use Rattle.story_format.specs.Codes.{AreCodesOf, code_spelled}
 
 -- the numbers are this one, the one behind it, and so on
@@ -18,9 +17,9 @@ abbrev pub is_count : ℕ → Option ℕ → Bool
 is_count count None = false
 is_count count (Some n) = n == count
 
--- the strings that the objects name, then those that the codes name
+-- the strings that objects and lines name, then those that the codes name
 unfoldable pub strings_read : Tables → List ℕ
-strings_read t = flat_map strings_named t.objects ++ strings_of (map code_spelled t.codes)
+strings_read t = strings_in_tables t ++ strings_of (map code_spelled t.codes)
 
 -- The codes are a table, of which the objects and then the rules name the first, each of them once and in order; and each
 -- string is named, in order.

@@ -16,7 +16,7 @@ use Rattle.story_format.specs.declared.tables.Entry.{Entry}
 use Rattle.story_format.specs.declared.tables.Tables.{Tables}
 use Rattle.story_format.specs.Codes.{codes_told}
 use Rattle.story_format.specs.RuleChecks.{codes_in_tables}
-use Rattle.story_format.specs.Facts.{description_code_of, text_at}
+use Rattle.story_format.specs.Facts.{description_code_of, lines_of, text_at}
 
 -- the object, but for the numbers of its strings and of its code
 abbrev pub unnumbered : Entry → Entry
@@ -97,19 +97,21 @@ uncoded_rule r = record r { condition = uncoded_number r.condition; body = uncod
 abbrev pub uncoded_scene : SceneEntry → SceneEntry
 uncoded_scene scene = record { recurring = scene.recurring; begins = uncoded_number scene.begins; ends = uncoded_number scene.ends }
 
+-- tables 8 to 12, but for the numbers of codes and the lines of the grammar
 abbrev pub uncoded_rules : RuleTables → RuleTables
-uncoded_rules r = record r { rules = map uncoded_rule r.rules; scenes = map uncoded_scene r.scenes }
+uncoded_rules r = record r { grammar = []; rules = map uncoded_rule r.rules; scenes = map uncoded_scene r.scenes }
 
 -- the codes that rules and scenes of two stories name, in turn, say the same
 abbrev pub AreCodedAlike : Codes → Codes → List ℕ → List ℕ → Type 0
 AreCodedAlike c d ns ms = AllZip (λ n m. AreAlike c d (code_of c n) (code_of d m)) ns ms
 
--- Two stories say the same: each object by its texts and what its code says, each rule and each scene by what its codes say, and all
--- else as it is.
+-- Two stories say the same: each object by its texts and what its code says, each line of the grammar by its words, each rule and
+-- each scene by what its codes say, and all else as it is.
 pub record AreToldAlike (t u : Tables) : Type 0 where
   pub objects : told_objects t ≡ told_objects u
   pub descriptions : (o : ℕ) → AreDescribedAlike (codes_told t) (codes_told u) (description_code_of t o) (description_code_of u o)
   pub world : t.world ≡ u.world
   pub ways : t.ways ≡ u.ways
+  pub lines : lines_of t ≡ lines_of u
   pub rules : uncoded_rules t.rules ≡ uncoded_rules u.rules
   pub rule_codes : AreCodedAlike (codes_told t) (codes_told u) (codes_in_tables t.rules) (codes_in_tables u.rules)

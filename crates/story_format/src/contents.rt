@@ -1,4 +1,5 @@
 //! What a story file says of a tale.
+use command_grammar::{GrammarLine, Synonym};
 use play_meaning::tree::{MeantRule, MeantScene, Text};
 use rule_order::ListingSentence;
 
@@ -13,4 +14,8 @@ pub struct Contents {
     pub listings: Vec<ListingSentence>,
     /// The tale's scenes, with what they begin and end on.
     pub scenes: Vec<MeantScene>,
+    /// The author's lines of the grammar, in the order of the source.
+    pub lines: Vec<GrammarLine>,
+    /// The words that objects go by besides those of their names, in the order of the source, in small letters.
+    pub synonyms: Vec<Synonym>,
 }

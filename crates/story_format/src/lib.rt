@@ -13,6 +13,8 @@ mod fact_laws;
 mod facts;
 mod fault;
 mod field;
+mod grammar_facts;
+mod grammar_making;
 mod kind_tables;
 mod laws;
 mod loading;

@@ -41,23 +41,23 @@ impl Field for ActionEntry {
     ghost lawful = { action_layout.lawful };
 }
 
-/// A grammar line, as table 9 has it.
+/// A line of the grammar, as table 9 has it.
 #[derive(Debug, Drop)]
-pub struct GrammarLine {
-    /// The action that it means.
+pub struct LineEntry {
+    /// The action that it asks for.
     pub action: u8,
-    /// Its words, as strings; 65,534 something, 65,535 a direction.
-    pub words: Listed<u16>,
+    /// Its tokens: the numbers of strings, and 65,534 for a slot for a thing, 65,535 for one for a direction.
+    pub tokens: Listed<u16>,
 }
 
 #[tactic(auto, unfolding(crate::specs::Layout::line_layout))]
-impl Field for GrammarLine {
+impl Field for LineEntry {
     ghost use Rattle.story_format.specs.Layout.{line_layout};
 
     ghost format = { line_layout.format };
 
-    fn read(alloc: Global, bytes: &[u8]) -> Result<Option<(GrammarLine, &[u8])>, AllocError> {
-        read_fields!(GrammarLine, alloc, bytes, action: u8, words: Listed<u16>)
+    fn read(alloc: Global, bytes: &[u8]) -> Result<Option<(LineEntry, &[u8])>, AllocError> {
+        read_fields!(LineEntry, alloc, bytes, action: u8, tokens: Listed<u16>)
     }
 
     fn skip(bytes: &[u8]) -> Option<&[u8]> {
@@ -65,7 +65,7 @@ impl Field for GrammarLine {
     }
 
     fn write(&self, out: &mut Vec<u8>) -> Result<(), AllocError> {
-        write_fields!(self, out, action, words)
+        write_fields!(self, out, action, tokens)
     }
 
     ghost lawful = { line_layout.lawful };
@@ -137,7 +137,7 @@ pub struct RuleTables {
     /// Table 8.
     pub actions: Table<ActionEntry>,
     /// Table 9.
-    pub grammar: Table<GrammarLine>,
+    pub grammar: Table<LineEntry>,
     /// Table 10.
     pub rules: Table<RuleEntry>,
     /// Table 11.
@@ -153,11 +153,11 @@ impl Field for RuleTables {
     ghost format = { rules_layout.format };
 
     fn read(alloc: Global, bytes: &[u8]) -> Result<Option<(RuleTables, &[u8])>, AllocError> {
-        read_fields!(RuleTables, alloc, bytes, actions: Table<ActionEntry>, grammar: Table<GrammarLine>, rules: Table<RuleEntry>, books: Table<Book>, scenes: Table<SceneEntry>)
+        read_fields!(RuleTables, alloc, bytes, actions: Table<ActionEntry>, grammar: Table<LineEntry>, rules: Table<RuleEntry>, books: Table<Book>, scenes: Table<SceneEntry>)
     }
 
     fn skip(bytes: &[u8]) -> Option<&[u8]> {
-        skip_fields!(bytes, Table<ActionEntry>, Table<GrammarLine>, Table<RuleEntry>, Table<Book>, Table<SceneEntry>)
+        skip_fields!(bytes, Table<ActionEntry>, Table<LineEntry>, Table<RuleEntry>, Table<Book>, Table<SceneEntry>)
     }
 
     fn write(&self, out: &mut Vec<u8>) -> Result<(), AllocError> {

@@ -1,15 +1,16 @@
 //! The commands that every story understands (*Writing with Inform*, chapter 17; the Standard Rules).
-ghost use Rattle.std.specs.Prelude.{◌≡◌, length, map, slice_get, slice_index_or};
-ghost use Rattle.std.specs.Option.{option_map};
+ghost use Rattle.std.specs.Prelude.{◌≡◌, ◌∷◌, ◌++◌, [], IfOk, OnOk, map};
 ghost use Rattle.play_meaning.specs.StandardGrammar.{standard_lines};
-ghost use Rattle.command_parser.specs.Tokens.{line_of, no_line, told_token};
+ghost use Rattle.command_grammar.specs.Lines.{line_meant, line_of, told_token, token_meant};
 
-use crate::Token;
+use crate::{GrammarLine, KeptToken, Token};
 use play_meaning::ActNo;
 use play_meaning::standard_actions::{
     CLOSING, DROPPING, EXAMINING, GOING, INSERTING, JUMPING, LOOKING, OPENING, PUTTING_ON,
     SWITCHING_OFF, SWITCHING_ON, TAKING, TAKING_INVENTORY, TAKING_OFF, WAITING, WEARING,
 };
+use std::alloc::{AllocError, Global};
+use world_meaning::{Listed, TextBytes};
 
 /// A line of the grammar: the number of the action that it asks for, and its tokens.
 type LineRow<'a> = (u8, &'a [Token<'a>]);
@@ -121,41 +122,46 @@ fn rows() -> &'static [LineRow<'static>]
     &STANDARD_LINES
 }
 
-/// The line of a number, or one without a token.
-fn row_at(line: u16) -> LineRow<'static>
-    ensures { line_of result.0 result.1.now ≡ slice_index_or standard_lines line no_line }
+/// A token with a word of its own.
+fn kept(alloc: Global, token: Token<'_>) -> Result<KeptToken, AllocError>
+    ensures { IfOk result (λ kept. token_meant kept ≡ told_token token.entry) }
 {
-    match rows().get(line as usize) {
-        Some(row) => *row,
-        None => (ActNo::NONE.get(), &[]),
+    match token {
+        Token::Word(word) => Ok(KeptToken::Word(TextBytes::copied(alloc, word)?)),
+        Token::Something => Ok(KeptToken::Something),
+        Token::Direction => Ok(KeptToken::Direction),
     }
 }
 
-/// How many lines every story has.
-#[tactic(auto, unfolding(play_meaning::specs::StandardGrammar::standard_lines))]
-pub fn standard_line_count() -> u16
-    ensures { result ≡ length standard_lines }
+/// A line with tokens of its own.
+fn line_of(
+    alloc: Global,
+    action: u8,
+    tokens: &[Token<'_>],
+) -> Result<GrammarLine, AllocError>
+    ensures { IfOk result (λ line. line_meant line ≡ line_of action tokens.now) }
 {
-    STANDARD_LINES.len() as u16
+    let mut all = Vec::new(alloc);
+    let mut rest = tokens;
+    while let [token, behind @ ..] = rest {
+        all.push(kept(alloc, *token)?)?;
+        rest = behind;
+    }
+    Ok(GrammarLine {
+        action: ActNo::new(action),
+        tokens: Listed::new(all),
+    })
 }
 
-/// The action that a line of every story asks for, by the line's number from 0; that of none where there is no such line.
-pub fn standard_action(line: u16) -> ActNo
-    ensures { result ≡ (slice_index_or standard_lines line no_line).action }
+/// The lines that every story understands, in the order in which they are tried.
+pub fn standard_lines(alloc: Global) -> Result<Vec<GrammarLine>, AllocError>
+    ensures { IfOk result (λ lines. map line_meant lines.items ≡ standard_lines) }
 {
-    ActNo::new(row_at(line).0)
-}
-
-/// How many tokens a line of every story has.
-pub fn standard_token_count(line: u16) -> usize
-    ensures { result ≡ length (slice_index_or standard_lines line no_line).tokens }
-{
-    row_at(line).1.len()
-}
-
-/// A token of a line of every story, by its place from 0.
-pub fn standard_token(line: u16, place: usize) -> Option<Token<'static>>
-    ensures { option_map told_token result ≡ slice_get (slice_index_or standard_lines line no_line).tokens place }
-{
-    row_at(line).1.get(place).copied()
+    let mut all = Vec::new(alloc);
+    let mut rest = rows();
+    while let [row, behind @ ..] = rest {
+        all.push(line_of(alloc, row.0, row.1)?)?;
+        rest = behind;
+    }
+    Ok(all)
 }
