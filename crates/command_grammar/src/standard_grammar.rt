@@ -134,11 +134,7 @@ fn kept(alloc: Global, token: Token<'_>) -> Result<KeptToken, AllocError>
 }
 
 /// A line with tokens of its own.
-fn line_of(
-    alloc: Global,
-    action: u8,
-    tokens: &[Token<'_>],
-) -> Result<GrammarLine, AllocError>
+fn line_of(alloc: Global, action: u8, tokens: &[Token<'_>]) -> Result<GrammarLine, AllocError>
     ensures { IfOk result (λ line. line_meant line ≡ line_of action tokens.now) }
 {
     let mut all = Vec::new(alloc);
