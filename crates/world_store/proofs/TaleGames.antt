@@ -19,9 +19,8 @@ use Rattle.world_meaning.specs.declared.tale.Tale.{Tale}
 use Rattle.play_meaning.proofs.Agreement.{one_setting}
 use Rattle.play_meaning.specs.Agreement.{SettingsAgree}
 use Rattle.play_meaning.specs.Commands.{read}
-use Rattle.play_meaning.specs.StandardGrammar.{standard_grammar}
 use Rattle.play_meaning.specs.Grounds.{said_by_code}
-use Rattle.play_meaning.specs.PlainTales.{script_of, story_of_script}
+use Rattle.play_meaning.specs.PlainTales.{story_of_script}
 use Rattle.play_meaning.specs.Scripts.{says, undescribed}
 use Rattle.play_meaning.specs.Worlds.{World}
 use Rattle.play_meaning.specs.declared.action.ActionNow.{ActionNow}
@@ -34,6 +33,7 @@ use Rattle.story_format.specs.RuleMaking.{codes_of_rules, rules_of, scene_entrie
 use Rattle.story_format.specs.Holding.{AreHeld, AreOf, IsHeld}
 use Rattle.story_format.specs.InPlay.{article_in, article_numbered, door_in, has_in, is_of_in, number_from, start_number, start_numbers, start_flags, start_variable, starts_true}
 use Rattle.story_format.specs.Making.{Worded, article_number, code_count, described_in, entries_of, entry_of, numbers_of, strings_with, tables_of, tables_with, text_of, variable_of, ways_of, worded, worded_at, worded_from, world_of}
+use Rattle.story_format.specs.TaleScripts.{whole_grammar, whole_script}
 use Rattle.story_format.specs.declared.tables.Entry.{Entry}
 use Rattle.story_format.proofs.Carried.{exits_found, object_found, tale_carried}
 use Rattle.story_format.proofs.DeclaredLemmas.{declared_parts}
@@ -43,6 +43,7 @@ use Rattle.story_format.proofs.Stories.{as_many_scenes}
 use Rattle.story_format.proofs.StoryLemmas.{all_at}
 use Rattle.world_store.specs.StartWorlds.{start_world}
 use Rattle.world_store.specs.StoryGames.{plain_story}
+use Rattle.world_store.specs.StoryGrammars.{grammar_of}
 use Rattle.world_store.specs.StorySettings.{setting_of}
 
 -- ---- numbers fit their words
@@ -183,12 +184,13 @@ one_start t c held of =
 
 -- ---- all of it
 
-pub tables_game : (t : Tale) (c : Contents) → IsHeld t → AreHeld t c → plain_story (tables_of t c) ≡ story_of_script (script_of t (text_of t c.texts))
-unfolding plain_story script_of story_of_script
+pub tables_game : (t : Tale) (c : Contents) → IsHeld t → AreHeld t c → plain_story (tables_of t c) ≡ story_of_script (whole_script t c)
+unfolding plain_story whole_script story_of_script
 tables_game t c held said =
     let setting = one_setting (setting_of (tables_of t c)) (told_setting t) (settings_agree t c held said) in
     let start = one_start t c held said.are_of in
     let carries = tale_carried t c held said in
+    let grammar : grammar_of (tables_of t c) ≡ whole_grammar t c = λ i. record { setting = setting i; words = λ o. carries.words o i; lines = carries.lines_are i } in
     let described : (o : ℕ) (now : ActionNow) (w : World)
     → said_by_code (codes_told (tables_of t c)) (setting_of (tables_of t c)) now w (description_code_of (tables_of t c) o) ≡ says (undescribed (told_setting t)) now w (text_of t c.texts o) =
     λ o now w. carries.descriptions o (setting_of (tables_of t c)) now w ∙ ap (λ s. says (undescribed s) now w (text_of t c.texts o)) setting in
@@ -196,5 +198,5 @@ tables_game t c held said =
       setting = setting i;
       start = start i;
       describes = λ o now w. described o now w i;
-      reads = read (standard_grammar (setting i) (λ o. carries.words o i));
+      reads = read (grammar i);
     }
