@@ -1,6 +1,7 @@
 //! Words that objects go by besides those of their names: `Understand "orb" as the ball.` (*Writing with Inform*, 17.8).
-ghost use Rattle.std.specs.Prelude.{◌≡◌, IfOk, OnOk};
-ghost use Rattle.command_grammar.specs.Synonyms.{mention_if, words_said};
+ghost use Rattle.std.specs.Prelude.{◌≡◌, ◌∷◌, [], IfOk, OnOk, fold};
+ghost use Rattle.command_grammar.specs.Synonyms.{own_words, words_said};
+ghost use Rattle.object_words.specs.Mentions.{mention};
 
 use object_words::{Strings, words_for};
 use std::alloc::{AllocError, Global};
@@ -14,13 +15,13 @@ pub struct Synonym {
 }
 
 /// Adds a synonym's word, if it is the object's.
-fn mention_if(
+fn mention_own(
     alloc: Global,
     words: &mut Strings,
     number: usize,
     synonym: &Synonym,
 ) -> Result<(), AllocError>
-    ensures { OnOk result (words.new ≡ mention_if words.old number synonym.now) }
+    ensures { OnOk result (words.new ≡ fold mention words.old (own_words number (synonym.now ∷ []))) }
 {
     if usize::from(synonym.object.get()) == number {
         words.mention(alloc, synonym.word.as_slice())?;
@@ -41,7 +42,7 @@ pub fn words_said(
     let mut words = words_for(alloc, number, name)?;
     let mut rest = synonyms;
     while let [synonym, behind @ ..] = rest {
-        mention_if(alloc, &mut words, number, synonym)?;
+        mention_own(alloc, &mut words, number, synonym)?;
         rest = behind;
     }
     Ok(words)

@@ -208,6 +208,10 @@ tables_of t c = tables_with t.declared (books_of t c.listings c.rules) (worded c
 abbrev pub strings_with : Tale → Contents → List (List ℕ)
 strings_with t c = strings_of (texts_named (worded c.synonyms t.objects) (story_lines c.lines)) (origins_said c)
 
+-- its tables, but for the codes
+abbrev pub tables_uncoded : Tale → Contents → Tables
+tables_uncoded t c = tables_but_codes t.declared (books_of t c.listings c.rules) (worded c.synonyms t.objects) (story_lines c.lines) c.rules c.scenes (strings_with t c)
+
 -- ---- what is said of each object
 
 -- where these are the texts of those that are described, in order

@@ -1,16 +1,19 @@
 //! What tables 1 to 12 say together, whatever the codes are: each test is named after what it asks.
-ghost use Rattle.std.specs.Prelude.{◌≡◌, ◌≤◌, IfOk, length, map};
+ghost use Rattle.std.specs.Prelude.{◌≡◌, ◌≤◌, ◌++◌, IfOk, OnOk, filter, length, map, nat_lt};
 ghost use Rattle.std.specs.List.{list_all, flat_map};
 ghost use Rattle.story_format.specs.Placed.{sorts_in};
+ghost use Rattle.story_format.specs.RuleChecks.{strings_in_line};
 ghost use Rattle.story_format.specs.Sizes.{sizes_of};
-ghost use Rattle.story_format.specs.Checks.{are_distinct, is_named, begin_with, has_words, have_words, is_small_byte, is_small, is_small_at, has_small_words, is_player_entry, is_direction_entry, are_direction_entries, are_in_place, are_named_in_order, strings_named, codes_named, heads_named, are_right_objects, is_right_frame, are_right};
+ghost use Rattle.story_format.specs.Checks.{are_distinct, is_named, begin_with, has_words, have_words, is_small_byte, is_small, is_small_at, has_small_words, is_player_entry, is_direction_entry, are_direction_entries, are_in_place, are_named_in_order, strings_in_tables, strings_named, codes_named, heads_named, are_right_objects, is_right_frame, are_right};
 
 use crate::counts::counts_of;
+use crate::grammar_facts::SOMETHING;
 use crate::kind_tables::suit_kinds;
 use crate::place::NONE;
 use crate::row::{Sizes, are_right_entries};
 use crate::rule_checks::are_right_rules;
 use crate::rule_codes::add_codes;
+use crate::rule_tables::LineEntry;
 use crate::standing::{are_right_ways, sorts_in, stand_rightly};
 use crate::tables::{Entry, Tables};
 use crate::world_checks::is_right_world;
@@ -241,8 +244,8 @@ fn are_named_in_order(numbers: &[u16]) -> bool
     true
 }
 
-/// The strings that the entries name, in order.
-pub fn strings_named(alloc: Global, entries: &[Entry]) -> Result<Vec<u16>, AllocError>
+/// The strings that the entries of objects name, in order.
+fn strings_named(alloc: Global, entries: &[Entry]) -> Result<Vec<u16>, AllocError>
     ensures { IfOk result (λ numbers. numbers.items ≡ flat_map strings_named entries.now) }
 {
     let mut numbers = Vec::new(alloc);
@@ -250,6 +253,42 @@ pub fn strings_named(alloc: Global, entries: &[Entry]) -> Result<Vec<u16>, Alloc
         numbers.push(entry.name)?;
         numbers.extend_from_slice(entry.words.as_slice())?;
     }
+    Ok(numbers)
+}
+
+/// Adds the strings that a line names, in order.
+fn add_strings(numbers: &mut Vec<u16>, tokens: &[u16]) -> Result<(), AllocError>
+    ensures { OnOk result (numbers.new.items ≡ numbers.old.items ++ filter (λ n. nat_lt n 65534) tokens.now) }
+{
+    let mut rest = tokens;
+    while let [number, behind @ ..] = rest {
+        if *number < SOMETHING {
+            numbers.push(*number)?;
+        }
+        rest = behind;
+    }
+    Ok(())
+}
+
+/// Adds the strings that lines of the grammar name, in order.
+fn add_line_strings(numbers: &mut Vec<u16>, lines: &[LineEntry]) -> Result<(), AllocError>
+    ensures { OnOk result (numbers.new.items ≡ numbers.old.items ++ flat_map strings_in_line lines.now) }
+{
+    let mut rest = lines;
+    while let [line, behind @ ..] = rest {
+        add_strings(numbers, line.tokens.as_slice())?;
+        rest = behind;
+    }
+    Ok(())
+}
+
+/// The strings that objects name, then those that lines of the grammar name.
+#[tactic(auto, unfolding(crate::specs::Checks::strings_in_tables))]
+pub fn strings_in_tables(alloc: Global, tables: &Tables) -> Result<Vec<u16>, AllocError>
+    ensures { IfOk result (λ numbers. numbers.items ≡ strings_in_tables tables.now) }
+{
+    let mut numbers = strings_named(alloc, tables.objects.as_slice())?;
+    add_line_strings(&mut numbers, tables.rules.grammar.as_slice())?;
     Ok(numbers)
 }
 
@@ -290,7 +329,7 @@ fn are_right_objects(alloc: Global, tables: &Tables, sorts: &Sorts) -> Result<bo
             && are_in_place(strings, parents, sorts.rooms.as_slice(), entries)
             && have_words(alloc, strings, entries)?
             && have_small_words(smallness(alloc, strings)?.as_slice(), entries)
-            && are_named_in_order(strings_named(alloc, entries)?.as_slice())
+            && are_named_in_order(strings_in_tables(alloc, tables)?.as_slice())
             && are_named_in_order(heads_named(alloc, tables)?.as_slice())
             && suit_kinds(alloc, sizes_of(tables), &tables.world, entries)?,
     )

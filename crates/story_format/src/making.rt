@@ -1,23 +1,26 @@
 //! The tables of a tale, but for their codes.
 ghost use Rattle.std.specs.Prelude.{◌≡◌, ◌≤◌, [], length, IfOk, OnOk, fold, map};
 ghost use Rattle.std.specs.List.{flat_map};
-ghost use Rattle.object_words.specs.Mentions.{mention, number_in};
-ghost use Rattle.object_words.specs.Words.{words_for};
+ghost use Rattle.command_grammar.specs.Lines.{line_meant};
+ghost use Rattle.object_words.specs.Mentions.{first_mentions, mention, number_in};
+ghost use Rattle.play_meaning.specs.StandardGrammar.{standard_lines};
 ghost use Rattle.story_format.specs.Contents.{contents_meant, origins_said};
-ghost use Rattle.story_format.specs.Making.{books_of, worded, article_number, relation_number, place_relation, place_holder, code_number, entry_strings, strings_of, entry_of, entries_of, ways_of, described_in, tables_but_codes};
+ghost use Rattle.story_format.specs.Making.{books_of, worded, article_number, relation_number, place_relation, place_holder, code_number, entry_strings, line_entry, story_lines, strings_of, strings_with, entry_of, entries_of, texts_named, ways_of, described_in, tables_but_codes, tables_uncoded};
 ghost use Rattle.story_format.specs.WordedViews.{worded_of, all_worded};
 
 use crate::contents::Contents;
+use crate::grammar_making::{add_entries, mention_lines};
 use crate::mentioning::mention_texts;
 use crate::mentioning_rules::mention_rules;
 use crate::ordering::books_of;
 use crate::place::NONE;
 use crate::rule_making::rules_of;
-use crate::rule_tables::Book;
+use crate::rule_tables::{Book, LineEntry};
 use crate::table::Table;
 use crate::tables::{Entry, Tables};
 use crate::world_making::{numbers_of, world_of};
-use object_words::{Strings, words_for};
+use command_grammar::{GrammarLine, Synonym, standard_lines, words_said};
+use object_words::Strings;
 use std::alloc::{AllocError, Global};
 use world_meaning::{
     Article, Declared, Exits, KindNo, Listed, Object, Place, Rel, Tale, TextBytes, is_under,
@@ -41,14 +44,18 @@ fn mention_all(alloc: Global, strings: &mut Strings, others: &Strings) -> Result
 }
 
 /// The objects with their words, by number.
-fn with_words<'a>(alloc: Global, objects: &'a [Object]) -> Result<Vec<Worded<'a>>, AllocError>
-    ensures { IfOk result (λ made. all_worded made.items ≡ worded objects.now) }
+fn with_words<'a>(
+    alloc: Global,
+    synonyms: &[Synonym],
+    objects: &'a [Object],
+) -> Result<Vec<Worded<'a>>, AllocError>
+    ensures { IfOk result (λ made. all_worded made.items ≡ worded synonyms.now objects.now) }
 {
     let mut made = Vec::new(alloc);
     let mut number = 0usize;
     let mut rest = objects;
     while let [object, after @ ..] = rest {
-        let words = words_for(alloc, number, object.name.as_slice())?;
+        let words = words_said(alloc, synonyms, number, object.name.as_slice())?;
         made.push(Worded { object, words })?;
         number += 1;
         rest = after;
@@ -84,18 +91,38 @@ fn mention_entries(
     Ok(())
 }
 
-/// The strings of a story of these objects, and of what is said of them.
+/// The strings that the entries of these objects name, and then those that lines do: the author's, and behind them the standard
+/// ones.
+#[tactic(auto, unfolding(crate::specs::Making::texts_named))]
+fn named_of(
+    alloc: Global,
+    worded: &[Worded<'_>],
+    lines: &[GrammarLine],
+    standard: &[GrammarLine],
+) -> Result<Strings, AllocError>
+    requires standard { map line_meant standard.now ≡ standard_lines }
+    ensures { IfOk result (λ strings. strings ≡ first_mentions (texts_named (all_worded worded.now) (story_lines (map line_meant lines.now)))) }
+{
+    let mut strings = Strings::new(alloc);
+    mention_entries(alloc, &mut strings, worded)?;
+    mention_lines(alloc, &mut strings, lines)?;
+    mention_lines(alloc, &mut strings, standard)?;
+    Ok(strings)
+}
+
+/// The strings of a story of these objects and lines, and of what is said of them.
 fn strings_of(
     alloc: Global,
     worded: &[Worded<'_>],
+    standard: &[GrammarLine],
     contents: &Contents,
 ) -> Result<Strings, AllocError>
-    ensures { IfOk result (λ strings. strings ≡ strings_of (all_worded worded.now) (origins_said (contents_meant contents.now))) }
+    requires standard { map line_meant standard.now ≡ standard_lines }
+    ensures { IfOk result (λ strings. strings ≡ strings_of (texts_named (all_worded worded.now) (story_lines (contents_meant contents.now).lines)) (origins_said (contents_meant contents.now))) }
 {
     let texts = contents.texts.as_slice();
     let rules = contents.rules.as_slice();
-    let mut strings = Strings::new(alloc);
-    mention_entries(alloc, &mut strings, worded)?;
+    let mut strings = named_of(alloc, worded, contents.lines.as_slice(), standard)?;
     mention_texts(alloc, &mut strings, texts)?;
     mention_rules(alloc, &mut strings, rules)?;
     Ok(strings)
@@ -261,19 +288,37 @@ fn described_in(worded: &[Worded<'_>]) -> usize
     count
 }
 
-/// The tables of what is declared, objects with their words, rules and scenes, but for the codes.
+/// Table 9: the author's lines, and behind them the standard ones.
+fn grammar_of(
+    alloc: Global,
+    strings: &Strings,
+    lines: &[GrammarLine],
+    standard: &[GrammarLine],
+) -> Result<Table<LineEntry>, AllocError>
+    requires standard { map line_meant standard.now ≡ standard_lines }
+    ensures { IfOk result (λ entries. entries ≡ map (line_entry strings.now) (story_lines (map line_meant lines.now))) }
+{
+    let mut entries = Vec::new(alloc);
+    add_entries(alloc, &mut entries, strings, lines)?;
+    add_entries(alloc, &mut entries, strings, standard)?;
+    Ok(Table::new(entries))
+}
+
+/// The tables of what is declared, objects with their words, lines, rules and scenes, but for the codes.
 fn tables_but_codes(
     alloc: Global,
     declared: &Declared,
+    lines: Table<LineEntry>,
     books: Table<Book>,
     worded: &[Worded<'_>],
     contents: &Contents,
     strings: &Strings,
 ) -> Result<Tables, AllocError>
+    requires lines { lines ≡ map (line_entry strings.now) (story_lines (contents_meant contents.now).lines) }
     requires few { described_in (all_worded worded.now) ≤ 1000 }
     requires few_rules { length contents.now.rules.items ≤ 1939 }
     requires few_scenes { length contents.now.scenes.items ≤ 50 }
-    ensures { IfOk result (λ tables. tables ≡ tables_but_codes declared.now books (all_worded worded.now) (contents_meant contents.now).rules (contents_meant contents.now).scenes strings.now) }
+    ensures { IfOk result (λ tables. tables ≡ tables_but_codes declared.now books (all_worded worded.now) (story_lines (contents_meant contents.now).lines) (contents_meant contents.now).rules (contents_meant contents.now).scenes strings.now) }
 {
     let rules = contents.rules.as_slice();
     let scenes = contents.scenes.as_slice();
@@ -282,7 +327,7 @@ fn tables_but_codes(
         world: world_of(alloc, declared)?,
         objects: entries_of(alloc, strings, worded)?,
         ways: ways_of(alloc, declared.kinds.as_slice(), worded)?,
-        rules: rules_of(alloc, declared, books, described_in(worded), rules, scenes)?,
+        rules: rules_of(alloc, declared, lines, books, described_in(worded), rules, scenes)?,
         codes: empty(alloc),
     })
 }
@@ -293,21 +338,31 @@ pub fn uncoded(
     tale: &Tale,
     contents: &Contents,
 ) -> Result<(Strings, Tables), AllocError>
-    requires few { described_in (worded tale.now.objects) ≤ 1000 }
+    requires few { described_in (worded contents.now.synonyms.items tale.now.objects) ≤ 1000 }
     requires few_kinds { length tale.now.declared.kinds ≤ 255 }
     requires few_rules { length contents.now.rules.items ≤ 1939 }
     requires few_told { length contents.now.scenes.items ≤ 50 }
     requires few_scenes { length tale.now.declared.scenes ≤ 50 }
     requires few_books { tale.now.declared.rulebooks ≤ 100 }
-    ensures strings { IfOk result (λ made. made.0 ≡ strings_of (worded tale.now.objects) (origins_said (contents_meant contents.now))) }
-    ensures tables { IfOk result (λ made. made.1 ≡ tables_but_codes tale.now.declared (books_of tale.now (contents_meant contents.now).listings (contents_meant contents.now).rules) (worded tale.now.objects)
-        (contents_meant contents.now).rules (contents_meant contents.now).scenes (strings_of (worded tale.now.objects) (origins_said (contents_meant contents.now)))) }
+    ensures strings { IfOk result (λ made. made.0 ≡ strings_with tale.now (contents_meant contents.now)) }
+    ensures tables { IfOk result (λ made. made.1 ≡ tables_uncoded tale.now (contents_meant contents.now)) }
 {
-    let worded = with_words(alloc, tale.objects.as_slice())?;
+    let standard = standard_lines(alloc)?;
+    let standard = standard.as_slice();
+    let worded = with_words(alloc, contents.synonyms.as_slice(), tale.objects.as_slice())?;
     let worded = worded.as_slice();
-    let strings = strings_of(alloc, worded, contents)?;
+    let strings = strings_of(alloc, worded, standard, contents)?;
+    let lines = grammar_of(alloc, &strings, contents.lines.as_slice(), standard)?;
     let (rules, listings) = (contents.rules.as_slice(), contents.listings.as_slice());
     let books = books_of(alloc, tale, rules, listings)?;
-    let tables = tables_but_codes(alloc, &tale.declared, books, worded, contents, &strings)?;
+    let tables = tables_but_codes(
+        alloc,
+        &tale.declared,
+        lines,
+        books,
+        worded,
+        contents,
+        &strings,
+    )?;
     Ok((strings, tables))
 }

@@ -1,12 +1,13 @@
 //! What tables 8 to 12 of a story say, where there are so many of what they name.
-ghost use Rattle.std.specs.Prelude.{◌≡◌, IfOk, nat_le, nat_lt, true};
+ghost use Rattle.std.specs.Prelude.{◌≡◌, IfOk, count_by, nat_le, nat_lt, slice_get, true};
 ghost use Rattle.std.specs.List.{list_all};
-ghost use Rattle.story_format.specs.RuleChecks.{are_right_actions, are_right_books, are_right_rules, are_right_scenes, begin_with_actions, is_number_or_none, is_right_action, is_right_aspect, is_right_body, is_right_need, is_right_rule, is_right_scene, is_right_side, is_same_action, lists_what_is_there};
+ghost use Rattle.story_format.specs.RuleChecks.{are_right_actions, are_right_books, are_right_lines, are_right_rules, are_right_scenes, begin_with_actions, has_nouns, is_number_or_none, is_right_action, is_right_aspect, is_right_body, is_right_line, is_right_need, is_right_rule, is_right_scene, is_right_side, is_right_token, is_same_action, is_slot_number, lists_what_is_there};
 
 use crate::actions::action_entries;
+use crate::grammar_facts::SOMETHING;
 use crate::place::NONE;
 use crate::rule_entry::{Aspect, PropertySide, RuleBody, RuleEntry};
-use crate::rule_tables::{ActionEntry, Book, RuleTables, SceneEntry};
+use crate::rule_tables::{ActionEntry, Book, LineEntry, RuleTables, SceneEntry};
 use play_meaning::Counts;
 use std::alloc::{AllocError, Global};
 
@@ -15,6 +16,12 @@ const NO_BYTE: u8 = 255;
 
 /// The most actions of a story.
 const MOST_ACTIONS: usize = 200;
+
+/// The most lines of a grammar.
+const MOST_LINES: usize = 65_535;
+
+/// The most tokens of a line.
+const MOST_TOKENS: usize = 32;
 
 /// The most rules of a story.
 const MOST_RULES: usize = 2000;
@@ -91,6 +98,65 @@ fn are_right_actions(alloc: Global, actions: &[ActionEntry]) -> Result<bool, All
             && begin_with_actions(actions, standard.as_slice())
             && each_action_is_right(actions),
     )
+}
+
+fn is_slot_number(number: u16) -> bool
+    ensures { result ≡ is_slot_number number }
+{
+    number >= SOMETHING
+}
+
+fn is_right_token(strings: u16, number: u16) -> bool
+    ensures { result ≡ is_right_token strings number }
+{
+    is_slot_number(number) || number < strings
+}
+
+fn slot_count(tokens: &[u16]) -> usize
+    ensures { result ≡ count_by is_slot_number tokens.now }
+{
+    tokens.iter().filter(|number| is_slot_number(**number)).count()
+}
+
+fn are_right_tokens(strings: u16, tokens: &[u16]) -> bool
+    ensures { result ≡ list_all (is_right_token strings) tokens.now }
+{
+    tokens.iter().all(|number| is_right_token(strings, *number))
+}
+
+/// Whether the action of a number is there, and has so many nouns.
+fn has_nouns(count: usize, actions: &[ActionEntry], number: u8) -> bool
+    ensures { result ≡ has_nouns count (slice_get actions.now number) }
+{
+    match actions.get(usize::from(number)) {
+        None => false,
+        Some(action) => usize::from(action.nouns) == count,
+    }
+}
+
+#[tactic(auto, unfolding(crate::specs::RuleChecks::is_right_line))]
+fn is_right_line(counts: &Counts, actions: &[ActionEntry], line: &LineEntry) -> bool
+    ensures { result ≡ is_right_line counts.now actions.now line.now }
+{
+    let tokens = line.tokens.as_slice();
+    has_nouns(slot_count(tokens), actions, line.action)
+        && tokens.len() <= MOST_TOKENS
+        && are_right_tokens(counts.strings, tokens)
+}
+
+fn each_line_is_right(counts: &Counts, actions: &[ActionEntry], lines: &[LineEntry]) -> bool
+    ensures { result ≡ list_all (is_right_line counts.now actions.now) lines.now }
+{
+    lines
+        .iter()
+        .all(|line| is_right_line(counts, actions, line))
+}
+
+/// Whether there are no more lines than two bytes count, each with as many slots as its action has nouns.
+fn are_right_lines(counts: &Counts, actions: &[ActionEntry], lines: &[LineEntry]) -> bool
+    ensures { result ≡ are_right_lines counts.now actions.now lines.now }
+{
+    lines.len() <= MOST_LINES && each_line_is_right(counts, actions, lines)
 }
 
 /// Whether a number is none, or that of one of so many.
@@ -213,7 +279,7 @@ fn are_right_scenes(counts: &Counts, scenes: &[SceneEntry]) -> bool
     scenes.len() <= MOST_SCENES && each_scene_is_right(counts, scenes)
 }
 
-/// Whether tables 8 to 12 are those of a story: the sixteen actions and behind them the author's, no grammar so far, rules
+/// Whether tables 8 to 12 are those of a story: the sixteen actions and behind them the author's, lines of a grammar, rules
 /// and scenes that name what is there, and books that list such. Whether a book's rules are its own is asked apart.
 #[tactic(auto, unfolding(crate::specs::RuleChecks::are_right_rules))]
 pub fn are_right_rules(
@@ -233,7 +299,7 @@ pub fn are_right_rules(
                 rules.books.as_slice(),
             )
             && actions
-            && rules.grammar.as_slice().is_empty()
+            && are_right_lines(counts, rules.actions.as_slice(), rules.grammar.as_slice())
             && rules.rules.as_slice().len() <= MOST_RULES
             && each_is_right(counts, rules.rules.as_slice()),
     )

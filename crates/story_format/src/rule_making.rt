@@ -9,7 +9,7 @@ ghost use Rattle.story_format.specs.RuleMaking.{all_entries, aspect_entry, book_
 use crate::actions::{action_entries, mark_if};
 use crate::place::NONE;
 use crate::rule_entry::{Aspect, KindAspect, PropertySide, RuleBody, RuleEntry};
-use crate::rule_tables::{Book, RuleTables, SceneEntry};
+use crate::rule_tables::{Book, LineEntry, RuleTables, SceneEntry};
 use crate::standard_rules::standard_entries;
 use crate::table::Table;
 use play_meaning::ActNo;
@@ -224,12 +224,13 @@ pub fn book_count(declared: &Declared) -> u16
     (8 + 2 * declared.scenes.as_slice().len() + declared.rulebooks) as u16
 }
 
-/// Tables 8 to 12 of what a source declares, of its books, of its rules, the first code of these having this number, and of its
+/// Tables 8 to 12 of what a source declares, of the entries of its lines, of its books, of its rules, the first code of these having this number, and of its
 /// scenes, whose codes stand behind them.
 #[tactic(auto, unfolding(crate::specs::RuleMaking::rules_of))]
 pub fn rules_of(
     alloc: Global,
     declared: &Declared,
+    lines: Table<LineEntry>,
     books: Table<Book>,
     first: usize,
     rules: &[MeantRule],
@@ -238,12 +239,12 @@ pub fn rules_of(
     requires few { first ≤ 1000 }
     requires few_rules { length rules.now ≤ 1939 }
     requires few_scenes { length scenes.now ≤ 50 }
-    ensures { IfOk result (λ made. made ≡ rules_of declared.now books first (map rule_meant rules.now) (map scene_meant scenes.now)) }
+    ensures { IfOk result (λ made. made ≡ rules_of declared.now lines books first (map rule_meant rules.now) (map scene_meant scenes.now)) }
 {
     let behind = first + codes_of_rules(rules);
     Ok(RuleTables {
         actions: action_entries(alloc, declared.actions.as_slice())?,
-        grammar: Table::new(Vec::new(alloc)),
+        grammar: lines,
         rules: all_entries(alloc, first, rules)?,
         books,
         scenes: Table::new(scene_entries(alloc, behind, scenes)?),

@@ -1,12 +1,11 @@
 //! Whether codes are named in turn, and everything is named: each test is named after what it asks.
 ghost use Rattle.std.specs.Prelude.{◌≡◌, ◌++◌, IfOk, length, map};
-ghost use Rattle.std.specs.List.{flat_map};
 ghost use Rattle.code_table.specs.Strings.{counted_on, strings_of};
 ghost use Rattle.story_code.specs.Runs.{code_told};
-ghost use Rattle.story_format.specs.Checks.{strings_named};
+ghost use Rattle.story_format.specs.Checks.{strings_in_tables};
 ghost use Rattle.story_format.specs.Soundness.{are_in_turn, is_count};
 
-use crate::checks::strings_named;
+use crate::checks::strings_in_tables;
 use crate::tables::Tables;
 use code_table::strings_counted;
 use std::alloc::{AllocError, Global};
@@ -46,11 +45,11 @@ fn counted(numbers: &[u16]) -> Option<usize>
     Some(next)
 }
 
-/// Whether the objects, and then the codes, name each string, in order.
+/// Whether the objects and the lines, and then the codes, name each string, in order.
 pub fn are_all_named(alloc: Global, tables: &Tables, codes: &[Verified]) -> Result<bool, AllocError>
-    ensures { IfOk result (λ named. named ≡ is_count (length tables.now.strings) (counted_on 0 (flat_map strings_named tables.now.objects ++ strings_of (map code_told codes.now)))) }
+    ensures { IfOk result (λ named. named ≡ is_count (length tables.now.strings) (counted_on 0 (strings_in_tables tables.now ++ strings_of (map code_told codes.now)))) }
 {
-    let numbers = strings_named(alloc, tables.objects.as_slice())?;
+    let numbers = strings_in_tables(alloc, tables)?;
     let Some(next) = counted(numbers.as_slice()) else {
         return Ok(false);
     };
