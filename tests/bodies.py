@@ -18,7 +18,7 @@ import subprocess
 import sys
 import tempfile
 
-from plain_stories import NONE16, opening_and_look, tables
+from plain_stories import NONE16, opening_and_look, rules_told, tables
 from row_files import report, rows_of
 from rule_sources import tables_of
 
@@ -78,7 +78,7 @@ def played(scratch, source):
     done = subprocess.run([program, "play", story], input=b"look\n", capture_output=True, timeout=10)
     front = b"".join(part + b"\n>" for part in opening_and_look(data) if part is not None)
     found = done.stdout if len(done.stdout) < len(front) else done.stdout[: len(front)]
-    return ({name: t[name] for name in asked}, done.returncode, found, done.stderr), (asked, 0, front, b"")
+    return (rules_told(t), done.returncode, found, done.stderr), (asked, 0, front, b"")
 
 
 def answers():

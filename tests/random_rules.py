@@ -1,6 +1,6 @@
 #!/usr/bin/env python3
-"""Sources of rules with random heads, of sentences that list these and standard rules, and of some that declare actions: 300 that
-are taken, whose tables 8 to 12 and the actions that their rules try are those that a plain reading tells (tests/rule_sources.py), and
+"""Sources of rules with random heads, of sentences that list these and standard rules, and of some that declare actions or say what
+commands and words mean: 300 that are taken, whose tables 8 to 12 and the actions that their rules try are those that a plain reading tells (tests/rule_sources.py), and
 300 with rules, listings or actions among them that are refused: the code that is looked for first is told, at the first of these of
 which it stands.
 
@@ -12,7 +12,7 @@ import sys
 import tempfile
 
 import plain_codes
-from plain_stories import STANDARD_RULES, standard_rules, tables
+from plain_stories import STANDARD_RULES, rules_told, standard_rules, tables
 from row_files import report
 from rule_sources import (
     ACTION_BOOKS, ACTION_NAMES, KIND_NAMES, LONE_BOOKS, PROPERTIES, STAGES, STANDARD_NAMES, actions_of, parts_of, sentences,
@@ -44,6 +44,9 @@ RULE_NAMES = [
     f"{front}{end}" for front in ["ash", "box", "tidy", "storm", "not", "rule", "first in", "zorb's"]
     for end in ["", " clock", " rule", " 7", " of Bob"]]
 OWN_BOOKS = ["tidy", "long sweep"]
+# Words and slots of commands.
+WORDS = ["weigh", "Weigh", "take", "look", "look,", "at", "with", "WITH", "of", "xyzzy", "the", "7", "don't", "n"]
+SLOT_MARKS = ["[something]", "[direction]", "[ Something ]", "[DIRECTION]"]
 # The standard rules by their names, each with the words in front of which its book stands.
 STANDARD = dict(zip(STANDARD_NAMES, [list(STAGES)[list(STAGES.values()).index(rule[0])] for rule in standard_rules()], strict=True))
 # Rules and listings by what they are refused with, in the order in which it is looked for.
@@ -226,6 +229,32 @@ def changes(chance):
     return chance.sample(told, chance.randrange(len(told) + 1))
 
 
+def command(chance, count):
+    """A text with so many slots, some of them without a blank beside them."""
+    words = chance.choices(WORDS, k=chance.choice([0, 1, 1, 2, 3, 32 - count]))
+    for _ in range(count):
+        words.insert(chance.randrange(len(words) + 1), chance.choice(SLOT_MARKS))
+    return "".join(word + ("" if "[" in word and chance.random() < 0.2 else " ") for word in words)
+
+
+def meaning(chance, own):
+    """Texts, and what they mean: an action, or an object."""
+    name, count = action(chance, own)
+    if chance.random() < 0.3:
+        texts, name = [" ".join(chance.choices(WORDS, k=2)) for _ in range(chance.choice([1, 1, 3]))], chance.choice(OBJECTS)
+    else:
+        texts = [command(chance, count) for _ in range(chance.choice([1, 1, 1, 2, 4]))]
+    return texts, name
+
+
+def commands(chance, own):
+    """Sentences that say what commands and words mean."""
+    told = [meaning(chance, own) for _ in range(chance.choice([0, 1, 4, 12]))]
+    # an action whose name begins with an article isn't named so
+    known = [(texts, name) for texts, name in told if name in OBJECTS or name.split()[0] not in ("a", "the", "doing")]
+    return ["Understand {} as {}.".format(" or ".join(f'"{text}"' for text in texts), name) for texts, name in known]
+
+
 def mixed(chance, told, more):
     """These paragraphs, with more at any places among them; each in its order."""
     places = sorted(chance.choices(range(len(told) + 1), k=len(more)))
@@ -254,7 +283,7 @@ def taken(scratch, chance):
     actions, own = declarations(chance)
     told, books = rules(chance, chance.randrange(1, 60), own)
     paragraphs = mixed(chance, [sentence for sentence, _ in told], listings(chance, books, own))
-    source = "\n\n".join([WORLD, *mixed(chance, paragraphs, [*actions, *changes(chance)])])
+    source = "\n\n".join([WORLD, *mixed(chance, paragraphs, [*actions, *changes(chance), *commands(chance, own)])])
     answer, t = compiled(scratch, source)
     if t is None:
         return answer, "taken"
@@ -262,7 +291,7 @@ def taken(scratch, chance):
     wanted = tables_of(source, 0, objects)
     known = actions_of(sentences(source))
     tries = [[tried(words, objects, known)] if words else [] for _, words in told]
-    return str(({name: t[name] for name in wanted}, [tries_of(t, rule) for rule in t["rules"][STANDARD_RULES:]])), str((wanted, tries))
+    return str((rules_told(t), [tries_of(t, rule) for rule in t["rules"][STANDARD_RULES:]])), str((wanted, tries))
 
 
 def refused(scratch, chance):

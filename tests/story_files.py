@@ -139,7 +139,7 @@ def books_of(told, source, asked):
 def plain_tables(told, source):
     """Tables 8 to 12 of a story, and what a plain reading of its source, which describes nothing, tells of them."""
     plain = tables_of(source, 0, [told["strings"][thing["name"]].decode().lower() for thing in told["objects"]])
-    return str({name: told[name] for name in plain}), str(plain)
+    return str(rules_told(told)), str(plain)
 
 
 def entry_told(entry):
