@@ -18,9 +18,11 @@ use Rattle.world_meaning.specs.declared.place.Place.{Place}
 use Rattle.world_meaning.specs.declared.tale.Object.{Object}
 use Rattle.world_meaning.specs.declared.tale.Tale.{Tale}
 use Rattle.object_words.specs.Mentions.{number_in}
-use Rattle.object_words.specs.Words.{words_for, words_in as told_words}
+use Rattle.command_grammar.specs.Synonyms.{words_in as told_words, words_said}
+use Rattle.command_grammar.specs.declared.synonym.Synonym.{Synonym}
 use Rattle.object_words.proofs.StringLemmas.{length_mapped}
 use Rattle.play_meaning.specs.Codes.{Codes}
+use Rattle.play_meaning.specs.Grammar.{Line}
 use Rattle.play_meaning.specs.Grounds.{said_by_code}
 use Rattle.play_meaning.specs.Scripts.{says, undescribed}
 use Rattle.play_meaning.specs.Settings.{Setting}
@@ -38,14 +40,15 @@ use Rattle.code_table.proofs.Said.{text_said}
 use Rattle.story_format.specs.Carrying.{AsksFor, Carries, CarriesRule, CarriesScene}
 use Rattle.story_format.specs.Codes.{codes_told}
 use Rattle.story_format.specs.Contents.{Contents, origins_said}
-use Rattle.story_format.specs.Facts.{description_code_in, description_code_of, exits_at, holder_in, is_room_in, name_in, rooms_before, rules_listed, text_at, way_in, words_in}
+use Rattle.story_format.specs.Facts.{description_code_in, description_code_of, exits_at, holder_in, is_room_in, lines_of, name_in, rooms_before, rules_listed, text_at, way_in, words_in}
 use Rattle.story_format.proofs.AboutRules.{IsSmall, small_names}
 use Rattle.story_format.proofs.ActionLemmas.{actions_ask}
 use Rattle.story_format.specs.Holding.{counts_in, named_in, AreHeld, IsHeld}
 use Rattle.story_format.specs.RuleMaking.{codes_of_rules, rule_entries, rules_of, standard_entries}
-use Rattle.story_format.specs.Making.{Worded, code_count, code_number, codes_in, described_in, entries_of, entry_of, entry_strings, place_holder, story_rules, strings_of, strings_said, tables_of, tables_with, text_in, text_of, ways_of, worded, worded_at, worded_from, world_of}
+use Rattle.story_format.specs.Making.{Worded, code_count, code_number, codes_in, described_in, entries_of, entry_of, entry_strings, place_holder, story_lines, story_rules, strings_of, strings_said, tables_of, tables_with, text_in, text_of, texts_named, ways_of, worded, worded_at, worded_from, world_of}
 use Rattle.story_format.specs.Placed.{is_room_entry}
 use Rattle.story_format.proofs.StoryLemmas.{all_at, few_begin, get_dropped, parts, player_parts}
+use Rattle.story_format.proofs.GrammarLemmas.{lines_back, lines_known}
 use Rattle.story_format.proofs.Known.{found_by_number, is_known, said_known}
 use Rattle.story_format.proofs.OrderLemmas.{at_most_one}
 use Rattle.story_format.proofs.RuleLemmas.{codes_counted_of, origins_in}
@@ -80,25 +83,25 @@ words_back strings (text ∷ texts) h few =
     let t = and_parts (is_known strings text) (list_all (is_known strings) texts) h in
     λ i. text_back strings text t.0 few i ∷ words_back strings texts t.1 few i
 
-words_carried : (strings : List (List ℕ)) (objects : List Object) (from next o : ℕ) → list_all (knows strings) (worded_from from objects) ≡ true → length strings < 65535
-    → words_in strings (slice_get (entries_of strings next (worded_from from objects)) o) ≡ told_words (from + o) (slice_get objects o)
+words_carried : (strings : List (List ℕ)) (synonyms : List Synonym) (objects : List Object) (from next o : ℕ) → list_all (knows strings) (worded_from synonyms from objects) ≡ true → length strings < 65535
+    → words_in strings (slice_get (entries_of strings next (worded_from synonyms from objects)) o) ≡ told_words synonyms (from + o) (slice_get objects o)
 unfolding entries_of entry_of entry_strings
-words_carried strings [] from next o h few = refl
-words_carried strings (object ∷ objects) from next zero h few =
-    let t = and_parts (knows strings (worded_at from object)) (list_all (knows strings) (worded_from (from + 1) objects)) h in
-    let known = (and_parts (is_known strings object.name) (list_all (is_known strings) (words_for from object.name)) t.0).1 in
+words_carried strings synonyms [] from next o h few = refl
+words_carried strings synonyms (object ∷ objects) from next zero h few =
+    let t = and_parts (knows strings (worded_at synonyms from object)) (list_all (knows strings) (worded_from synonyms (from + 1) objects)) h in
+    let known = (and_parts (is_known strings object.name) (list_all (is_known strings) (words_said synonyms from object.name)) t.0).1 in
     let here : from ≡ from + 0 = omega arith in
-    words_back strings (words_for from object.name) known few ∙ ap (λ n. words_for n object.name) here
-words_carried strings (object ∷ objects) from next (suc o) h few =
-    let t = and_parts (knows strings (worded_at from object)) (list_all (knows strings) (worded_from (from + 1) objects)) h in
+    words_back strings (words_said synonyms from object.name) known few ∙ ap (λ n. words_said synonyms n object.name) here
+words_carried strings synonyms (object ∷ objects) from next (suc o) h few =
+    let t = and_parts (knows strings (worded_at synonyms from object)) (list_all (knows strings) (worded_from synonyms (from + 1) objects)) h in
     let there : (from + 1) + o ≡ from + suc o = omega arith in
-    words_carried strings objects (from + 1) (next + code_count object.description) o t.1 few ∙ ap (λ n. told_words n (slice_get objects o)) there
+    words_carried strings synonyms objects (from + 1) (next + code_count object.description) o t.1 few ∙ ap (λ n. told_words synonyms n (slice_get objects o)) there
 
 none_before : (o : ℕ) → 0 + o ≡ o
 none_before o = omega arith
 
-words_known : (ws : List Worded) (origins : List Origin) → list_all (knows (strings_of ws origins)) ws ≡ true
-words_known ws origins = all_known (strings_of ws origins) ws (entry_strings_known ws origins)
+words_known : (ws : List Worded) (lines : List Line) (origins : List Origin) → list_all (knows (strings_of (texts_named ws lines) origins)) ws ≡ true
+words_known ws lines origins = all_known (strings_of (texts_named ws lines) origins) ws (entry_strings_known ws lines origins)
 
 -- ---- descriptions
 
@@ -173,9 +176,11 @@ strings_stand : (strings xs : List (List ℕ)) → list_all (is_known strings) x
 strings_stand strings [] h few = tt
 strings_stand strings (x ∷ xs) h few = let t = and_parts (is_known strings x) (list_all (is_known strings) xs) h in (text_back strings x t.0 few, strings_stand strings xs t.1 few)
 
-origins_stand : (ws : List Worded) (origins : List Origin) → length (strings_of ws origins) < 65535 → (n : ℕ) (origin : Origin) → slice_get origins n ≡ Some origin
-    → AllByRecursion (λ bytes. text_at (strings_of ws origins) (number_in (strings_of ws origins) bytes) ≡ bytes) (strings_of_origin origin)
-origins_stand ws origins few n origin at = let strings = strings_of ws origins in strings_stand strings (strings_of_origin origin) (origin_known strings origins n origin (said_known ws origins) at) few
+origins_stand : (named : List (List ℕ)) (origins : List Origin) → length (strings_of named origins) < 65535 → (n : ℕ) (origin : Origin) → slice_get origins n ≡ Some origin
+    → AllByRecursion (λ bytes. text_at (strings_of named origins) (number_in (strings_of named origins) bytes) ≡ bytes) (strings_of_origin origin)
+origins_stand named origins few n origin at =
+    let strings = strings_of named origins in
+    strings_stand strings (strings_of_origin origin) (origin_known strings origins n origin (said_known named origins) at) few
 
 described_at : (texts : List Text) (behind : List Origin) (n : ℕ) (text : Text) → slice_get texts n ≡ Some text → slice_get (map Describes texts ++ behind) n ≡ Some (Describes text)
 described_at texts behind n text at = get_front (map Describes texts) behind n (Describes text) (slice_get-map Describes texts n ∙ ap (option_map Describes) at)
@@ -276,7 +281,13 @@ module _ (t : Tale) (c : Contents) (held : IsHeld t) (are : AreHeld t c) where
   told = codes_told (tables_of t c)
 
   abbrev ws : List Worded
-  ws = worded t.objects
+  ws = worded c.synonyms t.objects
+
+  abbrev lines : List Line
+  lines = story_lines c.lines
+
+  abbrev named : List (List ℕ)
+  named = texts_named ws lines
 
   abbrev origins : List Origin
   origins = origins_said c
@@ -284,11 +295,11 @@ module _ (t : Tale) (c : Contents) (held : IsHeld t) (are : AreHeld t c) where
   code_says : (o : ℕ) (s : Setting) (now : ActionNow) (w : World) → said_by_code told s now w (description_code_of (tables_of t c) o) ≡ says (undescribed s) now w (text_of t c.texts o)
   unfolding tables_with
   code_says o s now w =
-      let strings = strings_of ws origins in
-      let back : objects_in ws ≡ t.objects = objects_back 0 t.objects in
-      let le = few_objects t held in
+      let strings = strings_of named origins in
+      let back : objects_in ws ≡ t.objects = objects_back c.synonyms 0 t.objects in
+      let le = few_objects c.synonyms t held in
       let many : length c.texts ≡ 0 + codes_in (objects_in ws) = omega (arith, are.are_of.many, ap codes_in back) in
-      described_so (counts_in t c) (codes_told (tables_of t c)) (number_in strings) c are.fit (bytes_told strings origins are.said) (origins_stand ws origins are.few) s now w
+      described_so (counts_in t c) (codes_told (tables_of t c)) (number_in strings) c are.fit (bytes_told strings origins are.said) (origins_stand named origins are.few) s now w
       (description_code_of (tables_of t c) o) (text_of t c.texts o)
       (subst (λ objects. Told c.texts (description_code_in (slice_get (entries_of strings 0 ws) o)) (text_in objects c.texts o)) back (descriptions_told strings c.texts ws 0 o (omega (arith, le)) many))
 
@@ -296,19 +307,19 @@ module _ (t : Tale) (c : Contents) (held : IsHeld t) (are : AreHeld t c) where
   small = small_names t.declared (length t.objects) (few_begin t.declared.kinds (sorts_in t).rooms t.objects held.made.begins) are.are_of.few_actions held.made.declared
 
   first_code : described_in ws ≡ length (map Describes c.texts)
-  first_code = described_back t ∙ sym are.are_of.many ∙ sym (length-map c.texts Describes)
+  first_code = described_back c.synonyms t ∙ sym are.are_of.many ∙ sym (length-map c.texts Describes)
 
   -- how many codes there are
   room : described_in ws + (length (origins_in c.rules) + length (origins_in_scenes c.scenes)) ≤ 65535
   room =
-      let strings = strings_of ws origins in
+      let strings = strings_of named origins in
       omega (arith, first_code, length-map c.texts Describes, origins_counted c.texts c.rules c.scenes, bytes_enough strings origins, bytes_few strings origins are.said)
 
   author_so : AllZip (CarriesRule told) (rule_entries (described_in ws) c.rules) c.rules
   unfolding tables_with rules_of
   author_so =
-      let strings = strings_of ws origins in
-      rules_carried (counts_in t c) (codes_told (tables_of t c)) (number_in strings) origins are.fit (bytes_told strings origins are.said) (origins_stand ws origins are.few)
+      let strings = strings_of named origins in
+      rules_carried (counts_in t c) (codes_told (tables_of t c)) (number_in strings) origins are.fit (bytes_told strings origins are.said) (origins_stand named origins are.few)
       (named_in t) small c.rules (map Describes c.texts) (origins_in_scenes c.scenes) (described_in ws) are.are_of.named first_code refl (omega (arith, room))
 
   rules_so : AllZip (CarriesRule told) (tables_of t c).rules.rules (story_rules c.listings c.rules)
@@ -322,7 +333,7 @@ module _ (t : Tale) (c : Contents) (held : IsHeld t) (are : AreHeld t c) where
   scenes_so : AllZip (CarriesScene told) (tables_of t c).rules.scenes c.scenes
   unfolding tables_with rules_of
   scenes_so =
-      let strings = strings_of ws origins in
+      let strings = strings_of named origins in
       let front = map Describes c.texts ++ origins_in c.rules in
       let next : described_in ws + codes_of_rules c.rules ≡ length front = omega (arith, first_code, codes_counted_of c.rules, length-append (map Describes c.texts) (origins_in c.rules)) in
       let parts : origins ≡ front ++ origins_in_scenes c.scenes = sym (append_assoc (map Describes c.texts) (origins_in c.rules) (origins_in_scenes c.scenes)) in
@@ -337,20 +348,24 @@ module _ (t : Tale) (c : Contents) (held : IsHeld t) (are : AreHeld t c) where
   unfolding tables_with rules_of
   actions_so = actions_ask t.declared.actions
 
+  lines_so : lines_of (tables_of t c) ≡ lines
+  unfolding tables_with rules_of
+  lines_so = lines_back (strings_of named origins) are.few lines (lines_known ws lines origins)
+
   pub tale_carried : Carries (tables_of t c) t c
   unfolding tables_with world_of
   tale_carried =
-      let strings = strings_of ws origins in
-      let back : objects_in ws ≡ t.objects = objects_back 0 t.objects in
-      let le = few_objects t held in
+      let strings = strings_of named origins in
+      let back : objects_in ws ≡ t.objects = objects_back c.synonyms 0 t.objects in
+      let le = few_objects c.synonyms t held in
       let parents = t.declared.kinds in
       let sorts = sorts_in t in
       let exits : list_all (has_right_exits parents sorts) (objects_in ws) ≡ true = ap (list_all (has_right_exits parents sorts)) back ∙ held.made.exits in
-      let known = words_known ws origins in
+      let known = words_known ws lines origins in
       record {
         count = entries_counted strings 0 ws ∙ sym (length_mapped (λ (w : Worded). w.object) ws) ∙ ap length back;
         names = λ o. names_carried strings ws 0 o known are.few ∙ ap (λ (objects : List Object). told_name (slice_get objects o)) back;
-        words = λ o. words_carried strings t.objects 0 0 o known are.few ∙ ap (λ n. told_words n (slice_get t.objects o)) (none_before o);
+        words = λ o. words_carried strings c.synonyms t.objects 0 0 o known are.few ∙ ap (λ n. told_words c.synonyms n (slice_get t.objects o)) (none_before o);
         described = λ o. all_described strings ws 0 o (omega (arith, le)) ∙ ap (λ (objects : List Object). is_some (told_description (slice_get objects o))) back;
         descriptions = code_says;
         ways = λ o direction. ways_found parents sorts strings ws o direction (slice_get ws o) refl exits ∙ ap (λ (objects : List Object). told_way (slice_get objects o) direction) back;
@@ -359,4 +374,5 @@ module _ (t : Tale) (c : Contents) (held : IsHeld t) (are : AreHeld t c) where
         rules_are = rules_so;
         books = books_so;
         scenes_are = scenes_so;
+        lines_are = lines_so;
       }

@@ -16,13 +16,9 @@ use Rattle.story_code.specs.Emits.{AreSpelled}
 use Rattle.story_code.specs.Spelling.{spelling}
 use Rattle.story_format.specs.Codes.{counts_of}
 use Rattle.story_format.specs.Contents.{Contents, origins_said}
-use Rattle.story_format.specs.Holding.{AreHeld, AreNotHeld, AreOf, AreTooMany, IsHeld, NeverHeldAndNot, counts_in, has_short_texts, is_short}
-use Rattle.story_format.specs.Making.{books_of, code_bytes, strings_said, strings_with, tables_but_codes, tables_of, tables_with, worded}
+use Rattle.story_format.specs.Holding.{AreHeld, AreNotHeld, AreOf, AreTooMany, NeverHeldAndNot, counts_in, is_short}
+use Rattle.story_format.specs.Making.{code_bytes, strings_with, tables_of, tables_uncoded, tables_with}
 use Rattle.story_format.specs.declared.tables.Tables.{Tables}
-use Rattle.story_format.proofs.EntryLemmas.{objects_back}
-use Rattle.story_format.proofs.Fits.{strings_short}
-use Rattle.story_format.proofs.Known.{all_known_too, said_known}
-use Rattle.story_format.proofs.TableLemmas.{all_good_words}
 
 pub spelled_is : (bytes : List (List ℕ)) (codes : List (List Instruction)) → AreSpelled bytes codes → bytes ≡ map spelling codes
 spelled_is [] [] spelled = λ i. []
@@ -35,7 +31,7 @@ on_both (Ok x) p q f = f p q
 on_both (Err e) p q f = tt
 
 module _ (t : Tale) (c : Contents) (strings : List (List ℕ)) (tables : Tables) (strings_are : strings ≡ strings_with t c)
-    (tables_are : tables ≡ tables_but_codes t.declared (books_of t c.listings c.rules) (worded t.objects) c.rules c.scenes (strings_with t c)) where
+    (tables_are : tables ≡ tables_uncoded t c) where
   abbrev os : List Origin
   os = origins_said c
 
@@ -49,11 +45,9 @@ module _ (t : Tale) (c : Contents) (strings : List (List ℕ)) (tables : Tables)
     all_are : lent ≡ strings_with t c
     all_are = lent_are ∙ ap (λ (x : Tables). x.strings) tables_are
 
-    pub too_many : IsHeld t → b ≡ false → AreTooMany t c
-    too_many held no_room few short_said =
+    pub too_many : b ≡ false → AreTooMany t c
+    too_many no_room few short =
         let strings = strings_with t c in
-        let names : list_all has_short_texts t.objects ≡ true = held.texts in
-        let short = strings_short (worded t.objects) os (ap (list_all has_short_texts) (objects_back 0 t.objects) ∙ names) (all_good_words 0 t.objects names) short_said in
         let room : (nat_lt (length strings) 65535 && list_all is_short strings) ≡ true = and_from (nat_lt (length strings) 65535) (list_all is_short strings) (lt-ltb (length strings) 65535 few) short in
         let never : true ≡ false = sym room ∙ ap (λ l. nat_lt (length l) 65535 && list_all is_short l) (sym all_are) ∙ sym told ∙ no_room in
         absurd cc
@@ -65,7 +59,7 @@ module _ (t : Tale) (c : Contents) (strings : List (List ℕ)) (tables : Tables)
         let parts = and_parts (nat_lt (length every) 65535) (list_all is_short every) (ap (λ l. nat_lt (length l) 65535 && list_all is_short l) (sym all_are) ∙ sym told ∙ room) in
         record {
           are_of = are_of;
-          short = all_known_too is_short every (strings_said os) (said_known (worded t.objects) os) parts.1;
+          short = parts.1;
           few = ltb-true (length every) 65535 parts.0;
           fit = subst (λ (z : Counts). AllFit z (number_in every) os) (ap counts_of tables_are) (subst (λ l. AllFit (counts_of tables) (number_in l) os) strings_are fit);
           said = subst (λ l. CanBeSaid (number_in l) os) strings_are said;
@@ -77,7 +71,7 @@ module _ (t : Tale) (c : Contents) (strings : List (List ℕ)) (tables : Tables)
   Long fault z l = HaveNoTable z (number_in l) c.texts c.rules c.scenes fault
 
   abbrev uncoded : Tables
-  uncoded = tables_but_codes t.declared (books_of t c.listings c.rules) (worded t.objects) c.rules c.scenes (strings_with t c)
+  uncoded = tables_uncoded t c
 
   moved : (fault : TableFault) → Long fault (counts_of tables) strings → Long fault (counts_of uncoded) (strings_with t c)
   moved fault none = subst (λ (z : Counts). Long fault z (strings_with t c)) (ap counts_of tables_are) (subst (Long fault (counts_of tables)) strings_are none)

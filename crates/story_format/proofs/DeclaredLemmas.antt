@@ -18,6 +18,7 @@ use Rattle.world_meaning.specs.declared.tale.Object.{Object}
 use Rattle.object_words.proofs.StringLemmas.{length_mapped}
 use Rattle.story_format.specs.Formats.{fits_optional}
 use Rattle.story_format.specs.Layout.{kind_layout, granted_layout, variable_layout, world_layout}
+use Rattle.command_grammar.specs.declared.synonym.Synonym.{Synonym}
 use Rattle.story_format.specs.Making.{Worded, worded_at, worded_from, code_count, entry_of, entries_of, numbers_of, variable_of, world_of}
 use Rattle.story_format.specs.WorldChecks.{is_right_world, suits_kind}
 use Rattle.story_format.proofs.StoryLemmas.{all_weaker, three}
@@ -209,15 +210,15 @@ entry_suits d strings next w h =
     let p = own_parts d w.object h in
     rw (p.0, length_mapped (cast_unsigned w32) w.object.numbers) p.1
 
-pub all_suit : (d : Declared) (strings : List (List ℕ)) (objects : List Object) (o next : ℕ) → list_all (object_suits d) objects ≡ true
-    → list_all (suits_kind (world_of d)) (entries_of strings next (worded_from o objects)) ≡ true
+pub all_suit : (d : Declared) (strings : List (List ℕ)) (synonyms : List Synonym) (objects : List Object) (o next : ℕ) → list_all (object_suits d) objects ≡ true
+    → list_all (suits_kind (world_of d)) (entries_of strings next (worded_from synonyms o objects)) ≡ true
 unfolding entries_of
-all_suit d strings [] o next h = refl
-all_suit d strings (object ∷ objects) o next h =
+all_suit d strings synonyms [] o next h = refl
+all_suit d strings synonyms (object ∷ objects) o next h =
     let t = and_parts (object_suits d object) (list_all (object_suits d) objects) h in
-    let w = worded_at o object in
-    and_from (suits_kind (world_of d) (entry_of strings next w)) (list_all (suits_kind (world_of d)) (entries_of strings (next + code_count w.object.description) (worded_from (o + 1) objects))) (entry_suits d strings next w t.0)
-    (all_suit d strings objects (o + 1) (next + code_count w.object.description) t.1)
+    let w = worded_at synonyms o object in
+    and_from (suits_kind (world_of d) (entry_of strings next w)) (list_all (suits_kind (world_of d)) (entries_of strings (next + code_count w.object.description) (worded_from synonyms (o + 1) objects))) (entry_suits d strings next w t.0)
+    (all_suit d strings synonyms objects (o + 1) (next + code_count w.object.description) t.1)
 
 -- ---- which has room in its bytes
 

@@ -12,6 +12,7 @@ use Rattle.world_meaning.specs.Standing.{lead_rightly}
 use Rattle.world_meaning.specs.WellMade.{has_right_exits, kinds_of, places_of}
 use Rattle.world_meaning.specs.declared.sorts.Sorts.{Sorts}
 use Rattle.world_meaning.specs.declared.tale.Object.{Object}
+use Rattle.command_grammar.specs.declared.synonym.Synonym.{Synonym}
 use Rattle.story_format.specs.Making.{Worded, worded_from, code_count, relation_number, place_relation, place_holder, entry_of, entries_of, ways_of}
 use Rattle.story_format.specs.Placed.{held_by, is_room_entry, kinds_in, places_in, relation_of}
 
@@ -19,9 +20,9 @@ use Rattle.story_format.specs.Placed.{held_by, is_room_entry, kinds_in, places_i
 abbrev pub objects_in : List Worded → List Object
 objects_in ws = map (λ w. w.object) ws
 
-pub objects_back : (o : ℕ) (objects : List Object) → objects_in (worded_from o objects) ≡ objects
-objects_back o [] = refl
-objects_back o (object ∷ objects) = ap (λ (later : List Object). object ∷ later) (objects_back (o + 1) objects)
+pub objects_back : (synonyms : List Synonym) (o : ℕ) (objects : List Object) → objects_in (worded_from synonyms o objects) ≡ objects
+objects_back synonyms o [] = refl
+objects_back synonyms o (object ∷ objects) = ap (λ (later : List Object). object ∷ later) (objects_back synonyms (o + 1) objects)
 
 -- ---- places
 

@@ -23,22 +23,28 @@ use Rattle.world_meaning.specs.declared.declared.Declared.{Declared}
 use Rattle.world_meaning.specs.declared.tale.Object.{Object}
 use Rattle.object_words.specs.Mentions.{mention, number_or_none, number_in}
 use Rattle.code_table.specs.Origins.{Origin}
+use Rattle.command_grammar.specs.Synonyms.{words_said}
+use Rattle.command_grammar.specs.declared.synonym.Synonym.{Synonym}
+use Rattle.object_words.specs.Words.{words_for}
+use Rattle.play_meaning.specs.Grammar.{Line}
+use Rattle.play_meaning.specs.StandardActions.{standard_needs}
 use Rattle.play_meaning.specs.Rules.{Rule}
 use Rattle.play_meaning.specs.Scripts.{Scene}
 use Rattle.object_words.proofs.StringLemmas.{length_mapped}
 use Rattle.story_format.specs.Formats.{fits_optional}
 use Rattle.story_format.specs.declared.rule_tables.Book.{Book}
 use Rattle.story_format.specs.Layout.{entry_layout, way_layout, exits_layout, tables_layout}
-use Rattle.story_format.specs.Making.{Worded, worded, code_bytes, code_count, described_in, numbers_of, entry_strings, strings_of, strings_said, article_number, relation_number, place_relation, place_holder, code_number, entry_of, entries_of, ways_of, tables_with}
-use Rattle.story_format.specs.Holding.{is_of, named_by, has_few_words, has_short_texts, is_short, is_short_or_none}
+use Rattle.story_format.specs.Making.{Worded, worded, worded_from, code_bytes, code_count, described_in, numbers_of, entry_strings, strings_of, strings_said, article_number, relation_number, place_relation, place_holder, code_number, entry_of, entries_of, line_entry, line_strings, texts_named, ways_of, tables_with}
+use Rattle.story_format.specs.Holding.{is_line_of, is_of, named_by, has_few_words, has_short_texts, is_short, is_short_or_none}
 use Rattle.story_format.proofs.StoryLemmas.{all_both, all_mapped, all_weaker, few_begin, three}
 use Rattle.story_format.proofs.OrderLemmas.{mention_new, mention_old}
 use Rattle.story_format.proofs.AboutRules.{small_names}
 use Rattle.story_format.proofs.DeclaredLemmas.{all_own_fit, are_bytes, declared_parts, few_kinds, fits_own, is_word, world_fits}
-use Rattle.story_format.proofs.WordFacts.{all_mentioned, is_good}
+use Rattle.story_format.proofs.GrammarLemmas.{lines_fit, sixteen}
+use Rattle.story_format.proofs.WordFacts.{all_mentioned, is_good, words_good}
 use Rattle.story_format.proofs.EntryLemmas.{objects_back, objects_in, rooms_lead}
 use Rattle.story_format.proofs.RuleLemmas.{AreRightBooks, rule_tables_fit}
-use Rattle.story_format.proofs.TableLemmas.{all_good_words, entries_counted, good_words}
+use Rattle.story_format.proofs.TableLemmas.{entries_counted}
 
 -- ---- how many strings there are
 
@@ -61,16 +67,29 @@ named_few (w ∷ ws) h =
     omega (arith, le, later, length-append w.words (flat_map entry_strings ws))
 
 -- no more than are named and said
-pub few_strings : (ws : List Worded) (origins : List Origin) → list_all has_few_words ws ≡ true → length (strings_of ws origins) ≤ 33 * length ws + length (strings_said origins)
-unfolding strings_of
-few_strings ws origins h =
-    let all = no_longer (flat_map entry_strings ws ++ strings_said origins) [] in
-    omega (arith, all, named_few ws h, length-append (flat_map entry_strings ws) (strings_said origins))
+pub few_strings : (ws : List Worded) (lines : List Line) (origins : List Origin) → list_all has_few_words ws ≡ true
+    → length (strings_of (texts_named ws lines) origins) ≤ 33 * length ws + (length (flat_map line_strings lines) + length (strings_said origins))
+unfolding strings_of texts_named
+few_strings ws lines origins h =
+    let all = no_longer (texts_named ws lines ++ strings_said origins) [] in
+    omega (arith, all, named_few ws h, length-append (texts_named ws lines) (strings_said origins), length-append (flat_map entry_strings ws) (flat_map line_strings lines))
 
 -- ---- each string is short
 
 words_short : (ws : List (List ℕ)) → list_all is_good ws ≡ true → list_all is_short ws ≡ true
 words_short ws h = all_weaker is_good is_short (λ word k. (and_parts _ (is_short word) k).1) ws h
+
+abbrev good_words : Worded → Bool
+good_words w = list_all is_good w.words
+
+-- where no object has a synonym
+pub all_good_words : (o : ℕ) (objects : List Object) → list_all has_short_texts objects ≡ true → list_all good_words (worded_from [] o objects) ≡ true
+unfolding words_said
+all_good_words o [] h = refl
+all_good_words o (object ∷ objects) h =
+    let t = and_parts (has_short_texts object) (list_all has_short_texts objects) h in
+    let u = and_parts (is_short object.name) (is_short_or_none object.description) t.0 in
+    and_from (list_all is_good (words_for o object.name)) (list_all good_words (worded_from [] (o + 1) objects)) (words_good o object.name u.0) (all_good_words (o + 1) objects t.1)
 
 names_short : (ws : List Worded) → list_all has_short_texts (objects_in ws) ≡ true → list_all good_words ws ≡ true → list_all is_short (flat_map entry_strings ws) ≡ true
 unfolding entry_strings
@@ -82,11 +101,15 @@ names_short (w ∷ ws) h k =
     and_from (is_short w.object.name) (list_all is_short (w.words ++ flat_map entry_strings ws)) u.0
     (list_all-append is_short w.words (flat_map entry_strings ws) ∙ and_from (list_all is_short w.words) (list_all is_short (flat_map entry_strings ws)) (words_short w.words v.0) (names_short ws t.1 v.1))
 
-pub strings_short : (ws : List Worded) (origins : List Origin) → list_all has_short_texts (objects_in ws) ≡ true → list_all good_words ws ≡ true → list_all is_short (strings_said origins) ≡ true → list_all is_short (strings_of ws origins) ≡ true
-unfolding strings_of
-strings_short ws origins h k short =
-    all_mentioned is_short (flat_map entry_strings ws ++ strings_said origins) [] refl
-    (list_all-append is_short (flat_map entry_strings ws) (strings_said origins) ∙ and_from (list_all is_short (flat_map entry_strings ws)) (list_all is_short (strings_said origins)) (names_short ws h k) short)
+pub strings_short : (ws : List Worded) (lines : List Line) (origins : List Origin) → list_all has_short_texts (objects_in ws) ≡ true → list_all good_words ws ≡ true → list_all is_short (flat_map line_strings lines) ≡ true → list_all is_short (strings_said origins) ≡ true
+    → list_all is_short (strings_of (texts_named ws lines) origins) ≡ true
+unfolding strings_of texts_named
+strings_short ws lines origins h k lines_short short =
+    let entries = flat_map entry_strings ws in
+    let words = flat_map line_strings lines in
+    let named = list_all-append is_short entries words ∙ and_from (list_all is_short entries) (list_all is_short words) (names_short ws h k) lines_short in
+    all_mentioned is_short (texts_named ws lines ++ strings_said origins) [] refl
+    (list_all-append is_short (texts_named ws lines) (strings_said origins) ∙ and_from (list_all is_short (texts_named ws lines)) (list_all is_short (strings_said origins)) named short)
 
 -- ---- each entry has room
 
@@ -219,26 +242,33 @@ ways_few parents (w ∷ ws) =
 
 -- ---- all of it
 
-pub tables_fit : (d : Declared) (books : List Book) (objects : List Object) (rules : List Rule) (scenes : List Scene) (said : List Origin) → length scenes ≡ length d.scenes → IsWellMade (record { declared = d; objects = objects }) → list_all has_short_texts objects ≡ true → list_all has_few_words (worded objects) ≡ true
-    → length d.actions ≤ 184 → length rules ≤ 1939 → AreRightBooks d books (61 + length rules) → list_all (is_of (named_by d (length objects))) rules ≡ true → length (strings_of (worded objects) said) < 65535 → list_all is_short (strings_said said) ≡ true → length (code_bytes (strings_of (worded objects) said) said) < 65536 → list_all is_short (code_bytes (strings_of (worded objects) said) said) ≡ true
-    → tables_layout.format.fits (tables_with d books (worded objects) rules scenes said) ≡ true
+pub tables_fit : (d : Declared) (books : List Book) (synonyms : List Synonym) (objects : List Object) (lines : List Line) (rules : List Rule) (scenes : List Scene) (said : List Origin)
+    → length scenes ≡ length d.scenes → IsWellMade (record { declared = d; objects = objects }) → list_all has_few_words (worded synonyms objects) ≡ true
+    → length lines ≤ 65535 → list_all (is_line_of (standard_needs ++ d.actions)) lines ≡ true
+    → length d.actions ≤ 184 → length rules ≤ 1939 → AreRightBooks d books (61 + length rules) → list_all (is_of (named_by d (length objects))) rules ≡ true
+    → length (strings_of (texts_named (worded synonyms objects) lines) said) < 65535 → list_all is_short (strings_of (texts_named (worded synonyms objects) lines) said) ≡ true
+    → length (code_bytes (strings_of (texts_named (worded synonyms objects) lines) said) said) < 65536 → list_all is_short (code_bytes (strings_of (texts_named (worded synonyms objects) lines) said) said) ≡ true
+    → tables_layout.format.fits (tables_with d books (worded synonyms objects) lines rules scenes said) ≡ true
 unfolding tables_layout tables_with
-tables_fit d books objects rules scenes said same made texts few_words few_actions few_rules known_books named few short few_codes codes_short =
-    let ws = worded objects in
-    let strings = strings_of ws said in
-    let back : objects_in ws ≡ objects = objects_back 0 objects in
+tables_fit d books synonyms objects lines rules scenes said same made few_words few_lines lines_of few_actions few_rules known_books named few strings_fit few_codes codes_short =
+    let ws = worded synonyms objects in
+    let strings = strings_of (texts_named ws lines) said in
+    let line_entries = map (line_entry strings) lines in
+    let back : objects_in ws ≡ objects = objects_back synonyms 0 objects in
     let count : length ws ≡ length objects = sym (length_mapped (λ (w : Worded). w.object) ws) ∙ ap length back in
     let sorts = sorts_of d.kinds (kinds_of objects) in
     let few_objects = few_begin d.kinds sorts.rooms objects made.begins in
     let few_of_kinds : length (kinds_of objects) ≤ 1000 = omega (arith, few_objects, length_mapped (λ (o : Object). o.kind) objects) in
     let le : length ws ≤ 1000 = omega (arith, few_objects, count) in
     let string_count : ltb (length strings) 65536 ≡ true = lt-ltb _ _ (omega (arith, few)) in
-    let strings_fit = strings_short ws said (ap (list_all has_short_texts) back ∙ texts) (all_good_words 0 objects texts) short in
     let entry_count : ltb (length (entries_of strings 0 ws)) 65536 ≡ true = lt-ltb _ _ (omega (arith, le, entries_counted strings 0 ws)) in
     let entries = entries_fit strings 0 ws few_words (ap (list_all fits_object) back ∙ objects_fit d objects made) (ap (list_all fits_own) back ∙ all_own_fit d made.declared objects made.suited) in
     let way_count : ltb (length (flat_map (ways_of d.kinds) ws)) 65536 ≡ true = lt-ltb _ _ (omega (arith, le, ways_few d.kinds ws)) in
     let exits = all_weaker (lead_rightly sorts) exits_layout.format.fits (exits_fit d.kinds (kinds_of objects) few_of_kinds) (flat_map (ways_of d.kinds) ws) (rooms_lead d.kinds sorts ws (ap (list_all (has_right_exits d.kinds sorts)) back ∙ made.exits)) in
     let code_few : ltb (length (code_bytes strings said)) 65536 ≡ true = lt-ltb _ _ few_codes in
     let declared = declared_parts d made.declared in
-    let rules_so = rule_tables_fit d books (named_by d (length objects)) rules scenes (described_in ws) same declared.scenes declared.rulebooks few_rules known_books few_actions (small_names d (length objects) few_objects few_actions made.declared) named in
+    let needs = standard_needs ++ d.actions in
+    let few_needs : length needs ≤ 256 = omega (arith, few_actions, sixteen, length-append standard_needs d.actions) in
+    let line_count : ltb (length line_entries) 65536 ≡ true = lt-ltb _ _ (omega (arith, few_lines, length_mapped (line_entry strings) lines)) in
+    let rules_so = rule_tables_fit d line_entries books (named_by d (length objects)) rules scenes (described_in ws) same declared.scenes declared.rulebooks few_rules known_books few_actions line_count (lines_fit strings needs lines few_needs lines_of) (small_names d (length objects) few_objects few_actions made.declared) named in
     rw (string_count, strings_fit, world_fits d made.declared, entry_count, entries, way_count, exits, rules_so, code_few, codes_short) refl

@@ -1,14 +1,14 @@
 -- The strings of a tale hold what its objects name and say.
 use Rattle.std.proofs.Common.{◌≡◌, ℕ, suc, ◌+◌, ◌<◌, Bool, true, ltb, List, [], ◌∷◌, ◌++◌, length, Some, refl, sym, ap, ◌∙◌, arith, inl, inr}
 use Rattle.std.specs.Prelude.{slice_get, min, fold}
-use Rattle.std.specs.List.{list_any, list_all, flat_map, position_or_len}
+use Rattle.std.specs.List.{list_any, list_all, position_or_len}
 use Rattle.std.specs.Str.{bytes_eq}
 use Rattle.std.proofs.lemmas.Bool.{lt-ltb, cases_Bool, and_from, and_parts, or_right}
 use Rattle.std.proofs.lemmas.List.Folds.{list_any-append}
 use Rattle.std.proofs.lemmas.Slice.Eq.{bytes_eq-Decides}
 use Rattle.code_table.specs.Origins.{Origin}
 use Rattle.object_words.specs.Mentions.{mention, number_in}
-use Rattle.story_format.specs.Making.{Worded, entry_strings, strings_of, strings_said}
+use Rattle.story_format.specs.Making.{strings_of, strings_said}
 
 pub text_is_itself : (text : List ℕ) → bytes_eq text text ≡ true
 text_is_itself text = (bytes_eq-Decides text text).1 refl
@@ -97,8 +97,13 @@ all_known_too p strings (x ∷ texts) known h =
     and_from (p x) (list_all p texts) (known_too p strings x t.0 h) (all_known_too p strings texts t.1 h)
 
 -- the strings of a story are those that its descriptions and rules say, too
-pub said_known : (ws : List Worded) (origins : List Origin) → list_all (is_known (strings_of ws origins)) (strings_said origins) ≡ true
+pub said_known : (named : List (List ℕ)) (origins : List Origin) → list_all (is_known (strings_of named origins)) (strings_said origins) ≡ true
 unfolding strings_of
-said_known ws origins =
-    texts_known (strings_of ws origins) (strings_said origins)
-    (λ text k. fold_finds (flat_map entry_strings ws ++ strings_said origins) [] text (any_right (bytes_eq text) (flat_map entry_strings ws) (strings_said origins) k))
+said_known named origins =
+    texts_known (strings_of named origins) (strings_said origins)
+    (λ text k. fold_finds (named ++ strings_said origins) [] text (any_right (bytes_eq text) named (strings_said origins) k))
+
+-- and those that are named
+pub named_known : (named : List (List ℕ)) (origins : List Origin) → list_all (is_known (strings_of named origins)) named ≡ true
+unfolding strings_of
+named_known named origins = texts_known (strings_of named origins) named (λ text k. fold_finds (named ++ strings_said origins) [] text (any_left (bytes_eq text) named (strings_said origins) k))

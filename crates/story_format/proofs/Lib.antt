@@ -10,6 +10,7 @@ pub mod OrderLemmas
 pub mod SceneLemmas
 pub mod SoundLemmas
 pub mod WordFacts
+pub mod GrammarLemmas
 pub mod EntryLemmas
 pub mod KindLemmas
 pub mod TableLemmas
@@ -34,6 +35,7 @@ pub mod Counting
 pub mod Naming
 pub mod SoundOrNot
 pub mod ToldCodes
+pub mod ToldLines
 pub mod ToldRules
 pub mod ToldStories
 pub mod CodedTables

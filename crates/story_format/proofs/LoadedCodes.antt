@@ -10,7 +10,7 @@ use Rattle.play_meaning.specs.declared.operand.Use.TheVariants.{Describing}
 use Rattle.code_table.proofs.Together.{head_there, sound_together}
 use Rattle.story_code.specs.Runs.{AreSoundTogether, IsDescription, code_told}
 use Rattle.story_code.specs.Soundness.{Judged}
-use Rattle.story_format.specs.Checks.{are_in_place, are_named_in_order, are_right, are_right_objects, codes_named, heads_named, has_small_words, have_words, is_small, strings_named}
+use Rattle.story_format.specs.Checks.{are_in_place, are_named_in_order, are_right, are_right_objects, codes_named, heads_named, has_small_words, have_words, is_small, strings_in_tables}
 use Rattle.story_format.specs.Codes.{AreCodesOf, code_spelled, codes_told, counts_of, uses_of}
 use Rattle.story_format.specs.Facts.{description_code_in, description_code_of}
 use Rattle.story_format.specs.Loaded.{IsLoaded}
@@ -53,7 +53,7 @@ entries_right t right =
     let placed = are_in_place t.strings t.world.kinds (sorts_in t).rooms t.objects in
     let worded = have_words t.strings 0 t.objects in
     let p =
-    last_of_five (entries && placed && worded) (list_all (has_small_words (map is_small t.strings)) t.objects) (are_named_in_order 0 (flat_map strings_named t.objects)) (are_named_in_order 0 (heads_named t))
+    last_of_five (entries && placed && worded) (list_all (has_small_words (map is_small t.strings)) t.objects) (are_named_in_order 0 (strings_in_tables t)) (are_named_in_order 0 (heads_named t))
     (list_all (suits_kind t.world) t.objects) (right_parts t right).0 in
     (three entries placed worded p.0).0
 

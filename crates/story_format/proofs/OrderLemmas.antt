@@ -35,9 +35,9 @@ rebuilt : (strings seen : List (List ℕ)) → first_mentions seen ≡ seen → 
 rebuilt [] seen h = h
 rebuilt (x ∷ strings) seen h = rebuilt strings (mention seen x) (rebuilt_step seen x h)
 
-pub strings_distinct : (ws : List Worded) (origins : List Origin) → are_distinct (strings_of ws origins) ≡ true
+pub strings_distinct : (named : List (List ℕ)) (origins : List Origin) → are_distinct (strings_of named origins) ≡ true
 unfolding are_distinct strings_of
-strings_distinct ws origins = eq-eqb _ _ (ap length (rebuilt (flat_map entry_strings ws ++ strings_said origins) [] refl))
+strings_distinct named origins = eq-eqb _ _ (ap length (rebuilt (named ++ strings_said origins) [] refl))
 
 -- ---- strings are named in order
 
@@ -105,9 +105,10 @@ numbers_named strings next (w ∷ ws) =
     ap (λ (later : List ℕ). number_in strings w.object.name ∷ (map (number_in strings) (w.words) ++ later)) (numbers_named strings (next + code_count w.object.description) ws)
     ∙ ap (λ (later : List ℕ). number_in strings w.object.name ∷ later) (sym (map-append (number_in strings) (w.words) (flat_map entry_strings ws)))
 
-pub strings_all_named : (ws : List Worded) (origins : List Origin) → length (strings_of ws origins) < 65535 → counted_on 0 (map (number_in (strings_of ws origins)) (flat_map entry_strings ws ++ strings_said origins)) ≡ Some (length (strings_of ws origins))
+pub strings_all_named : (named : List (List ℕ)) (origins : List Origin) → length (strings_of named origins) < 65535
+    → counted_on 0 (map (number_in (strings_of named origins)) (named ++ strings_said origins)) ≡ Some (length (strings_of named origins))
 unfolding strings_of
-strings_all_named ws origins few = all_ordered (strings_of ws origins) (flat_map entry_strings ws ++ strings_said origins) [] refl few
+strings_all_named named origins few = all_ordered (strings_of named origins) (named ++ strings_said origins) [] refl few
 
 -- where all are named in order, those in front are
 in_order_in_front : (ns ms : List ℕ) (count next : ℕ) → counted_on next (ns ++ ms) ≡ Some count → are_named_in_order next ns ≡ true
@@ -117,12 +118,11 @@ in_order_in_front (n ∷ ns) ms count next h =
     let t = counted_rest count next n (ns ++ ms) h in
     and_from (leb n next) (are_named_in_order (max next (n + 1)) ns) (le-leb _ _ t.0) (in_order_in_front ns ms count (max next (n + 1)) t.1)
 
-pub strings_in_order : (ws : List Worded) (origins : List Origin) → length (strings_of ws origins) < 65535 → are_named_in_order 0 (flat_map strings_named (entries_of (strings_of ws origins) 0 ws)) ≡ true
-strings_in_order ws origins few =
-    let strings = strings_of ws origins in
-    let parts = map-append (number_in strings) (flat_map entry_strings ws) (strings_said origins) in
-    ap (are_named_in_order 0) (numbers_named strings 0 ws)
-    ∙ in_order_in_front (map (number_in strings) (flat_map entry_strings ws)) (map (number_in strings) (strings_said origins)) (length strings) 0 (sym (ap (counted_on 0) parts) ∙ strings_all_named ws origins few)
+pub strings_in_order : (named : List (List ℕ)) (origins : List Origin) → length (strings_of named origins) < 65535 → are_named_in_order 0 (map (number_in (strings_of named origins)) named) ≡ true
+strings_in_order named origins few =
+    let strings = strings_of named origins in
+    let parts = map-append (number_in strings) named (strings_said origins) in
+    in_order_in_front (map (number_in strings) named) (map (number_in strings) (strings_said origins)) (length strings) 0 (sym (ap (counted_on 0) parts) ∙ strings_all_named named origins few)
 
 -- ---- codes are named in order
 

@@ -5,6 +5,7 @@ use Rattle.std.specs.List.{AllByRecursion, flat_map, list_all}
 use Rattle.std.proofs.lemmas.Bool.{lt-ltb, and_parts}
 use Rattle.std.proofs.lemmas.List.{length-append, length-map}
 use Rattle.object_words.specs.Mentions.{number_in, number_or_none}
+use Rattle.play_meaning.specs.StandardGrammar.{standard_lines}
 use Rattle.play_meaning.specs.StandardRules.{plain}
 use Rattle.play_meaning.specs.TranslatedScripts.{emitted_in_turn}
 use Rattle.play_meaning.specs.Translation.{Emitted, seq, text_part}
@@ -14,12 +15,13 @@ use Rattle.code_table.specs.Origins.{Describes, Origin, origins_of, origins_of_s
 use Rattle.story_code.specs.Emitting.{can_say_all}
 use Rattle.story_format.specs.Codes.{counts_of, small}
 use Rattle.story_format.specs.Contents.{origins_said}
-use Rattle.story_format.specs.Holding.{PlainTextsAreHeld, counts_in, idle_scene, is_short, plain_contents}
-use Rattle.story_format.specs.Making.{codes_in, strings_of, strings_said, tables_with, worded}
+use Rattle.story_format.specs.Holding.{PlainTextsAreHeld, counts_in, has_short_texts, idle_scene, is_short, plain_contents}
+use Rattle.story_format.specs.Making.{codes_in, strings_of, strings_said, tables_with, texts_named, worded}
 use Rattle.story_format.proofs.EntryLemmas.{objects_back, objects_in}
-use Rattle.story_format.proofs.Fits.{few_strings}
-use Rattle.story_format.proofs.Known.{is_known, passes_at, said_known}
-use Rattle.story_format.proofs.OrderLemmas.{codes_few, number_is_place}
+use Rattle.story_format.proofs.Fits.{all_good_words, few_strings, strings_short}
+use Rattle.story_format.proofs.GrammarLemmas.{standard_short, standard_words, within}
+use Rattle.story_format.proofs.Known.{is_known, said_known}
+use Rattle.story_format.proofs.OrderLemmas.{codes_few}
 use Rattle.story_format.proofs.Stories.{few_objects}
 
 -- ---- texts that say bytes
@@ -82,12 +84,6 @@ named_small : (strings : List (List ℕ)) (x : List ℕ) → number_in strings x
 unfolding number_in
 named_small strings x = number_small _
 
-within : (strings : List (List ℕ)) (text : List ℕ) → is_known strings text ≡ true → length strings < 65535 → number_in strings text < length strings
-within strings text known few =
-    let t = passes_at strings text known in
-    let number = number_is_place strings text t.0 few in
-    omega (arith, number, t.0)
-
 all_within : (strings xs : List (List ℕ)) (count : ℕ) → count ≡ length strings → list_all (is_known strings) xs ≡ true → length strings < 65535 → AllByRecursion (λ x. number_in strings x < count) xs
 all_within strings [] count is known few = tt
 all_within strings (x ∷ xs) count is known few =
@@ -98,22 +94,23 @@ all_within strings (x ∷ xs) count is known few =
 
 pub plain_held : PlainTextsAreHeld
 unfolding tables_with counts_of
-plain_held t xs held few_actions nouns many short =
-    let ws = worded t.objects in
+plain_held t xs held few_words few_actions nouns many short =
+    let ws = worded [] t.objects in
+    let named = texts_named ws standard_lines in
     let texts = map plain xs in
     let none : origins_said (plain_contents t xs) ≡ Plain xs = ap (λ asked. map Describes texts ++ asked) (none_asked t.declared.scenes) in
     let origins = origins_said (plain_contents t xs) in
     let said : strings_said origins ≡ xs = ap strings_said none ∙ strings_plain xs in
-    let strings = strings_of ws origins in
-    let le = few_objects t held in
-    let back : codes_in (objects_in ws) ≡ codes_in t.objects = ap codes_in (objects_back 0 t.objects) in
+    let strings = strings_of named origins in
+    let le = few_objects [] t held in
+    let back : codes_in (objects_in ws) ≡ codes_in t.objects = ap codes_in (objects_back [] 0 t.objects) in
     let few_codes = codes_few ws in
     let few_bytes : length xs ≤ 1000 = omega (arith, many, back, few_codes, le) in
-    let few : length strings < 65535 = omega (arith, few_strings ws origins held.words, ap length said, few_bytes, le) in
-    let known : list_all (is_known strings) xs ≡ true = ap (list_all (is_known strings)) (sym said) ∙ said_known ws origins in
+    let few : length strings < 65535 = omega (arith, few_strings ws standard_lines origins few_words, standard_words, ap length said, few_bytes, le) in
+    let known : list_all (is_known strings) xs ≡ true = ap (list_all (is_known strings)) (sym said) ∙ said_known named origins in
     record {
-      are_of = record { many = length-map xs plain ∙ many; few = omega arith; named = refl; scenes = idle_recur t.declared.scenes; few_actions = few_actions; first_nouns = nouns };
-      short = ap (list_all is_short) said ∙ short;
+      are_of = record { many = length-map xs plain ∙ many; few = omega arith; named = refl; scenes = idle_recur t.declared.scenes; few_actions = few_actions; first_nouns = nouns; few_lines = omega arith; lines = refl; small = refl; few_words = few_words };
+      short = strings_short ws standard_lines origins (ap (list_all has_short_texts) (objects_back [] 0 t.objects) ∙ held.texts) (all_good_words 0 t.objects held.texts) standard_short (ap (list_all is_short) said ∙ short);
       few = few;
       fit = subst (λ os. AllFit (counts_in t (plain_contents t xs)) (number_in strings) os) (sym none) (fit_plain (number_in strings) (counts_in t (plain_contents t xs)) xs (all_within strings xs (small (length strings)) (omega (arith, few)) known few));
       said = subst (CanBeSaid (number_in strings)) (sym none) (can_be_said (number_in strings) xs (named_small strings) few_bytes);

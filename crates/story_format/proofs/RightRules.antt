@@ -6,7 +6,7 @@ use Rattle.std.proofs.lemmas.Bool.{and_parts, leb-true}
 use Rattle.play_meaning.specs.declared.operand.Counts.{Counts}
 use Rattle.story_format.specs.Checks.{are_distinct, are_right, are_right_objects, are_right_ways, is_right_frame, stand_rightly}
 use Rattle.story_format.specs.Counts.{counts_of}
-use Rattle.story_format.specs.RuleChecks.{are_right_actions, are_right_books, are_right_rules, are_right_scenes, begin_with_actions, is_number_or_none, is_right_action, is_right_aspect, is_right_body, is_right_rule, is_right_scene}
+use Rattle.story_format.specs.RuleChecks.{are_right_actions, are_right_books, are_right_lines, are_right_rules, are_right_scenes, begin_with_actions, is_number_or_none, is_right_action, is_right_aspect, is_right_body, is_right_line, is_right_rule, is_right_scene}
 use Rattle.story_format.specs.RuleMaking.{action_entries}
 use Rattle.story_format.specs.Spells.{IsStory}
 use Rattle.story_format.specs.WorldChecks.{is_right_world}
@@ -22,6 +22,7 @@ rules_right t right =
 
 record Parts (t : Tables) : Type 0 where
   scenes : length t.rules.scenes ≤ 50
+  lines : length t.rules.grammar ≤ 65535
   actions : are_right_actions t.rules.actions ≡ true
   rules : list_all (is_right_rule (counts_of t)) t.rules.rules ≡ true
 
@@ -30,9 +31,9 @@ unfolding are_right_rules
 parts t right =
     let r = t.rules in
     let p =
-    last_of_five (are_right_scenes (counts_of t) r.scenes) (are_right_books (length r.scenes) (length r.rules) r.books) (are_right_actions r.actions) (eqb (length r.grammar) 0)
+    last_of_five (are_right_scenes (counts_of t) r.scenes) (are_right_books (length r.scenes) (length r.rules) r.books) (are_right_actions r.actions) (are_right_lines (counts_of t) r.actions r.grammar)
     (leb (length r.rules) 2000 && list_all (is_right_rule (counts_of t)) r.rules) right in
-    record { scenes = leb-true _ _ (and_parts (leb (length r.scenes) 50) (list_all (is_right_scene (counts_of t)) r.scenes) p.0).0; actions = p.2; rules = (and_parts (leb (length r.rules) 2000) (list_all (is_right_rule (counts_of t)) r.rules) p.4).1 }
+    record { scenes = leb-true _ _ (and_parts (leb (length r.scenes) 50) (list_all (is_right_scene (counts_of t)) r.scenes) p.0).0; lines = leb-true _ _ (and_parts (leb (length r.grammar) 65535) (list_all (is_right_line (counts_of t) r.actions) r.grammar) p.3).0; actions = p.2; rules = (and_parts (leb (length r.rules) 2000) (list_all (is_right_rule (counts_of t)) r.rules) p.4).1 }
 
 parts_of : (t : Tables) → IsStory t → Parts t
 parts_of t story = parts t (rules_right t story.right)
@@ -51,6 +52,9 @@ body_right t story n rule there = body_of_right (counts_of t) rule (rule_right t
 
 pub few_scenes : (t : Tables) → IsStory t → length t.rules.scenes ≤ 50
 few_scenes t story = (parts_of t story).scenes
+
+pub few_lines : (t : Tables) → IsStory t → length t.rules.grammar ≤ 65535
+few_lines t story = (parts_of t story).lines
 
 pub actions_begin : (t : Tables) → IsStory t → begin_with_actions t.rules.actions (action_entries []) ≡ true
 unfolding are_right_actions

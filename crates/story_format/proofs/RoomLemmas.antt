@@ -13,7 +13,7 @@ use Rattle.world_meaning.specs.declared.exits.Way.{Way}
 use Rattle.world_meaning.specs.declared.sorts.Sorts.{Sorts}
 use Rattle.story_format.specs.declared.tables.Entry.{Entry}
 use Rattle.story_format.specs.declared.tables.Tables.{Tables}
-use Rattle.story_format.specs.Checks.{are_distinct, have_words, is_small, has_small_words, is_named, is_player_entry, is_right_frame, are_direction_entries, are_in_place, are_named_in_order, strings_named, heads_named, are_right_objects, are_right_ways, are_right, stand_rightly}
+use Rattle.story_format.specs.Checks.{are_distinct, have_words, is_small, has_small_words, is_named, is_player_entry, is_right_frame, are_direction_entries, are_in_place, are_named_in_order, strings_in_tables, heads_named, are_right_objects, are_right_ways, are_right, stand_rightly}
 use Rattle.story_format.specs.Facts.{holder_in, is_room_in, rooms_before, start_of, way_in, way_of}
 use Rattle.story_format.specs.Placed.{is_room_entry, sorts_in}
 use Rattle.story_format.specs.Sizes.{is_right_entry, sizes_of}
@@ -35,7 +35,7 @@ in_place t right =
     last_of_five
     (list_all (is_right_entry (sizes_of t)) t.objects && placed && have_words t.strings 0 t.objects)
     (list_all (has_small_words (map is_small t.strings)) t.objects)
-    (are_named_in_order 0 (flat_map strings_named t.objects))
+    (are_named_in_order 0 (strings_in_tables t))
     (are_named_in_order 0 (heads_named t))
     (list_all (suits_kind t.world) t.objects)
     right in

@@ -16,15 +16,16 @@ use Rattle.play_meaning.specs.declared.operand.Use.{Use}
 use Rattle.code_table.specs.Origins.{Origin, origins_of_rule, use_for}
 use Rattle.story_format.specs.Checks.{codes_named}
 use Rattle.story_format.specs.Holding.{Named, has_first_noun, is_of}
-use Rattle.story_format.specs.Layout.{aspect_layout, body_layout, book_layout, kind_aspect_layout, rule_layout, rules_layout, side_layout}
+use Rattle.story_format.specs.Layout.{aspect_layout, body_layout, book_layout, kind_aspect_layout, line_layout, rule_layout, rules_layout, side_layout}
 use Rattle.story_format.specs.Making.{Worded, described_in, entries_of}
-use Rattle.story_format.specs.RuleChecks.{are_right_books, are_right_rules, code_if, code_of_body, codes_in_rule, codes_in_rules, codes_in_scene, codes_in_scenes, codes_in_tables, is_number_or_none, is_right_body, is_right_rule, lists_what_is_there, test_if, use_in_body, uses_in_rule, uses_in_rules, uses_in_scene, uses_in_scenes, uses_in_tables}
-use Rattle.story_format.specs.RuleMaking.{all_entries, book_count, codes_of_rules, condition_count, condition_number, entry_with, first_own_book, rule_count, rule_entries, rule_entry, rules_of, scene_entries, standard_entries, standard_entry, standard_from}
+use Rattle.story_format.specs.RuleChecks.{are_right_books, are_right_lines, are_right_rules, code_if, code_of_body, codes_in_rule, codes_in_rules, codes_in_scene, codes_in_scenes, codes_in_tables, is_number_or_none, is_right_body, is_right_rule, lists_what_is_there, test_if, use_in_body, uses_in_rule, uses_in_rules, uses_in_scene, uses_in_scenes, uses_in_tables}
+use Rattle.story_format.specs.RuleMaking.{action_entries, all_entries, book_count, codes_of_rules, condition_count, condition_number, entry_with, first_own_book, rule_count, rule_entries, rule_entry, rules_of, scene_entries, standard_entries, standard_entry, standard_from}
 use Rattle.story_format.specs.Soundness.{are_in_turn}
 use Rattle.story_format.specs.declared.rule_entry.RuleBody.{RuleBody}
 use Rattle.story_format.specs.declared.rule_entry.RuleBody.TheVariants.{Code, Standard, Unknown}
 use Rattle.story_format.specs.declared.rule_entry.RuleEntry.{RuleEntry}
 use Rattle.story_format.specs.declared.rule_tables.Book.{Book}
+use Rattle.story_format.specs.declared.rule_tables.LineEntry.{LineEntry}
 use Rattle.story_format.specs.declared.rule_tables.RuleTables.{RuleTables}
 use Rattle.story_format.specs.declared.rule_tables.SceneEntry.{SceneEntry}
 use Rattle.story_format.proofs.AboutRules.{IsSmall, aspect_fits, aspect_right, named_of, named_parts, number_fits, number_right}
@@ -150,15 +151,15 @@ codes_counted_of (rule ∷ rules) = ap (λ n. rule_count rule + n) (codes_counte
 abbrev behind : ℕ → List Rule → ℕ
 behind next rules = next + codes_of_rules rules
 
-pub codes_in_made : (d : Declared) (books : List Book) (rules : List Rule) (scenes : List Scene) (next : ℕ)
-    → codes_in_tables (rules_of d books next rules scenes) ≡ codes_in_rules (rule_entries next rules) ++ codes_in_scenes (scene_entries (behind next rules) scenes)
+pub codes_in_made : (d : Declared) (lines : List LineEntry) (books : List Book) (rules : List Rule) (scenes : List Scene) (next : ℕ)
+    → codes_in_tables (rules_of d lines books next rules scenes) ≡ codes_in_rules (rule_entries next rules) ++ codes_in_scenes (scene_entries (behind next rules) scenes)
 unfolding rules_of
-codes_in_made d books rules scenes next = ap (λ codes. codes ++ codes_in_scenes (scene_entries (behind next rules) scenes)) (codes_in_all rules next)
+codes_in_made d lines books rules scenes next = ap (λ codes. codes ++ codes_in_scenes (scene_entries (behind next rules) scenes)) (codes_in_all rules next)
 
-pub uses_in_made : (d : Declared) (books : List Book) (rules : List Rule) (scenes : List Scene) (next : ℕ) → next + (length (origins_in rules) + length (origins_in_scenes scenes)) ≤ 65535
-    → uses_in_tables (rules_of d books next rules scenes) ≡ map use_for (origins_in rules) ++ map use_for (origins_in_scenes scenes)
+pub uses_in_made : (d : Declared) (lines : List LineEntry) (books : List Book) (rules : List Rule) (scenes : List Scene) (next : ℕ) → next + (length (origins_in rules) + length (origins_in_scenes scenes)) ≤ 65535
+    → uses_in_tables (rules_of d lines books next rules scenes) ≡ map use_for (origins_in rules) ++ map use_for (origins_in_scenes scenes)
 unfolding rules_of
-uses_in_made d books rules scenes next le =
+uses_in_made d lines books rules scenes next le =
     let there = codes_counted_of rules in
     λ i. (uses_in_all rules next ∙ rules_used rules next (omega (arith, le))) i ++ scenes_used scenes (behind next rules) (omega (arith, le, there)) i
 
@@ -264,10 +265,10 @@ pub record AreRightBooks (d : Declared) (books : List Book) (count : ℕ) : Type
   pub fit : list_all book_layout.format.fits books ≡ true
 
 -- tables 8 to 12 are right, where there are so many codes and these books
-pub rule_tables_right : (d : Declared) (books : List Book) (z : Counts) (rules : List Rule) (scenes : List Scene) (next : ℕ) → length scenes ≡ length d.scenes → length d.scenes ≤ 50 → d.rulebooks ≤ 100 → length rules ≤ 1939 → AreRightBooks d books (61 + length rules) → length d.actions ≤ 184 → list_all has_first_noun d.actions ≡ true → 16 ≤ z.actions → 8 ≤ z.books
-    → list_all (is_of (named_of z)) rules ≡ true → next + (length (origins_in rules) + length (origins_in_scenes scenes)) ≤ z.codes → z.codes ≤ 65535 → are_right_rules z (rules_of d books next rules scenes) ≡ true
+pub rule_tables_right : (d : Declared) (lines : List LineEntry) (books : List Book) (z : Counts) (rules : List Rule) (scenes : List Scene) (next : ℕ) → length scenes ≡ length d.scenes → length d.scenes ≤ 50 → d.rulebooks ≤ 100 → length rules ≤ 1939 → AreRightBooks d books (61 + length rules) → length d.actions ≤ 184 → list_all has_first_noun d.actions ≡ true → are_right_lines z (action_entries d.actions) lines ≡ true → 16 ≤ z.actions → 8 ≤ z.books
+    → list_all (is_of (named_of z)) rules ≡ true → next + (length (origins_in rules) + length (origins_in_scenes scenes)) ≤ z.codes → z.codes ≤ 65535 → are_right_rules z (rules_of d lines books next rules scenes) ≡ true
 unfolding are_right_rules rules_of
-rule_tables_right d books z rules scenes next same few_scenes few_own few known few_actions nouns actions built_in named le codes =
+rule_tables_right d lines books z rules scenes next same few_scenes few_own few known few_actions nouns lines_so actions built_in named le codes =
     let entries = scene_entries (behind next rules) scenes in
     let count : length entries ≡ length d.scenes = length_scenes scenes (behind next rules) ∙ same in
     let scene_few : leb (length entries) 50 ≡ true = le-leb _ _ (omega (arith, count, few_scenes)) in
@@ -276,7 +277,7 @@ rule_tables_right d books z rules scenes next same few_scenes few_own few known 
     let own_books : are_right_books (length entries) (length (all_entries next rules)) books ≡ true =
     (λ i. are_right_books (count i) (many i) books) ∙ books_right (length d.scenes) d.rulebooks (61 + length rules) books few_own known.count_is known.there in
     let few_entries : leb (length (all_entries next rules)) 2000 ≡ true = le-leb _ _ (omega (arith, many, few)) in
-    rw (scene_few, scenes_so, own_books, actions_right d.actions few_actions nouns, few_entries) (all_right z rules next actions built_in named (omega (arith, le)) codes)
+    rw (scene_few, scenes_so, own_books, actions_right d.actions few_actions nouns, lines_so, few_entries) (all_right z rules next actions built_in named (omega (arith, le)) codes)
 
 -- ---- there is room for each in its bytes
 
@@ -312,11 +313,11 @@ all_fit z rules next small named =
     list_all-append rule_layout.format.fits standard_entries (rule_entries next rules)
     ∙ and_from (list_all rule_layout.format.fits standard_entries) (list_all rule_layout.format.fits (rule_entries next rules)) standard_fit (rules_fit z rules next small named)
 
-pub rule_tables_fit : (d : Declared) (books : List Book) (z : Named) (rules : List Rule) (scenes : List Scene) (next : ℕ) → length scenes ≡ length d.scenes → length d.scenes ≤ 50 → d.rulebooks ≤ 100 → length rules ≤ 1939 → AreRightBooks d books (61 + length rules) → length d.actions ≤ 184 → IsSmall z
-    → list_all (is_of z) rules ≡ true → rules_layout.format.fits (rules_of d books next rules scenes) ≡ true
+pub rule_tables_fit : (d : Declared) (lines : List LineEntry) (books : List Book) (z : Named) (rules : List Rule) (scenes : List Scene) (next : ℕ) → length scenes ≡ length d.scenes → length d.scenes ≤ 50 → d.rulebooks ≤ 100 → length rules ≤ 1939 → AreRightBooks d books (61 + length rules) → length d.actions ≤ 184 → ltb (length lines) 65536 ≡ true → list_all line_layout.format.fits lines ≡ true → IsSmall z
+    → list_all (is_of z) rules ≡ true → rules_layout.format.fits (rules_of d lines books next rules scenes) ≡ true
 unfolding rules_layout rules_of
-rule_tables_fit d books z rules scenes next same few_scenes few_own few known few_actions small named =
+rule_tables_fit d lines books z rules scenes next same few_scenes few_own few known few_actions few_lines lines_fit small named =
     let scene_few : ltb (length (scene_entries (behind next rules) scenes)) 65536 ≡ true = lt-ltb _ _ (omega (arith, length_scenes scenes (behind next rules), same, few_scenes)) in
     let all : ltb (length books) 65536 ≡ true = lt-ltb _ _ (omega (arith, known.count_is, few_scenes, few_own)) in
     let rule_few : ltb (length (all_entries next rules)) 65536 ≡ true = lt-ltb _ _ (omega (arith, length_all rules next, few)) in
-    rw (action_count d.actions few_actions, actions_fit d.actions, rule_few, all_fit z rules next small named, all, known.fit, scene_few) (scenes_fit scenes (behind next rules))
+    rw (action_count d.actions few_actions, actions_fit d.actions, few_lines, lines_fit, rule_few, all_fit z rules next small named, all, known.fit, scene_few) (scenes_fit scenes (behind next rules))

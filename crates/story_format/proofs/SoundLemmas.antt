@@ -10,6 +10,7 @@ use Rattle.object_words.specs.Mentions.{number_in}
 use Rattle.play_meaning.specs.Instructions.{sizes}
 use Rattle.play_meaning.specs.TranslatedScripts.{emitted_in_turn}
 use Rattle.play_meaning.specs.Translation.{Emitted}
+use Rattle.play_meaning.specs.Grammar.{Line}
 use Rattle.play_meaning.specs.Rules.{Rule}
 use Rattle.play_meaning.specs.Scripts.{Scene}
 use Rattle.play_meaning.specs.Trees.{Text}
@@ -26,17 +27,18 @@ use Rattle.story_code.specs.Emitting.{can_say_all, can_say_code, opens_few}
 use Rattle.story_code.specs.Runs.{code_or_none}
 use Rattle.story_code.specs.Spelling.{can_spell, spelling}
 use Rattle.story_code.proofs.Exact.{spelling_size, spells_in}
-use Rattle.story_format.specs.Checks.{codes_named, strings_named}
+use Rattle.story_format.specs.Checks.{codes_named, strings_in_tables}
 use Rattle.story_format.specs.Codes.{code_spelled, counts_of, small}
 use Rattle.story_format.specs.Holding.{is_short}
-use Rattle.story_format.specs.Making.{Worded, code_bytes, described_in, entries_of, entry_strings, strings_of, strings_said, tables_with}
+use Rattle.story_format.specs.Making.{Worded, code_bytes, described_in, entries_of, line_entry, strings_of, strings_said, tables_with, texts_named}
 use Rattle.story_format.specs.Soundness.{AreSound, are_in_turn, strings_read}
 use Rattle.story_format.specs.RuleChecks.{uses_in_tables}
 use Rattle.story_format.specs.RuleMaking.{rules_of}
 use Rattle.story_format.specs.declared.rule_tables.Book.{Book}
-use Rattle.story_format.proofs.OrderLemmas.{codes_counted, numbers_named, strings_all_named}
+use Rattle.story_format.proofs.OrderLemmas.{codes_counted, strings_all_named}
 use Rattle.story_format.proofs.RuleLemmas.{codes_in_made, heads_in_turn, origins_in, uses_in_made}
 use Rattle.story_format.proofs.SceneLemmas.{origins_in_scenes}
+use Rattle.story_format.proofs.TableLemmas.{texts_told}
 
 -- ---- bytes can say each code
 
@@ -116,33 +118,35 @@ origins_counted texts rules scenes =
 
 -- ---- the codes of a tale
 
-module _ (d : Declared) (books : List Book) (ws : List Worded) (texts : List Text) (rules : List Rule) (scenes : List Scene) where
+module _ (d : Declared) (books : List Book) (ws : List Worded) (lines : List Line) (texts : List Text) (rules : List Rule) (scenes : List Scene) where
   abbrev os : List Origin
   os = origins_of texts rules scenes
 
-  pub tables_sound : length (strings_of ws os) < 65535 → length ws ≤ 1000 → length texts ≡ described_in ws
-      → AllFit (counts_of (tables_with d books ws rules scenes os)) (number_in (strings_of ws os)) os → CanBeSaid (number_in (strings_of ws os)) os
-      → AreSound (tables_with d books ws rules scenes os)
+  abbrev strings : List (List ℕ)
+  strings = strings_of (texts_named ws lines) os
+
+  pub tables_sound : length strings < 65535 → length ws ≤ 1000 → length texts ≡ described_in ws
+      → AllFit (counts_of (tables_with d books ws lines rules scenes os)) (number_in strings) os → CanBeSaid (number_in strings) os
+      → AreSound (tables_with d books ws lines rules scenes os)
   unfolding strings_read tables_with counts_of
   tables_sound few short many fit said =
-      let strings = strings_of ws os in
       let bytes = code_bytes strings os in
-      let z = counts_of (tables_with d books ws rules scenes os) in
+      let z = counts_of (tables_with d books ws lines rules scenes os) in
       let found = origins_table z (number_in strings) os fit said in
       let count : length bytes ≡ small (length bytes) = omega (arith, bytes_few strings os said) in
       let all = origins_counted texts rules scenes in
       let room : described_in ws + (length (origins_in rules) + length (origins_in_scenes scenes)) ≤ 65535 = omega (arith, all, many, bytes_enough strings os, bytes_few strings os said) in
       let described : length texts ≡ length (codes_named (entries_of strings 0 ws)) = many ∙ sym (codes_counted strings ws 0 (omega (arith, short))) in
-      let uses : map use_for os ≡ replicate (length (codes_named (entries_of strings 0 ws))) Describing ++ uses_in_tables (rules_of d books (described_in ws) rules scenes) =
-      origins_used texts rules scenes ∙ (λ i. replicate (described i) Describing ++ sym (uses_in_made d books rules scenes (described_in ws) room) i) in
+      let uses : map use_for os ≡ replicate (length (codes_named (entries_of strings 0 ws))) Describing ++ uses_in_tables (rules_of d (map (line_entry strings) lines) books (described_in ws) rules scenes) =
+      origins_used texts rules scenes ∙ (λ i. replicate (described i) Describing ++ sym (uses_in_made d (map (line_entry strings) lines) books rules scenes (described_in ws) room) i) in
       record {
         judged = found.0;
         table = subst (λ us. IsTableOf (record z { codes = small (length bytes) }) us bytes found.0) uses (subst (λ n. IsTableOf (record z { codes = n }) (map use_for os) bytes found.0) count found.1);
-        in_turn = ap (λ codes. are_in_turn 0 (codes_named (entries_of strings 0 ws) ++ codes)) (codes_in_made d books rules scenes (described_in ws)) ∙ heads_in_turn strings ws rules scenes short room;
+        in_turn = ap (λ codes. are_in_turn 0 (codes_named (entries_of strings 0 ws) ++ codes)) (codes_in_made d (map (line_entry strings) lines) books rules scenes (described_in ws)) ∙ heads_in_turn strings ws rules scenes short room;
         named =
-            ap (λ codes. counted_on 0 (flat_map strings_named (entries_of strings 0 ws) ++ strings_in_codes codes)) (bytes_told strings os said)
+            ap (λ codes. counted_on 0 (strings_in_tables (tables_with d books ws lines rules scenes os) ++ strings_in_codes codes)) (bytes_told strings os said)
             ∙ ap (counted_on 0) (
-            (λ i. numbers_named strings 0 ws i ++ said_in_order (number_in strings) os i)
-            ∙ sym (map-append (number_in strings) (flat_map entry_strings ws) (strings_said os)))
-            ∙ strings_all_named ws os few;
+            (λ i. texts_told d books ws lines rules scenes os few i ++ said_in_order (number_in strings) os i)
+            ∙ sym (map-append (number_in strings) (texts_named ws lines) (strings_said os)))
+            ∙ strings_all_named (texts_named ws lines) os few;
       }

@@ -11,7 +11,7 @@ use Rattle.code_table.specs.Tables.{IsTableOf}
 use Rattle.code_table.proofs.Decided.{table_or_none}
 use Rattle.story_code.specs.Runs.{code_told}
 use Rattle.story_code.specs.Soundness.{Judged}
-use Rattle.story_format.specs.Checks.{heads_named, strings_named}
+use Rattle.story_format.specs.Checks.{heads_named, strings_in_tables}
 use Rattle.story_format.specs.Codes.{AreCodesOf, code_spelled, counts_of, uses_of}
 use Rattle.story_format.specs.Formats.{IsBytes, number, text}
 use Rattle.story_format.specs.FormatLaws.{IsBytes-rest}
@@ -81,13 +81,13 @@ none_found None_is Is None none so = so
 none_found None_is Is (Some a) none so = absurd cc
 
 module _ (t : Tables) (judged : List Judged) (z : Counts) (uses : List Use) (bytes : List (List ℕ)) (counts_are : z ≡ counts_of t) (uses_are : uses ≡ uses_of t) (bytes_are : bytes ≡ t.codes) (table : IsTableOf z uses bytes judged) (b : Bool)
-    (told : b ≡ is_count (length t.strings) (counted_on 0 (flat_map strings_named t.objects ++ strings_of (map code_told judged)))) where
+    (told : b ≡ is_count (length t.strings) (counted_on 0 (strings_in_tables t ++ strings_of (map code_told judged)))) where
   table_is : AreCodesOf t judged
   table_is = subst (λ x. IsTableOf x (uses_of t) t.codes judged) counts_are (subst (λ x. IsTableOf z x t.codes judged) uses_are (subst (λ x. IsTableOf z uses x judged) bytes_are table))
 
-  read : flat_map strings_named t.objects ++ strings_of (map code_told judged) ≡ strings_read t
+  read : strings_in_tables t ++ strings_of (map code_told judged) ≡ strings_read t
   unfolding strings_read
-  read = ap (λ codes. flat_map strings_named t.objects ++ strings_of codes) (sym (map-map code_spelled (λ (j : Judged). j.bytes) judged) ∙ ap (map code_spelled) table_is.bytes)
+  read = ap (λ codes. strings_in_tables t ++ strings_of codes) (sym (map-map code_spelled (λ (j : Judged). j.bytes) judged) ∙ ap (map code_spelled) table_is.bytes)
 
   pub unsound : b ≡ false → AreSound t → ⊥
   unsound other sound = is_counted (length t.strings) (counted_on 0 (strings_read t)) sound.named (ap (λ ns. is_count (length t.strings) (counted_on 0 ns)) (sym read) ∙ sym told ∙ other)

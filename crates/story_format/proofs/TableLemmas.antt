@@ -5,7 +5,7 @@ use Rattle.std.specs.List.{list_any, list_all, flat_map}
 use Rattle.std.specs.Str.{bytes_eq}
 use Rattle.std.specs.Option.{option_map}
 use Rattle.std.proofs.lemmas.Bool.{lt-ltb, eq-eqb, ne_eqb, le-leb, or_right, cases_Bool, and_from, and_parts, not-true}
-use Rattle.std.proofs.lemmas.List.{take-map}
+use Rattle.std.proofs.lemmas.List.{map-append, take-map}
 use Rattle.std.proofs.lemmas.Option.{slice_get-map, get_or_from_slice_get, same_Some}
 use Rattle.std.proofs.lemmas.Slice.Eq.{bytes_eq-Decides}
 use Rattle.world_meaning.specs.declared.article.Article.{Article}
@@ -25,31 +25,37 @@ use Rattle.world_meaning.specs.declared.declared.Declared.{Declared}
 use Rattle.world_meaning.specs.declared.tale.Object.{Object}
 use Rattle.object_words.specs.Mentions.{number_in}
 use Rattle.code_table.specs.Origins.{Origin}
+use Rattle.play_meaning.specs.Grammar.{Line}
 use Rattle.play_meaning.specs.Rules.{Rule}
 use Rattle.play_meaning.specs.Scripts.{Scene}
+use Rattle.play_meaning.specs.StandardActions.{standard_needs}
 use Rattle.object_words.specs.Words.{words_for}
+use Rattle.command_grammar.specs.Synonyms.{words_said}
+use Rattle.command_grammar.specs.declared.synonym.Synonym.{Synonym}
 use Rattle.object_words.proofs.StringLemmas.{length_mapped}
 use Rattle.story_format.specs.declared.row.Sizes.{Sizes}
 use Rattle.story_format.specs.declared.rule_tables.Book.{Book}
 use Rattle.story_format.specs.declared.tables.Entry.{Entry}
-use Rattle.story_format.specs.Making.{Worded, worded_at, worded_from, worded, code_bytes, code_count, codes_in, described_in, entry_strings, strings_of, strings_said, article_number, relation_number, place_relation, place_holder, code_number, entry_of, entries_of, ways_of, tables_with, world_of}
+use Rattle.story_format.specs.declared.tables.Tables.{Tables}
+use Rattle.story_format.specs.Making.{Worded, worded_at, worded_from, worded, code_bytes, code_count, codes_in, described_in, entry_strings, strings_of, strings_said, article_number, relation_number, place_relation, place_holder, code_number, entry_of, entries_of, line_entry, line_strings, texts_named, ways_of, tables_with, world_of}
 use Rattle.story_format.specs.Counts.{counts_of}
 use Rattle.story_format.specs.RuleChecks.{are_right_rules}
 use Rattle.story_format.specs.RuleMaking.{book_count, codes_of_rules, rules_of, scene_entries}
-use Rattle.story_format.specs.Holding.{has_first_noun, is_of, named_by, has_few_words, has_short_texts, is_short, is_short_or_none}
+use Rattle.story_format.specs.Holding.{has_first_noun, is_line_of, is_of, named_by, has_few_words}
 use Rattle.story_format.specs.Sizes.{are_different, is_right_entry}
 use Rattle.story_format.specs.Placed.{is_room_entry, kinds_in, places_in}
-use Rattle.story_format.specs.Checks.{are_named_in_order, codes_named, heads_named, is_named, begin_with, has_words, have_words, is_small, is_small_at, has_small_words, is_player_entry, is_direction_entry, are_direction_entries, are_in_place, are_right_objects, are_right_ways, is_right_frame, stand_rightly, are_right}
+use Rattle.story_format.specs.Checks.{are_named_in_order, strings_in_tables, codes_named, heads_named, is_named, begin_with, has_words, have_words, is_small, is_small_at, has_small_words, is_player_entry, is_direction_entry, are_direction_entries, are_in_place, are_right_objects, are_right_ways, is_right_frame, stand_rightly, are_right}
 use Rattle.story_format.proofs.StoryLemmas.{all_weaker, few_begin, parts, player_parts, direction_parts}
 use Rattle.story_format.proofs.EntryLemmas.{kinds_back, objects_back, objects_in, place_there, places_back, rooms_counted, rooms_lead}
 use Rattle.story_format.proofs.Known.{text_is_itself, found_by_number, is_known, texts_known, any_left, any_right, fold_finds}
-use Rattle.story_format.proofs.OrderLemmas.{at_most_one, in_turn_in_order, strings_distinct, strings_in_order}
+use Rattle.story_format.proofs.OrderLemmas.{at_most_one, in_turn_in_order, numbers_named, strings_distinct, strings_in_order}
 use Rattle.story_format.proofs.RuleLemmas.{AreRightBooks, codes_in_made, heads_by, heads_in_turn, origins_in, rule_tables_right}
 use Rattle.story_format.proofs.SceneLemmas.{length_scenes, origins_in_scenes}
 use Rattle.story_format.proofs.DeclaredLemmas.{all_suit, declared_parts, few_grants, few_kinds, world_right}
 use Rattle.story_format.proofs.AboutRules.{named_of}
 use Rattle.story_format.proofs.ActionLemmas.{length_actions}
-use Rattle.story_format.proofs.WordFacts.{differ, is_good, words_differ, words_good}
+use Rattle.story_format.proofs.GrammarLemmas.{lines_known, lines_named, lines_right}
+use Rattle.story_format.proofs.WordFacts.{differ, said_differ, said_front, said_small}
 
 -- ---- each entry is plain
 
@@ -94,12 +100,12 @@ named_is : (strings : List (List ℕ)) (x : List ℕ) → is_known strings x ≡
 unfolding is_named
 named_is strings x h few = rw ((found_by_number strings x h few).1) (text_is_itself x)
 
-all_named : (strings texts : List (List ℕ)) → list_all (is_known strings) texts ≡ true → length strings < 65535 → begin_with strings (map (number_in strings) texts) texts ≡ true
+all_named : (strings texts more : List (List ℕ)) → list_all (is_known strings) (texts ++ more) ≡ true → length strings < 65535 → begin_with strings (map (number_in strings) (texts ++ more)) texts ≡ true
 unfolding begin_with
-all_named strings [] h few = refl
-all_named strings (x ∷ texts) h few =
-    let t = and_parts (is_known strings x) (list_all (is_known strings) texts) h in
-    and_from (is_named strings (number_in strings x) x) (begin_with strings (map (number_in strings) texts) texts) (named_is strings x t.0 few) (all_named strings texts t.1 few)
+all_named strings [] more h few = refl
+all_named strings (x ∷ texts) more h few =
+    let t = and_parts (is_known strings x) (list_all (is_known strings) (texts ++ more)) h in
+    and_from (is_named strings (number_in strings x) x) (begin_with strings (map (number_in strings) (texts ++ more)) texts) (named_is strings x t.0 few) (all_named strings texts more t.1 few)
 
 -- what an entry names is known
 abbrev pub knows : List (List ℕ) → Worded → Bool
@@ -111,20 +117,23 @@ all_known strings (w ∷ ws) f =
     let known = texts_known strings (entry_strings w) (λ text k. f text (any_left (bytes_eq text) (entry_strings w) (flat_map entry_strings ws) k)) in
     and_from (knows strings w) (list_all (knows strings) ws) known (all_known strings ws (λ text k. f text (any_right (bytes_eq text) (entry_strings w) (flat_map entry_strings ws) k)))
 
-words_of_entry : (strings : List (List ℕ)) (o next : ℕ) (object : Object) → knows strings (worded_at o object) ≡ true → length strings < 65535 → has_words strings o (entry_of strings next (worded_at o object)) ≡ true
+words_of_entry : (strings : List (List ℕ)) (synonyms : List Synonym) (o next : ℕ) (object : Object) → knows strings (worded_at synonyms o object) ≡ true → length strings < 65535 → has_words strings o (entry_of strings next (worded_at synonyms o object)) ≡ true
 unfolding has_words entry_of entry_strings
-words_of_entry strings o next object h few =
-    let t = and_parts (is_known strings object.name) (list_all (is_known strings) (words_for o object.name)) h in
-    rw (found_by_number strings object.name t.0 few).1 (all_named strings (words_for o object.name) t.1 few)
+words_of_entry strings synonyms o next object h few =
+    let more = said_front synonyms o object.name in
+    let t = and_parts (is_known strings object.name) (list_all (is_known strings) (words_said synonyms o object.name)) h in
+    let known = ap (list_all (is_known strings)) (sym more.1) ∙ t.1 in
+    let front : begin_with strings (map (number_in strings) (words_for o object.name ++ more.0)) (words_for o object.name) ≡ true = all_named strings (words_for o object.name) more.0 known few in
+    rw (found_by_number strings object.name t.0 few).1 (ap (λ words. begin_with strings (map (number_in strings) words) (words_for o object.name)) more.1 ∙ front)
 
-all_words : (strings : List (List ℕ)) (objects : List Object) (o next : ℕ) → list_all (knows strings) (worded_from o objects) ≡ true → length strings < 65535 → have_words strings o (entries_of strings next (worded_from o objects)) ≡ true
+all_words : (strings : List (List ℕ)) (synonyms : List Synonym) (objects : List Object) (o next : ℕ) → list_all (knows strings) (worded_from synonyms o objects) ≡ true → length strings < 65535 → have_words strings o (entries_of strings next (worded_from synonyms o objects)) ≡ true
 unfolding entries_of have_words
-all_words strings [] o next h few = refl
-all_words strings (object ∷ objects) o next h few =
-    let w = worded_at o object in
-    let t = and_parts (knows strings w) (list_all (knows strings) (worded_from (o + 1) objects)) h in
-    and_from (has_words strings o (entry_of strings next w)) (have_words strings (o + 1) (entries_of strings (next + code_count w.object.description) (worded_from (o + 1) objects))) (words_of_entry strings o next object t.0 few)
-    (all_words strings objects (o + 1) (next + code_count w.object.description) t.1 few)
+all_words strings synonyms [] o next h few = refl
+all_words strings synonyms (object ∷ objects) o next h few =
+    let w = worded_at synonyms o object in
+    let t = and_parts (knows strings w) (list_all (knows strings) (worded_from synonyms (o + 1) objects)) h in
+    and_from (has_words strings o (entry_of strings next w)) (have_words strings (o + 1) (entries_of strings (next + code_count w.object.description) (worded_from synonyms (o + 1) objects))) (words_of_entry strings synonyms o next object t.0 few)
+    (all_words strings synonyms objects (o + 1) (next + code_count w.object.description) t.1 few)
 
 -- ---- words in small letters
 
@@ -133,32 +142,30 @@ small_named strings x h few small =
     let there : slice_get (map is_small strings) (number_in strings x) ≡ Some (is_small x) = slice_get-map is_small strings (number_in strings x) ∙ ap (λ (o : Option (List ℕ)). option_map is_small o) (found_by_number strings x h few).1 in
     get_or_from_slice_get (map is_small strings) (number_in strings x) (is_small x) false there ∙ small
 
-all_small_named : (strings texts : List (List ℕ)) → list_all (is_known strings) texts ≡ true → length strings < 65535 → list_all is_good texts ≡ true → list_all (is_small_at (map is_small strings)) (map (number_in strings) texts) ≡ true
+all_small_named : (strings texts : List (List ℕ)) → list_all (is_known strings) texts ≡ true → length strings < 65535 → list_all is_small texts ≡ true → list_all (is_small_at (map is_small strings)) (map (number_in strings) texts) ≡ true
 all_small_named strings [] h few good = refl
 all_small_named strings (x ∷ texts) h few good =
     let t = and_parts (is_known strings x) (list_all (is_known strings) texts) h in
-    let u = and_parts (is_good x) (list_all is_good texts) good in
-    and_from (is_small_at (map is_small strings) (number_in strings x)) (list_all (is_small_at (map is_small strings)) (map (number_in strings) texts)) (small_named strings x t.0 few (and_parts (is_small x) (is_short x) u.0).0)
+    let u = and_parts (is_small x) (list_all is_small texts) good in
+    and_from (is_small_at (map is_small strings) (number_in strings x)) (list_all (is_small_at (map is_small strings)) (map (number_in strings) texts)) (small_named strings x t.0 few u.0)
     (all_small_named strings texts t.1 few u.1)
 
-abbrev pub good_words : Worded → Bool
-good_words w = list_all is_good w.words
+abbrev pub small_words : Worded → Bool
+small_words w = list_all is_small w.words
 
-pub all_good_words : (o : ℕ) (objects : List Object) → list_all has_short_texts objects ≡ true → list_all good_words (worded_from o objects) ≡ true
-all_good_words o [] h = refl
-all_good_words o (object ∷ objects) h =
-    let t = and_parts (has_short_texts object) (list_all has_short_texts objects) h in
-    let u = and_parts (is_short object.name) (is_short_or_none object.description) t.0 in
-    and_from (list_all is_good (words_for o object.name)) (list_all good_words (worded_from (o + 1) objects)) (words_good o object.name u.0) (all_good_words (o + 1) objects t.1)
+pub all_small_words : (synonyms : List Synonym) (o : ℕ) (objects : List Object) → list_all (λ synonym. is_small synonym.word) synonyms ≡ true → list_all small_words (worded_from synonyms o objects) ≡ true
+all_small_words synonyms o [] h = refl
+all_small_words synonyms o (object ∷ objects) h =
+    and_from (list_all is_small (words_said synonyms o object.name)) (list_all small_words (worded_from synonyms (o + 1) objects)) (said_small synonyms o object.name h) (all_small_words synonyms (o + 1) objects h)
 
-small_entries : (strings : List (List ℕ)) (ws : List Worded) (next : ℕ) → list_all (knows strings) ws ≡ true → list_all good_words ws ≡ true → length strings < 65535 → list_all (has_small_words (map is_small strings)) (entries_of strings next ws) ≡ true
+small_entries : (strings : List (List ℕ)) (ws : List Worded) (next : ℕ) → list_all (knows strings) ws ≡ true → list_all small_words ws ≡ true → length strings < 65535 → list_all (has_small_words (map is_small strings)) (entries_of strings next ws) ≡ true
 unfolding entries_of entry_of entry_strings
 small_entries strings [] next h good few = refl
 small_entries strings (w ∷ ws) next h good few =
     let small = map is_small strings in
     let t = and_parts (knows strings w) (list_all (knows strings) ws) h in
     let k = and_parts (is_known strings w.object.name) (list_all (is_known strings) w.words) t.0 in
-    let u = and_parts (good_words w) (list_all good_words ws) good in
+    let u = and_parts (small_words w) (list_all small_words ws) good in
     and_from (has_small_words small (entry_of strings next w)) (list_all (has_small_words small) (entries_of strings (next + code_count w.object.description) ws)) (all_small_named strings w.words k.1 few u.0)
     (small_entries strings ws (next + code_count w.object.description) t.1 u.1 few)
 
@@ -187,16 +194,16 @@ numbers_differ strings (x ∷ xs) h few e =
     let u = and_parts (not (list_any (bytes_eq x) xs)) (differ xs) e in
     and_from (not (is_among (number_in strings x) (map (number_in strings) xs))) (are_different (map (number_in strings) xs)) (ap not (not_among strings x xs t.0 t.1 few (not-true (list_any (bytes_eq x) xs) u.0))) (numbers_differ strings xs t.1 few u.1)
 
-all_once : (strings : List (List ℕ)) (objects : List Object) (o : ℕ) → list_all (knows strings) (worded_from o objects) ≡ true → list_all has_few_words (worded_from o objects) ≡ true → length strings < 65535 → list_all (words_once strings) (worded_from o objects) ≡ true
+all_once : (strings : List (List ℕ)) (synonyms : List Synonym) (objects : List Object) (o : ℕ) → list_all (knows strings) (worded_from synonyms o objects) ≡ true → list_all has_few_words (worded_from synonyms o objects) ≡ true → length strings < 65535 → list_all (words_once strings) (worded_from synonyms o objects) ≡ true
 unfolding entry_strings
-all_once strings [] o h k few = refl
-all_once strings (object ∷ objects) o h k few =
-    let w = worded_at o object in
-    let t = and_parts (knows strings w) (list_all (knows strings) (worded_from (o + 1) objects)) h in
+all_once strings synonyms [] o h k few = refl
+all_once strings synonyms (object ∷ objects) o h k few =
+    let w = worded_at synonyms o object in
+    let t = and_parts (knows strings w) (list_all (knows strings) (worded_from synonyms (o + 1) objects)) h in
     let n = and_parts (is_known strings object.name) (list_all (is_known strings) w.words) t.0 in
-    let u = and_parts (has_few_words w) (list_all has_few_words (worded_from (o + 1) objects)) k in
-    and_from (words_once strings w) (list_all (words_once strings) (worded_from (o + 1) objects)) (and_from (has_few_words w) (are_different (map (number_in strings) w.words)) u.0 (numbers_differ strings w.words n.1 few (words_differ o object.name)))
-    (all_once strings objects (o + 1) t.1 u.1 few)
+    let u = and_parts (has_few_words w) (list_all has_few_words (worded_from synonyms (o + 1) objects)) k in
+    and_from (words_once strings w) (list_all (words_once strings) (worded_from synonyms (o + 1) objects)) (and_from (has_few_words w) (are_different (map (number_in strings) w.words)) u.0 (numbers_differ strings w.words n.1 few (said_differ synonyms o object.name)))
+    (all_once strings synonyms objects (o + 1) t.1 u.1 few)
 
 -- ---- the entries are in place
 
@@ -299,9 +306,11 @@ names_known : (strings : List (List ℕ)) (ws : List Worded) → list_all (knows
 unfolding entry_strings
 names_known strings ws h = all_weaker (knows strings) (knows_name strings) (λ w k. (and_parts (is_known strings w.object.name) (list_all (is_known strings) w.words) k).0) ws h
 
-pub entry_strings_known : (ws : List Worded) (origins : List Origin) (text : List ℕ) → list_any (bytes_eq text) (flat_map entry_strings ws) ≡ true → is_known (strings_of ws origins) text ≡ true
-unfolding strings_of
-entry_strings_known ws origins text k = fold_finds (flat_map entry_strings ws ++ strings_said origins) [] text (any_left (bytes_eq text) (flat_map entry_strings ws) (strings_said origins) k)
+pub entry_strings_known : (ws : List Worded) (lines : List Line) (origins : List Origin) (text : List ℕ) → list_any (bytes_eq text) (flat_map entry_strings ws) ≡ true → is_known (strings_of (texts_named ws lines) origins) text ≡ true
+unfolding strings_of texts_named
+entry_strings_known ws lines origins text k =
+    let entries = flat_map entry_strings ws in
+    fold_finds (texts_named ws lines ++ strings_said origins) [] text (any_left (bytes_eq text) (texts_named ws lines) (strings_said origins) (any_left (bytes_eq text) entries (flat_map line_strings lines) k))
 
 -- what holds of a well made tale's objects holds of its entries
 kinds_of_world : (d : Declared) → (world_of d).kinds ≡ d.kinds
@@ -310,73 +319,98 @@ kinds_of_world d = refl
 
 -- ---- how many there are
 
-module _ (d : Declared) (books : List Book) (ws : List Worded) (rules : List Rule) (scenes : List Scene) (said : List Origin) where
-  books_counted : length books ≡ book_count d → length d.scenes ≤ 50 → d.rulebooks ≤ 100 → (counts_of (tables_with d books ws rules scenes said)).books ≡ book_count d
+module _ (d : Declared) (books : List Book) (ws : List Worded) (lines : List Line) (rules : List Rule) (scenes : List Scene) (said : List Origin) where
+  abbrev strings : List (List ℕ)
+  strings = strings_of (texts_named ws lines) said
+
+  abbrev tables : Tables
+  tables = tables_with d books ws lines rules scenes said
+
+  books_counted : length books ≡ book_count d → length d.scenes ≤ 50 → d.rulebooks ≤ 100 → (counts_of tables).books ≡ book_count d
   unfolding counts_of tables_with rules_of
   books_counted count few few_own = omega (arith, count, few, few_own)
 
-  actions_counted : length d.actions ≤ 184 → (counts_of (tables_with d books ws rules scenes said)).actions ≡ 16 + length d.actions
+  actions_counted : length d.actions ≤ 184 → (counts_of tables).actions ≡ 16 + length d.actions
   unfolding counts_of tables_with rules_of
   actions_counted few = omega (arith, length_actions d.actions, few)
 
+  strings_counted : length strings < 65535 → (counts_of tables).strings ≡ length strings
+  unfolding counts_of tables_with
+  strings_counted few = omega (arith, few)
+
   names_counted : (objects : ℕ) → length scenes ≡ length d.scenes → length books ≡ book_count d → length ws ≡ objects → objects ≤ 1000 → length d.kinds ≤ 100 → length d.flags ≤ 100 → length d.scenes ≤ 50 → d.rulebooks ≤ 100 → length d.actions ≤ 184
-      → named_of (counts_of (tables_with d books ws rules scenes said)) ≡ named_by d objects
+      → named_of (counts_of tables) ≡ named_by d objects
   unfolding counts_of tables_with rules_of world_of
   names_counted objects same many count few_objects few_of_kinds few_of_flags few_scenes few_own few_actions =
-      let of_objects : min (length (entries_of (strings_of ws said) 0 ws)) 65535 ≡ objects = omega (arith, entries_counted (strings_of ws said) 0 ws, count, few_objects) in
+      let of_objects : min (length (entries_of strings 0 ws)) 65535 ≡ objects = omega (arith, entries_counted strings 0 ws, count, few_objects) in
       let of_kinds : min (length d.kinds) 65535 ≡ length d.kinds = omega (arith, few_of_kinds) in
       let of_flags : min (length d.flags) 65535 ≡ length d.flags = omega (arith, few_of_flags) in
       let of_scenes : min (length (scene_entries (described_in ws + codes_of_rules rules) scenes)) 65535 ≡ length d.scenes = omega (arith, length_scenes scenes (described_in ws + codes_of_rules rules), same, few_scenes) in
       let of_books : min (length books) 65535 ≡ book_count d = omega (arith, many, few_scenes, few_own) in
       λ i. record { books = of_books i; objects = of_objects i; kinds = of_kinds i; flags = of_flags i; scenes = of_scenes i; actions = actions_counted few_actions i }
 
-  codes_counted : length (code_bytes (strings_of ws said) said) < 65536 → (counts_of (tables_with d books ws rules scenes said)).codes ≡ length (code_bytes (strings_of ws said) said)
+  codes_counted : length (code_bytes strings said) < 65536 → (counts_of tables).codes ≡ length (code_bytes strings said)
   unfolding counts_of tables_with
   codes_counted few = omega (arith, few)
 
-  heads_told : are_named_in_order 0 (heads_by (strings_of ws said) ws rules scenes) ≡ true → are_named_in_order 0 (heads_named (tables_with d books ws rules scenes said)) ≡ true
+  heads_told : are_named_in_order 0 (heads_by strings ws rules scenes) ≡ true → are_named_in_order 0 (heads_named tables) ≡ true
   unfolding tables_with rules_of
-  heads_told h = ap (λ codes. are_named_in_order 0 (codes_named (entries_of (strings_of ws said) 0 ws) ++ codes)) (codes_in_made d books rules scenes (described_in ws)) ∙ h
+  heads_told h =
+      ap (λ codes. are_named_in_order 0 (codes_named (entries_of strings 0 ws) ++ codes)) (codes_in_made d (map (line_entry strings) lines) books rules scenes (described_in ws)) ∙ h
 
-pub tables_right : (d : Declared) (books : List Book) (objects : List Object) (rules : List Rule) (scenes : List Scene) (said : List Origin) → length scenes ≡ length d.scenes → IsWellMade (record { declared = d; objects = objects }) → list_all has_short_texts objects ≡ true → list_all has_few_words (worded objects) ≡ true
-    → length d.actions ≤ 184 → list_all has_first_noun d.actions ≡ true → length rules ≤ 1939 → AreRightBooks d books (61 + length rules) → list_all (is_of (named_by d (length objects))) rules ≡ true → length (strings_of (worded objects) said) < 65535 → length (code_bytes (strings_of (worded objects) said) said) < 65536
-    → described_in (worded objects) + (length (origins_in rules) + length (origins_in_scenes scenes)) ≤ length (code_bytes (strings_of (worded objects) said) said) → are_right (tables_with d books (worded objects) rules scenes said) ≡ true
+  -- the strings that tables 6 and 9 name are those that are named, by number
+  pub texts_told : length strings < 65535 → strings_in_tables tables ≡ map (number_in strings) (texts_named ws lines)
+  unfolding tables_with rules_of strings_in_tables texts_named
+  texts_told few =
+      (λ i. numbers_named strings 0 ws i ++ lines_named strings lines (lines_known ws lines said) few i) ∙ sym (map-append (number_in strings) (flat_map entry_strings ws) (flat_map line_strings lines))
+
+pub tables_right : (d : Declared) (books : List Book) (synonyms : List Synonym) (objects : List Object) (lines : List Line) (rules : List Rule) (scenes : List Scene) (said : List Origin)
+    → length scenes ≡ length d.scenes → IsWellMade (record { declared = d; objects = objects }) → list_all (λ synonym. is_small synonym.word) synonyms ≡ true → list_all has_few_words (worded synonyms objects) ≡ true
+    → length lines ≤ 65535 → list_all (is_line_of (standard_needs ++ d.actions)) lines ≡ true
+    → length d.actions ≤ 184 → list_all has_first_noun d.actions ≡ true → length rules ≤ 1939 → AreRightBooks d books (61 + length rules) → list_all (is_of (named_by d (length objects))) rules ≡ true
+    → length (strings_of (texts_named (worded synonyms objects) lines) said) < 65535 → length (code_bytes (strings_of (texts_named (worded synonyms objects) lines) said) said) < 65536
+    → described_in (worded synonyms objects) + (length (origins_in rules) + length (origins_in_scenes scenes)) ≤ length (code_bytes (strings_of (texts_named (worded synonyms objects) lines) said) said)
+    → are_right (tables_with d books (worded synonyms objects) lines rules scenes said) ≡ true
 unfolding are_right is_right_frame are_right_objects stand_rightly are_right_ways tables_with
-tables_right d books objects rules scenes said same made texts few_words few_actions nouns few_rules known_books named few few_codes enough =
-    let ws = worded objects in
-    let strings = strings_of ws said in
-    let back : objects_in ws ≡ objects = objects_back 0 objects in
+tables_right d books synonyms objects lines rules scenes said same made small_synonyms few_words few_lines lines_of few_actions nouns few_rules known_books named few few_codes enough =
+    let ws = worded synonyms objects in
+    let strings = strings_of (texts_named ws lines) said in
+    let entries = map (line_entry strings) lines in
+    let back : objects_in ws ≡ objects = objects_back synonyms 0 objects in
     let count : length ws ≡ length objects = sym (length_mapped (λ (w : Worded). w.object) ws) ∙ ap length back in
     let parents = d.kinds in
     let sorts = sorts_of parents (kinds_of objects) in
     let few_objects = few_begin parents sorts.rooms objects made.begins in
-    let z = counts_of (tables_with d books ws rules scenes said) in
+    let z = counts_of (tables_with d books ws lines rules scenes said) in
     let declared = declared_parts d made.declared in
-    let all_codes = codes_counted d books ws rules scenes said few_codes in
-    let built_in : 8 ≤ z.books = omega (arith, books_counted d books ws rules scenes said known_books.count_is declared.scenes declared.rulebooks) in
-    let rules_so : are_right_rules z (rules_of d books (described_in ws) rules scenes) ≡ true =
-    rule_tables_right d books z rules scenes (described_in ws) same declared.scenes declared.rulebooks few_rules known_books few_actions nouns (omega (arith, actions_counted d books ws rules scenes said few_actions)) built_in (ap (λ n. list_all (is_of n) rules) (names_counted d books ws rules scenes said (length objects) same known_books.count_is count few_objects (few_kinds d.kinds declared.kinds) (few_grants (length d.kinds) d.flags declared.flags) declared.scenes declared.rulebooks few_actions) ∙ named) (omega (arith, enough, all_codes)) (omega (arith, few_codes, all_codes)) in
-    let order : are_named_in_order 0 (heads_named (tables_with d books ws rules scenes said)) ≡ true =
-    heads_told d books ws rules scenes said (in_turn_in_order (heads_by strings ws rules scenes) 0 (heads_in_turn strings ws rules scenes (omega (arith, few_objects, count)) (omega (arith, enough, few_codes)))) in
+    let all_codes = codes_counted d books ws lines rules scenes said few_codes in
+    let built_in : 8 ≤ z.books = omega (arith, books_counted d books ws lines rules scenes said known_books.count_is declared.scenes declared.rulebooks) in
+    let lines_so = lines_right z strings d.actions lines (strings_counted d books ws lines rules scenes said few) few few_lines (lines_known ws lines said) lines_of in
+    let rules_so : are_right_rules z (rules_of d entries books (described_in ws) rules scenes) ≡ true =
+    rule_tables_right d entries books z rules scenes (described_in ws) same declared.scenes declared.rulebooks few_rules known_books few_actions nouns lines_so (omega (arith, actions_counted d books ws lines rules scenes said few_actions)) built_in (ap (λ n. list_all (is_of n) rules) (names_counted d books ws lines rules scenes said (length objects) same known_books.count_is count few_objects (few_kinds d.kinds declared.kinds) (few_grants (length d.kinds) d.flags declared.flags) declared.scenes declared.rulebooks few_actions) ∙ named) (omega (arith, enough, all_codes)) (omega (arith, few_codes, all_codes)) in
+    let order : are_named_in_order 0 (heads_named (tables_with d books ws lines rules scenes said)) ≡ true =
+    heads_told d books ws lines rules scenes said (in_turn_in_order (heads_by strings ws rules scenes) 0 (heads_in_turn strings ws rules scenes (omega (arith, few_objects, count)) (omega (arith, enough, few_codes)))) in
+    let texts : are_named_in_order 0 (strings_in_tables (tables_with d books ws lines rules scenes said)) ≡ true =
+    ap (are_named_in_order 0) (texts_told d books ws lines rules scenes said few) ∙ strings_in_order (texts_named ws lines) said few in
     let entry_count : leb (length (entries_of strings 0 ws)) 1000 ≡ true = le-leb _ _ (omega (arith, few_objects, count, entries_counted strings 0 ws)) in
     let few_strings : ltb (length strings) 65535 ≡ true = lt-ltb _ _ few in
-    let known = all_known strings ws (entry_strings_known ws said) in
+    let known = all_known strings ws (entry_strings_known ws lines said) in
     let kinds : kinds_in (entries_of strings 0 ws) ≡ kinds_of objects = kinds_back strings 0 ws ∙ ap kinds_of back in
     let places : places_in (entries_of strings 0 ws) ≡ places_of objects = places_back strings 0 ws ∙ ap places_of back in
-    let plain = plain_from strings ws 0 (length parents) (length (code_bytes strings said)) (omega (arith, enough)) (omega (arith, few_objects, count)) (all_once strings objects 0 known few_words few) (ap (λ (os : List Object). list_all (is_below (length parents)) (kinds_of os)) back ∙ made.kinds) in
+    let plain = plain_from strings ws 0 (length parents) (length (code_bytes strings said)) (omega (arith, enough)) (omega (arith, few_objects, count)) (all_once strings synonyms objects 0 known few_words few) (ap (λ (os : List Object). list_all (is_below (length parents)) (kinds_of os)) back ∙ made.kinds) in
     let in_place = entries_in_place strings parents sorts.rooms ws (ap (begin_rightly parents sorts.rooms) back ∙ made.begins) (names_known strings ws known) few in
-    let words = all_words strings objects 0 0 known few in
-    let small = small_entries strings ws 0 known (all_good_words 0 objects texts) few in
+    let words = all_words strings synonyms objects 0 0 known few in
+    let small = small_entries strings ws 0 known (all_small_words synonyms 0 objects small_synonyms) few in
     let counted : eqb (length (flat_map (ways_of parents) ws)) (count_by (is_room_entry parents) (entries_of strings 0 ws)) ≡ true = eq-eqb _ _ (rooms_counted parents strings ws 0) in
     let lead : list_all (lead_rightly sorts) (flat_map (ways_of parents) ws) ≡ true = rooms_lead parents sorts ws (ap (list_all (has_right_exits parents sorts)) back ∙ made.exits) in
-    let suit = all_suit d strings objects 0 0 made.suited in
+    let suit = all_suit d strings synonyms objects 0 0 made.suited in
     let ends : have_ends (places_of objects) ≡ true = (walks_decide (places_of objects)).1 made.tree in
     rw (
       world_right d made.declared,
       rules_so,
       entry_count,
       few_strings,
-      strings_distinct ws said,
+      strings_distinct (texts_named ws lines) said,
       suit,
       kinds_of_world d,
       kinds,
@@ -385,7 +419,7 @@ tables_right d books objects rules scenes said same made texts few_words few_act
       in_place,
       words,
       small,
-      strings_in_order ws said few,
+      texts,
       order,
       made.placed,
       ends,

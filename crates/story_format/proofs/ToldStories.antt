@@ -18,18 +18,20 @@ use Rattle.story_code.proofs.Fetched.{told}
 use Rattle.story_format.specs.declared.rule_tables.RuleTables.{RuleTables}
 use Rattle.story_format.specs.declared.tables.Entry.{Entry}
 use Rattle.story_format.specs.declared.tables.Tables.{Tables}
-use Rattle.story_format.specs.RuleChecks.{codes_in_rules, codes_in_scenes, codes_in_tables, uses_in_tables}
-use Rattle.story_format.specs.Checks.{are_distinct, are_right, are_right_objects, are_right_ways, codes_named, is_right_frame, is_some_code, stand_rightly, strings_named}
+use Rattle.story_format.specs.Making.{line_strings}
+use Rattle.story_format.specs.RuleChecks.{codes_in_rules, codes_in_scenes, codes_in_tables, strings_in_line, uses_in_rules, uses_in_scenes, uses_in_tables}
+use Rattle.story_format.specs.Checks.{are_distinct, are_right, are_right_objects, are_right_ways, codes_named, is_right_frame, is_some_code, stand_rightly, strings_in_tables, strings_named}
 use Rattle.story_format.specs.Codes.{code_spelled, codes_told, counts_of, uses_of}
-use Rattle.story_format.specs.Facts.{description_code_in, text_at}
+use Rattle.story_format.specs.Facts.{description_code_in, line_in, lines_of, text_at}
 use Rattle.story_format.specs.Soundness.{AreSound, are_in_turn, strings_read}
 use Rattle.story_format.specs.Spells.{IsStory}
-use Rattle.story_format.specs.Telling.{AreAlike, AreCodedAlike, AreDescribedAlike, AreToldAlike, ToldObject, told_object, unnumbered}
+use Rattle.story_format.specs.Telling.{AreAlike, AreCodedAlike, AreDescribedAlike, AreToldAlike, ToldObject, told_object, told_objects, unnumbered}
 use Rattle.story_format.proofs.Naming.{described, next_of, plain}
 use Rattle.story_format.proofs.RuleLemmas.{length_replicated, tables_counted}
 use Rattle.story_format.proofs.Turns.{turn_parted}
 use Rattle.story_format.proofs.StoryLemmas.{last_of_five}
 use Rattle.story_format.proofs.Telling.{all_within, is_within, mentioned_on, same_number, same_numbers}
+use Rattle.story_format.proofs.ToldLines.{same_lines, texts_of_lines}
 use Rattle.story_format.proofs.ToldRules.{at_each, rules_again, scenes_again}
 use Rattle.story_format.proofs.ToldCodes.{AllSame, all_same, all_texts_same, same_codes}
 
@@ -99,6 +101,12 @@ texts_of_objects strings [] = refl
 texts_of_objects strings (e ∷ es) =
     map-append (text_at strings) (strings_named e) (flat_map strings_named es) ∙ ap (λ (rest : List (List ℕ)). map (text_at strings) (strings_named e) ++ rest) (texts_of_objects strings es)
 
+texts_of_tables : (t : Tables) → map (text_at t.strings) (strings_in_tables t) ≡ flat_map named_texts (told_objects t) ++ flat_map line_strings (lines_of t)
+unfolding strings_in_tables
+texts_of_tables t =
+    map-append (text_at t.strings) (flat_map strings_named t.objects) (flat_map strings_in_line t.rules.grammar)
+    ∙ (λ i. texts_of_objects t.strings t.objects i ++ texts_of_lines t.strings t.rules.grammar i)
+
 -- ---- numbers that tell the same texts are the same
 
 same_entry : (e f : Entry) → e.name ≡ f.name → e.words ≡ f.words → e.description ≡ f.description → unnumbered e ≡ unnumbered f → e ≡ f
@@ -163,16 +171,26 @@ strings_again : (t : Tables) → IsStory t → first_mentions (map (text_at t.st
 strings_again t story = mentioned_on t.strings 0 (strings_read t) (strings_differ t story.right) story.sound.named
 
 -- the strings that are named are there
-read_within : (t : Tables) → AreSound t → list_all (is_within (length t.strings)) (flat_map strings_named t.objects ++ strings_of (codes_told t).codes) ≡ true
+read_within : (t : Tables) → AreSound t → list_all (is_within (length t.strings)) (strings_in_tables t ++ strings_of (codes_told t).codes) ≡ true
 unfolding strings_read
 read_within t sound = all_within (length t.strings) 0 (strings_read t) sound.named
 
-within_parts : (t : Tables) → AreSound t
-    → (list_all (is_within (length t.strings)) (flat_map strings_named t.objects) ≡ true) × (list_all (is_within (length t.strings)) (strings_of (codes_told t).codes) ≡ true)
+-- whatever names it: an object, a line or a code
+abbrev All_within : Tables → ℕ → Type 0
+All_within t count =
+    (list_all (is_within count) (flat_map strings_named t.objects) ≡ true) × (list_all (is_within count) (flat_map strings_in_line t.rules.grammar) ≡ true)
+    × (list_all (is_within count) (strings_of (codes_told t).codes) ≡ true)
+
+within_parts : (t : Tables) → AreSound t → All_within t (length t.strings)
+unfolding strings_in_tables
 within_parts t sound =
     let within = is_within (length t.strings) in
-    and_parts (list_all within (flat_map strings_named t.objects)) (list_all within (strings_of (codes_told t).codes))
-    (sym (list_all-append within (flat_map strings_named t.objects) (strings_of (codes_told t).codes)) ∙ read_within t sound)
+    let objects = flat_map strings_named t.objects in
+    let lines = flat_map strings_in_line t.rules.grammar in
+    let codes = strings_of (codes_told t).codes in
+    let both = and_parts (list_all within (strings_in_tables t)) (list_all within codes) (sym (list_all-append within (strings_in_tables t) codes) ∙ read_within t sound) in
+    let named = and_parts (list_all within objects) (list_all within lines) (sym (list_all-append within objects lines) ∙ both.0) in
+    (named.0, named.1, both.1)
 
 module _ (t u : Tables) (one : IsStory t) (other : IsStory u) (alike : AreToldAlike t u) where
   c : Codes
@@ -213,18 +231,15 @@ module _ (t u : Tables) (one : IsStory t) (other : IsStory u) (alike : AreToldAl
       (λ i. are_in_turn (described_same i + length (codes_in_rules (same_rules i))) (codes_in_scenes u.rules.scenes)) ∙ (parted u other.sound).1 in
       scenes_again t.rules.scenes u.rules.scenes (length (codes_named t.objects) + length (codes_in_rules t.rules.rules)) (ap (λ (r : RuleTables). r.scenes) alike.rules) (parted t one.sound).1 there
 
-  all_rules : t.rules ≡ u.rules
-  all_rules = λ i. record { actions = (alike.rules i).actions; grammar = (alike.rules i).grammar; rules = same_rules i; books = (alike.rules i).books; scenes = same_scenes i }
-
   same_uses : uses_of t ≡ uses_of u
-  same_uses = λ i. replicate (described_same i) Describing ++ uses_in_tables (all_rules i)
+  same_uses = λ i. replicate (described_same i) Describing ++ (uses_in_rules (same_rules i) ++ uses_in_scenes (same_scenes i))
 
   -- the codes of rules and scenes that are told alike, by number
   rules_alike : (n : ℕ) → length (codes_named t.objects) ≤ n → n < length (codes_named t.objects) + length (codes_in_tables t.rules) → AreAlike c d (code_of c n) (code_of d n)
   unfolding c d
   rules_alike n low high =
       at_each (λ n m. AreAlike (codes_told t) (codes_told u) (code_of (codes_told t) n) (code_of (codes_told u) m)) (codes_in_tables t.rules) (length (codes_named t.objects)) (turns t one.sound).1
-      (subst (λ rs. AreCodedAlike (codes_told t) (codes_told u) (codes_in_tables t.rules) (codes_in_tables rs)) (sym all_rules) alike.rule_codes) n low high
+      (subst (AreCodedAlike (codes_told t) (codes_told u) (codes_in_tables t.rules)) (λ i. codes_in_rules (same_rules (~ i)) ++ codes_in_scenes (same_scenes (~ i))) alike.rule_codes) n low high
 
   heads_alike : (n : ℕ) → n < length (uses_of t) → AreAlike c d (code_of c n) (code_of d n)
   heads_alike n high =
@@ -249,23 +264,28 @@ module _ (t u : Tables) (one : IsStory t) (other : IsStory u) (alike : AreToldAl
   unfolding c d strings_read
   same_strings =
       let texts : map (text_at t.strings) (strings_read t) ≡ map (text_at u.strings) (strings_read u) =
-      map-append (text_at t.strings) (flat_map strings_named t.objects) (strings_of (codes_told t).codes)
-      ∙ (λ l. (texts_of_objects t.strings t.objects ∙ ap (flat_map named_texts) alike.objects ∙ sym (texts_of_objects u.strings u.objects)) l
+      map-append (text_at t.strings) (strings_in_tables t) (strings_of (codes_told t).codes)
+      ∙ (λ l. (texts_of_tables t ∙ (λ k. flat_map named_texts (alike.objects k) ++ flat_map line_strings (alike.lines k)) ∙ sym (texts_of_tables u)) l
       ++ all_texts_same (codes_told t) (codes_told u) (codes_told t).codes (codes_told u).codes same_told l)
-      ∙ sym (map-append (text_at u.strings) (flat_map strings_named u.objects) (strings_of (codes_told u).codes)) in
+      ∙ sym (map-append (text_at u.strings) (strings_in_tables u) (strings_of (codes_told u).codes)) in
       sym (strings_again t one) ∙ ap first_mentions texts ∙ strings_again u other
 
-  moved : (list_all (is_within (length t.strings)) (flat_map strings_named u.objects) ≡ true) × (list_all (is_within (length t.strings)) (strings_of (codes_told u).codes) ≡ true)
-  moved =
-      let there = within_parts u other.sound in
-      let count : length t.strings ≡ length u.strings = ap length same_strings in
-      (ap (λ n. list_all (is_within n) (flat_map strings_named u.objects)) count ∙ there.0, ap (λ n. list_all (is_within n) (strings_of (codes_told u).codes)) count ∙ there.1)
+  moved : All_within u (length t.strings)
+  moved = subst (All_within u) (sym (ap length same_strings)) (within_parts u other.sound)
+
+  same_grammar : t.rules.grammar ≡ u.rules.grammar
+  same_grammar =
+      same_lines t.strings (strings_differ t one.right) t.rules.grammar u.rules.grammar (within_parts t one.sound).1 moved.1
+      (alike.lines ∙ ap (λ all. map (line_in all) u.rules.grammar) (sym same_strings))
+
+  all_rules : t.rules ≡ u.rules
+  all_rules = λ i. record { actions = (alike.rules i).actions; grammar = same_grammar i; rules = same_rules i; books = (alike.rules i).books; scenes = same_scenes i }
 
   same_bytes : t.codes ≡ u.codes
   unfolding c d
   same_bytes =
       sym (spelled_again t one.sound)
-      ∙ ap (map spelling) (same_codes (codes_told t) (codes_told u) same_strings (strings_differ t one.right) (codes_told t).codes (codes_told u).codes same_told (within_parts t one.sound).1 moved.1)
+      ∙ ap (map spelling) (same_codes (codes_told t) (codes_told u) same_strings (strings_differ t one.right) (codes_told t).codes (codes_told u).codes same_told (within_parts t one.sound).2 moved.2)
       ∙ spelled_again u other.sound
 
   same_objects : t.objects ≡ u.objects

@@ -12,6 +12,8 @@ use Rattle.std.proofs.lemmas.Str.Ascii.{lowercase-lowercase}
 use Rattle.world_meaning.specs.declared.direction.Direction.{Direction}
 use Rattle.world_meaning.specs.declared.direction.Direction.TheVariants as direction
 use Rattle.world_meaning.specs.Directions.{all_directions, short_word}
+use Rattle.command_grammar.specs.Synonyms.{own_words, words_said}
+use Rattle.command_grammar.specs.declared.synonym.Synonym.{Synonym}
 use Rattle.object_words.specs.Mentions.{mention}
 use Rattle.object_words.specs.Words.{is_word, is_blank, blank_words, short_words, more_words, words_for}
 use Rattle.world_meaning.specs.Spelling.{lowered}
@@ -20,7 +22,7 @@ use Rattle.story_format.specs.Checks.{is_small_byte, is_small}
 use Rattle.story_format.specs.Holding.{is_short}
 use Rattle.story_format.proofs.StoryLemmas.{all_weaker}
 use Rattle.story_format.proofs.Known.{text_is_itself}
-use Rattle.story_format.proofs.OrderLemmas.{mention_new, mention_old}
+use Rattle.story_format.proofs.OrderLemmas.{grows, mention_new, mention_old}
 
 -- ---- what all mentioned strings are
 
@@ -130,6 +132,39 @@ words_good o name h =
     all_mentioned is_good (blank_words (lowered name) ++ more_words o) [] refl
     (list_all-append is_good (blank_words (lowered name)) (more_words o) ∙ and_from (list_all is_good (blank_words (lowered name))) (list_all is_good (more_words o)) (blank_good name h) (more_good o))
 
+-- ---- with the words of synonyms
+
+-- those of the name stand in front
+pub said_front : (synonyms : List Synonym) (o : ℕ) (name : List ℕ) → (more : List (List ℕ)) × (words_said synonyms o name ≡ words_for o name ++ more)
+unfolding words_said
+said_front synonyms o name = grows (own_words o synonyms) (words_for o name)
+
+own_small : (synonyms : List Synonym) (o : ℕ) → list_all (λ synonym. is_small synonym.word) synonyms ≡ true → list_all is_small (own_words o synonyms) ≡ true
+own_small [] o h = refl
+own_small (synonym ∷ synonyms) o h =
+    let t = and_parts (is_small synonym.word) (list_all (λ synonym. is_small synonym.word) synonyms) h in
+    elim (cases_Bool (eqb synonym.object o)) [
+      | inl is ↦ rw is (and_from (is_small synonym.word) (list_all is_small (own_words o synonyms)) t.0 (own_small synonyms o t.1))
+      | inr isnt ↦ rw isnt (own_small synonyms o t.1)
+    ]
+
+blank_small : (name : List ℕ) → list_all is_small (blank_words (lowered name)) ≡ true
+blank_small name =
+    let n = length (lowered name) in
+    filter_keeps is_small is_word (slice_split is_blank (lowered name))
+    (all_weaker (good_in n) is_small (λ word h. (and_parts (is_small word) (leb (length word) n) h).0) (slice_split is_blank (lowered name)) (split_good is_blank (lowered name) (lowered_small name)))
+
+words_small : (o : ℕ) (name : List ℕ) → list_all is_small (words_for o name) ≡ true
+unfolding words_for
+words_small o name =
+    let more = all_weaker is_good is_small (λ word h. (and_parts (is_small word) (is_short word) h).0) (more_words o) (more_good o) in
+    all_mentioned is_small (blank_words (lowered name) ++ more_words o) [] refl
+    (list_all-append is_small (blank_words (lowered name)) (more_words o) ∙ and_from (list_all is_small (blank_words (lowered name))) (list_all is_small (more_words o)) (blank_small name) more)
+
+pub said_small : (synonyms : List Synonym) (o : ℕ) (name : List ℕ) → list_all (λ synonym. is_small synonym.word) synonyms ≡ true → list_all is_small (words_said synonyms o name) ≡ true
+unfolding words_said
+said_small synonyms o name h = all_mentioned is_small (own_words o synonyms) (words_for o name) (words_small o name) (own_small synonyms o h)
+
 -- ---- each word once
 
 abbrev pub differ : List (List ℕ) → Bool
@@ -163,6 +198,10 @@ differ_mentioned (x ∷ xs) seen h =
       | inr isnt ↦ differ_mentioned xs (mention seen x) (ap differ (mention_new seen x isnt) ∙ differ_longer seen x h isnt)
     ]
 
-pub words_differ : (o : ℕ) (name : List ℕ) → differ (words_for o name) ≡ true
+words_differ : (o : ℕ) (name : List ℕ) → differ (words_for o name) ≡ true
 unfolding words_for
 words_differ o name = differ_mentioned (blank_words (lowered name) ++ more_words o) [] refl
+
+pub said_differ : (synonyms : List Synonym) (o : ℕ) (name : List ℕ) → differ (words_said synonyms o name) ≡ true
+unfolding words_said
+said_differ synonyms o name = differ_mentioned (own_words o synonyms) (words_for o name) (words_differ o name)

@@ -1,5 +1,5 @@
 -- What tables 8 to 12 of a story say, where there are so many of what they name.
-use Rattle.std.specs.Prelude.{ℕ, ◌+◌, Bool, true, false, ◌&&◌, ◌||◌, ◌==◌, nat_le, nat_lt, List, [], ◌∷◌, ◌++◌, Option, None, Some, count_by, filter, length, slice_get, if◌then◌else◌}
+use Rattle.std.specs.Prelude.{ℕ, ◌+◌, Bool, true, false, not, ◌&&◌, ◌||◌, ◌==◌, nat_le, nat_lt, List, [], ◌∷◌, ◌++◌, Option, None, Some, count_by, filter, length, slice_get, if◌then◌else◌}
 use Rattle.std.specs.List.{flat_map, list_all}
 use Rattle.play_meaning.specs.declared.operand.Counts.{Counts}
 use Rattle.play_meaning.specs.declared.operand.Use.{Use}
@@ -44,7 +44,7 @@ are_right_actions actions = nat_le (length actions) 200 && begin_with_actions ac
 
 -- a slot for a thing, or for a direction
 abbrev pub is_slot_number : ℕ → Bool
-is_slot_number n = nat_le 65534 n
+is_slot_number n = (n == 65534) || (n == 65535)
 
 -- or one of so many strings
 abbrev pub is_right_token : ℕ → ℕ → Bool
@@ -65,7 +65,7 @@ are_right_lines z actions lines = nat_le (length lines) 65535 && list_all (is_ri
 
 -- the numbers of strings that a line names
 abbrev pub strings_in_line : LineEntry → List ℕ
-strings_in_line e = filter (λ n. nat_lt n 65534) e.tokens
+strings_in_line e = filter (λ n. not (is_slot_number n)) e.tokens
 
 -- ---- table 10: rules
 

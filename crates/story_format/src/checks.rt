@@ -1,17 +1,16 @@
 //! What tables 1 to 12 say together, whatever the codes are: each test is named after what it asks.
-ghost use Rattle.std.specs.Prelude.{◌≡◌, ◌≤◌, ◌++◌, IfOk, OnOk, filter, length, map, nat_lt};
+ghost use Rattle.std.specs.Prelude.{◌≡◌, ◌≤◌, ◌++◌, IfOk, OnOk, filter, length, map, not};
 ghost use Rattle.std.specs.List.{list_all, flat_map};
 ghost use Rattle.story_format.specs.Placed.{sorts_in};
-ghost use Rattle.story_format.specs.RuleChecks.{strings_in_line};
+ghost use Rattle.story_format.specs.RuleChecks.{is_slot_number, strings_in_line};
 ghost use Rattle.story_format.specs.Sizes.{sizes_of};
 ghost use Rattle.story_format.specs.Checks.{are_distinct, is_named, begin_with, has_words, have_words, is_small_byte, is_small, is_small_at, has_small_words, is_player_entry, is_direction_entry, are_direction_entries, are_in_place, are_named_in_order, strings_in_tables, strings_named, codes_named, heads_named, are_right_objects, is_right_frame, are_right};
 
 use crate::counts::counts_of;
-use crate::grammar_facts::SOMETHING;
 use crate::kind_tables::suit_kinds;
 use crate::place::NONE;
 use crate::row::{Sizes, are_right_entries};
-use crate::rule_checks::are_right_rules;
+use crate::rule_checks::{are_right_rules, is_slot_number};
 use crate::rule_codes::add_codes;
 use crate::rule_tables::LineEntry;
 use crate::standing::{are_right_ways, sorts_in, stand_rightly};
@@ -258,11 +257,11 @@ fn strings_named(alloc: Global, entries: &[Entry]) -> Result<Vec<u16>, AllocErro
 
 /// Adds the strings that a line names, in order.
 fn add_strings(numbers: &mut Vec<u16>, tokens: &[u16]) -> Result<(), AllocError>
-    ensures { OnOk result (numbers.new.items ≡ numbers.old.items ++ filter (λ n. nat_lt n 65534) tokens.now) }
+    ensures { OnOk result (numbers.new.items ≡ numbers.old.items ++ filter (λ n. not (is_slot_number n)) tokens.now) }
 {
     let mut rest = tokens;
     while let [number, behind @ ..] = rest {
-        if *number < SOMETHING {
+        if !is_slot_number(*number) {
             numbers.push(*number)?;
         }
         rest = behind;

@@ -4,7 +4,7 @@ ghost use Rattle.std.specs.List.{list_all};
 ghost use Rattle.story_format.specs.RuleChecks.{are_right_actions, are_right_books, are_right_lines, are_right_rules, are_right_scenes, begin_with_actions, has_nouns, is_number_or_none, is_right_action, is_right_aspect, is_right_body, is_right_line, is_right_need, is_right_rule, is_right_scene, is_right_side, is_right_token, is_same_action, is_slot_number, lists_what_is_there};
 
 use crate::actions::action_entries;
-use crate::grammar_facts::SOMETHING;
+use crate::grammar_facts::{DIRECTION, SOMETHING};
 use crate::place::NONE;
 use crate::rule_entry::{Aspect, PropertySide, RuleBody, RuleEntry};
 use crate::rule_tables::{ActionEntry, Book, LineEntry, RuleTables, SceneEntry};
@@ -100,10 +100,11 @@ fn are_right_actions(alloc: Global, actions: &[ActionEntry]) -> Result<bool, All
     )
 }
 
-fn is_slot_number(number: u16) -> bool
+/// Whether a number in a line stands for a slot, and not for a string.
+pub fn is_slot_number(number: u16) -> bool
     ensures { result ≡ is_slot_number number }
 {
-    number >= SOMETHING
+    number == SOMETHING || number == DIRECTION
 }
 
 fn is_right_token(strings: u16, number: u16) -> bool

@@ -14,7 +14,7 @@ use Rattle.story_format.proofs.coding.tables_of.Goals as goal
 pub returns-then-not-are_few-clause-none : goal.returns-then-not-are_few-clause-none
 returns-then-not-are_few-clause-none c =
     too_many c.args.tale.now (contents_meant c.args.contents.now) c.in-Ok.strings c.in-Ok.tables c.in-Ok.ensures.strings c.in-Ok.ensures.tables c.as_slice.result.now c.as_slice.ensures c.are_few.result c.are_few.ensures
-    c.requires.held c.if-not-are_few.true
+    c.if-not-are_few.true
 
 pub returns-clause-tables : goal.returns-clause-tables
 returns-clause-tables c =
@@ -33,7 +33,7 @@ returns-clause-none c =
     (λ fault none. none_so c.args.tale.now (contents_meant c.args.contents.now) c.in-Ok.strings c.in-Ok.tables c.in-Ok.ensures.strings c.in-Ok.ensures.tables fault none) c.with_codes.ensures.none
 
 pub uncoded-requires-clause-few : goal.uncoded-requires-clause-few
-uncoded-requires-clause-few c = omega (arith, codes_few (worded c.args.tale.now.objects), few_objects c.args.tale.now c.requires.held)
+uncoded-requires-clause-few c = omega (arith, codes_few (worded c.args.contents.now.synonyms.items c.args.tale.now.objects), few_objects c.args.contents.now.synonyms.items c.args.tale.now c.requires.held)
 
 pub uncoded-requires-clause-few_kinds : goal.uncoded-requires-clause-few_kinds
 uncoded-requires-clause-few_kinds c =

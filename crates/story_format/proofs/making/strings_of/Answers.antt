@@ -2,7 +2,8 @@ use Rattle.std.proofs.Common.{ap, ◌∙◌}
 use Rattle.std.specs.List.{flat_map, fold}
 use Rattle.object_words.specs.Mentions.{mention}
 use Rattle.code_table.specs.Origins.{origins_meant}
-use Rattle.story_format.specs.Making.{entry_strings, strings_of, strings_said}
+use Rattle.story_format.specs.Contents.{contents_meant}
+use Rattle.story_format.specs.Making.{story_lines, strings_of, strings_said, texts_named}
 use Rattle.story_format.specs.Mentioning.{rule_strings, text_strings}
 use Rattle.story_format.specs.WordedViews.{all_worded}
 use Rattle.story_format.proofs.Mentioned.{all_mentioned, mentioned_on}
@@ -12,9 +13,9 @@ pub returns : goal.returns
 unfolding strings_of
 returns c =
     let said = c.args.contents.now in
-    mentioned_on (strings_said (origins_meant said.texts.items said.rules.items said.scenes.items)) (flat_map entry_strings (all_worded c.args.worded.now)) (flat_map text_strings said.texts.items)
+    mentioned_on (strings_said (origins_meant said.texts.items said.rules.items said.scenes.items)) (texts_named (all_worded c.args.worded.now) (story_lines (contents_meant said).lines)) (flat_map text_strings said.texts.items)
     (flat_map rule_strings said.rules.items) _ _ _ _
-    c.new-strings.ensures c.in_ok-mention_entries.ensures
+    c.in_ok-strings.ensures
     (c.in_ok-mention_texts.ensures ∙ ap (λ texts. fold mention c.mention_entries.new.strings (flat_map text_strings texts)) c.as_slice-texts.ensures.value)
     (c.in_ok-mention_rules.ensures ∙ ap (λ rules. fold mention c.mention_texts.new.strings (flat_map rule_strings rules)) c.as_slice-rules.ensures.value)
     (all_mentioned said.texts.items said.rules.items said.scenes.items)
