@@ -114,7 +114,7 @@ save_texts("understand_texts_too_many", 65503, '""', "waiting")
 save_texts("understand_words_of_one", 50000, '"a"', "the ball")
 save_rule("understand_long_text", 'Understand "', "a ", '" as waiting.')
 save_rule("understand_long_words", 'The ball is in the Hall. Understand "', "a ", '" as the ball.')
-save_rule("understand_many_words", 'The ball is in the Hall. Understand "' + " ".join(map(str, range(40000))), "", '" as the ball.')
+open("understand_many_words.i7", "w").write(ball + 'Understand "' + " ".join(map(str, range(40000))) + '" as the ball.')
 save_rule("understand_slots", 'Understand "', "[something]", '" as taking.')
 save_rule("understand_brackets", 'Understand "', "[", '" as taking.')
 save_rule("understand_meaning", 'Understand "a" as', " x", ".")
@@ -270,7 +270,7 @@ for source in *.i7; do
     action_of_* | action_named_as_actions.i7 | action_without_end.i7 | actions_of_long_names.i7 | actions_of_many_words.i7) want=0 limit=unlimited ;;
     rules_of_actions.i7 | listings_of_actions.i7 | rulebooks_of_actions.i7) want=0 limit=unlimited ;;
     understand_texts.i7 | understand_words_of_one.i7 | understand_long_words.i7 | understand_sentences.i7 | understand_lines.i7 | understand_actions.i7) want=0 limit=unlimited ;;
-    understand_*) limit=unlimited ;;
+    understand_unknown.i7 | understand_texts_too_many.i7) limit=unlimited ;;
     actions_in_places.i7 | actions_many.i7 | actions_of_one_name.i7 | actions_of_near_names.i7 | actions_of_one_front.i7 | actions_tried.i7) limit=unlimited ;;
     closed_texts.i7 | rule_colons.i7 | scene_changes.i7 | rule_pattern_words.i7 | rule_substitutions.i7 | rules_many.i7 | long_*) limit=unlimited ;;
   esac
