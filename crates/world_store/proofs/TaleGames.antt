@@ -25,6 +25,7 @@ use Rattle.play_meaning.specs.Scripts.{says, undescribed}
 use Rattle.play_meaning.specs.Worlds.{World}
 use Rattle.play_meaning.specs.declared.action.ActionNow.{ActionNow}
 use Rattle.play_meaning.specs.Tales.{door_in as told_door, door_on as told_door_on, in_object, is_true_at_start, number_at_start, place_of_number, setting_of as told_setting, start_of}
+use Rattle.command_grammar.specs.declared.synonym.Synonym.{Synonym}
 use Rattle.story_format.specs.Codes.{codes_told}
 use Rattle.story_format.specs.Contents.{Contents}
 use Rattle.story_format.specs.Facts.{description_code_of, exits_at}
@@ -77,21 +78,21 @@ article_back articles.Some = refl
 module _ {A : Type 0} (otherwise : A) (told : Option Entry → A) (said : Object → A) (nobody : told None ≡ otherwise)
     (same : (strings : List (List ℕ)) (next : ℕ) (w : Worded) → told (Some (entry_of strings next w)) ≡ said w.object) where
   -- by the object's number
-  said_at : (strings : List (List ℕ)) (next from : ℕ) (objects : List Object) (o : ℕ) → told (slice_get (entries_of strings next (worded_from from objects)) o) ≡ in_object otherwise said (slice_get objects o)
+  said_at : (synonyms : List Synonym) (strings : List (List ℕ)) (next from : ℕ) (objects : List Object) (o : ℕ) → told (slice_get (entries_of strings next (worded_from synonyms from objects)) o) ≡ in_object otherwise said (slice_get objects o)
   unfolding entries_of
-  said_at strings next from [] o = nobody
-  said_at strings next from (object ∷ objects) zero = same strings next (worded_at from object)
-  said_at strings next from (object ∷ objects) (suc o) = said_at strings (next + code_count object.description) (from + 1) objects o
+  said_at synonyms strings next from [] o = nobody
+  said_at synonyms strings next from (object ∷ objects) zero = same strings next (worded_at synonyms from object)
+  said_at synonyms strings next from (object ∷ objects) (suc o) = said_at synonyms strings (next + code_count object.description) (from + 1) objects o
 
 module _ {A : Type 0} (right : Object → Bool) (told : Entry → A) (said : Object → A)
     (same : (strings : List (List ℕ)) (next : ℕ) (w : Worded) → right w.object ≡ true → told (entry_of strings next w) ≡ said w.object) where
   -- of all objects
-  said_of_all : (strings : List (List ℕ)) (next from : ℕ) (objects : List Object) → list_all right objects ≡ true → map told (entries_of strings next (worded_from from objects)) ≡ map said objects
+  said_of_all : (synonyms : List Synonym) (strings : List (List ℕ)) (next from : ℕ) (objects : List Object) → list_all right objects ≡ true → map told (entries_of strings next (worded_from synonyms from objects)) ≡ map said objects
   unfolding entries_of
-  said_of_all strings next from [] h = refl
-  said_of_all strings next from (object ∷ objects) h =
+  said_of_all synonyms strings next from [] h = refl
+  said_of_all synonyms strings next from (object ∷ objects) h =
       let t = and_parts (right object) (list_all right objects) h in
-      λ i. same strings next (worded_at from object) t.0 i ∷ said_of_all strings (next + code_count object.description) (from + 1) objects t.1 i
+      λ i. same strings next (worded_at synonyms from object) t.0 i ∷ said_of_all synonyms strings (next + code_count object.description) (from + 1) objects t.1 i
 
 -- ---- doors
 
@@ -118,19 +119,19 @@ settings_agree : (t : Tale) (c : Contents) → IsHeld t → AreHeld t c → Sett
 unfolding setting_of told_setting tables_with world_of entry_of
 settings_agree t c held said =
     let carries = tale_carried t c held said in
-    let ws = worded t.objects in
+    let ws = worded c.synonyms t.objects in
     let strings = strings_with t c in
     let parents = t.declared.kinds in
-    let back : objects_in ws ≡ t.objects = objects_back 0 t.objects in
+    let back : objects_in ws ≡ t.objects = objects_back c.synonyms 0 t.objects in
     let exits : list_all (has_right_exits parents (sorts_in t)) (objects_in ws) ≡ true = ap (list_all (has_right_exits parents (sorts_in t))) back ∙ held.made.exits in
     record {
       count = carries.count;
       name = carries.names;
-      article = said_at articles.None article_in (λ object. object.article) refl (λ strings next w. article_back w.object.article) strings 0 0 t.objects;
-      is_of = λ o kind. said_at false (is_of_in parents kind) (λ object. is_under parents object.kind kind) refl (λ strings next w. refl) strings 0 0 t.objects o;
+      article = said_at articles.None article_in (λ object. object.article) refl (λ strings next w. article_back w.object.article) c.synonyms strings 0 0 t.objects;
+      is_of = λ o kind. said_at false (is_of_in parents kind) (λ object. is_under parents object.kind kind) refl (λ strings next w. refl) c.synonyms strings 0 0 t.objects o;
       depth = λ kind. refl;
-      has_flag = λ o property. said_at false (has_in parents t.declared.flags property) (λ object. has_property parents t.declared.flags object.kind property) refl (λ strings next w. refl) strings 0 0 t.objects o;
-      has_number = λ o property. said_at false (has_in parents t.declared.numbers property) (λ object. has_property parents t.declared.numbers object.kind property) refl (λ strings next w. refl) strings 0 0 t.objects o;
+      has_flag = λ o property. said_at false (has_in parents t.declared.flags property) (λ object. has_property parents t.declared.flags object.kind property) refl (λ strings next w. refl) c.synonyms strings 0 0 t.objects o;
+      has_number = λ o property. said_at false (has_in parents t.declared.numbers property) (λ object. has_property parents t.declared.numbers object.kind property) refl (λ strings next w. refl) c.synonyms strings 0 0 t.objects o;
       room_beyond = carries.ways;
       door_beyond = λ room direction. doors_found parents (sorts_in t) strings ws room direction (slice_get ws room) refl exits ∙ ap (λ (objects : List Object). in_object None (told_door direction) (slice_get objects room)) back;
       has_description = carries.described;
@@ -153,11 +154,11 @@ number_started d property strings next w h =
 
 flags_started : (t : Tale) (c : Contents) → IsHeld t → (property : ℕ) → start_flags (tables_of t c) property ≡ map (is_true_at_start property) t.objects
 unfolding tables_with entry_of
-flags_started t c held property = said_of_all (suits_kind t.declared) (starts_true property) (is_true_at_start property) (λ strings next w h. refl) (strings_with t c) 0 0 t.objects held.made.suited
+flags_started t c held property = said_of_all (suits_kind t.declared) (starts_true property) (is_true_at_start property) (λ strings next w h. refl) c.synonyms (strings_with t c) 0 0 t.objects held.made.suited
 
 numbers_started : (t : Tale) (c : Contents) → IsHeld t → (property : ℕ) → start_numbers (tables_of t c) property ≡ map (number_at_start t.declared property) t.objects
 unfolding tables_with
-numbers_started t c held property = said_of_all (suits_kind t.declared) (start_number (world_of t.declared) property) (number_at_start t.declared property) (number_started t.declared property) (strings_with t c) 0 0 t.objects held.made.suited
+numbers_started t c held property = said_of_all (suits_kind t.declared) (start_number (world_of t.declared) property) (number_at_start t.declared property) (number_started t.declared property) c.synonyms (strings_with t c) 0 0 t.objects held.made.suited
 
 -- no scene has begun
 none_begun : (scenes : List Bool) → replicate (length scenes) not_begun ≡ map (λ recurs. not_begun) scenes
@@ -167,10 +168,10 @@ none_begun (recurs ∷ scenes) = ap (λ all. not_begun ∷ all) (none_begun scen
 one_start : (t : Tale) (c : Contents) → IsHeld t → AreOf t c → start_world (tables_of t c) ≡ start_of t
 unfolding start_world start_of tables_with world_of rules_of
 one_start t c held of =
-    let places = places_back (strings_with t c) 0 (worded t.objects) ∙ ap (λ (objects : List Object). map (λ object. object.place) objects) (objects_back 0 t.objects) in
+    let places = places_back (strings_with t c) 0 (worded c.synonyms t.objects) ∙ ap (λ (objects : List Object). map (λ object. object.place) objects) (objects_back c.synonyms 0 t.objects) in
     let variables = variables_back t.declared.variables (declared_parts t.declared held.made.declared).variables in
-    let many : length (scene_entries (described_in (worded t.objects) + codes_of_rules c.rules) c.scenes) ≡ length t.declared.scenes =
-    length_scenes c.scenes (described_in (worded t.objects) + codes_of_rules c.rules) ∙ as_many_scenes t c of in
+    let many : length (scene_entries (described_in (worded c.synonyms t.objects) + codes_of_rules c.rules) c.scenes) ≡ length t.declared.scenes =
+    length_scenes c.scenes (described_in (worded c.synonyms t.objects) + codes_of_rules c.rules) ∙ as_many_scenes t c of in
     let begun = ap (λ n. replicate n not_begun) many ∙ none_begun t.declared.scenes in
     λ i. record {
       places = places i;
