@@ -1,8 +1,8 @@
 #!/usr/bin/env python3
 """Sources of rules with random heads, of sentences that list these and standard rules, and of some that declare actions or say what
-commands and words mean: 300 that are taken, whose tables 8 to 12 and the actions that their rules try are those that a plain reading tells (tests/rule_sources.py), and
-300 with rules, listings or actions among them that are refused: the code that is looked for first is told, at the first of these of
-which it stands.
+commands and words mean: 300 that are taken, whose tables 8 to 12 and the actions that their rules try are those that a plain reading
+tells (tests/rule_sources.py), and 300 with rules, listings, actions or commands among them that are refused: the code that is looked
+for first is told, at the first of these of which it stands.
 
 Use: tests/random_rules.py PROGRAM"""
 import pathlib
@@ -69,18 +69,23 @@ FAULTS = {
         'The room heading rule is listed last in the zorb rules.', 'The list worn rule is listed last in the storm rules.',
         'The list worn rule is listed first in the when play begins rules.', 'The room body rule is listed last in the carry out looking rules.',
         'The room body text rule is listed first in the carry out rules.', 'The mark visited rule is listed last in carry out frobbing rules.',
-        'The squall begins when in darkness.', 'The calm day begins when the zorb is lit.', 'The box ends when in darkness.'],
+        'The squall begins when in darkness.', 'The calm day begins when the zorb is lit.', 'The box ends when in darkness.',
+        'Understand "frob" as frobbing.', 'Understand "frob" or "[something]" as the zorb.', 'Understand "big" as thing.',
+        'Understand "gaze [something] [something]" as gazing.', 'Understand "tidy" as the tidy rules.'],
     "C8 WrongKind": [
         'Every turn in the box, say "x".', 'Before looking in a thing, say "x".', f'A tidy rule in a {MANY_LIT}thing, say "x".',
         f'After taking {MANY_LIT}things in the box, say "x".', f'Every turn in the box, say "[list of {MANY_LIT}things]".',
         'Report waiting in north, say "x".', 'Report gazing the box through Bob in the box, say "x".',
         'The room heading rule is listed first in the check looking rules.', 'The list worn rule is listed last in the report taking inventory rules.',
         "The can't take scenery rule is listed first in the instead rules.", "Can't open open rule is listed last in the tidy rules.",
-        'A standard report taking rule is listed last in after rules.'],
+        'A standard report taking rule is listed last in after rules.',
+        'Understand "take" as taking.', 'Understand "rest" or "rest [direction]" as waiting.', 'Understand "red [something]" as the red ball.',
+        'Understand "put [something]" as putting it on.', 'Understand "gaze [something] [something] [something]" as gazing it through.'],
     "C12 TooMany": [
         f'Before taking {MANY_LIT}things, say "x".', f'Every turn in {MANY_DARK}rooms, say "x".', f'Every turn, say "[list of {MANY_LIT}things]".',
         f'Check putting something on {MANY_LIT}things, say "x".', f'Before looking when the box is {MANY_LIT}thing, say "x".',
-        f"The storm begins when the box is a {MANY_LIT}thing."],
+        f"The storm begins when the box is a {MANY_LIT}thing.", f'Understand "{"a " * 33}" as waiting.',
+        f'Understand "rest" or "{"[something] " * 2}{"a " * 31}" as putting it on.', f'Understand "{" ".join(map(str, range(32)))}" as the box.'],
 }
 
 
@@ -295,14 +300,14 @@ def taken(scratch, chance):
 
 
 def refused(scratch, chance):
-    """What the program says of rules, listings and actions some of which are at fault, and what it is to say."""
+    """What the program says of rules, listings, actions and commands some of which are at fault, and what it is to say."""
     actions, own = declarations(chance)
     told, books = rules(chance, chance.randrange(1, 6), own)
     codes = chance.choice([list(FAULTS), *[list(FAULTS)[1:]] * 4, list(FAULTS)[2:], list(FAULTS)[3:]])
     faults = [(code, fault(chance, code, books, own)) for code in chance.choices(codes, k=chance.randrange(6))]
     # a rulebook that is declared twice is refused before
     faults = list(dict.fromkeys(faults))
-    more = [(None, sentence) for sentence in [*listings(chance, books, own), *actions]] + faults
+    more = [(None, sentence) for sentence in [*listings(chance, books, own), *actions, *commands(chance, own)]] + faults
     paragraphs = mixed(chance, [(None, sentence) for sentence, _ in told], chance.sample(more, len(more)))
     # each is a paragraph of one line
     found = [(list(FAULTS).index(code), 2 * place + 3) for place, (code, _) in enumerate(paragraphs) if code]
