@@ -125,6 +125,9 @@ save("understands", 'Understand "a" as ')
 def save_sentences(name, unit):
     """Saves as many of these sentences as there is room for."""
     open(name + ".i7", "w").write(ball + unit * ((longest - len(ball)) // len(unit)))
+things = "".join(f"x{n} is in the Hall.\n" for n in range(986))
+text = '"' + "a " * 30000 + '"'
+open("understand_words_among_things.i7", "w").write(hall + things + f"Understand {text} or {text} or {text} or {text[:-40000]}\" as x985.\n")
 save_sentences("understand_sentences", 'Understand "a" as ball.\n')
 save_sentences("understand_lines", 'Understand "a" as waiting.\n')
 save_sentences("understand_unknown", 'Understand "a" as x.\n')
@@ -270,7 +273,7 @@ for source in *.i7; do
     rooms.i7 | one_room.i7 | rule_phrases.i7 | scene_conditions.i7 | rules_of_patterns.i7 | listings_of_rules.i7 | listings_of_long_names.i7 | listings_of_one_rule.i7) want=0 limit=unlimited ;;
     action_of_* | action_named_as_actions.i7 | action_without_end.i7 | actions_of_long_names.i7 | actions_of_many_words.i7) want=0 limit=unlimited ;;
     rules_of_actions.i7 | listings_of_actions.i7 | rulebooks_of_actions.i7) want=0 limit=unlimited ;;
-    understand_texts.i7 | understand_words_of_one.i7 | understand_long_words.i7 | understand_sentences.i7 | understand_lines.i7 | understand_actions.i7) want=0 limit=unlimited ;;
+    understand_texts.i7 | understand_words_of_one.i7 | understand_long_words.i7 | understand_words_among_things.i7 | understand_sentences.i7 | understand_lines.i7 | understand_actions.i7) want=0 limit=unlimited ;;
     understand_unknown.i7 | understand_texts_too_many.i7) limit=unlimited ;;
     actions_in_places.i7 | actions_many.i7 | actions_of_one_name.i7 | actions_of_near_names.i7 | actions_of_one_front.i7 | actions_tried.i7) limit=unlimited ;;
     closed_texts.i7 | rule_colons.i7 | scene_changes.i7 | rule_pattern_words.i7 | rule_substitutions.i7 | rules_many.i7 | long_*) limit=unlimited ;;
