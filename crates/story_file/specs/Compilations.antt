@@ -42,7 +42,7 @@ pub record Means (source : List ℕ) (tale : Tale) (said : Contents) : Type 0 wh
 
 -- A source has this story file: it spells the tables of the tale that the source's sentences mean, with codes for what its
 -- descriptions say, for its rules, listed as its sentences say, and for what its scenes begin and end on, and these tables carry the
--- tale.
+-- tale, its commands among it.
 pub record IsCompiled (source bytes : List ℕ) : Type 0 where
   pub tale : Tale
   pub said : Contents

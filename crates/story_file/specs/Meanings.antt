@@ -18,7 +18,7 @@ use Rattle.i7_resolution.specs.declared.resolution.Resolved.{Resolved}
 use Rattle.i7_rules.specs.Knowns.{Known}
 use Rattle.i7_sentences.specs.declared.sentence.Sentence.{Sentence}
 use Rattle.story_format.specs.Contents.{Contents}
-use Rattle.story_file.specs.Rules.{listings_told, rules_told, scenes_told}
+use Rattle.story_file.specs.Rules.{lines_told, listings_told, rules_told, scenes_told, synonyms_told}
 
 -- ---- what rules, texts, scenes and sentences that list rules may name
 
@@ -57,7 +57,8 @@ AreTexts s objects texts = AllZip (SaysIn s) (descriptions_of objects) texts
 -- ---- the tale
 
 -- Sentences mean this tale, of which this is said: its descriptions say these texts, in the order of the objects, its rules are these,
--- listed so, both in the order of the sentences, and its scenes begin and end so.
+-- listed so, both in the order of the sentences, its scenes begin and end so, and these are its lines of the grammar and the words
+-- that its objects go by besides those of their names.
 pub record AreMeant (sentences : List Sentence) (tale : Tale) (said : Contents) : Type 0 where
   pub tale_is : tale_said sentences ≡ Ok tale
   pub resolved : Resolved
@@ -66,15 +67,17 @@ pub record AreMeant (sentences : List Sentence) (tale : Tale) (said : Contents) 
   pub rules_are : said.rules ≡ rules_told resolved
   pub listings_are : said.listings ≡ listings_told resolved
   pub scenes_are : said.scenes ≡ scenes_told resolved
+  pub lines_are : said.lines ≡ lines_told resolved
+  pub synonyms_are : said.synonyms ≡ synonyms_told resolved
 
--- What rules, texts, scenes and sentences that list rules name, or how rulebooks and actions are named, how much there is of them, or
+-- What rules, texts, scenes, commands and sentences that list rules name, or how rulebooks and actions are named, how much there is of them, or
 -- how the lines of rules stand, refuses sentences that mean a tale.
 pub record AreUnresolved (sentences : List Sentence) (fault : Fault) : Type 0 where
   pub tale : Tale
   pub tale_is : tale_said sentences ≡ Ok tale
   pub refused : IsResolution (known_said sentences tale) tale.declared.scenes sentences (Refused fault)
 
--- Sentences are refused for what they say of the world, or for their rules, texts, listings, scenes and actions.
+-- Sentences are refused for what they say of the world, or for their rules, texts, listings, scenes, commands and actions.
 pub data AreRefused (sentences : List Sentence) (fault : Fault) : Type 0 where
   unmeant : tale_said sentences ≡ Err fault → AreRefused sentences fault
   unresolved : AreUnresolved sentences fault → AreRefused sentences fault

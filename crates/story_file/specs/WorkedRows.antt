@@ -34,7 +34,7 @@ two_rooms_texts = plain_text (codes "A bare hall.") ∷ []
 -- being echoed
 abbrev pub transcript_by : Result Tale Fault → List Text → List (List ℕ) → List ℕ
 transcript_by (Err fault) texts lines = []
-transcript_by (Ok tale) texts lines = transcript (game_meant tale (record { texts = texts; rules = []; listings = []; scenes = [] })) true [] lines
+transcript_by (Ok tale) texts lines = transcript (game_meant tale (record { texts = texts; rules = []; listings = []; scenes = []; lines = []; synonyms = [] })) true [] lines
 
 abbrev pub two_rooms_shown : List (List ℕ)
 two_rooms_shown =

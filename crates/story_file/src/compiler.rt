@@ -55,7 +55,7 @@ fn fault_told(sentences: &[Sentence], tale: &Tale, lines: &[u32], fault: TableFa
 
 /// The story file of a source, or the refusal that stands: that of the first step that refuses, each
 /// step being the lexer, the reader of sentences, the tale, the rules with the sentences that list them, the texts that
-/// describe and the scenes, and the story's codes (C12), in this order.
+/// describe, the scenes and the commands, and the story's codes (C12), in this order.
 pub fn compile(alloc: Global, source: &[u8]) -> Result<Vec<u8>, Fault>
     ensures { MatchResult result (λ bytes. IsCompiled source.now bytes.items) (IsRefused source.now) }
 {

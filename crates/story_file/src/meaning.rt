@@ -6,7 +6,7 @@ ghost use Rattle.story_format.specs.Contents.{contents_meant};
 ghost use Rattle.world_meaning.specs.Faults.{out_of_memory};
 ghost use Rattle.story_file.specs.Lines.{scene_lines};
 ghost use Rattle.story_file.specs.Meanings.{AreMeant, AreRefused, AreTexts, known_said, scope_said};
-ghost use Rattle.story_file.specs.Rules.{listings_told, rules_told, scenes_told};
+ghost use Rattle.story_file.specs.Rules.{lines_told, listings_told, rules_told, scenes_told, synonyms_told};
 ghost use Rattle.story_file.specs.Texts.{AreReadable};
 
 use crate::lines::scene_lines;
@@ -64,6 +64,8 @@ fn contents_of(
     ensures rules { IfOk result (λ said. (contents_meant said).rules ≡ rules_told resolved) }
     ensures listings { IfOk result (λ said. (contents_meant said).listings ≡ listings_told resolved) }
     ensures scenes { IfOk result (λ said. (contents_meant said).scenes ≡ scenes_told resolved) }
+    ensures commands { IfOk result (λ said. (contents_meant said).lines ≡ lines_told resolved) }
+    ensures synonyms { IfOk result (λ said. (contents_meant said).synonyms ≡ synonyms_told resolved) }
 {
     let texts = texts_of(alloc, names, tale.objects.as_slice())?;
     let rules = rules_of(alloc, resolved.rules)?;
@@ -72,6 +74,8 @@ fn contents_of(
         rules,
         listings: resolved.listings,
         scenes: resolved.scenes,
+        lines: resolved.grammar.lines,
+        synonyms: resolved.grammar.synonyms,
     })
 }
 
@@ -109,6 +113,8 @@ fn kept_of(
     ensures rules { IfOk result (λ kept. (contents_meant kept.contents).rules ≡ rules_told resolved) }
     ensures listings { IfOk result (λ kept. (contents_meant kept.contents).listings ≡ listings_told resolved) }
     ensures scenes { IfOk result (λ kept. (contents_meant kept.contents).scenes ≡ scenes_told resolved) }
+    ensures commands { IfOk result (λ kept. (contents_meant kept.contents).lines ≡ lines_told resolved) }
+    ensures synonyms { IfOk result (λ kept. (contents_meant kept.contents).synonyms ≡ synonyms_told resolved) }
     ensures lines { IfOk result (λ kept. kept.scene_lines.items ≡ scene_lines (scope_in names.now) sentences.now (length tale.now.declared.scenes)) }
 {
     let contents = contents_of(alloc, names, tale, resolved)?;

@@ -1,14 +1,15 @@
 -- The lines of a tale's grammar: their entries are right, have room in their bytes, and say what the lines say.
 use Rattle.std.proofs.Common.{◌≡◌, ℕ, zero, suc, ◌+◌, ◌<◌, ◌≤◌, Bool, true, false, cond, not, ◌&&◌, ◌||◌, ltb, leb, eqb, List, [], ◌∷◌, ◌++◌, length, map, Option, Some, None, refl, sym, ap, ◌∙◌, arith, inl, inr}
-use Rattle.std.specs.Prelude.{count_by, filter, slice_get}
+use Rattle.std.specs.Prelude.{count_by, filter, slice_get, slice_index_or, unwrap_or}
 use Rattle.std.specs.List.{flat_map, list_all, list_any, position_or_len}
 use Rattle.std.specs.Option.{option_map}
 use Rattle.std.specs.Str.{bytes_eq}
 use Rattle.std.proofs.lemmas.Bool.{and_from, and_parts, cases_Bool, eq-eqb, eqb-true, le-leb, leb-true, lt-ltb, ne_eqb}
 use Rattle.std.proofs.lemmas.List.{length-append, length-map, map-append}
 use Rattle.std.proofs.lemmas.List.Folds.{list_all-append}
-use Rattle.std.proofs.lemmas.Option.{get_or_from_slice_get, slice_get-map}
+use Rattle.std.proofs.lemmas.Option.{get_or_from_slice_get, slice_get-map, unwrap_or-slice_get}
 use Rattle.world_meaning.specs.declared.needs.Needs.{Needs}
+use Rattle.command_grammar.specs.Lines.{no_line}
 use Rattle.code_table.specs.Origins.{Origin}
 use Rattle.object_words.specs.Mentions.{number_in, number_or_none}
 use Rattle.object_words.proofs.StringLemmas.{length_mapped}
@@ -106,7 +107,7 @@ module _ (strings : List (List ℕ)) (few : length strings < 65535) where
       let rest = slots_counted tokens parts.1 in
       let numbers = map (token_number strings) tokens in
       elim (cases_Bool (is_slot token)) [
-        | inl is ↦ counted_more is_slot_number (token_number strings token) numbers (same ∙ is) ∙ ap (λ n. 1 + n) rest ∙ sym (counted_more is_slot token tokens is)
+        | inl is ↦ counted_more is_slot_number (token_number strings token) numbers (same ∙ is) ∙ ap suc rest ∙ sym (counted_more is_slot token tokens is)
         | inr isnt ↦ counted_same is_slot_number (token_number strings token) numbers (same ∙ isnt) ∙ rest ∙ sym (counted_same is_slot token tokens isnt)
       ]
 
@@ -265,3 +266,13 @@ standard_words = omega arith
 pub standard_short : list_all is_short (flat_map line_strings standard_lines) ≡ true
 unfolding standard_lines
 standard_short = refl
+
+-- ---- a line by its number
+
+pub no_line_there : (strings : List (List ℕ)) (entries : List LineEntry) (n : ℕ) → slice_get entries n ≡ None → slice_index_or (map (line_in strings) entries) n no_line ≡ no_line
+no_line_there strings entries n none =
+    sym (unwrap_or-slice_get (map (line_in strings) entries) n no_line) ∙ ap (λ (found : Option Line). unwrap_or found no_line) (slice_get-map (line_in strings) entries n ∙ ap (option_map (line_in strings)) none)
+
+pub line_there : (strings : List (List ℕ)) (entries : List LineEntry) (n : ℕ) (entry : LineEntry) → slice_get entries n ≡ Some entry → slice_index_or (map (line_in strings) entries) n no_line ≡ line_in strings entry
+line_there strings entries n entry there =
+    get_or_from_slice_get (map (line_in strings) entries) n (line_in strings entry) no_line (slice_get-map (line_in strings) entries n ∙ ap (option_map (line_in strings)) there)

@@ -371,7 +371,7 @@ pub tables_right : (d : Declared) (books : List Book) (synonyms : List Synonym) 
     → length (strings_of (texts_named (worded synonyms objects) lines) said) < 65535 → length (code_bytes (strings_of (texts_named (worded synonyms objects) lines) said) said) < 65536
     → described_in (worded synonyms objects) + (length (origins_in rules) + length (origins_in_scenes scenes)) ≤ length (code_bytes (strings_of (texts_named (worded synonyms objects) lines) said) said)
     → are_right (tables_with d books (worded synonyms objects) lines rules scenes said) ≡ true
-unfolding are_right is_right_frame are_right_objects stand_rightly are_right_ways tables_with
+unfolding are_right is_right_frame are_right_objects stand_rightly are_right_ways tables_with are_named_in_order strings_in_tables
 tables_right d books synonyms objects lines rules scenes said same made small_synonyms few_words few_lines lines_of few_actions nouns few_rules known_books named few few_codes enough =
     let ws = worded synonyms objects in
     let strings = strings_of (texts_named ws lines) said in

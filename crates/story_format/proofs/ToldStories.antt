@@ -239,7 +239,7 @@ module _ (t u : Tables) (one : IsStory t) (other : IsStory u) (alike : AreToldAl
   unfolding c d
   rules_alike n low high =
       at_each (λ n m. AreAlike (codes_told t) (codes_told u) (code_of (codes_told t) n) (code_of (codes_told u) m)) (codes_in_tables t.rules) (length (codes_named t.objects)) (turns t one.sound).1
-      (subst (AreCodedAlike (codes_told t) (codes_told u) (codes_in_tables t.rules)) (λ i. codes_in_rules (same_rules (~ i)) ++ codes_in_scenes (same_scenes (~ i))) alike.rule_codes) n low high
+      (subst (AreCodedAlike (codes_told t) (codes_told u) (codes_in_tables t.rules)) (sym (λ i. codes_in_rules (same_rules i) ++ codes_in_scenes (same_scenes i))) alike.rule_codes) n low high
 
   heads_alike : (n : ℕ) → n < length (uses_of t) → AreAlike c d (code_of c n) (code_of d n)
   heads_alike n high =

@@ -1,5 +1,5 @@
 //! The grammar that a story gives to play.
-ghost use Rattle.std.specs.Prelude.{◌≡◌, length, slice_get, slice_index_or};
+ghost use Rattle.std.specs.Prelude.{◌≡◌, MatchOption, length, slice_get, slice_index_or};
 ghost use Rattle.std.specs.Option.{option_map};
 ghost use Rattle.command_grammar.specs.Lines.{no_line, told_token};
 ghost use Rattle.story_format.specs.Facts.{line_in, lines_of, token_in};
@@ -18,9 +18,13 @@ pub const DIRECTION: u16 = 65_535;
 impl Story {
     /// The line of a number, if there is one.
     fn line(&self, line: u16) -> Option<&LineEntry>
-        ensures { option_map (λ e. line_in self.now.strings e.now) result ≡ slice_get (lines_of self.now) line }
+        ensures { MatchOption result (slice_index_or (lines_of self.now) line no_line ≡ no_line) (λ entry. slice_index_or (lines_of self.now) line no_line ≡ line_in self.now.strings entry.now) }
     {
-        self.tables().rules.grammar.as_slice().get(usize::from(line))
+        let lines = self.tables().rules.grammar.as_slice();
+        match lines.get(usize::from(line)) {
+            Some(entry) => Some(entry),
+            None => None,
+        }
     }
 
     /// What a number in a line stands for.
@@ -68,7 +72,10 @@ impl Story {
     pub fn token(&self, line: u16, place: usize) -> Option<Token<'_>>
         ensures { option_map told_token result ≡ slice_get (slice_index_or (lines_of self.now) line no_line).tokens place }
     {
-        let number = self.line(line)?.tokens.as_slice().get(place)?;
-        Some(self.told(*number))
+        let entry = self.line(line)?;
+        match entry.tokens.as_slice().get(place) {
+            Some(number) => Some(self.told(*number)),
+            None => None,
+        }
     }
 }

@@ -13,11 +13,7 @@ use std::alloc::{AllocError, Global};
 use world_meaning::Listed;
 
 /// Mentions a token's word.
-fn mention_token(
-    alloc: Global,
-    strings: &mut Strings,
-    token: &KeptToken,
-) -> Result<(), AllocError>
+fn mention_token(alloc: Global, strings: &mut Strings, token: &KeptToken) -> Result<(), AllocError>
     ensures { OnOk result (strings.new ≡ fold mention strings.old (token_strings (token_meant token.now))) }
 {
     match token {
@@ -29,11 +25,7 @@ fn mention_token(
 
 /// Mentions the words of a line.
 #[tactic(auto, using(object_words::proofs::Folds::fold_both))]
-fn mention_line(
-    alloc: Global,
-    strings: &mut Strings,
-    line: &GrammarLine,
-) -> Result<(), AllocError>
+fn mention_line(alloc: Global, strings: &mut Strings, line: &GrammarLine) -> Result<(), AllocError>
     ensures { OnOk result (strings.new ≡ fold mention strings.old (line_strings (line_meant line.now))) }
 {
     let mut rest = line.tokens.as_slice();

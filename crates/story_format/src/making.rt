@@ -327,7 +327,15 @@ fn tables_but_codes(
         world: world_of(alloc, declared)?,
         objects: entries_of(alloc, strings, worded)?,
         ways: ways_of(alloc, declared.kinds.as_slice(), worded)?,
-        rules: rules_of(alloc, declared, lines, books, described_in(worded), rules, scenes)?,
+        rules: rules_of(
+            alloc,
+            declared,
+            lines,
+            books,
+            described_in(worded),
+            rules,
+            scenes,
+        )?,
         codes: empty(alloc),
     })
 }

@@ -116,7 +116,10 @@ fn is_right_token(strings: u16, number: u16) -> bool
 fn slot_count(tokens: &[u16]) -> usize
     ensures { result ≡ count_by is_slot_number tokens.now }
 {
-    tokens.iter().filter(|number| is_slot_number(**number)).count()
+    tokens
+        .iter()
+        .filter(|number| is_slot_number(**number))
+        .count()
 }
 
 fn are_right_tokens(strings: u16, tokens: &[u16]) -> bool

@@ -1,6 +1,8 @@
-use Rattle.std.proofs.Common.{ap, ◌∙◌}
+use Rattle.std.proofs.Common.{ap, refl, ◌∙◌}
 use Rattle.std.specs.List.{flat_map, fold}
-use Rattle.object_words.specs.Mentions.{mention}
+use Rattle.std.specs.Prelude.{map}
+use Rattle.command_grammar.specs.Lines.{line_meant}
+use Rattle.object_words.specs.Mentions.{first_mentions, mention}
 use Rattle.code_table.specs.Origins.{origins_meant}
 use Rattle.story_format.specs.Contents.{contents_meant}
 use Rattle.story_format.specs.Making.{story_lines, strings_of, strings_said, texts_named}
@@ -15,7 +17,8 @@ returns c =
     let said = c.args.contents.now in
     mentioned_on (strings_said (origins_meant said.texts.items said.rules.items said.scenes.items)) (texts_named (all_worded c.args.worded.now) (story_lines (contents_meant said).lines)) (flat_map text_strings said.texts.items)
     (flat_map rule_strings said.rules.items) _ _ _ _
-    c.in_ok-strings.ensures
-    (c.in_ok-mention_texts.ensures ∙ ap (λ texts. fold mention c.mention_entries.new.strings (flat_map text_strings texts)) c.as_slice-texts.ensures.value)
+    refl
+    (c.in_ok-strings.ensures ∙ ap (λ all. first_mentions (texts_named (all_worded c.args.worded.now) (story_lines (map line_meant all)))) c.as_slice.ensures.value)
+    (c.in_ok-mention_texts.ensures ∙ ap (λ texts. fold mention c.in_ok-strings.strings (flat_map text_strings texts)) c.as_slice-texts.ensures.value)
     (c.in_ok-mention_rules.ensures ∙ ap (λ rules. fold mention c.mention_texts.new.strings (flat_map rule_strings rules)) c.as_slice-rules.ensures.value)
     (all_mentioned said.texts.items said.rules.items said.scenes.items)
