@@ -241,8 +241,8 @@ OWN_LINES = LONGEST - len(LINES)
 LOOK = LINES[0][1][0]
 save("plays_lines_of_slots", [], [], grammar=[(2, [SOMETHING])] * OWN_LINES + LINES)
 save("plays_lines_of_two_slots", [], [], grammar=[(4, [LOOK, SOMETHING, SOMETHING])] * OWN_LINES + LINES)
-save("plays_lines_of_32_words", [], [], grammar=[(0, [LOOK] * 32)] * OWN_LINES + LINES)
-save("L5_lines_of_33_words", [], [], grammar=[(0, [LOOK] * 32)] * OWN_LINES + LINES[1:] + [(0, [LOOK] * 33)])
+save("plays_lines_of_32_words", [], [], grammar=[(0, [LOOK] * 32)] * 20000 + LINES)
+save("L5_lines_of_33_words", [], [], grammar=LINES + [(0, [LOOK] * 32)] * 20000 + [(0, [LOOK] * 33)])
 save("L5_lines_of_a_slot_too_many", [], [], grammar=[(2, [SOMETHING])] * OWN_LINES + LINES[1:] + [(2, [SOMETHING] * 2)])
 save("L5_lines_backwards", [], [], grammar=LINES[::-1] * (LONGEST // len(LINES)))
 def described(count):
