@@ -98,6 +98,7 @@ naming asserts.Aside key h = absurd h
 naming (asserts.Description text) key h = absurd h
 naming (asserts.Rule rule) key h = absurd h
 naming (asserts.SceneChange change) key h = absurd h
+naming (asserts.Understand understanding) key h = absurd h
 naming (asserts.Listing listing) key h = absurd h
 naming (asserts.Action action) key h = absurd h
 naming _ key h = refl

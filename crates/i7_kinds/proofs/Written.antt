@@ -68,6 +68,7 @@ of_assertion named (asserts.VariableIs variable number) text e = cc
 of_assertion named (asserts.Are being) text e = none_of_subject named being.subjects text e
 of_assertion named (asserts.Rule rule) text e = cc
 of_assertion named (asserts.SceneChange change) text e = cc
+of_assertion named (asserts.Understand understanding) text e = cc
 of_assertion named (asserts.Listing listing) text e = cc
 of_assertion named (asserts.Action declaration) text e = cc
 

@@ -108,13 +108,14 @@ KindsAreOne =
     (sentences : List Sentence) (tale : Tale) (name kind other : List ℕ) → tale_said sentences ≡ Ok tale
     → HasKind (claims_of sentences) name kind → HasKind (claims_of sentences) name other → kind ≡ other
 
--- an assertion may claim something: no title and heading does, no text that stands alone, no rule, no listing of one, no action and
--- nothing that a scene begins or ends on
+-- an assertion may claim something: no title and heading does, no text that stands alone, no rule, no listing of one, no action, nothing
+-- that a scene begins or ends on, and nothing that tells what commands mean
 abbrev pub is_claiming : Assertion → Bool
 is_claiming assertion.Aside = false
 is_claiming (assertion.Description text) = false
 is_claiming (assertion.Rule rule) = false
 is_claiming (assertion.SceneChange change) = false
+is_claiming (assertion.Understand understanding) = false
 is_claiming (assertion.Listing listing) = false
 is_claiming (assertion.Action action) = false
 is_claiming _ = true

@@ -6,6 +6,7 @@ pub mod Cutting
 pub mod Digits
 pub mod Ends
 pub mod Fitting
+pub mod Hearing
 pub mod Keywords
 pub mod Leading
 pub mod Lists
@@ -20,7 +21,6 @@ pub mod Speaking
 pub mod SmallRows
 pub mod Spelling
 pub mod Telling
-pub mod Understanding
 pub mod Verdicts
 pub mod WordColumns
 pub mod RisingLines

@@ -12,7 +12,7 @@ use Rattle.i7_sentences.specs.declared.heard.Heard.TheVariants as heard
 use Rattle.i7_sentences.specs.declared.sentence.Assertion.{Assertion}
 use Rattle.i7_sentences.specs.declared.sentence.Sentence.{Sentence}
 use Rattle.i7_sentences.proofs.Lowest.{none-some}
-use Rattle.i7_sentences.proofs.Understanding.{is_heard, is_said, tells_reserved, tells_unread}
+use Rattle.i7_sentences.proofs.Hearing.{is_heard, is_said, tells_reserved, tells_unread}
 
 abbrev Good : (Piece → ℕ → Type 0) → Piece → Type 0
 Good Bad part = (line : ℕ) → Bad part line → ⊥

@@ -14,7 +14,7 @@ use Rattle.i7_sentences.specs.Stretches.{bad_literal_of}
 use Rattle.i7_sentences.specs.declared.sentence.Sentence.{Sentence}
 use Rattle.i7_sentences.proofs.Lowest.{lowest_found, lowest_line, none_found, nowhere_none}
 use Rattle.i7_sentences.proofs.Spelling.{are_said, spelled}
-use Rattle.i7_sentences.proofs.Understanding.{tells_literal, tells_reserved, tells_unread}
+use Rattle.i7_sentences.proofs.Hearing.{tells_literal, tells_reserved, tells_unread}
 
 fault_at : FaultCode → ℕ → Fault
 fault_at code line = record { code = code; line = line }

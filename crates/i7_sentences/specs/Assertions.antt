@@ -16,6 +16,7 @@ use Rattle.i7_sentences.specs.Names.{joined, name_of, names_from}
 use Rattle.i7_sentences.specs.RuleListings.{listed_first, listed_last, not_listed}
 use Rattle.i7_sentences.specs.SceneChanges.{scene_change}
 use Rattle.i7_sentences.specs.TextPieces.{is_text_read, text_pieces}
+use Rattle.i7_sentences.specs.Understandings.{understands}
 use Rattle.i7_sentences.specs.Words.{word_of, direction_named}
 use Rattle.i7_sentences.specs.declared.keyword.Keyword.TheVariants as keyword
 use Rattle.i7_sentences.specs.declared.form.Form.{Form}
@@ -207,6 +208,7 @@ are _ = None
 -- what a form says with these letters
 unfoldable pub assertion_of : Form → List (List Token) → Option Assertion
 assertion_of form.Description letters = description letters
+assertion_of form.Understand letters = understands letters
 assertion_of form.SceneBegins letters = scene_change edge.Begins letters
 assertion_of form.SceneEnds letters = scene_change edge.Ends letters
 assertion_of form.ListedFirst letters = listed_first letters
@@ -236,8 +238,8 @@ assertion_of (form.WhatHeld relation) letters = what_held relation letters
 assertion_of form.Is letters = are letters
 assertion_of _ letters = None
 
--- the forms that say something whatever their letters are, descriptions aside: neither rules nor what a scene begins or ends on, whose
--- words have a shape of their own; understandings aren't read so far
+-- the forms that say something whatever their letters are, descriptions aside: neither rules, what a scene begins or ends on, nor what
+-- commands mean, whose words and texts have a shape of their own
 abbrev pub is_asserting : Form → Bool
 is_asserting form.Understand = false
 is_asserting form.BeforeRule = false

@@ -34,5 +34,6 @@ pub mod SpokenPhrases
 pub mod Stretches
 pub mod Tags
 pub mod TextPieces
+pub mod Understandings
 pub mod WordColumns
 pub mod Words

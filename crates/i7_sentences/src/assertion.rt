@@ -7,6 +7,7 @@ use crate::declaration::{
     can_be, can_be_either, kind_of_kind, number_property, rulebook, scene, usually, usually_number,
     variable,
 };
+use crate::grammar_sentence::understands;
 use crate::letter::{describing_text, number_in, side_direction};
 use crate::name::{joined, name_of};
 use crate::names::names_of;
@@ -293,6 +294,7 @@ pub fn assertion_of(
 {
     match form {
         Form::Description => Ok(description(alloc, letters)?),
+        Form::Understand => Ok(understands(alloc, letters)?),
         Form::SceneBegins => Ok(scene_change(alloc, SceneEdge::Begins, letters)?),
         Form::SceneEnds => Ok(scene_change(alloc, SceneEdge::Ends, letters)?),
         Form::ListedFirst => Ok(listed_first(alloc, letters)?),

@@ -19,6 +19,7 @@ pub enum Piece {
 pub enum Form {
     /// A text alone.
     Description,
+    /// `understand "orb" or "globe" as the ball`
     Understand,
     BeforeRule,
     InsteadRule,

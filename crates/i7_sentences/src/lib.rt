@@ -21,6 +21,7 @@ mod declaration;
 mod describing;
 mod due;
 mod form;
+mod grammar_sentence;
 mod head_words;
 mod heard;
 mod keyword;
@@ -65,6 +66,7 @@ pub use body_order::{body_fault, reserved_line};
 pub use class::{Class, PHRASES, State};
 pub use cut::HEADINGS;
 pub use form::{FORMS, Form, Piece};
+pub use grammar_sentence::Understanding;
 pub use keyword::{ARTICLES, KEYWORDS, Keyword, RESERVED};
 pub use laws::{
     cut_is_exact, forms_that_fit_speak, found_is_read, heads_are_parted_at_the_first,

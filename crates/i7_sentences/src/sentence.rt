@@ -1,5 +1,5 @@
 //! Sentences and what they assert.
-use crate::{ActionDeclaration, Name, Names, Rule, RuleListing, SceneChange};
+use crate::{ActionDeclaration, Name, Names, Rule, RuleListing, SceneChange, Understanding};
 use world_meaning::{Direction, Rel, TextBytes};
 
 /// What one sentence asserts, its names as it mentions them.
@@ -81,6 +81,8 @@ pub enum Assertion {
     Rule(Rule),
     /// `the storm begins when the score is at least 1`
     SceneChange(SceneChange),
+    /// `understand "orb" or "globe" as the ball`, `understand "weigh [something]" as weighing`
+    Understand(Understanding),
     /// `the oak rule is listed first in the instead rules`, `the oak rule is not listed in any rulebook`
     Listing(RuleListing),
     /// `weighing it with is an action applying to one carried thing and one thing`

@@ -121,7 +121,7 @@ fn add_bracket(alloc: Global, part: &[u8], all: &mut Vec<TextPiece>) -> Result<(
 
 /// The part up to the first `[`, and the bytes behind that.
 #[tactic(auto, using(crate::proofs::Telling::part_steps))]
-fn first_part(text: &[u8]) -> Option<(&[u8], &[u8])>
+pub fn first_part(text: &[u8]) -> Option<(&[u8], &[u8])>
     ensures parts { MatchOption result (parts_of text.now ≡ text.now ∷ []) (λ parts. parts_of text.now ≡ parts.0.now ∷ parts_of parts.1.now) }
     ensures shorter { IfSome result (λ parts. length parts.1.now < length text.now) }
 {
@@ -203,7 +203,7 @@ fn has_closing(part: &[u8]) -> bool
 
 /// Whether a part that stands behind a `[` has its `]`, and words in front of that.
 #[tactic(auto, unfolding(crate::specs::TextPieces::is_bracket_read))]
-fn is_bracket_read(part: &[u8]) -> bool
+pub fn is_bracket_read(part: &[u8]) -> bool
     ensures { result ≡ is_bracket_read part.now }
 {
     has_closing(part) && is_of_words(in_front_of_closing(part))

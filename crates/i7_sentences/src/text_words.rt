@@ -52,7 +52,7 @@ fn add_run(alloc: Global, run: &[u8], all: &mut Vec<TextBytes>) -> Result<(), Al
 }
 
 /// The words of these bytes, each by itself.
-fn runs_of(alloc: Global, bytes: &[u8]) -> Result<Vec<TextBytes>, AllocError>
+pub fn runs_of(alloc: Global, bytes: &[u8]) -> Result<Vec<TextBytes>, AllocError>
     ensures { IfOk result (λ runs. runs.items ≡ runs_of bytes.now) }
 {
     let mut all = Vec::new(alloc);

@@ -3,7 +3,8 @@ use crate::actions::add_action;
 use crate::names::{add, add_declared, add_name, add_names};
 use crate::plans::add_plan;
 use crate::rules::{add_listing, add_rule, add_scene_change};
-use i7_sentences::{Assertion, Being, Name, Side, Way};
+use crate::texts::{add_printed, add_words};
+use i7_sentences::{Assertion, Being, Name, Side, Understanding, Way};
 use std::alloc::{AllocError, Global};
 use world_meaning::Rel;
 
@@ -49,6 +50,16 @@ fn add_being(out: &mut Vec<u8>, being: &Being) -> Result<(), AllocError> {
     }
 }
 
+/// Adds what texts mean: `means<ball>|orb||globe|`.
+fn add_understanding(out: &mut Vec<u8>, understanding: &Understanding) -> Result<(), AllocError> {
+    out.extend_from_slice(b"means")?;
+    add_words(out, b'<', &understanding.meaning, b'>')?;
+    for text in understanding.texts.as_slice() {
+        add_printed(out, text.as_slice())?;
+    }
+    Ok(())
+}
+
 /// Adds what an assertion says.
 pub fn add_said(alloc: Global, out: &mut Vec<u8>, said: &Assertion) -> Result<(), AllocError> {
     match said {
@@ -79,6 +90,7 @@ pub fn add_said(alloc: Global, out: &mut Vec<u8>, said: &Assertion) -> Result<()
         Assertion::Rule(rule) => add_rule(alloc, out, rule),
         Assertion::Listing(listing) => add_listing(out, listing),
         Assertion::SceneChange(change) => add_scene_change(out, change),
+        Assertion::Understand(understanding) => add_understanding(out, understanding),
         Assertion::Action(action) => add_action(out, action),
         _ => add_plan(alloc, out, said),
     }

@@ -28,14 +28,18 @@ pub fn add_words(
     Ok(())
 }
 
+/// Adds bytes as they are.
+pub fn add_printed(out: &mut Vec<u8>, bytes: &[u8]) -> Result<(), AllocError> {
+    out.push(b'|')?;
+    out.extend_from_slice(bytes)?;
+    out.push(b'|')?;
+    Ok(())
+}
+
 /// Adds a piece.
 fn add_piece(out: &mut Vec<u8>, piece: &TextPiece) -> Result<(), AllocError> {
     match piece {
-        TextPiece::Printed(bytes) => {
-            out.push(b'|')?;
-            out.extend_from_slice(bytes.as_slice())?;
-            out.push(b'|')?;
-        }
+        TextPiece::Printed(bytes) => add_printed(out, bytes.as_slice())?,
         TextPiece::Substitution(words) => add_words(out, b'<', words, b'>')?,
         TextPiece::If(words) => add_words(out, b'{', words, b':')?,
         TextPiece::Otherwise => out.push(b'/')?,

@@ -1,5 +1,6 @@
 -- The tale of sentences is what is told of it by their claims, with the actions that they declare.
-use Rattle.std.proofs.Common.{◌≡◌, refl, List, length, Ok}
+use Rattle.std.proofs.Common.{◌≡◌, refl, true, List, [], length, Ok}
+use Rattle.std.specs.List.{list_all}
 use Rattle.std.specs.Prelude.{Result, Err}
 use Rattle.std.proofs.lemmas.List.{length-map}
 use Rattle.world_meaning.specs.Declarations.{is_well_declared, suits_kind}
@@ -9,7 +10,8 @@ use Rattle.world_meaning.specs.declared.tale.Tale.{Tale}
 use Rattle.i7_kinds.specs.Actions.{actions_said, told_with, with_actions}
 use Rattle.i7_sentences.specs.ActionDeclarations.{ActionAt, actions_declared}
 use Rattle.i7_sentences.specs.declared.sentence.Sentence.{Sentence}
-use Rattle.story_format.specs.Holding.{IsHeld}
+use Rattle.story_format.specs.Holding.{IsHeld, has_few_words}
+use Rattle.story_format.specs.Making.{worded}
 
 pub record Acted (actions : List Needs) (said : Result Tale Fault) (tale : Tale) : Type 0 where
   pub before : Tale
@@ -24,10 +26,15 @@ pub actions_counted : (sentences : List Sentence) → length (actions_said sente
 unfolding actions_said
 actions_counted sentences = length-map (actions_declared sentences) (λ (action : ActionAt). action.said.needs)
 
+-- a tale that a story file holds, and whose objects have few words by their names
+pub record IsKept (tale : Tale) : Type 0 where
+  pub held : IsHeld tale
+  pub words : list_all has_few_words (worded [] tale.objects) ≡ true
+
 -- a tale that a story file holds is held with any actions
-pub held_with : (actions : List Needs) (tale : Tale) → IsHeld tale → IsHeld (told_with actions tale)
+still_held : (actions : List Needs) (tale : Tale) → IsHeld tale → IsHeld (told_with actions tale)
 unfolding is_well_declared suits_kind
-held_with actions tale held = record {
+still_held actions tale held = record {
   made = record {
     declared = held.made.declared;
     begins = held.made.begins;
@@ -38,5 +45,7 @@ held_with actions tale held = record {
     exits = held.made.exits;
   };
   texts = held.texts;
-  words = held.words;
 }
+
+pub kept_with : (actions : List Needs) (tale : Tale) → IsKept tale → IsKept (told_with actions tale)
+kept_with actions tale kept = record { held = still_held actions tale kept.held; words = kept.words }

@@ -20,7 +20,9 @@ use Rattle.story_format.specs.Spells.{Spells}
 use Rattle.story_format.proofs.Carried.{tale_carried}
 use Rattle.story_file.specs.Compilations.{IsCompiled, IsRefused, IsToldAs, Means, Says, memory, unheld, unmeant}
 use Rattle.story_file.specs.Meanings.{AreMeant, AreRefused, AreTexts, descriptions_of, scope_said}
-use Rattle.story_file.proofs.Held.{tale_held}
+use Rattle.story_file.proofs.Acted.{IsKept}
+use Rattle.story_file.proofs.GrammarOf.{few_lines, few_words, lines_are, small_synonyms}
+use Rattle.story_file.proofs.Held.{tale_kept}
 use Rattle.story_file.proofs.Outcomes.{refused_so}
 use Rattle.story_file.proofs.Counted.{acts_are}
 use Rattle.story_file.proofs.Ranges.{says_first_nouns, says_ranged}
@@ -52,9 +54,16 @@ module _ (source : List ℕ) (sentences lent : List Sentence) (says : Says sourc
     means : Means source tale said
     means = record { sentences = sentences; says = says; meant = subst (λ (all : List Sentence). AreMeant all tale said) same meant }
 
-    pub is_held : IsHeld tale
+    kept : IsKept tale
     unfolding means
-    is_held = tale_held sentences tale (says_ranged source sentences says) means.meant.tale_is
+    kept = tale_kept sentences tale (says_ranged source sentences says) means.meant.tale_is
+
+    pub is_held : IsHeld tale
+    is_held = kept.held
+
+    first_so : list_all has_first_noun tale.declared.actions ≡ true
+    unfolding means
+    first_so = subst (λ (all : List Needs). list_all has_first_noun all ≡ true) (acts_are sentences tale means.meant.tale_is) (says_first_nouns source sentences says)
 
     pub are_of : AreOf tale said
     unfolding means
@@ -62,7 +71,11 @@ module _ (source : List ℕ) (sentences lent : List Sentence) (says : Says sourc
       many = texts_counted (scope_said lent) tale.objects said.texts meant.texts_are;
       few = few_rules lent tale said meant;
       few_actions = acts_few lent tale said meant;
-      first_nouns = subst (λ (all : List Needs). list_all has_first_noun all ≡ true) (acts_are sentences tale means.meant.tale_is) (says_first_nouns source sentences says);
+      first_nouns = first_so;
+      few_lines = few_lines lent tale said meant;
+      lines = lines_are lent tale said meant first_so;
+      small = small_synonyms lent tale said meant;
+      few_words = few_words lent tale said meant kept.words;
       named = rules_named lent tale said meant;
       scenes = scenes_recur lent tale said meant;
     }

@@ -20,6 +20,7 @@ use Rattle.world_meaning.specs.declared.fault.FaultCode.TheVariants.{TooMany}
 use Rattle.world_meaning.specs.declared.place.Place.{Place}
 use Rattle.world_meaning.specs.declared.tale.Tale.{Tale}
 use Rattle.i7_sentences.specs.declared.sentence.Sentence.{Sentence}
+use Rattle.command_grammar.specs.Synonyms.{words_said}
 use Rattle.object_words.specs.Words.{more_words, words_for}
 use Rattle.i7_claims.specs.Claims.{claims_of}
 use Rattle.i7_kinds.specs.Demands.{descriptions_of, description_of, first_target, implied_in, implied_leads, is_exit, is_wrong, line_at, line_of_description, stated_in, stated_leads, subject_of, target_of, way_back, way_there, way_through, wrong_after, wrong_kind}
@@ -55,7 +56,7 @@ use Rattle.i7_claims.proofs.Ranged.{AreRanged, AreRangedSentences, source_ranged
 use Rattle.i7_kinds.proofs.Ranged.{AreRangedValues, said_ranged, starts_in_range}
 use Rattle.i7_kinds.proofs.Readiness.{fine_of}
 use Rattle.i7_kinds.proofs.Rooted.{authors_behind, authors_rooted}
-use Rattle.story_file.proofs.Acted.{acted, held_with}
+use Rattle.story_file.proofs.Acted.{IsKept, acted, kept_with}
 use Rattle.story_file.proofs.MadeDeclarations.{Behind, behind_of, declared_held, declared_is, declared_with, kinds_many, kinds_with, starts_counted, suited_held}
 use Rattle.story_file.proofs.MadeObjects.{LeadToRooms, all_lead, all_placed, begins_held, entries_counted, kinds_counted, kinds_held, objects_kinds, objects_places, same_kinds, told}
 use Rattle.story_file.proofs.MadePlaces.{all_suited, all_whole, direction_is, direction_nowhere, kind_known, place_in_room, player_person, tree_with_player}
@@ -252,17 +253,17 @@ same_words o name le = rw (no_more o le) refl
 few_if : (n : ℕ) → ltb 32 n ≡ false → leb n 32 ≡ true
 few_if n h = le-leb _ _ (ltb-false _ _ h)
 
-authors_few : (m : Made) (o : ℕ) (mentions : List NameAt) → 13 ≤ o → list_all has_short_name mentions ≡ true → list_all has_few_words (worded_from o (objects_of m o (map author_entry mentions))) ≡ true
-unfolding object_as
+authors_few : (m : Made) (o : ℕ) (mentions : List NameAt) → 13 ≤ o → list_all has_short_name mentions ≡ true → list_all has_few_words (worded_from [] o (objects_of m o (map author_entry mentions))) ≡ true
+unfolding object_as words_said
 authors_few m o [] le h = refl
 authors_few m o (at ∷ mentions) le h =
     let t = and_parts (has_short_name at) (list_all has_short_name mentions) h in
     let few : leb (length (words_for 13 at.name.text)) 32 ≡ true = few_if (length (words_for 13 at.name.text)) (or_parts (ltb 65535 (length at.name.text)) (ltb 32 (length (words_for 13 at.name.text))) (not-true (has_long_name at) t.0)).1 in
-    and_from (leb (length (words_for o at.name.text)) 32) (list_all has_few_words (worded_from (o + 1) (objects_of m (o + 1) (map author_entry mentions)))) (ap (λ (ws : List (List ℕ)). leb (length ws) 32) (same_words o at.name.text le) ∙ few)
+    and_from (leb (length (words_for o at.name.text)) 32) (list_all has_few_words (worded_from [] (o + 1) (objects_of m (o + 1) (map author_entry mentions)))) (ap (λ (ws : List (List ℕ)). leb (length ws) 32) (same_words o at.name.text le) ∙ few)
     (authors_few m (o + 1) mentions (omega (arith, le)) t.1)
 
-words_held : (m : Made) (mentions : List NameAt) → list_all has_short_name mentions ≡ true → list_all has_few_words (worded (objects_of m 0 (entries_of mentions))) ≡ true
-unfolding entries_of object_as words_for more_words direction_name short_word
+words_held : (m : Made) (mentions : List NameAt) → list_all has_short_name mentions ≡ true → list_all has_few_words (worded [] (objects_of m 0 (entries_of mentions))) ≡ true
+unfolding entries_of object_as words_for words_said more_words direction_name short_word
 words_held m mentions h = authors_few m 13 mentions (omega arith) h
 
 -- ---- all of it
@@ -379,7 +380,7 @@ tale_with declared parents knowns places values usuals descriptions statements m
 
 objects_held : (claims : List Claim) (keys : List (List ℕ)) (statements : List NumberedSentence) (mentions : List NameAt) → length keys ≡ 13 + length mentions → AreRanged claims
     → refusal_of (scope_of claims keys) (knowns_of (scope_of claims keys) claims) claims statements mentions ≡ None
-    → IsHeld (record { declared = declared_by claims; objects = objects_of (made_of (scope_of claims keys) (knowns_of (scope_of claims keys) claims) claims statements) 0 (entries_of mentions) })
+    → IsKept (record { declared = declared_by claims; objects = objects_of (made_of (scope_of claims keys) (knowns_of (scope_of claims keys) claims) claims statements) 0 (entries_of mentions) })
 objects_held claims keys statements mentions counted ranged none =
     let s = scope_of claims keys in
     let knowns = knowns_of s claims in
@@ -408,14 +409,14 @@ objects_held claims keys statements mentions counted ranged none =
     let values = values_by bearer.Objects s claims in
     let usuals = values_by bearer.Kinds s claims in
     let m = made_with (declared_with behind) (kinds_with behind) knowns placed values usuals descriptions statements in
-    let held : IsHeld (tale_with (declared_with behind) (kinds_with behind) knowns placed values usuals descriptions statements mentions) = record { made = objects_made behind knowns (places_by keys claims) room.0 values usuals descriptions statements mentions declared (said_ranged bearer.Objects s claims ranged) (said_ranged bearer.Kinds s claims ranged) whole; texts = texts_held m mentions limits.0 limits.1; words = words_held m mentions limits.0 } in
+    let held : IsKept (tale_with (declared_with behind) (kinds_with behind) knowns placed values usuals descriptions statements mentions) = record { held = record { made = objects_made behind knowns (places_by keys claims) room.0 values usuals descriptions statements mentions declared (said_ranged bearer.Objects s claims ranged) (said_ranged bearer.Kinds s claims ranged) whole; texts = texts_held m mentions limits.0 limits.1 }; words = words_held m mentions limits.0 } in
     let declares : declared_with behind ≡ declared_by claims = declared_is claims in
     let where_placed : placed ≡ with_player (places_by keys claims) found = sym (ap (with_player (places_by keys claims)) room.1) in
-    subst IsHeld (λ i. tale_with (declares i) (sym kinds i) knowns (where_placed i) values usuals descriptions statements mentions) held
+    subst IsKept (λ i. tale_with (declares i) (sym kinds i) knowns (where_placed i) values usuals descriptions statements mentions) held
 
--- a story file holds the tale that sentences mean
-pub tale_held : (sentences : List Sentence) (tale : Tale) → AreRangedSentences sentences → tale_said sentences ≡ Ok tale → IsHeld tale
-tale_held sentences tale ranged meant =
+-- a story file holds the tale that sentences mean, and no object has more than 32 words by its name
+pub tale_kept : (sentences : List Sentence) (tale : Tale) → AreRangedSentences sentences → tale_said sentences ≡ Ok tale → IsKept tale
+tale_kept sentences tale ranged meant =
     let claims = claims_of sentences in
     let keys = (named_by sentences).keys in
     let s = scope_of claims keys in
@@ -426,4 +427,4 @@ tale_held sentences tale ranged meant =
     let told = acted (actions_said sentences) (or_refused (refusal_of s knowns claims statements mentions) whole) tale meant in
     let t = meant_none (refusal_of s knowns claims statements mentions) whole told.before told.said_is in
     let held = objects_held claims keys statements mentions (counted-source sentences) (source_ranged sentences ranged) t.0 in
-    subst IsHeld told.tale_is (held_with (actions_said sentences) told.before (subst IsHeld t.1 held))
+    subst IsKept told.tale_is (kept_with (actions_said sentences) told.before (subst IsKept t.1 held))

@@ -10,6 +10,7 @@ pub mod NounsAgree
 pub mod Outcomes
 pub mod Ranges
 pub mod Resolving
+pub mod GrammarOf
 pub mod RulesOf
 pub mod ScenesOf
 pub mod Understood

@@ -5,6 +5,8 @@ use Rattle.std.specs.List.{AllZip}
 use Rattle.world_meaning.specs.declared.fault.Fault.{Fault}
 use Rattle.world_meaning.specs.declared.fault.FaultCode.TheVariants.{Memory}
 use Rattle.world_meaning.specs.declared.tale.Tale.{Tale}
+use Rattle.command_grammar.specs.declared.synonym.Synonym.{Synonym}
+use Rattle.play_meaning.specs.Grammar.{Line}
 use Rattle.play_meaning.specs.Patterns.{rule_meant}
 use Rattle.play_meaning.specs.Rules.{Rule}
 use Rattle.play_meaning.specs.Scripts.{Scene}
@@ -32,7 +34,7 @@ use Rattle.story_format.specs.Contents.{Contents}
 use Rattle.story_format.specs.Holding.{AreHeld, NeverHeldAndNot}
 use Rattle.story_file.specs.Compilations.{IsCompiled, IsRefused, IsToldAs, Means, Says, memory, unheld as untold, unmeant as unsaid, unread, unspelled}
 use Rattle.story_file.specs.Meanings.{AreMeant, AreRefused, AreTexts, descriptions_of, known_said, scope_said, unmeant, unresolved}
-use Rattle.story_file.specs.Rules.{listings_told, rules_told, scenes_told}
+use Rattle.story_file.specs.Rules.{lines_told, listings_told, rules_told, scenes_told, synonyms_told}
 
 -- what is known of texts and of what is resolved: each means one thing
 abbrev pub IsOneText : Type 0
@@ -80,7 +82,7 @@ author_of meant = record {
 }
 
 abbrev rules_of : ResolutionMeant → List Rule
-rules_of (All rules texts listings scenes) = map author_of rules
+rules_of (All rules texts listings scenes lines synonyms) = map author_of rules
 rules_of (NoneFor fault) = []
 
 authored : (rules : List SourceRule) → map (λ told. rule_meant told.rule) rules ≡ map author_of (map source_rule_meant rules)
@@ -94,7 +96,7 @@ rules_once law k recurring sentences one other is again =
 -- ---- where sentences list rules
 
 abbrev listings_of : ResolutionMeant → List ListingSentence
-listings_of (All rules texts listings scenes) = listings
+listings_of (All rules texts listings scenes lines synonyms) = listings
 listings_of (NoneFor fault) = []
 
 listings_once : IsOneResolution → (k : Known) (recurring : List Bool) (sentences : List Sentence) (one other : Resolved) → IsResolution k recurring sentences (Understood one) → IsResolution k recurring sentences (Understood other) → listings_told one ≡ listings_told other
@@ -103,11 +105,27 @@ listings_once law k recurring sentences one other is again = ap listings_of (law
 -- ---- scenes
 
 abbrev scenes_of : ResolutionMeant → List Scene
-scenes_of (All rules texts listings scenes) = scenes
+scenes_of (All rules texts listings scenes lines synonyms) = scenes
 scenes_of (NoneFor fault) = []
 
 scenes_once : IsOneResolution → (k : Known) (recurring : List Bool) (sentences : List Sentence) (one other : Resolved) → IsResolution k recurring sentences (Understood one) → IsResolution k recurring sentences (Understood other) → scenes_told one ≡ scenes_told other
 scenes_once law k recurring sentences one other is again = ap scenes_of (law k recurring sentences (Understood one) (Understood other) is again)
+
+-- ---- lines of the grammar and synonyms
+
+abbrev lines_of : ResolutionMeant → List Line
+lines_of (All rules texts listings scenes lines synonyms) = lines
+lines_of (NoneFor fault) = []
+
+lines_once : IsOneResolution → (k : Known) (recurring : List Bool) (sentences : List Sentence) (one other : Resolved) → IsResolution k recurring sentences (Understood one) → IsResolution k recurring sentences (Understood other) → lines_told one ≡ lines_told other
+lines_once law k recurring sentences one other is again = ap lines_of (law k recurring sentences (Understood one) (Understood other) is again)
+
+abbrev synonyms_of : ResolutionMeant → List Synonym
+synonyms_of (All rules texts listings scenes lines synonyms) = synonyms
+synonyms_of (NoneFor fault) = []
+
+synonyms_once : IsOneResolution → (k : Known) (recurring : List Bool) (sentences : List Sentence) (one other : Resolved) → IsResolution k recurring sentences (Understood one) → IsResolution k recurring sentences (Understood other) → synonyms_told one ≡ synonyms_told other
+synonyms_once law k recurring sentences one other is again = ap synonyms_of (law k recurring sentences (Understood one) (Understood other) is again)
 
 -- ---- tales
 
@@ -138,8 +156,14 @@ module _ (text_law : IsOneText) (law : IsOneResolution) (sentences : List Senten
   meant_scenes_once : said.scenes ≡ others.scenes
   meant_scenes_once = one.scenes_are ∙ scenes_once law k recurring sentences one.resolved second.resolved one.resolved_is resolved_again ∙ sym second.scenes_are
 
+  meant_lines_once : said.lines ≡ others.lines
+  meant_lines_once = one.lines_are ∙ lines_once law k recurring sentences one.resolved second.resolved one.resolved_is resolved_again ∙ sym second.lines_are
+
+  meant_synonyms_once : said.synonyms ≡ others.synonyms
+  meant_synonyms_once = one.synonyms_are ∙ synonyms_once law k recurring sentences one.resolved second.resolved one.resolved_is resolved_again ∙ sym second.synonyms_are
+
   meant_once : (tale ≡ other) × (said ≡ others)
-  meant_once = (tale_once, λ i. record { texts = texts_once i; rules = meant_rules_once i; listings = meant_listings_once i; scenes = meant_scenes_once i })
+  meant_once = (tale_once, λ i. record { texts = texts_once i; rules = meant_rules_once i; listings = meant_listings_once i; scenes = meant_scenes_once i; lines = meant_lines_once i; synonyms = meant_synonyms_once i })
 
 pub same_tale : IsOneText → IsOneResolution → (source : List ℕ) (tale other : Tale) (said others : Contents) → Means source tale said → Means source other others → (tale ≡ other) × (said ≡ others)
 same_tale text_law law source tale other said others first second =

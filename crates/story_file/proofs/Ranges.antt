@@ -45,6 +45,7 @@ use Rattle.i7_sentences.specs.declared.sentence.Assertion.TheVariants as asserti
 use Rattle.i7_sentences.specs.declared.sentence.Sentence.{Sentence}
 use Rattle.i7_sentences.specs.declared.sentence.Side.{Side}
 use Rattle.i7_claims.proofs.Ranged.{AreRangedSentences, IsRangedSaid}
+use Rattle.i7_sentences.specs.Understandings.{are_choices, is_grammar_text, texts_in, understands, understands_so}
 use Rattle.story_format.specs.Holding.{has_first_noun}
 use Rattle.story_format.specs.RuleMaking.{noun_count}
 use Rattle.story_file.specs.Compilations.{Says}
@@ -122,6 +123,18 @@ change_ranged side [] = tt
 change_ranged side (scene ∷ []) = tt
 change_ranged side (scene ∷ words ∷ more ∷ rest) = tt
 
+unless_ranged : (is : Bool) (found : Option Assertion) → IsWellFound found → IsWellFound (if is then found else None)
+unless_ranged true found ranged = ranged
+unless_ranged false found ranged = tt
+
+understood_ranged : (letters : List (List Token)) → IsWellFound (understands letters)
+understood_ranged (texts ∷ meaning ∷ []) =
+    unless_ranged (are_choices texts) (understands_so (texts_in texts) meaning)
+    (asked_ranged (list_all is_grammar_text (texts_in texts)) (assertion.Understand (record { texts = texts_in texts; meaning = named_in meaning })) tt)
+understood_ranged [] = tt
+understood_ranged (texts ∷ []) = tt
+understood_ranged (texts ∷ meaning ∷ more ∷ rest) = tt
+
 form_ranged : (f : Form) (letters : List (List Token)) → IsWellFound (assertion_of f letters)
 unfolding assertion_of
 form_ranged form.Description (text ∷ []) = described_ranged (describing_text text)
@@ -143,6 +156,7 @@ form_ranged (form.ActionOnTwo sort) (name ∷ []) = refl
 form_ranged form.Rulebook (name ∷ []) = tt
 form_ranged form.Scene (name ∷ []) = tt
 form_ranged form.RecurringScene (name ∷ []) = tt
+form_ranged form.Understand letters = understood_ranged letters
 form_ranged form.SceneBegins letters = change_ranged edge.Begins letters
 form_ranged form.SceneEnds letters = change_ranged edge.Ends letters
 form_ranged form.KindOfKind (kind ∷ parent ∷ []) = tt

@@ -22,53 +22,29 @@ use Rattle.i7_rules.specs.RuleList.{Placed, RuleAt, placed, rules_in}
 use Rattle.i7_rules.specs.Heads.{IsBook, IsWithin, heading}
 use Rattle.i7_rules.proofs.Present.{head_there, scene_there}
 use Rattle.i7_rules.specs.SourceRules.{AreTold, IsOver, IsRulesFound, IsTold, most_rules}
-use Rattle.i7_rules.specs.declared.source_rules.RulesFound.{RulesFound}
-use Rattle.i7_rules.specs.declared.source_rules.RulesFound.TheVariants as ruled
 use Rattle.i7_rules.specs.declared.source_rules.SourceRule.{SourceRule}
 use Rattle.i7_sentences.specs.ActionDeclarations.{actions_declared}
 use Rattle.i7_sentences.specs.Lowest.{IsNowhere}
 use Rattle.i7_sentences.specs.declared.rule.RuleBook.{RuleBook}
 use Rattle.i7_sentences.specs.declared.rule.RuleBook.TheVariants as named
 use Rattle.i7_sentences.specs.declared.sentence.Sentence.{Sentence}
-use Rattle.i7_resolution.specs.Resolutions.{IsResolution, joined}
+use Rattle.i7_resolution.specs.Resolutions.{IsResolution}
 use Rattle.i7_resolution.specs.SourceActions.{action_of, actions_in, known_actions}
-use Rattle.i7_resolution.specs.declared.resolution.Resolution.{Resolution}
 use Rattle.i7_resolution.specs.declared.resolution.Resolution.TheVariants as resolution
 use Rattle.i7_resolution.specs.declared.resolution.Resolved.{Resolved}
-use Rattle.i7_resolution.specs.declared.source_listings.ListingsFound.{ListingsFound}
-use Rattle.i7_resolution.specs.declared.source_listings.ListingsFound.TheVariants as listed
-use Rattle.i7_resolution.specs.declared.source_scenes.ScenesFound.{ScenesFound}
-use Rattle.i7_resolution.specs.declared.source_scenes.ScenesFound.TheVariants as staged
-use Rattle.i7_resolution.specs.declared.source_texts.TextsFound.{TextsFound}
-use Rattle.i7_resolution.specs.declared.source_texts.TextsFound.TheVariants as found
 use Rattle.story_format.specs.Contents.{Contents}
 use Rattle.story_format.specs.Holding.{Named, is_asked, is_of, is_property, is_there, named_by, named_in}
 use Rattle.story_format.specs.RuleMaking.{book_count}
 use Rattle.story_file.specs.Meanings.{AreMeant, known_said}
 use Rattle.story_file.proofs.Counted.{actions_are, counts_of, names_are_there, rulebooks_counted, scenes_counted}
-use Rattle.story_file.proofs.Resolving.{few_actions, resolved_before}
+use Rattle.story_file.proofs.Resolving.{few_actions, said_of}
 
 -- ---- what is told of the rules
-
--- what is resolved, if anything is
-abbrev resolved_or : Resolved → Resolution → Resolved
-resolved_or other (resolution.Says resolved) = resolved
-resolved_or other (resolution.Refused fault) = other
-
-told_by : (k : Known) (sentences : List Sentence) (rules : RulesFound) (texts : TextsFound) (listings : ListingsFound) (scenes : ScenesFound) (resolved : Resolved)
-    → resolution.Says resolved ≡ joined rules texts listings scenes → IsRulesFound k sentences rules → AreTold k (reverse (rules_in sentences)) (reverse resolved.rules.items)
-told_by k sentences (ruled.Says rules) (found.Says texts) (listed.Says listings) (staged.Says scenes) resolved told are =
-    subst (λ (r : Resolved). AreTold k (reverse (rules_in sentences)) (reverse r.rules.items)) (sym (ap (resolved_or resolved) told)) are
-told_by k sentences (ruled.Says rules) (found.Says texts) (listed.Says listings) (staged.Refused fault) resolved told are = absurd cc
-told_by k sentences (ruled.Says rules) (found.Says texts) (listed.Refused fault) scenes resolved told are = absurd cc
-told_by k sentences (ruled.Says rules) (found.Refused fault) listings scenes resolved told are = absurd cc
-told_by k sentences (ruled.Refused fault) texts listings scenes resolved told are = absurd cc
 
 -- where nothing refuses the sentences
 told_all : (k : Known) (recurring : List Bool) (sentences : List Sentence) (resolved : Resolved) → IsResolution k recurring sentences (resolution.Says resolved) → AreTold k (reverse (rules_in sentences)) (reverse resolved.rules.items)
 told_all k recurring sentences resolved is =
-    let whole = is.is_joined in
-    told_by k sentences whole.rules whole.texts whole.listings whole.scenes resolved ((resolved_before k recurring sentences resolved is).1 ∙ whole.told_is) whole.rules_are
+    subst (IsRulesFound k sentences) (said_of k recurring sentences resolved is).rules is.is_joined.rules_are
 
 -- ---- there are few
 
@@ -126,7 +102,7 @@ module _ (z : Named) (y : Counts) (objects : z.objects ≡ y.objects) (kinds : z
       ap (λ (n : ℕ). nat_lt kind n && (nat_le (length all) 9 && list_all (is_property z.flags) all)) kinds
       ∙ ap (λ (b : Bool). nat_lt kind y.kinds && (nat_le (length all) 9 && b)) (same_adjectives all)
 
-sixteen : length standard_actions ≡ 16
+pub sixteen : length standard_actions ≡ 16
 unfolding standard_actions
 sixteen = refl
 

@@ -9,27 +9,19 @@ use Rattle.world_meaning.specs.declared.tale.Object.{Object}
 use Rattle.world_meaning.specs.declared.tale.Tale.{Tale}
 use Rattle.i7_kinds.specs.Tales.{tale_said}
 use Rattle.i7_kinds.specs.Written.{DescribesWith, DescriptionsAreWritten}
-use Rattle.i7_resolution.specs.Resolutions.{IsResolution, joined}
+use Rattle.i7_resolution.specs.Resolutions.{IsResolution}
 use Rattle.i7_resolution.specs.SourceTexts.{AreTold, IsOver, IsTextsFound, IsUnknown}
 use Rattle.i7_resolution.specs.TextList.{TextAt, texts_in, texts_said}
 use Rattle.i7_resolution.specs.declared.resolution.Resolution.TheVariants.{Says as Understood}
 use Rattle.i7_resolution.specs.declared.resolution.Resolved.{Resolved}
 use Rattle.i7_resolution.specs.declared.source_texts.SourceText.{SourceText}
-use Rattle.i7_resolution.specs.declared.source_listings.ListingsFound.{ListingsFound}
-use Rattle.i7_resolution.specs.declared.source_listings.ListingsFound.TheVariants as listed
-use Rattle.i7_resolution.specs.declared.source_scenes.ScenesFound.{ScenesFound}
-use Rattle.i7_resolution.specs.declared.source_scenes.ScenesFound.TheVariants as staged
-use Rattle.i7_resolution.specs.declared.source_texts.TextsFound.{TextsFound}
-use Rattle.i7_resolution.specs.declared.source_texts.TextsFound.TheVariants as found
 use Rattle.i7_conditions.specs.Scopes.{Scope}
 use Rattle.i7_rules.specs.Knowns.{Known, scope_among}
-use Rattle.i7_rules.specs.declared.source_rules.RulesFound.{RulesFound}
-use Rattle.i7_rules.specs.declared.source_rules.RulesFound.TheVariants as ruled
 use Rattle.i7_sentences.proofs.Sameness.{all_there}
 use Rattle.i7_sentences.specs.declared.sentence.Assertion.{Assertion}
 use Rattle.i7_sentences.specs.declared.sentence.Assertion.TheVariants as asserts
 use Rattle.i7_sentences.specs.declared.sentence.Sentence.{Sentence}
-use Rattle.story_file.proofs.Resolving.{resolved_before}
+use Rattle.story_file.proofs.Resolving.{said_of}
 use Rattle.story_file.specs.Texts.{AreReadable, CanBeRead, IsReadable}
 
 -- ---- where a text stands
@@ -87,15 +79,6 @@ turned texts bytes among = record {
 
 -- ---- what is known of it
 
--- what is told of sentences' texts where all is understood
-told_of : (k : Known) (sentences : List Sentence) (rules : RulesFound) (texts : TextsFound) (listings : ListingsFound) (scenes : ScenesFound) (resolved : Resolved) → Understood resolved ≡ joined rules texts listings scenes → IsTextsFound k sentences texts
-    → (told : List SourceText) × AreTold k (reverse (texts_in sentences)) told
-told_of k sentences (ruled.Says rules) (found.Says texts) (listed.Says listings) (staged.Says scenes) resolved told are = (reverse texts.items, are)
-told_of k sentences (ruled.Says rules) (found.Says texts) (listed.Says listings) (staged.Refused fault) resolved told are = absurd cc
-told_of k sentences (ruled.Says rules) (found.Says texts) (listed.Refused fault) scenes resolved told are = absurd cc
-told_of k sentences (ruled.Says rules) (found.Refused fault) listings scenes resolved told are = absurd cc
-told_of k sentences (ruled.Refused fault) texts listings scenes resolved told are = absurd cc
-
 abbrev Never : (TextAt → ℕ → Type 0) → TextAt → Type 0
 Never Bad t = (line : ℕ) → Bad t line → ⊥
 
@@ -120,10 +103,9 @@ readable_by s (Some bytes) each = each bytes refl
 
 pub readable : DescriptionsAreWritten → (k : Known) (recurring : List Bool) (sentences : List Sentence) (tale : Tale) (resolved : Resolved) → tale_said sentences ≡ Ok tale → IsResolution k recurring sentences (Understood resolved) → AreReadable (scope_among k []) tale.objects
 readable law k recurring sentences tale resolved means is =
-    let whole = is.is_joined in
-    let told = told_of k sentences whole.rules whole.texts whole.listings whole.scenes resolved ((resolved_before k recurring sentences resolved is).1 ∙ whole.told_is) whole.texts_are in
+    let told : AreTold k (reverse (texts_in sentences)) (reverse resolved.texts.items) = subst (IsTextsFound k sentences) (said_of k recurring sentences resolved is).texts is.is_joined.texts_are in
     by_number (scope_among k []) tale.objects (λ o object at. readable_by (scope_among k []) object.description (λ bytes described.
     let here : description_of tale o ≡ Some bytes = ap description_in at ∙ described in
     let written = law sentences tale o bytes means here in
-    can_be_read k (reverse (texts_in sentences)) told.0 bytes told.1
+    can_be_read k (reverse (texts_in sentences)) (reverse resolved.texts.items) bytes told
     (turned (texts_in sentences) bytes (subst (λ l. IsAmong (texts_in l) bytes) (sym written.parts) (among_sentences written.before written.rest written.sentence bytes written.describes)))))

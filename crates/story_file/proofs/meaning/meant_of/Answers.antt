@@ -29,6 +29,8 @@ returns-in-Ok-kept_of-clause-meant c =
       rules_are = c.in-Ok-kept_of.ensures.rules;
       listings_are = c.in-Ok-kept_of.ensures.listings;
       scenes_are = c.in-Ok-kept_of.ensures.scenes;
+      lines_are = c.in-Ok-kept_of.ensures.commands;
+      synonyms_are = c.in-Ok-kept_of.ensures.synonyms;
     }
 
 pub returns-in-Ok-kept_of-clause-lines : goal.returns-in-Ok-kept_of-clause-lines

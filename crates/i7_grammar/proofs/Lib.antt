@@ -1,0 +1,4 @@
+mod ObjectsMeant
+mod Parting
+mod Reaching
+pub mod Sound

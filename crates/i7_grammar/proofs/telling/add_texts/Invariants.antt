@@ -1,0 +1,12 @@
+use Rattle.std.proofs.Common.{◌≡◌, ◌++◌, length}
+use Rattle.std.specs.Prelude.{map}
+use Rattle.std.specs.List.{flat_map}
+use Rattle.i7_grammar.specs.Grammars.{synonym_by}
+use Rattle.i7_grammar.specs.TextTokens.{words_among}
+use Rattle.i7_grammar.proofs.telling.add_texts.Given as goal
+
+abbrev pub invariant-loop-rest : goal.invariant-loop-rest
+invariant-loop-rest l = l.synonyms.items ++ map (synonym_by l.object) (flat_map words_among l.rest) ≡ l.initial.synonyms.items ++ map (synonym_by l.object) (flat_map words_among l.texts)
+
+abbrev pub decreases-loop-rest : goal.decreases-loop-rest
+decreases-loop-rest l = length l.rest
