@@ -85,7 +85,7 @@ FAULTS = {
         f'Before taking {MANY_LIT}things, say "x".', f'Every turn in {MANY_DARK}rooms, say "x".', f'Every turn, say "[list of {MANY_LIT}things]".',
         f'Check putting something on {MANY_LIT}things, say "x".', f'Before looking when the box is {MANY_LIT}thing, say "x".',
         f"The storm begins when the box is a {MANY_LIT}thing.", f'Understand "{"a " * 33}" as waiting.',
-        f'Understand "rest" or "{"[something] " * 2}{"a " * 31}" as putting it on.', f'Understand "{" ".join(map(str, range(32)))}" as the box.'],
+        f'Understand "{"[something] " * 2}{"a " * 31}" as putting it on.', f'Understand "{" ".join(map(str, range(32)))}" as the table.'],
 }
 
 
@@ -246,7 +246,9 @@ def meaning(chance, own):
     """Texts, and what they mean: an action, or an object."""
     name, count = action(chance, own)
     if chance.random() < 0.3:
-        texts, name = [" ".join(chance.choices(WORDS, k=2)) for _ in range(chance.choice([1, 1, 3]))], chance.choice(OBJECTS)
+        # an action goes before an object of its name
+        name = chance.choice([name for name in OBJECTS if name.split()[-1] not in own])
+        texts = [" ".join(chance.choices(WORDS, k=2)) for _ in range(chance.choice([1, 1, 3]))]
     else:
         texts = [command(chance, count) for _ in range(chance.choice([1, 1, 1, 2, 4]))]
     return texts, name
