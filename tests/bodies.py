@@ -3,7 +3,7 @@
 why it is refused, as of the sources of tests/bodies/rules.rows (tests/row_files.py says how rows are written). The story of each
 source that is taken says what a plain reader of stories says: its tables 8 to 12 are those of the source (tests/rule_sources.py),
 its codes are sound, and the program plays it: it begins, and answers `look`, as the reader says. So does that of a sample with
-rules of all heads, of one whose rules are listed, and of one with actions of its own.
+rules of all heads, of one whose rules are listed, and of two with actions and commands of their own.
 
 Use: tests/bodies.py PROGRAM [NAME..]    (the program of `i7story`; that of `rule_calls` stands beside it)
 NAME: only cases whose name begins so
@@ -18,7 +18,7 @@ import subprocess
 import sys
 import tempfile
 
-from plain_stories import NONE16, opening_and_look, tables
+from plain_stories import NONE16, opening_and_look, rules_told, tables
 from row_files import report, rows_of
 from rule_sources import tables_of
 
@@ -26,7 +26,7 @@ program = pathlib.Path(sys.argv[1]).resolve()
 calls = program.parents[2] / "rule_calls/out/rule_calls"
 wanted = tuple(sys.argv[2:]) or ("",)
 folder = pathlib.Path(__file__).resolve().parent / "bodies"
-samples = [folder.parents[1] / "stories" / name for name in ["night-watch.i7", "museum.i7", "weigh-house.i7"]]
+samples = [folder.parents[1] / "stories" / name for name in ["night-watch.i7", "museum.i7", "weigh-house.i7", "apiary.i7"]]
 
 RESULTS = {"done": "Done", "no decision": "NoDecision", "success": "Success", "failure": "Failure"}
 
@@ -78,7 +78,7 @@ def played(scratch, source):
     done = subprocess.run([program, "play", story], input=b"look\n", capture_output=True, timeout=10)
     front = b"".join(part + b"\n>" for part in opening_and_look(data) if part is not None)
     found = done.stdout if len(done.stdout) < len(front) else done.stdout[: len(front)]
-    return ({name: t[name] for name in asked}, done.returncode, found, done.stderr), (asked, 0, front, b"")
+    return (rules_told(t), done.returncode, found, done.stderr), (asked, 0, front, b"")
 
 
 def answers():

@@ -5,7 +5,8 @@ Use: tests/cases.py PROGRAM [NAME]    NAME: only cases whose name begins so
 
 A case is an object of a JSON list: its name, what it is about, its source (source_hex where it is no UTF-8), its
 refusal or null, and its story in hex or null. In that story the counts of tables 8 to 12 are 0: what must stand there instead, the
-actions, books and scenes, is told by a plain reading of the source's sentences (tests/rule_sources.py)."""
+actions, lines, books and scenes, is told by a plain reading of the source's sentences (tests/rule_sources.py), and the words of the
+lines stand among its strings."""
 import json
 import os
 import pathlib
@@ -13,9 +14,8 @@ import subprocess
 import sys
 import tempfile
 
-from plain_stories import start_of_rules
 from rule_sources import tables_of
-from written_stories import rules_written
+from written_stories import unnumbered, written
 
 program = str(pathlib.Path(sys.argv[1]).resolve())
 wanted = sys.argv[2] if len(sys.argv) > 2 else ""
@@ -24,10 +24,10 @@ folder = pathlib.Path(__file__).resolve().parent / "cases"
 
 def story_of(case, source):
     """The story of a case, its rule tables filled."""
-    story = bytes.fromhex(case["story"])
-    place = start_of_rules(story)
-    assert story[place : place + 10] == bytes(10), case["name"]
-    return story[:place] + rules_written(tables_of(source.decode(errors="replace"), 0)) + story[place + 10 :]
+    story = unnumbered(bytes.fromhex(case["story"]))
+    filled = tables_of(source.decode(errors="replace"), 0)
+    assert not any(story[name] for name in filled), case["name"]
+    return written({**story, **filled})
 
 
 def fault_of(case):

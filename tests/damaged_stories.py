@@ -13,8 +13,8 @@ import subprocess
 import sys
 import tempfile
 
-from plain_stories import Fault, opening_and_look
-from written_stories import crowded, furnished, ruled
+from plain_stories import SOMETHING, Fault, opening_and_look
+from written_stories import crowded, furnished, ruled, unnumbered, written
 
 program = pathlib.Path(sys.argv[1]).resolve()
 calls = program.parents[2] / "story_calls/out/story_calls"
@@ -66,8 +66,19 @@ def damaged(story):
         yield f"change {turn}", with_changes(chance, story, turn % 4 + 1, values)
 
 
+LOOK = (0, [b"look"])
+# Grammars by which `look` is read in another way, or not at all.
+GRAMMARS = {
+    "no line": [], "another word": [(0, [b"l"])], "a capital": [(0, [b"Look"])], "twice": [(0, [b"LOOK"]), LOOK],
+    "more words": [(1, [b"look", b"at", SOMETHING]), (0, [b"look", b"round"])], "no token": [(0, []), LOOK], "an empty word": [(0, [b""]), LOOK],
+    "a slot in front": [(1, [SOMETHING]), LOOK], "a slot alone": [(2, [SOMETHING])], "a slot behind": [(1, [b"look", SOMETHING])],
+}
+
+
 def damaged_more(story, others):
     """Stories for `story_calls`."""
+    for name, lines in GRAMMARS.items():
+        yield f"a grammar of {name}", written(dict(unnumbered(story), grammar=lines))
     furniture, rules = furnished(story), ruled(story)
     yield from cut_or_flipped("ruled", rules)
     for name, other in others:

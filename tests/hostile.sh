@@ -105,6 +105,33 @@ save_actions("actions_tried", [f"go it {n} {APPLYING}" for n in range(184)], "Ev
 save_actions("rules_of_actions", [f"go it {n} {APPLYING}" for n in range(184)], "Before go the player 183 the player in a dark room, try go the player 0 the player.\n" * 1000)
 save_actions("listings_of_actions", [f"go it {n} {APPLYING}" for n in range(184)], "The list worn rule is listed first in the carry out go it 183 rules.\n" * 3500)
 save_actions("rulebooks_of_actions", [f"go it {n} {APPLYING}" for n in range(184)] + [f"The check go it {n} all rules is a rulebook.\n" for n in range(100)])
+ball = hall + "The ball is in the Hall.\n"
+def save_texts(name, count, unit, meaning):
+    """Saves a sentence that says of so many such texts what they mean."""
+    open(name + ".i7", "w").write(ball + "Understand " + "or".join([unit] * count) + "as " + meaning + ".\n")
+save_texts("understand_texts", 65000, '""', "waiting")
+save_texts("understand_texts_too_many", 65503, '""', "waiting")
+save_texts("understand_words_of_one", 50000, '"a"', "the ball")
+save_rule("understand_long_text", 'Understand "', "a ", '" as waiting.')
+save_rule("understand_longer_text", 'The ball is in the Hall. Understand "', "a ", '" as the ball.')
+open("understand_long_words.i7", "w").write(ball + "Understand " + " or ".join(['"' + "a " * 32000 + '"'] * 4) + " as the ball.")
+open("understand_many_words.i7", "w").write(ball + 'Understand "' + " ".join(map(str, range(40000))) + '" as the ball.')
+save_rule("understand_slots", 'Understand "', "[something]", '" as taking.')
+save_rule("understand_brackets", 'Understand "', "[", '" as taking.')
+save_rule("understand_meaning", 'Understand "a" as', " x", ".")
+save_rule("understand_ors", 'Understand "a"', " or", ' "a" as waiting.')
+save_rule("understand_ass", 'Understand "a"', " as", " waiting.")
+save("understands", 'Understand "a" as ')
+def save_sentences(name, unit):
+    """Saves as many of these sentences as there is room for."""
+    open(name + ".i7", "w").write(ball + unit * ((longest - len(ball)) // len(unit)))
+things = "".join(f"x{n} is in the Hall.\n" for n in range(986))
+text = '"' + "a " * 30000 + '"'
+open("understand_words_among_things.i7", "w").write(hall + things + f"Understand {text} or {text} or {text} or {text[:-40000]}\" as x985.\n")
+save_sentences("understand_sentences", 'Understand "a" as ball.\n')
+save_sentences("understand_lines", 'Understand "a" as waiting.\n')
+save_sentences("understand_unknown", 'Understand "a" as x.\n')
+save_actions("understand_actions", [f"go it {n} {APPLYING}" for n in range(184)], 'Understand "go [something] [something]" as go it 183.\n' * 4500)
 rooms = "".join(f"Room{n} is north of Room{n - 1}. \"The walls of room {n} are bare and cold here.\"\n\n" for n in range(1, 980))
 open("rooms.i7", "w").write("Room0 is a room.\n\n" + rooms)
 open("long_rulebook.i7", "w").write("The Hall is a room. The " + "x" * 65536 + " rules is a rulebook.")
@@ -116,15 +143,21 @@ echo 'The Hall is a room. "A bare hall." The Garden is north of the Hall.' >two_
 "$program" compile two_rooms.source two_rooms || exit 1
 PYTHONPATH=$here python3 - <<'PY'
 import random
-from plain_stories import ACTIONS, NONE8, NONE16, Cursor, start_of_rules, tables
+from plain_stories import ACTIONS, NONE8, NONE16, SOMETHING, Cursor, tables, world_tables
 from written_stories import rules_written, table, u
 data = open("two_rooms", "rb").read()
 head = Cursor(data)
 head.take(6)
 STRINGS = head.table(head.text)
-WORLD = data[head.place : start_of_rules(data)]
+world = Cursor(data)
+world.take(6)
+world_tables(world)
+WORLD = data[head.place : world.place]
+LINES = tables(data)["grammar"]
 LONGEST = 65535
-HALL = bytes.fromhex("22 0020 37")
+# the Hall's description says the last string
+HALL = bytes.fromhex("22 003c 37")
+assert STRINGS[0x3c:] == [b"A bare hall."]
 ROOM = bytes.fromhex("11 00 13 01 3b")
 ANYTHING = (0,)
 NO_BOOKS = [[] for _ in range(8)]
@@ -152,7 +185,7 @@ def loop(place, test):
     return bytes.fromhex("34 00 35 00") + u(2, test) + u(2, place + 11) + b"\x33" + u(2, place + 2)
 def count(place, test):
     return bytes.fromhex("20 00") + u(2, test) + b"\x24"
-save("plays_long_bodies", FOUR, [bytes.fromhex("22 0020") * 21844 + b"\x37" * 3] * 4, said=STRINGS[0x20] * 21844 * 4 + b"\n")
+save("plays_long_bodies", FOUR, [bytes.fromhex("22 003c") * 21844 + b"\x37" * 3] * 4, said=STRINGS[0x3c] * 21844 * 4 + b"\n")
 save("plays_choices", FOUR, [bytes.fromhex("19 32 fffc") * 16383 + b"\x37"] * 4)
 bodies, tests = named_in_turn(loop, 11, 5)
 save("plays_loops", FOUR, bodies + [ROOM] * tests, said=b"[The turn was abandoned: too much work.]\n")
@@ -164,7 +197,7 @@ save("L6_test_left_out", FOUR, bodies + [ROOM] * (tests - 1))
 bodies, tests = bodies[:2], tests // 2
 deep = [bytes.fromhex("20 01") + u(2, 3 + tests + number) + bytes.fromhex("01 00000000 08 3b") for number in range(tests)]
 save("plays_tests_in_tests", FOUR[:2], named_in_turn(count, 5, 3)[0][:2] + deep + [ROOM] * tests, books=NO_BOOKS)
-save("plays_strings", FOUR[:3], [b"".join(b"\x22" + u(2, 33 + body * 21833 + n) for n in range(21833)) + b"\x37" for body in range(3)], [b"%d" % n for n in range(65499)], said=b"".join(b"%d" % n for n in range(65499)) + b"\n")
+save("plays_strings", FOUR[:3], [b"".join(b"\x22" + u(2, 61 + body * 21823 + n) for n in range(21823)) + b"\x37" for body in range(3)], [b"%d" % n for n in range(65469)], said=b"".join(b"%d" % n for n in range(65469)) + b"\n")
 save("plays_bodies_of_a_byte", [does(code) for code in range(1, 2001)], [b"\x37"] * 2000)
 save("L6_codes_of_a_byte", [], [b"\x37"] * 65534)
 save("L6_more_codes_of_a_byte", [does(code) for code in range(1, 2001)], [b"\x37"] * 65534)
@@ -204,6 +237,14 @@ OWN = [bytes([2, 2, 2, 3])] * 184
 save("plays_actions", [(*about(199)[:7], (0, code)) for code in range(1, 2001)], [bytes.fromhex("0e 0f 30 00 c7") * 6 + b"\x37"] * 2000, actions=ACTIONS + OWN)
 save("L5_rules_of_other_actions", [about(199)] * 1999 + [about(200)], [b"\x37"], actions=ACTIONS + OWN)
 save("L6_other_action_tried", FOUR, [bytes.fromhex("0e 0f 30 00 c7") * 13106 + b"\x37"] * 3 + [bytes.fromhex("0e 0f 30 00 c7") * 13105 + bytes.fromhex("0e 0f 30 00 c8 37")], actions=ACTIONS + OWN)
+OWN_LINES = LONGEST - len(LINES)
+LOOK = LINES[0][1][0]
+save("plays_lines_of_slots", [], [], grammar=[(2, [SOMETHING])] * OWN_LINES + LINES)
+save("plays_lines_of_two_slots", [], [], grammar=[(4, [LOOK, SOMETHING, SOMETHING])] * OWN_LINES + LINES)
+save("plays_lines_of_32_words", [], [], grammar=[(0, [LOOK] * 32)] * 20000 + LINES)
+save("L5_lines_of_33_words", [], [], grammar=LINES + [(0, [LOOK] * 32)] * 20000 + [(0, [LOOK] * 33)])
+save("L5_lines_of_a_slot_too_many", [], [], grammar=[(2, [SOMETHING])] * OWN_LINES + LINES[1:] + [(2, [SOMETHING] * 2)])
+save("L5_lines_backwards", [], [], grammar=LINES[::-1] * (LONGEST // len(LINES)))
 def described(count):
     """A rule about three kinds with so many properties each."""
     kind = (2, 4, [(2, 0)] * count)
@@ -232,6 +273,8 @@ for source in *.i7; do
     rooms.i7 | one_room.i7 | rule_phrases.i7 | scene_conditions.i7 | rules_of_patterns.i7 | listings_of_rules.i7 | listings_of_long_names.i7 | listings_of_one_rule.i7) want=0 limit=unlimited ;;
     action_of_* | action_named_as_actions.i7 | action_without_end.i7 | actions_of_long_names.i7 | actions_of_many_words.i7) want=0 limit=unlimited ;;
     rules_of_actions.i7 | listings_of_actions.i7 | rulebooks_of_actions.i7) want=0 limit=unlimited ;;
+    understand_texts.i7 | understand_words_of_one.i7 | understand_long_words.i7 | understand_words_among_things.i7 | understand_sentences.i7 | understand_lines.i7 | understand_actions.i7) want=0 limit=unlimited ;;
+    understand_unknown.i7 | understand_texts_too_many.i7) limit=unlimited ;;
     actions_in_places.i7 | actions_many.i7 | actions_of_one_name.i7 | actions_of_near_names.i7 | actions_of_one_front.i7 | actions_tried.i7) limit=unlimited ;;
     closed_texts.i7 | rule_colons.i7 | scene_changes.i7 | rule_pattern_words.i7 | rule_substitutions.i7 | rules_many.i7 | long_*) limit=unlimited ;;
   esac

@@ -1,8 +1,8 @@
 #!/usr/bin/env python3
-"""Sources of rules with random heads, of sentences that list these and standard rules, and of some that declare actions: 300 that
-are taken, whose tables 8 to 12 and the actions that their rules try are those that a plain reading tells (tests/rule_sources.py), and
-300 with rules, listings or actions among them that are refused: the code that is looked for first is told, at the first of these of
-which it stands.
+"""Sources of rules with random heads, of sentences that list these and standard rules, and of some that declare actions or say what
+commands and words mean: 300 that are taken, whose tables 8 to 12 and the actions that their rules try are those that a plain reading
+tells (tests/rule_sources.py), and 300 with rules, listings, actions or commands among them that are refused: the code that is looked
+for first is told, at the first of these of which it stands.
 
 Use: tests/random_rules.py PROGRAM"""
 import pathlib
@@ -12,7 +12,7 @@ import sys
 import tempfile
 
 import plain_codes
-from plain_stories import STANDARD_RULES, standard_rules, tables
+from plain_stories import STANDARD_RULES, rules_told, standard_rules, tables
 from row_files import report
 from rule_sources import (
     ACTION_BOOKS, ACTION_NAMES, KIND_NAMES, LONE_BOOKS, PROPERTIES, STAGES, STANDARD_NAMES, actions_of, parts_of, sentences,
@@ -44,6 +44,9 @@ RULE_NAMES = [
     f"{front}{end}" for front in ["ash", "box", "tidy", "storm", "not", "rule", "first in", "zorb's"]
     for end in ["", " clock", " rule", " 7", " of Bob"]]
 OWN_BOOKS = ["tidy", "long sweep"]
+# Words and slots of commands.
+WORDS = ["weigh", "Weigh", "take", "look", "look,", "at", "with", "WITH", "of", "xyzzy", "the", "7", "don't", "n"]
+SLOT_MARKS = ["[something]", "[direction]", "[ Something ]", "[DIRECTION]"]
 # The standard rules by their names, each with the words in front of which its book stands.
 STANDARD = dict(zip(STANDARD_NAMES, [list(STAGES)[list(STAGES.values()).index(rule[0])] for rule in standard_rules()], strict=True))
 # Rules and listings by what they are refused with, in the order in which it is looked for.
@@ -66,18 +69,23 @@ FAULTS = {
         'The room heading rule is listed last in the zorb rules.', 'The list worn rule is listed last in the storm rules.',
         'The list worn rule is listed first in the when play begins rules.', 'The room body rule is listed last in the carry out looking rules.',
         'The room body text rule is listed first in the carry out rules.', 'The mark visited rule is listed last in carry out frobbing rules.',
-        'The squall begins when in darkness.', 'The calm day begins when the zorb is lit.', 'The box ends when in darkness.'],
+        'The squall begins when in darkness.', 'The calm day begins when the zorb is lit.', 'The box ends when in darkness.',
+        'Understand "frob" as frobbing.', 'Understand "frob" or "[something]" as the zorb.', 'Understand "big" as thing.',
+        'Understand "gaze [something] [something]" as gazing.', 'Understand "tidy" as the tidy rules.'],
     "C8 WrongKind": [
         'Every turn in the box, say "x".', 'Before looking in a thing, say "x".', f'A tidy rule in a {MANY_LIT}thing, say "x".',
         f'After taking {MANY_LIT}things in the box, say "x".', f'Every turn in the box, say "[list of {MANY_LIT}things]".',
         'Report waiting in north, say "x".', 'Report gazing the box through Bob in the box, say "x".',
         'The room heading rule is listed first in the check looking rules.', 'The list worn rule is listed last in the report taking inventory rules.',
         "The can't take scenery rule is listed first in the instead rules.", "Can't open open rule is listed last in the tidy rules.",
-        'A standard report taking rule is listed last in after rules.'],
+        'A standard report taking rule is listed last in after rules.',
+        'Understand "take" as taking.', 'Understand "rest" or "rest [direction]" as waiting.', 'Understand "red [something]" as the red ball.',
+        'Understand "put [something]" as putting it on.', 'Understand "gaze [something] [something] [something]" as gazing it through.'],
     "C12 TooMany": [
         f'Before taking {MANY_LIT}things, say "x".', f'Every turn in {MANY_DARK}rooms, say "x".', f'Every turn, say "[list of {MANY_LIT}things]".',
         f'Check putting something on {MANY_LIT}things, say "x".', f'Before looking when the box is {MANY_LIT}thing, say "x".',
-        f"The storm begins when the box is a {MANY_LIT}thing."],
+        f"The storm begins when the box is a {MANY_LIT}thing.", f'Understand "{"a " * 33}" as waiting.',
+        f'Understand "{"[something] " * 2}{"a " * 31}" as putting it on.', f'Understand "{" ".join(map(str, range(32)))}" as the table.'],
 }
 
 
@@ -226,6 +234,34 @@ def changes(chance):
     return chance.sample(told, chance.randrange(len(told) + 1))
 
 
+def command(chance, count):
+    """A text with so many slots, some of them without a blank beside them."""
+    words = chance.choices(WORDS, k=chance.choice([0, 1, 1, 2, 3, 32 - count]))
+    for _ in range(count):
+        words.insert(chance.randrange(len(words) + 1), chance.choice(SLOT_MARKS))
+    return "".join(word + ("" if "[" in word and chance.random() < 0.2 else " ") for word in words)
+
+
+def meaning(chance, own):
+    """Texts, and what they mean: an action, or an object."""
+    name, count = action(chance, own)
+    if chance.random() < 0.3:
+        # an action goes before an object of its name
+        name = chance.choice([name for name in OBJECTS if name.split()[-1] not in own])
+        texts = [" ".join(chance.choices(WORDS, k=2)) for _ in range(chance.choice([1, 1, 3]))]
+    else:
+        texts = [command(chance, count) for _ in range(chance.choice([1, 1, 1, 2, 4]))]
+    return texts, name
+
+
+def commands(chance, own):
+    """Sentences that say what commands and words mean."""
+    told = [meaning(chance, own) for _ in range(chance.choice([0, 1, 4, 12]))]
+    # an action whose name begins with an article isn't named so
+    known = [(texts, name) for texts, name in told if name in OBJECTS or name.split()[0] not in ("a", "the", "doing")]
+    return ["Understand {} as {}.".format(" or ".join(f'"{text}"' for text in texts), name) for texts, name in known]
+
+
 def mixed(chance, told, more):
     """These paragraphs, with more at any places among them; each in its order."""
     places = sorted(chance.choices(range(len(told) + 1), k=len(more)))
@@ -254,7 +290,7 @@ def taken(scratch, chance):
     actions, own = declarations(chance)
     told, books = rules(chance, chance.randrange(1, 60), own)
     paragraphs = mixed(chance, [sentence for sentence, _ in told], listings(chance, books, own))
-    source = "\n\n".join([WORLD, *mixed(chance, paragraphs, [*actions, *changes(chance)])])
+    source = "\n\n".join([WORLD, *mixed(chance, paragraphs, [*actions, *changes(chance), *commands(chance, own)])])
     answer, t = compiled(scratch, source)
     if t is None:
         return answer, "taken"
@@ -262,18 +298,18 @@ def taken(scratch, chance):
     wanted = tables_of(source, 0, objects)
     known = actions_of(sentences(source))
     tries = [[tried(words, objects, known)] if words else [] for _, words in told]
-    return str(({name: t[name] for name in wanted}, [tries_of(t, rule) for rule in t["rules"][STANDARD_RULES:]])), str((wanted, tries))
+    return str((rules_told(t), [tries_of(t, rule) for rule in t["rules"][STANDARD_RULES:]])), str((wanted, tries))
 
 
 def refused(scratch, chance):
-    """What the program says of rules, listings and actions some of which are at fault, and what it is to say."""
+    """What the program says of rules, listings, actions and commands some of which are at fault, and what it is to say."""
     actions, own = declarations(chance)
     told, books = rules(chance, chance.randrange(1, 6), own)
     codes = chance.choice([list(FAULTS), *[list(FAULTS)[1:]] * 4, list(FAULTS)[2:], list(FAULTS)[3:]])
     faults = [(code, fault(chance, code, books, own)) for code in chance.choices(codes, k=chance.randrange(6))]
     # a rulebook that is declared twice is refused before
     faults = list(dict.fromkeys(faults))
-    more = [(None, sentence) for sentence in [*listings(chance, books, own), *actions]] + faults
+    more = [(None, sentence) for sentence in [*listings(chance, books, own), *actions, *commands(chance, own)]] + faults
     paragraphs = mixed(chance, [(None, sentence) for sentence, _ in told], chance.sample(more, len(more)))
     # each is a paragraph of one line
     found = [(list(FAULTS).index(code), 2 * place + 3) for place, (code, _) in enumerate(paragraphs) if code]

@@ -1,5 +1,5 @@
 #!/usr/bin/env bash
-# Plays six rows, each as a source and as a compiled story, with each allocation of the run refused in turn. Each
+# Plays seven rows, each as a source and as a compiled story, with each allocation of the run refused in turn. Each
 # run must end in one of two ways: with status 4, the one line `i7story: out of memory` and no transcript; or
 # with status 0 and the transcript in which at most one reply is that of the abandoned turn.
 # Use: tests/refused_memory.sh PROGRAM
@@ -61,6 +61,26 @@ def storming(refused):
     return text + "\n>"
 
 
+def weighing(refused):
+    """The transcript of the row of the ball that is weighed by words of the author's."""
+    carried, text = False, "Hall\nYou can see a ball and some scales here.\n"
+    for place, command in enumerate(commands):
+        text += f"\n>{command}\n"
+        if place == refused:
+            text += ABANDONED
+        elif command.startswith("weigh"):
+            text += ("" if carried else "(first taking the ball)\n") + "Weighed.\n"
+            carried = True
+        else:
+            text += "Dropped.\n" if carried else "You don't have that.\n"
+            carried = False
+    return text + "\n>"
+
+
+if row.name == "ball_is_weighed":
+    for refused in [None, 0, 1, 2, 3]:
+        (scratch / f"may{refused}").write_text(weighing(refused))
+    sys.exit()
 if row.name == "storm_comes_again":
     for refused in [None, 0, 1, 2]:
         (scratch / f"may{refused}").write_text(storming(refused))
@@ -147,7 +167,7 @@ PY
 
 passed=0
 failed=0
-for name in two_rooms lamp_in_a_dark_room doors_between_rooms rules_and_scenes which_box_is_meant storm_comes_again; do
+for name in two_rooms lamp_in_a_dark_room doors_between_rooms rules_and_scenes which_box_is_meant storm_comes_again ball_is_weighed; do
   row=$here/rows/$name
   "$program" compile "$row/source.i7" "$scratch/story" || exit 1
   expected || exit 1

@@ -1,10 +1,10 @@
 """Sources with rules, by a plain reading: where their sentences begin and end, and what these put into tables 8 to 12 of the story,
-the actions, the rules and the sentences that list them."""
+the actions, the lines of the grammar, the rules and the sentences that list them; and the words that they give objects."""
 import re
 
 from plain_stories import (
-    ACTIONS, AFTER, BEFORE, BUILT_IN_BOOKS, CARRIED, CARRY_OUT, CHECK, EVERY_TURN, INSTEAD, KINDS, LIGHT, NONE8, NONE16, OUT_OF_WORLD,
-    REPORT, SEEN, TOUCHED, kinds_above, standard_rules)
+    ACTIONS, A_DIRECTION, AFTER, BEFORE, BUILT_IN_BOOKS, CARRIED, CARRY_OUT, CHECK, EVERY_TURN, INSTEAD, KINDS, LIGHT, NONE8, NONE16,
+    OUT_OF_WORLD, REPORT, SEEN, SOMETHING, TOUCHED, kinds_above, standard_lines, standard_rules)
 
 COMMENT = re.compile(r'("[^"]*")|\[[^]]*\]')
 FINAL = re.compile(r"[.?!]'?$|$")
@@ -46,6 +46,10 @@ ANYTHING = (0,)
 LISTING = re.compile(
     r"(?:an? |the |some )?(?P<rule>.+?) rule (?:is|are) (?:listed (?P<at>first|last) in (?:an? |the |some )?(?P<book>.+?) rules"
     r"|not listed in any rulebook)\.?", re.I)
+# A sentence that says what commands or words mean, and a slot in one of its texts.
+UNDERSTAND = re.compile(r'understand (?P<texts>"[^"]*"(?: or "[^"]*")*) as (?:an? |the |some )?(?P<meaning>.+?)\.?', re.I)
+SLOT_MARK = re.compile(r"\[\s*(something|direction)\s*\]", re.I)
+SLOT_TOKENS = {"something": SOMETHING, "direction": A_DIRECTION}
 # How a listing names the rulebooks that every story has: alone, or in front of an action.
 LONE_BOOKS = {"before": BEFORE, "instead": INSTEAD, "after": AFTER, "every turn": EVERY_TURN}
 STAGES = {"check": CHECK, "carry out": CARRY_OUT, "report": REPORT}
@@ -240,6 +244,40 @@ def head_of(sentence, rulebooks, scenes, objects, actions):
     return (book, *act, scene), asked["asks"] is not None, name
 
 
+def understood(told):
+    """The texts of each sentence that says what commands or words mean, and what that is, in small letters."""
+    for sentence in told:
+        if found := UNDERSTAND.fullmatch(" ".join(sentence.split())):
+            yield re.findall('"([^"]*)"', found["texts"]), found["meaning"].lower()
+
+
+def tokens_of(text):
+    """The tokens of a line of the grammar: a slot stands wherever its mark does, and words are parted by blanks."""
+    parts = SLOT_MARK.split(text)
+    return [token for place, part in enumerate(parts)
+            for token in ([SLOT_TOKENS[part.lower()]] if place % 2 else [word.encode() for word in part.split()])]
+
+
+def lines_of(told, actions):
+    """Table 9, with strings in the place of their numbers: the lines of the author's, and those of every story."""
+    names = [name for name, _ in actions]
+    own = [(names.index(meaning), tokens_of(text)) for texts, meaning in understood(told) if meaning in names for text in texts]
+    return own + standard_lines()
+
+
+def own_words(source, objects):
+    """The words that sentences give the objects of these names, in small letters, besides those of their names, each as often as it
+    is said."""
+    told = list(sentences(source))
+    names = [name for name, _ in actions_of(told)]
+    words = [[] for _ in objects]
+    for texts, meaning in understood(told):
+        if meaning not in names:
+            number = 0 if meaning == "player" else objects.index(meaning)
+            words[number] += [word.lower() for text in texts for word in text.split()]
+    return words
+
+
 def book_named(words, rulebooks, scenes, actions):
     """The rulebook that a listing names, or none: one that every story has goes before the author's."""
     words = words.lower()
@@ -295,8 +333,8 @@ def in_order(rules, book, listed):
 
 
 def tables_of(source, described, objects=()):
-    """Tables 8 to 12 of a source's story, as a plain reader of stories gives them, where so many objects are described, and the
-    objects have these names, in small letters."""
+    """Tables 8 to 12 of a source's story, as a plain reader of stories gives them, with the strings of lines in the place of their
+    numbers, where so many objects are described, and the objects have these names, in small letters."""
     told = list(sentences(source))
     rulebooks, scenes = declared(told)
     actions = actions_of(told)
@@ -315,7 +353,7 @@ def tables_of(source, described, objects=()):
         listed.pop(number, None)
         listed[number] = at
     return {
-        "actions": [entry for _, entry in actions], "grammar": [], "rules": rules,
+        "actions": [entry for _, entry in actions], "grammar": lines_of(told, actions), "rules": rules,
         "books": [in_order(rules, book, listed) for book in range(BUILT_IN_BOOKS + 2 * len(scenes) + len(rulebooks))],
         "scenes": list(scenes_from(code, scenes, changes_of(told, scenes, found))),
     }

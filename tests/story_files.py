@@ -3,7 +3,8 @@
 bytes, and each change of changes.rows makes it refused, or leaves a story that plays. A plain reader of the format must say the
 same. The numbers with which a story begins are those that numbers.rows tells of numbers.i7, the rules, books and scenes of sources
 those of rules.rows, by the readers of a loaded story too; the order of rules that sentences list, the standard ones among them, is
-that of listings.rows; and what sentences declare that an action asks for is what actions.rows tells.
+that of listings.rows; what sentences declare that an action asks for is what actions.rows tells, and what they say that commands and
+words mean what grammar.rows tells.
 
 Use: tests/story_files.py PROGRAM    (the program of `i7story`; that of `rule_calls` stands beside it; tests/row_files.py says how
 rows are written)"""
@@ -13,9 +14,11 @@ import subprocess
 import sys
 import tempfile
 
-from plain_stories import ACTIONS, NONE8, NONE16, STANDARD_RULES, Fault, has, opening_and_look, tables
+from plain_stories import (
+    A_DIRECTION, ACTIONS, DIRECTIONS, NONE8, NONE16, PLAYER_WORDS, SOMETHING, STANDARD_LINES, STANDARD_RULES, Fault, has, name_words,
+    opening_and_look, rules_told, tables)
 from row_files import digits_of, report, rows_of
-from rule_sources import STANDARD_NAMES, tables_of
+from rule_sources import STANDARD_NAMES, own_words, tables_of
 
 program = pathlib.Path(sys.argv[1]).resolve()
 calls = program.parents[2] / "rule_calls/out/rule_calls"
@@ -136,10 +139,15 @@ def books_of(told, source, asked):
     return "; ".join(f"{number}: {book_told(told['books'][int(number)], names)}".strip() for number in numbers)
 
 
+def names_of(told):
+    """The names of a story's objects, in small letters."""
+    return [told["strings"][thing["name"]].decode().lower() for thing in told["objects"]]
+
+
 def plain_tables(told, source):
     """Tables 8 to 12 of a story, and what a plain reading of its source, which describes nothing, tells of them."""
-    plain = tables_of(source, 0, [told["strings"][thing["name"]].decode().lower() for thing in told["objects"]])
-    return str({name: told[name] for name in plain}), str(plain)
+    plain = tables_of(source, 0, names_of(told))
+    return str(rules_told(told)), str(plain)
 
 
 def entry_told(entry):
@@ -156,6 +164,47 @@ def actions(scratch):
         yield f"{place}, plainly", read_plainly(story), b"plays"
         yield f"{place}, played", played(scratch, story), b"plays"
         yield f"{place}, by its source", *plain_tables(told, source.decode())
+
+
+def token_told(token):
+    """A token of a line."""
+    return {SOMETHING: "[something]", A_DIRECTION: "[direction]"}.get(token) or token.decode()
+
+
+def line_told(action, tokens):
+    """A line of table 9."""
+    return " ".join([str(action), *map(token_told, tokens)])
+
+
+def words_of(told, number):
+    """The words of an object behind those of its name, the player's or a direction's own."""
+    thing = told["objects"][number]
+    name = told["strings"][thing["name"]]
+    own = PLAYER_WORDS if number == 0 else DIRECTIONS[number - 1] if number <= 12 else name_words(name)
+    return [told["strings"][word].decode() for word in thing["words"][len(own):]]
+
+
+def plain_words(told, source):
+    """The words of each object, and what a plain reading of its source tells of them."""
+    found = [[told["strings"][word].decode() for word in thing["words"]] for thing in told["objects"]]
+    said = own_words(source, names_of(told))
+    front = [words[: len(words) - len(words_of(told, number))] for number, words in enumerate(found)]
+    return str(found), str([list(dict.fromkeys(words + more)) for words, more in zip(front, said, strict=True)])
+
+
+def grammar(scratch):
+    """The answers to the rows of grammar."""
+    for place, (source, lines, words) in rows_of(folder / "grammar.rows"):
+        story = compiled(scratch, source)
+        told = tables(story)
+        own = [line_told(*line) for line in rules_told(told)["grammar"]][: -len(STANDARD_LINES)]
+        yield place, "; ".join(own) or "-", lines.decode()
+        more = {number: words_of(told, number) for number in range(len(told["objects"]))}
+        yield f"{place}, its words", "; ".join(" ".join([str(number), *said]) for number, said in more.items() if said) or "-", words.decode()
+        yield f"{place}, plainly", read_plainly(story), b"plays"
+        yield f"{place}, played", played(scratch, story), b"plays"
+        yield f"{place}, by its source", *plain_tables(told, source.decode())
+        yield f"{place}, its words by its source", *plain_words(told, source.decode())
 
 
 def listings(scratch):
@@ -200,6 +249,7 @@ def answers(scratch):
         yield f"{place}, plainly", read_plainly(story), b"plays"
     yield from listings(scratch)
     yield from actions(scratch)
+    yield from grammar(scratch)
 
 
 with tempfile.TemporaryDirectory() as folder_of_files:

@@ -2,7 +2,7 @@
 import plain_codes
 from plain_stories import (
     BUILT_IN_BOOKS, CARRIED, CONTAINER, DONE, DOOR, EVERY_TURN, FLAGS, KINDS, LIGHT, NONE16, NONE8, OUT_OF_WORLD, ROOM, SAY, SEEN,
-    SUPPORTER, THING, Said, name_words, tables)
+    SOMETHING, SUPPORTER, THING, Said, lines_told, name_words, tables)
 
 
 def u(width, n):
@@ -31,21 +31,29 @@ def rule_of(r):
     return u(2, book) + u(1, action) + aspects + u(1, scene) + u(2, condition) + body
 
 
+def line_of(action, tokens):
+    return u(1, action) + listed(2, tokens)
+
+
 def rules_written(t):
-    """The bytes of tables 8 to 12."""
-    return (table(t["actions"]) + table([]) + table(rule_of(r) for r in t["rules"])
+    """The bytes of tables 8 to 12, where the lines of the grammar have numbers of strings."""
+    return (table(t["actions"]) + table(line_of(*line) for line in t["grammar"]) + table(rule_of(r) for r in t["rules"])
             + table(table(u(2, n) for n in book) for book in t["books"])
             + table(u(1, recurs) + u(2, begins) + u(2, ends) for recurs, begins, ends in t["scenes"]))
 
 
 def written(t):
-    """The bytes of tables whose strings stand as themselves, in codes too; those are numbered as they are named."""
+    """The bytes of tables whose strings stand as themselves, in lines of the grammar and codes too; they are numbered as they are
+    named."""
     strings = []
 
     def named(text):
         if text not in strings:
             strings.append(text)
         return strings.index(text)
+
+    def line(action, tokens):
+        return action, [token if isinstance(token, int) else named(token) for token in tokens]
 
     def coded(part):
         return u(2, named(part.text)) if isinstance(part, Said) else part
@@ -56,12 +64,13 @@ def written(t):
                 + listed(1, o["flags"]) + listed(4, o["numbers"]))
 
     objects = table([entry(o) for o in t["objects"]])
+    rules = rules_written(dict(t, grammar=[line(*told) for told in t["grammar"]]))
     codes = table(u(2, len(code)) + code for code in [b"".join(coded(part) for part in parts) for parts in t["codes"]])
     ways = table(b"".join(u(2, room) + u(2, door) for room, door in ways) for ways in t["ways"])
     return (b"I7ST" + u(2, 1) + table(u(2, len(text)) + text for text in strings)
             + table(u(1, above) for above in t["kinds"]) + table(listed(1, given) for given in t["flags"])
             + table(listed(1, given) for given in t["numbers"]) + table(u(4, v) for v in t["variables"])
-            + objects + ways + rules_written(t) + codes)
+            + objects + ways + rules + codes)
 
 
 def parted(t, code):
@@ -79,7 +88,7 @@ def unnumbered(data):
     t = tables(data)
     codes = [parted(t, code) for code in t["codes"]]
     objects = [dict(o, name=t["strings"][o["name"]], words=[t["strings"][w] for w in o["words"]]) for o in t["objects"]]
-    return dict(t, objects=objects, codes=codes)
+    return dict(t, objects=objects, grammar=lines_told(t), codes=codes)
 
 
 def furnished(story):
@@ -123,11 +132,13 @@ def furnished(story):
 
 
 def ruled(story):
-    """A furnished story with two actions, two scenes, two rulebooks and rules, among them one about nouns, a place and a scene and
+    """A furnished story with two actions and lines for them, two scenes, two rulebooks and rules, among them one about nouns, a place and a scene and
     one that is standard and about an action of the author's, and one that tries another; the Hall's description asks about a
     scene; both scenes would end, but nothing begins them."""
     t = unnumbered(furnished(story))
     t["actions"] += [bytes([2, CARRIED, SEEN, LIGHT]), bytes([0, NONE8, NONE8, OUT_OF_WORLD])]
+    # the author's lines stand in front of those of every story
+    t["grammar"][:0] = [(16, [b"Weigh", SOMETHING, b"with", SOMETHING]), (17, [b"score"]), (2, [b"take", SOMETHING])]
     t["scenes"] = [(1, NONE16, 9), (0, NONE16, 10)]
     t["books"] = [[] for _ in range(BUILT_IN_BOOKS + 4 + 2)]
     t["books"][0], t["books"][EVERY_TURN], t["books"][13] = [2], [4, 0], [3]
@@ -163,11 +174,12 @@ def ruled(story):
 
 
 def crowded(story):
-    """A story at its limits: 1,000 objects in a chain, 100 kinds in a chain, 100 properties given to many."""
+    """A story at its limits: 1,000 objects in a chain, 100 kinds in a chain, 100 properties given to many, lines of 32 words."""
     t = unnumbered(story)
     t["kinds"] = KINDS + [CONTAINER] + list(range(10, 99))
     t["flags"] = FLAGS + [list(range(99, 9, -1))[::-1]] * 89
     t["numbers"] = [list(range(10, 100))] * 60
+    t["grammar"][:0] = [(12, [b"%d" % (number * word) for word in range(32)]) for number in range(100)]
     for number in range(15, 1000):
         name = b"box %d" % number
         t["objects"].append({"kind": 99, "name": name, "article": 1, "code": NONE16, "words": name_words(name),

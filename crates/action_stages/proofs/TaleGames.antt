@@ -6,7 +6,7 @@ use Rattle.play_meaning.specs.CodedStories.{game_of_codes, telling_by_codes}
 use Rattle.play_meaning.specs.Doing.{Inner}
 use Rattle.play_meaning.specs.Games.{Game}
 use Rattle.play_meaning.specs.PlainStories.{PlainStory}
-use Rattle.play_meaning.specs.PlainTales.{script_of, story_of_script}
+use Rattle.play_meaning.specs.PlainTales.{story_of_script}
 use Rattle.play_meaning.specs.Progress.{Progress, most_work}
 use Rattle.play_meaning.specs.Scripts.{begins_in, condition_holds, ends_in, game_of, rule_body, rule_condition, rule_is_about, telling_of}
 use Rattle.play_meaning.specs.StandardActions.{standard_needs}
@@ -22,7 +22,7 @@ use Rattle.story_format.specs.Codes.{codes_told}
 use Rattle.story_format.specs.Contents.{Contents}
 use Rattle.story_format.specs.Holding.{AreHeld, IsHeld}
 use Rattle.story_format.specs.Loaded.{IsLoaded}
-use Rattle.story_format.specs.Making.{story_rules, tables_of, tables_with, text_of}
+use Rattle.story_format.specs.Making.{story_rules, tables_of, tables_with}
 use Rattle.story_format.specs.RuleMaking.{rules_of}
 use Rattle.story_format.specs.Spells.{IsStory}
 use Rattle.story_format.specs.declared.tables.Tables.{Tables}
@@ -61,17 +61,17 @@ module _ (t : Tale) (c : Contents) (held : IsHeld t) (said : AreHeld t c) where
   carries : Carries tables t c
   carries = tale_carried t c held said
 
-  plain : plain_story tables ≡ story_of_script (script_of t (text_of t c.texts))
+  plain : plain_story tables ≡ story_of_script (whole_script t c)
   plain = tables_game t c held said
 
   -- ---- piece by piece
 
   settings : setting_of tables ≡ told_setting t
-  unfolding plain_story story_of_script script_of
+  unfolding plain_story story_of_script whole_script
   settings = ap (λ (k : PlainStory). k.setting) plain
 
   tellings : telling_by_codes (coded_story tables) ≡ telling_of (whole_script t c)
-  unfolding plain_story story_of_script script_of coded_story whole_script
+  unfolding plain_story story_of_script coded_story whole_script
   tellings = λ i. record { setting = (plain i).setting; describes = (plain i).describes }
 
   about : (rule : ℕ) (now : ActionNow) (w : World) → told.is_about rule now w ≡ meant.is_about rule now w
@@ -105,7 +105,7 @@ module _ (t : Tale) (c : Contents) (held : IsHeld t) (said : AreHeld t c) where
   -- ---- all but the bodies
 
   but_bodies : told ≡ doing meant told.body
-  unfolding game_of_codes coded_story game_of whole_script plain_story story_of_script script_of tables_with rules_of
+  unfolding game_of_codes coded_story game_of whole_script plain_story story_of_script tables_with rules_of
   but_bodies = λ i. record {
     start = (plain i).start;
     telling = tellings i;

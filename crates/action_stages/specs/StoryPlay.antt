@@ -1,15 +1,15 @@
--- The game of a story file, whole: its actions, its rules with their codes, its rulebooks in their stored order, its scenes.
+-- The game of a story file, whole: its actions, its rules with their codes, its rulebooks in their stored order, its scenes, and the
+-- lines of its grammar.
 use Rattle.std.specs.Prelude.{ℕ, Bool, ◌||◌, ◌==◌, map, slice_get, Option, None, Some, if◌then◌else◌}
 use Rattle.play_meaning.specs.CodedStories.{Coded, CodedRule, CodedScene, CodedStory, RuleBody, Standard, game_of_codes}
 use Rattle.play_meaning.specs.Games.{Game}
 use Rattle.play_meaning.specs.Commands.{read}
-use Rattle.play_meaning.specs.StandardGrammar.{standard_grammar}
 use Rattle.play_meaning.specs.Rules.{Anything, Aspect, Exactly, OfKind}
 use Rattle.play_meaning.specs.StandardActions.{no_needs}
 use Rattle.play_meaning.specs.Trees.{Adjective, First, NotSo, Quality, Second}
 use Rattle.story_format.specs.Carrying.{code_if_some, number_if_some}
 use Rattle.story_format.specs.Codes.{codes_told}
-use Rattle.story_format.specs.Facts.{description_code_of, words_of}
+use Rattle.story_format.specs.Facts.{description_code_of}
 use Rattle.story_format.specs.declared.rule_entry.Aspect.{Aspect as Asked}
 use Rattle.story_format.specs.declared.rule_entry.Aspect.TheVariants as aspects
 use Rattle.story_format.specs.declared.rule_entry.PropertySide.{PropertySide}
@@ -23,6 +23,7 @@ use Rattle.world_meaning.specs.declared.needs.Needs.{Needs}
 use Rattle.world_meaning.specs.declared.needs.Slot.{Slot}
 use Rattle.world_meaning.specs.declared.needs.Slot.TheVariants.{Absent, Visible, Touched, Carried}
 use Rattle.world_store.specs.StartWorlds.{start_world}
+use Rattle.world_store.specs.StoryGrammars.{grammar_of}
 use Rattle.world_store.specs.StorySettings.{setting_of}
 
 -- ---- actions
@@ -92,7 +93,7 @@ coded_story t = record {
   rules = map rule_told t.rules.rules;
   books = map (λ book. book.rules) t.rules.books;
   scenes = map scene_told t.rules.scenes;
-  reads = read (standard_grammar (setting_of t) (words_of t));
+  reads = read (grammar_of t);
 }
 
 abbrev pub game_in_play : Tables → Game

@@ -4,10 +4,11 @@ ghost use Rattle.std.specs.List.{list_all};
 ghost use Rattle.play_meaning.specs.Grammar.{are_named_alike, goes_by, has_word};
 ghost use Rattle.play_meaning.specs.Settings.{objects_of};
 ghost use Rattle.command_parser.specs.Fillings.{filling_by, is_alike_if, is_candidate, is_meant};
-ghost use Rattle.command_parser.specs.Tokens.{told_token};
+ghost use Rattle.command_grammar.specs.Lines.{told_token};
 
+use crate::Commands;
 use crate::filling::Filling;
-use crate::{Commands, Token};
+use command_grammar::Token;
 use world_meaning::{KindNo, ObjNo};
 
 /// Whether an object goes by each of these words.

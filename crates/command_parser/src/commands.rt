@@ -1,5 +1,5 @@
 //! What a command is read against: objects and the words that they go by, the lines of a grammar, and what the player sees.
-use crate::Token;
+use command_grammar::Token;
 use play_meaning::ActNo;
 use world_meaning::{KindNo, ObjNo};
 
@@ -9,7 +9,8 @@ pub trait Commands {
     ghost use Rattle.std.specs.Prelude.{◌≡◌, [], ℕ, Bool, length, map, slice_get, slice_index_or};
     ghost use Rattle.std.specs.Option.{option_map};
     ghost use Rattle.play_meaning.specs.Grammar.{Grammar, has_word};
-    ghost use Rattle.command_parser.specs.Tokens.{line_at, told_token};
+    ghost use Rattle.command_grammar.specs.Lines.{told_token};
+    ghost use Rattle.command_parser.specs.Tokens.{line_at};
 
     /// The setting, the words of its objects, and the lines, the author's first.
     ghost grammar: { Self → Grammar };

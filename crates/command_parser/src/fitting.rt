@@ -2,10 +2,12 @@
 ghost use Rattle.std.specs.Prelude.{◌≡◌, ◌∷◌, map};
 ghost use Rattle.std.specs.Option.{option_map};
 ghost use Rattle.command_parser.specs.Searching.{behind_word, fits, fits_at, slot_fits};
-ghost use Rattle.command_parser.specs.Tokens.{told_token, tokens_from};
+ghost use Rattle.command_grammar.specs.Lines.{told_token};
+ghost use Rattle.command_parser.specs.Tokens.{tokens_from};
 
+use crate::Commands;
 use crate::next_token::next_token;
-use crate::{Commands, Token};
+use command_grammar::Token;
 use world_meaning::is_spelled;
 
 /// The words behind the first, if that is spelled so.

@@ -17,8 +17,6 @@ mod read;
 mod reading;
 mod searching;
 mod settling;
-mod standard_grammar;
-mod token;
 mod unread;
 mod words;
 
@@ -27,7 +25,3 @@ pub use laws::{one_reading, plain_lines_are_read};
 pub use question::{Objects, Question};
 pub use read::{narrow, read_command};
 pub use reading::{Reading, Said};
-pub use standard_grammar::{
-    standard_action, standard_line_count, standard_token, standard_token_count,
-};
-pub use token::Token;

@@ -6,13 +6,15 @@ ghost use Rattle.play_meaning.specs.Grammar.{Grammar, candidates};
 ghost use Rattle.play_meaning.specs.Settings.{objects_of};
 ghost use Rattle.command_parser.specs.Fillings.{is_candidate};
 ghost use Rattle.command_parser.specs.Searching.{at_words, behind_word, first_filled, in_front, slot_filled};
-ghost use Rattle.command_parser.specs.Tokens.{told_token, tokens_from};
+ghost use Rattle.command_grammar.specs.Lines.{told_token};
+ghost use Rattle.command_parser.specs.Tokens.{tokens_from};
 
 use crate::candidates::is_candidate;
 use crate::fitting::{behind_word, fits};
 use crate::next_token::next_token;
 use crate::words::noun_of;
-use crate::{Commands, Objects, Token};
+use crate::{Commands, Objects};
+use command_grammar::Token;
 use std::alloc::{AllocError, Global};
 use world_meaning::ObjNo;
 

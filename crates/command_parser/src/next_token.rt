@@ -1,8 +1,10 @@
 //! The tokens of a line, one behind the other.
 ghost use Rattle.std.specs.Prelude.{◌≡◌, [], ◌∷◌, MatchOption};
-ghost use Rattle.command_parser.specs.Tokens.{told_token, tokens_from};
+ghost use Rattle.command_grammar.specs.Lines.{told_token};
+ghost use Rattle.command_parser.specs.Tokens.{tokens_from};
 
-use crate::{Commands, Token};
+use crate::Commands;
+use command_grammar::Token;
 
 /// The token at a place of a line, and the place behind it.
 pub(crate) fn next_token<C: Commands>(

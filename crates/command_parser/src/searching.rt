@@ -5,14 +5,16 @@ ghost use Rattle.std.specs.Option.{option_map};
 ghost use Rattle.play_meaning.specs.Grammar.{Grammar, candidates};
 ghost use Rattle.command_parser.specs.Searching.{at_words, behind_word, first_filled, in_front, slot_filled};
 ghost use Rattle.command_parser.specs.Settling.{asks_unless, outcome_of, with_noun};
-ghost use Rattle.command_parser.specs.Tokens.{told_token, tokens_from};
+ghost use Rattle.command_grammar.specs.Lines.{told_token};
+ghost use Rattle.command_parser.specs.Tokens.{tokens_from};
 
+use crate::Commands;
 use crate::candidates::{are_candidates_alike, first_candidate};
 use crate::filling::Outcome;
 use crate::fitting::{behind_word, fits};
 use crate::next_token::next_token;
 use crate::words::noun_of;
-use crate::{Commands, Token};
+use command_grammar::Token;
 use play_meaning::ActionNow;
 use world_meaning::ObjNo;
 

@@ -4,11 +4,13 @@ ghost use Rattle.std.specs.List.{list_any};
 ghost use Rattle.play_meaning.specs.Commands.{begins_so};
 ghost use Rattle.command_parser.specs.Commanding.{line_begins, line_fits, unread_by, unread_text};
 ghost use Rattle.command_parser.specs.Readings.{said_text};
-ghost use Rattle.command_parser.specs.Tokens.{line_at, told_token};
+ghost use Rattle.command_grammar.specs.Lines.{told_token};
+ghost use Rattle.command_parser.specs.Tokens.{line_at};
 
 use crate::fitting::fits;
 use crate::next_token::next_token;
-use crate::{Commands, Said, Token};
+use crate::{Commands, Said};
+use command_grammar::Token;
 use world_meaning::is_spelled;
 
 /// Whether a token is the word, whatever the case of its letters.

@@ -1,10 +1,11 @@
 //! A small grammar, told in place.
 ghost use Rattle.std.specs.Prelude.{◌≡◌, [], ◌∷◌, length, slice_get, slice_index_or};
 ghost use Rattle.std.specs.Option.{option_map};
-ghost use Rattle.command_parser.specs.Tokens.{told_token};
+ghost use Rattle.command_grammar.specs.Lines.{told_token};
 ghost use Rattle.command_tests.specs.Shelves.{grammar, is_of, lines, sees, words_of};
 
-use command_parser::{Commands, Token};
+use command_grammar::Token;
+use command_parser::Commands;
 use play_meaning::ActNo;
 use world_meaning::{KindNo, ObjNo, is_spelled};
 

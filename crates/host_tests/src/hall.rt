@@ -1,4 +1,4 @@
-//! The story of the source `The Hall is a room.`, as it is compiled: its rules are the standard ones.
+//! A story of a Hall, with the standard rules and no line of the grammar.
 
 pub const HALL: &[u8] = &[
     0x49, 0x37, 0x53, 0x54, 0x00, 0x01, 0x00, 0x1e, 0x00, 0x08, 0x79, 0x6f, 0x75, 0x72, 0x73, 0x65,

@@ -16,12 +16,13 @@ use Rattle.play_meaning.specs.Sessions.{Answer, State, answer_to, read_answer, u
 use Rattle.play_meaning.specs.Worlds.{World}
 use Rattle.story_format.specs.declared.tables.Tables.{Tables}
 use Rattle.action_stages.specs.StoryPlay.{coded_story, game_in_play}
+use Rattle.world_store.specs.StoryGrammars.{grammar_of}
 use Rattle.world_store.specs.StorySettings.{setting_of}
 use Rattle.world_store.specs.StoryWorlds.{StoryWorld}
 use Rattle.world_meaning.specs.Reading.{is_blank, words_of}
 use Rattle.world_meaning.specs.declared.session.Ending.{Ending}
 use Rattle.world_meaning.specs.Texts.{empty_text, too_long_text}
-use Rattle.story_player.specs.Typed.{IsGone, Line, Long, Told, gone_told, gone_with, grammar_of, has_word, is_word_byte, line_reading, read_in, told_reading}
+use Rattle.story_player.specs.Typed.{IsGone, Line, Long, Told, gone_told, gone_with, has_word, is_word_byte, line_reading, read_in, told_reading}
 use Rattle.story_player.specs.declared.typed.Gone.{Gone}
 use Rattle.story_player.specs.declared.typed.Gone.TheVariants.{Nothing, Blanks, Words}
 

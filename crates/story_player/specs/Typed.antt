@@ -3,14 +3,11 @@ use Rattle.std.specs.Prelude.{◌≡◌, ℕ, ◌<◌, ◌==◌, Bool, true, fal
 use Rattle.std.specs.List.{list_any}
 use Rattle.play_meaning.specs.Commands.{read}
 use Rattle.play_meaning.specs.Games.{Game, Question, Reading, Says}
-use Rattle.play_meaning.specs.Grammar.{Grammar}
 use Rattle.play_meaning.specs.Seeing.{is_visible}
 use Rattle.play_meaning.specs.Sessions.{State}
-use Rattle.play_meaning.specs.StandardGrammar.{standard_grammar}
-use Rattle.story_format.specs.Facts.{words_of}
-use Rattle.story_format.specs.declared.tables.Tables.{Tables}
 use Rattle.world_meaning.specs.Reading.{is_blank}
 use Rattle.world_meaning.specs.Texts.{empty_text, too_long_text}
+use Rattle.world_store.specs.StoryGrammars.{grammar_of}
 use Rattle.world_store.specs.StorySettings.{setting_of}
 use Rattle.world_store.specs.StoryWorlds.{StoryWorld}
 use Rattle.story_player.specs.declared.typed.Gone.{Gone}
@@ -85,10 +82,6 @@ told (Whole bytes) = Line bytes.now
 told (Overlong has_word) = Long has_word
 
 -- ---- what is read in it
-
--- the commands of a story
-abbrev pub grammar_of : Tables → Grammar
-grammar_of t = standard_grammar (setting_of t) (words_of t)
 
 -- what a world's story reads in it, whether a question is open or none
 abbrev pub read_in : StoryWorld → Option Question → Told → Reading

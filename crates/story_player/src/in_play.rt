@@ -1,10 +1,9 @@
-//! A story in play, as commands are read against it: its objects with their words, the lines that every story has, and what the
+//! A story in play, as commands are read against it: its objects with their words, the lines of its grammar, and what the
 //! player sees.
 ghost use Rattle.std.specs.Prelude.{◌≡◌};
 
-use command_parser::{
-    Commands, Token, standard_action, standard_line_count, standard_token, standard_token_count,
-};
+use command_grammar::Token;
+use command_parser::Commands;
 use play_meaning::ActNo;
 use world_meaning::{KindNo, ObjNo};
 use world_store::World;
@@ -17,11 +16,10 @@ pub(crate) struct InPlay<'a> {
 
 impl Commands for InPlay<'_> {
     ghost use Rattle.play_meaning.specs.Seeing.{is_visible};
-    ghost use Rattle.play_meaning.specs.StandardGrammar.{standard_grammar};
-    ghost use Rattle.story_format.specs.Facts.{words_of};
+    ghost use Rattle.world_store.specs.StoryGrammars.{grammar_of};
     ghost use Rattle.world_store.specs.StorySettings.{setting_of};
 
-    ghost grammar = { λ play. standard_grammar (setting_of play.world.now.tables) (words_of play.world.now.tables) };
+    ghost grammar = { λ play. grammar_of play.world.now.tables };
 
     ghost sees = { λ play. is_visible (setting_of play.world.now.tables) play.world.now.world };
 
@@ -51,18 +49,18 @@ impl Commands for InPlay<'_> {
     }
 
     fn line_count(&self) -> u16 {
-        standard_line_count()
+        self.world.story().line_count()
     }
 
     fn action(&self, line: u16) -> ActNo {
-        standard_action(line)
+        self.world.story().line_action(line)
     }
 
     fn token_count(&self, line: u16) -> usize {
-        standard_token_count(line)
+        self.world.story().token_count(line)
     }
 
     fn token(&self, line: u16, place: usize) -> Option<Token<'_>> {
-        standard_token(line, place)
+        self.world.story().token(line, place)
     }
 }

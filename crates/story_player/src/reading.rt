@@ -3,7 +3,8 @@ ghost use Rattle.std.specs.Prelude.{◌≡◌, IfOk, OnErr, true};
 ghost use Rattle.std.specs.Option.{option_map};
 ghost use Rattle.command_parser.specs.Readings.{said_text, told as told_of};
 ghost use Rattle.command_parser.specs.Settling.{is_asking};
-ghost use Rattle.story_player.specs.Typed.{Line, grammar_of, read_in, told};
+ghost use Rattle.story_player.specs.Typed.{Line, read_in, told};
+ghost use Rattle.world_store.specs.StoryGrammars.{grammar_of};
 
 use crate::in_play::InPlay;
 use crate::texts;

@@ -14,7 +14,8 @@ ghost use Rattle.command_parser.specs.Settling.{is_asking};
 ghost use Rattle.story_player.specs.Begun.{IsUnbegun};
 ghost use Rattle.story_player.specs.KeptWorlds.{AreOf};
 ghost use Rattle.story_player.specs.Turns.{IsToldOf, done_in, ending_told, kind_told, taken_up};
-ghost use Rattle.story_player.specs.Typed.{grammar_of, told, told_reading};
+ghost use Rattle.story_player.specs.Typed.{told, told_reading};
+ghost use Rattle.world_store.specs.StoryGrammars.{grammar_of};
 ghost use Rattle.world_store.specs.StorySettings.{setting_of};
 ghost use Rattle.play_meaning.specs.Commands.{asking_text};
 

@@ -19,13 +19,13 @@ use Rattle.world_meaning.specs.declared.tale.Tale.{Tale}
 use Rattle.play_meaning.proofs.Agreement.{one_setting}
 use Rattle.play_meaning.specs.Agreement.{SettingsAgree}
 use Rattle.play_meaning.specs.Commands.{read}
-use Rattle.play_meaning.specs.StandardGrammar.{standard_grammar}
 use Rattle.play_meaning.specs.Grounds.{said_by_code}
-use Rattle.play_meaning.specs.PlainTales.{script_of, story_of_script}
+use Rattle.play_meaning.specs.PlainTales.{story_of_script}
 use Rattle.play_meaning.specs.Scripts.{says, undescribed}
 use Rattle.play_meaning.specs.Worlds.{World}
 use Rattle.play_meaning.specs.declared.action.ActionNow.{ActionNow}
 use Rattle.play_meaning.specs.Tales.{door_in as told_door, door_on as told_door_on, in_object, is_true_at_start, number_at_start, place_of_number, setting_of as told_setting, start_of}
+use Rattle.command_grammar.specs.declared.synonym.Synonym.{Synonym}
 use Rattle.story_format.specs.Codes.{codes_told}
 use Rattle.story_format.specs.Contents.{Contents}
 use Rattle.story_format.specs.Facts.{description_code_of, exits_at}
@@ -34,6 +34,7 @@ use Rattle.story_format.specs.RuleMaking.{codes_of_rules, rules_of, scene_entrie
 use Rattle.story_format.specs.Holding.{AreHeld, AreOf, IsHeld}
 use Rattle.story_format.specs.InPlay.{article_in, article_numbered, door_in, has_in, is_of_in, number_from, start_number, start_numbers, start_flags, start_variable, starts_true}
 use Rattle.story_format.specs.Making.{Worded, article_number, code_count, described_in, entries_of, entry_of, numbers_of, strings_with, tables_of, tables_with, text_of, variable_of, ways_of, worded, worded_at, worded_from, world_of}
+use Rattle.story_format.specs.TaleScripts.{whole_grammar, whole_script}
 use Rattle.story_format.specs.declared.tables.Entry.{Entry}
 use Rattle.story_format.proofs.Carried.{exits_found, object_found, tale_carried}
 use Rattle.story_format.proofs.DeclaredLemmas.{declared_parts}
@@ -43,6 +44,7 @@ use Rattle.story_format.proofs.Stories.{as_many_scenes}
 use Rattle.story_format.proofs.StoryLemmas.{all_at}
 use Rattle.world_store.specs.StartWorlds.{start_world}
 use Rattle.world_store.specs.StoryGames.{plain_story}
+use Rattle.world_store.specs.StoryGrammars.{grammar_of}
 use Rattle.world_store.specs.StorySettings.{setting_of}
 
 -- ---- numbers fit their words
@@ -76,21 +78,21 @@ article_back articles.Some = refl
 module _ {A : Type 0} (otherwise : A) (told : Option Entry → A) (said : Object → A) (nobody : told None ≡ otherwise)
     (same : (strings : List (List ℕ)) (next : ℕ) (w : Worded) → told (Some (entry_of strings next w)) ≡ said w.object) where
   -- by the object's number
-  said_at : (strings : List (List ℕ)) (next from : ℕ) (objects : List Object) (o : ℕ) → told (slice_get (entries_of strings next (worded_from from objects)) o) ≡ in_object otherwise said (slice_get objects o)
+  said_at : (synonyms : List Synonym) (strings : List (List ℕ)) (next from : ℕ) (objects : List Object) (o : ℕ) → told (slice_get (entries_of strings next (worded_from synonyms from objects)) o) ≡ in_object otherwise said (slice_get objects o)
   unfolding entries_of
-  said_at strings next from [] o = nobody
-  said_at strings next from (object ∷ objects) zero = same strings next (worded_at from object)
-  said_at strings next from (object ∷ objects) (suc o) = said_at strings (next + code_count object.description) (from + 1) objects o
+  said_at synonyms strings next from [] o = nobody
+  said_at synonyms strings next from (object ∷ objects) zero = same strings next (worded_at synonyms from object)
+  said_at synonyms strings next from (object ∷ objects) (suc o) = said_at synonyms strings (next + code_count object.description) (from + 1) objects o
 
 module _ {A : Type 0} (right : Object → Bool) (told : Entry → A) (said : Object → A)
     (same : (strings : List (List ℕ)) (next : ℕ) (w : Worded) → right w.object ≡ true → told (entry_of strings next w) ≡ said w.object) where
   -- of all objects
-  said_of_all : (strings : List (List ℕ)) (next from : ℕ) (objects : List Object) → list_all right objects ≡ true → map told (entries_of strings next (worded_from from objects)) ≡ map said objects
+  said_of_all : (synonyms : List Synonym) (strings : List (List ℕ)) (next from : ℕ) (objects : List Object) → list_all right objects ≡ true → map told (entries_of strings next (worded_from synonyms from objects)) ≡ map said objects
   unfolding entries_of
-  said_of_all strings next from [] h = refl
-  said_of_all strings next from (object ∷ objects) h =
+  said_of_all synonyms strings next from [] h = refl
+  said_of_all synonyms strings next from (object ∷ objects) h =
       let t = and_parts (right object) (list_all right objects) h in
-      λ i. same strings next (worded_at from object) t.0 i ∷ said_of_all strings (next + code_count object.description) (from + 1) objects t.1 i
+      λ i. same strings next (worded_at synonyms from object) t.0 i ∷ said_of_all synonyms strings (next + code_count object.description) (from + 1) objects t.1 i
 
 -- ---- doors
 
@@ -117,19 +119,19 @@ settings_agree : (t : Tale) (c : Contents) → IsHeld t → AreHeld t c → Sett
 unfolding setting_of told_setting tables_with world_of entry_of
 settings_agree t c held said =
     let carries = tale_carried t c held said in
-    let ws = worded t.objects in
+    let ws = worded c.synonyms t.objects in
     let strings = strings_with t c in
     let parents = t.declared.kinds in
-    let back : objects_in ws ≡ t.objects = objects_back 0 t.objects in
+    let back : objects_in ws ≡ t.objects = objects_back c.synonyms 0 t.objects in
     let exits : list_all (has_right_exits parents (sorts_in t)) (objects_in ws) ≡ true = ap (list_all (has_right_exits parents (sorts_in t))) back ∙ held.made.exits in
     record {
       count = carries.count;
       name = carries.names;
-      article = said_at articles.None article_in (λ object. object.article) refl (λ strings next w. article_back w.object.article) strings 0 0 t.objects;
-      is_of = λ o kind. said_at false (is_of_in parents kind) (λ object. is_under parents object.kind kind) refl (λ strings next w. refl) strings 0 0 t.objects o;
+      article = said_at articles.None article_in (λ object. object.article) refl (λ strings next w. article_back w.object.article) c.synonyms strings 0 0 t.objects;
+      is_of = λ o kind. said_at false (is_of_in parents kind) (λ object. is_under parents object.kind kind) refl (λ strings next w. refl) c.synonyms strings 0 0 t.objects o;
       depth = λ kind. refl;
-      has_flag = λ o property. said_at false (has_in parents t.declared.flags property) (λ object. has_property parents t.declared.flags object.kind property) refl (λ strings next w. refl) strings 0 0 t.objects o;
-      has_number = λ o property. said_at false (has_in parents t.declared.numbers property) (λ object. has_property parents t.declared.numbers object.kind property) refl (λ strings next w. refl) strings 0 0 t.objects o;
+      has_flag = λ o property. said_at false (has_in parents t.declared.flags property) (λ object. has_property parents t.declared.flags object.kind property) refl (λ strings next w. refl) c.synonyms strings 0 0 t.objects o;
+      has_number = λ o property. said_at false (has_in parents t.declared.numbers property) (λ object. has_property parents t.declared.numbers object.kind property) refl (λ strings next w. refl) c.synonyms strings 0 0 t.objects o;
       room_beyond = carries.ways;
       door_beyond = λ room direction. doors_found parents (sorts_in t) strings ws room direction (slice_get ws room) refl exits ∙ ap (λ (objects : List Object). in_object None (told_door direction) (slice_get objects room)) back;
       has_description = carries.described;
@@ -152,11 +154,11 @@ number_started d property strings next w h =
 
 flags_started : (t : Tale) (c : Contents) → IsHeld t → (property : ℕ) → start_flags (tables_of t c) property ≡ map (is_true_at_start property) t.objects
 unfolding tables_with entry_of
-flags_started t c held property = said_of_all (suits_kind t.declared) (starts_true property) (is_true_at_start property) (λ strings next w h. refl) (strings_with t c) 0 0 t.objects held.made.suited
+flags_started t c held property = said_of_all (suits_kind t.declared) (starts_true property) (is_true_at_start property) (λ strings next w h. refl) c.synonyms (strings_with t c) 0 0 t.objects held.made.suited
 
 numbers_started : (t : Tale) (c : Contents) → IsHeld t → (property : ℕ) → start_numbers (tables_of t c) property ≡ map (number_at_start t.declared property) t.objects
 unfolding tables_with
-numbers_started t c held property = said_of_all (suits_kind t.declared) (start_number (world_of t.declared) property) (number_at_start t.declared property) (number_started t.declared property) (strings_with t c) 0 0 t.objects held.made.suited
+numbers_started t c held property = said_of_all (suits_kind t.declared) (start_number (world_of t.declared) property) (number_at_start t.declared property) (number_started t.declared property) c.synonyms (strings_with t c) 0 0 t.objects held.made.suited
 
 -- no scene has begun
 none_begun : (scenes : List Bool) → replicate (length scenes) not_begun ≡ map (λ recurs. not_begun) scenes
@@ -166,10 +168,10 @@ none_begun (recurs ∷ scenes) = ap (λ all. not_begun ∷ all) (none_begun scen
 one_start : (t : Tale) (c : Contents) → IsHeld t → AreOf t c → start_world (tables_of t c) ≡ start_of t
 unfolding start_world start_of tables_with world_of rules_of
 one_start t c held of =
-    let places = places_back (strings_with t c) 0 (worded t.objects) ∙ ap (λ (objects : List Object). map (λ object. object.place) objects) (objects_back 0 t.objects) in
+    let places = places_back (strings_with t c) 0 (worded c.synonyms t.objects) ∙ ap (λ (objects : List Object). map (λ object. object.place) objects) (objects_back c.synonyms 0 t.objects) in
     let variables = variables_back t.declared.variables (declared_parts t.declared held.made.declared).variables in
-    let many : length (scene_entries (described_in (worded t.objects) + codes_of_rules c.rules) c.scenes) ≡ length t.declared.scenes =
-    length_scenes c.scenes (described_in (worded t.objects) + codes_of_rules c.rules) ∙ as_many_scenes t c of in
+    let many : length (scene_entries (described_in (worded c.synonyms t.objects) + codes_of_rules c.rules) c.scenes) ≡ length t.declared.scenes =
+    length_scenes c.scenes (described_in (worded c.synonyms t.objects) + codes_of_rules c.rules) ∙ as_many_scenes t c of in
     let begun = ap (λ n. replicate n not_begun) many ∙ none_begun t.declared.scenes in
     λ i. record {
       places = places i;
@@ -183,12 +185,13 @@ one_start t c held of =
 
 -- ---- all of it
 
-pub tables_game : (t : Tale) (c : Contents) → IsHeld t → AreHeld t c → plain_story (tables_of t c) ≡ story_of_script (script_of t (text_of t c.texts))
-unfolding plain_story script_of story_of_script
+pub tables_game : (t : Tale) (c : Contents) → IsHeld t → AreHeld t c → plain_story (tables_of t c) ≡ story_of_script (whole_script t c)
+unfolding plain_story whole_script story_of_script
 tables_game t c held said =
     let setting = one_setting (setting_of (tables_of t c)) (told_setting t) (settings_agree t c held said) in
     let start = one_start t c held said.are_of in
     let carries = tale_carried t c held said in
+    let grammar : grammar_of (tables_of t c) ≡ whole_grammar t c = λ i. record { setting = setting i; words = λ o. carries.words o i; lines = carries.lines_are i } in
     let described : (o : ℕ) (now : ActionNow) (w : World)
     → said_by_code (codes_told (tables_of t c)) (setting_of (tables_of t c)) now w (description_code_of (tables_of t c) o) ≡ says (undescribed (told_setting t)) now w (text_of t c.texts o) =
     λ o now w. carries.descriptions o (setting_of (tables_of t c)) now w ∙ ap (λ s. says (undescribed s) now w (text_of t c.texts o)) setting in
@@ -196,5 +199,5 @@ tables_game t c held said =
       setting = setting i;
       start = start i;
       describes = λ o now w. described o now w i;
-      reads = read (standard_grammar (setting i) (λ o. carries.words o i));
+      reads = read (grammar i);
     }

@@ -2,12 +2,12 @@
 use Rattle.play_meaning.specs.Games.{Game}
 use Rattle.play_meaning.specs.Grounds.{telling_by}
 use Rattle.play_meaning.specs.Commands.{read}
-use Rattle.play_meaning.specs.StandardGrammar.{standard_grammar}
 use Rattle.play_meaning.specs.PlainStories.{PlainStory, game_of_plain}
 use Rattle.story_format.specs.Codes.{codes_told}
-use Rattle.story_format.specs.Facts.{description_code_of, words_of}
+use Rattle.story_format.specs.Facts.{description_code_of}
 use Rattle.story_format.specs.declared.tables.Tables.{Tables}
 use Rattle.world_store.specs.StartWorlds.{start_world}
+use Rattle.world_store.specs.StoryGrammars.{grammar_of}
 use Rattle.world_store.specs.StorySettings.{setting_of}
 
 -- each object is described by its code
@@ -16,7 +16,7 @@ plain_story t = record {
   setting = setting_of t;
   start = start_world t;
   describes = (telling_by (codes_told t) (setting_of t) (description_code_of t)).describes;
-  reads = read (standard_grammar (setting_of t) (words_of t));
+  reads = read (grammar_of t);
 }
 
 abbrev pub game_of_story : Tables → Game

@@ -1,6 +1,6 @@
 //! What holds of every story in play, of its worlds and their changes, and of the dark.
 ghost use Rattle.std.specs.Prelude.{◌≡◌, ◌≢◌, ◌⊎◌, ◌<◌, ℕ, ℤ, Bool, true, false, List, Option, Some, length};
-ghost use Rattle.play_meaning.specs.PlainTales.{script_of, story_of_script};
+ghost use Rattle.play_meaning.specs.PlainTales.{story_of_script};
 ghost use Rattle.play_meaning.specs.Seeing.{encloses, has_light, is_visible, root_of};
 ghost use Rattle.play_meaning.specs.Settings.{Setting, direction_kind, thing_kind};
 ghost use Rattle.play_meaning.specs.StoryWorlds.{IsWorldOf};
@@ -8,7 +8,8 @@ ghost use Rattle.play_meaning.specs.Worlds.{World as PlayWorld, is_true_of, numb
 ghost use Rattle.play_meaning.specs.declared.scene.SceneNow.{SceneNow};
 ghost use Rattle.story_format.specs.Contents.{Contents};
 ghost use Rattle.story_format.specs.Holding.{AreHeld, IsHeld};
-ghost use Rattle.story_format.specs.Making.{tables_of, text_of};
+ghost use Rattle.story_format.specs.Making.{tables_of};
+ghost use Rattle.story_format.specs.TaleScripts.{whole_script};
 ghost use Rattle.world_meaning.specs.Sight.{direction};
 ghost use Rattle.world_meaning.specs.declared.place.Place.{Place};
 ghost use Rattle.world_meaning.specs.declared.tale.Tale.{Tale};
@@ -35,10 +36,10 @@ pub fn directions_are_directions(world: &World)
     let _ = &world.tree;
 }
 
-/// The tables of a tale that a story file holds, and of which it says this, give the game of the tale with these texts: the same
-/// setting, start, descriptions and reading of lines. The rules and what scenes begin and end on are in neither.
+/// The tables of a tale that a story file holds, and of which it says this, give the game of the tale: the same setting,
+/// start, descriptions and reading of commands, by its own lines and words. The rules and what scenes begin and end on are in neither.
 pub fn tables_give_their_tales_game()
-    ensures { (t : Tale) (c : Contents) → IsHeld t → AreHeld t c → plain_story (tables_of t c) ≡ story_of_script (script_of t (text_of t c.texts)) }
+    ensures { (t : Tale) (c : Contents) → IsHeld t → AreHeld t c → plain_story (tables_of t c) ≡ story_of_script (whole_script t c) }
 {}
 
 /// A change of one thing leaves the others.

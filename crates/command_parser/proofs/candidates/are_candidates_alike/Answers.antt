@@ -2,7 +2,7 @@ use Rattle.std.proofs.Common.{◌≡◌, ◌+◌, ◌-◌, Bool, true, ap, arith
 use Rattle.std.specs.Prelude.{◌&&◌}
 use Rattle.std.specs.List.{list_all, range_with_len}
 use Rattle.command_parser.specs.Fillings.{is_alike_if, is_candidate}
-use Rattle.command_parser.specs.Tokens.{told_token}
+use Rattle.command_grammar.specs.Lines.{told_token}
 use Rattle.command_parser.proofs.Places.{all_from_here}
 use Rattle.command_parser.proofs.candidates.are_candidates_alike.Goals as goal
 

@@ -1,7 +1,7 @@
 use Rattle.std.proofs.Common.{◌≡◌, ◌-◌, map}
 use Rattle.std.specs.List.{list_all, range_with_len}
 use Rattle.command_parser.specs.Fillings.{is_alike_if, is_candidate}
-use Rattle.command_parser.specs.Tokens.{told_token}
+use Rattle.command_grammar.specs.Lines.{told_token}
 use Rattle.command_parser.proofs.candidates.are_candidates_alike.Given as goal
 
 abbrev pub invariant-loop-number : goal.invariant-loop-number

@@ -2,7 +2,7 @@ use Rattle.std.proofs.Common.{◌≡◌, ◌+◌, ◌-◌, Bool, false, ap, arit
 use Rattle.std.specs.Prelude.{Some, find, if◌then◌else◌}
 use Rattle.std.specs.List.{range_with_len}
 use Rattle.command_parser.specs.Fillings.{is_candidate}
-use Rattle.command_parser.specs.Tokens.{told_token}
+use Rattle.command_grammar.specs.Lines.{told_token}
 use Rattle.command_parser.proofs.Places.{from_here}
 use Rattle.command_parser.proofs.candidates.first_candidate.Goals as goal
 

@@ -2,7 +2,8 @@ use Rattle.std.proofs.Common.{ap, sym, ◌∙◌, map}
 use Rattle.std.specs.Option.{option_map}
 use Rattle.play_meaning.specs.Grammar.{candidates}
 use Rattle.command_parser.specs.Searching.{first_filled}
-use Rattle.command_parser.specs.Tokens.{told_token, tokens_from}
+use Rattle.command_grammar.specs.Lines.{told_token}
+use Rattle.command_parser.specs.Tokens.{tokens_from}
 use Rattle.command_parser.proofs.SlotSteps.{found_so, listed_here, none_so, one_step}
 use Rattle.command_parser.proofs.Unfit.{none_behind}
 use Rattle.command_parser.proofs.listing.+listing.Goals as goal

@@ -1,7 +1,8 @@
 use Rattle.std.proofs.Common.{◌≡◌, ◌+◌, ◌*◌, ◌++◌, [], length, map, take}
 use Rattle.play_meaning.specs.Grammar.{candidates}
 use Rattle.command_parser.specs.Searching.{first_filled, slot_filled}
-use Rattle.command_parser.specs.Tokens.{told_token, tokens_from}
+use Rattle.command_grammar.specs.Lines.{told_token}
+use Rattle.command_parser.specs.Tokens.{tokens_from}
 use Rattle.command_parser.proofs.listing.+listing.Given as goal
 
 abbrev pub decreases-slots : goal.decreases-slots

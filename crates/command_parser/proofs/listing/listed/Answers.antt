@@ -2,7 +2,7 @@ use Rattle.std.proofs.Common.{ap, map, sym, ◌∙◌}
 use Rattle.std.specs.Prelude.{filter}
 use Rattle.play_meaning.specs.Settings.{objects_of}
 use Rattle.command_parser.specs.Fillings.{is_candidate}
-use Rattle.command_parser.specs.Tokens.{told_token}
+use Rattle.command_grammar.specs.Lines.{told_token}
 use Rattle.command_parser.proofs.Filters.{candidates_are}
 use Rattle.command_parser.proofs.listing.listed.Goals as goal
 

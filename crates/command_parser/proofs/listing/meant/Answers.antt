@@ -1,7 +1,7 @@
 use Rattle.std.proofs.Common.{[], ◌∷◌, ◌++◌, ap, arith, map, ◌∙◌}
 use Rattle.std.specs.Prelude.{if◌then◌else◌}
 use Rattle.command_parser.specs.Fillings.{is_candidate}
-use Rattle.command_parser.specs.Tokens.{told_token}
+use Rattle.command_grammar.specs.Lines.{told_token}
 use Rattle.command_parser.proofs.Places.{one_more_passes}
 use Rattle.command_parser.proofs.listing.meant.Goals as goal
 

@@ -2,7 +2,7 @@ use Rattle.std.proofs.Common.{◌≡◌, ◌++◌, ◌-◌, map}
 use Rattle.std.specs.Prelude.{filter}
 use Rattle.std.specs.List.{range_with_len}
 use Rattle.command_parser.specs.Fillings.{is_candidate}
-use Rattle.command_parser.specs.Tokens.{told_token}
+use Rattle.command_grammar.specs.Lines.{told_token}
 use Rattle.command_parser.proofs.listing.meant.Given as goal
 
 abbrev pub invariant-loop-number : goal.invariant-loop-number

@@ -1,6 +1,7 @@
 use Rattle.std.proofs.Common.{ap, sym, ◌∙◌, arith}
 use Rattle.std.specs.Option.{option_map}
-use Rattle.command_parser.specs.Tokens.{line_at, told_token}
+use Rattle.command_grammar.specs.Lines.{told_token}
+use Rattle.command_parser.specs.Tokens.{line_at}
 use Rattle.command_parser.proofs.Places.{at_place, none_within}
 use Rattle.command_parser.proofs.next_token.next_token.Goals as goal
 

@@ -4,7 +4,8 @@ use Rattle.std.specs.Option.{option_map}
 use Rattle.play_meaning.specs.Grammar.{candidates}
 use Rattle.command_parser.specs.Searching.{first_filled}
 use Rattle.command_parser.specs.Settling.{outcome_of}
-use Rattle.command_parser.specs.Tokens.{told_token, tokens_from}
+use Rattle.command_grammar.specs.Lines.{told_token}
+use Rattle.command_parser.specs.Tokens.{tokens_from}
 use Rattle.command_parser.proofs.Filters.{no_candidate, some_later}
 use Rattle.command_parser.proofs.SlotSteps.{found_later, found_now, here, one_step}
 use Rattle.command_parser.proofs.Unfit.{none_behind}

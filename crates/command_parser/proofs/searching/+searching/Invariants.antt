@@ -3,7 +3,8 @@ use Rattle.std.specs.Option.{option_map}
 use Rattle.play_meaning.specs.Grammar.{candidates}
 use Rattle.command_parser.specs.Searching.{first_filled, slot_filled}
 use Rattle.command_parser.specs.Settling.{outcome_of}
-use Rattle.command_parser.specs.Tokens.{told_token, tokens_from}
+use Rattle.command_grammar.specs.Lines.{told_token}
+use Rattle.command_parser.specs.Tokens.{tokens_from}
 use Rattle.command_parser.proofs.searching.+searching.Given as goal
 
 abbrev pub decreases-search : goal.decreases-search
