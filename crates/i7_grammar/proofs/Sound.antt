@@ -297,9 +297,11 @@ sound k us all = by_unknown (lowest unknown_at us)
     by_over : (over : Option ℕ) → lowest unsuited_at us ≡ None → lowest (over_at k) (placed [] us) ≡ over → IsSound k (refused_or TooMany over (All (lines_in us) (synonyms_in us)))
     by_over None suit is = sound_told k us all suit is
     by_over (Some line) suit is = tt
+
     by_unsuited : (unsuited : Option ℕ) → lowest unsuited_at us ≡ unsuited → IsSound k (refused_or WrongKind unsuited (refused_or TooMany (lowest (over_at k) (placed [] us)) (All (lines_in us) (synonyms_in us))))
     by_unsuited None is = by_over (lowest (over_at k) (placed [] us)) is refl
     by_unsuited (Some line) is = tt
+
     by_unknown : (unknown : Option ℕ) → IsSound k (refused_or UnknownName unknown (refused_or WrongKind (lowest unsuited_at us) (refused_or TooMany (lowest (over_at k) (placed [] us)) (All (lines_in us) (synonyms_in us)))))
     by_unknown None = by_unsuited (lowest unsuited_at us) refl
     by_unknown (Some line) = tt

@@ -13,6 +13,7 @@ ghost use Rattle.i7_resolution.specs.declared.source_scenes.ScenesFound.{ScenesF
 ghost use Rattle.i7_resolution.specs.declared.source_texts.TextsFound.{TextsFound as Answer};
 
 use i7_conditions::one_condition_is_meant;
+use i7_grammar::one_grammar;
 use i7_phrases::one_text_is_meant;
 use i7_rules::one_list_of_rules;
 
@@ -42,4 +43,5 @@ pub fn one_resolution()
     one_list_of_rules();
     one_list_of_texts();
     one_list_of_scenes();
+    one_grammar();
 }

@@ -1,6 +1,6 @@
-//! What the rules of a source are, what the texts say that describe its objects, where sentences list its rules, and when its
-//! scenes begin and end, once its names are known, or why the source is refused for them, for its actions or for its rulebooks'
-//! names.
+//! What the rules of a source are, what the texts say that describe its objects, where sentences list its rules, when its scenes begin
+//! and end, and what commands and words mean, once its names are known, or why the source is refused for them, for its actions or for
+//! its rulebooks' names.
 #![tactic(auto)]
 
 mod action_list;

@@ -5,7 +5,7 @@ ghost use Rattle.i7_phrases.specs.Texts.{found_text, text_is_over};
 ghost use Rattle.i7_rules.specs.Knowns.{known_of};
 ghost use Rattle.i7_sentences.specs.ActionDeclarations.{actions_declared};
 ghost use Rattle.i7_resolution.specs.SourceTexts.{SaysIn};
-ghost use Rattle.i7_resolution.specs.Resolutions.{IsJoined, IsResolution, first_if, first_of, goes_before, joined, known_in, listings_fault, refused_before, scenes_fault, scope_in, texts_fault, turn_of, with_actions, with_fault};
+ghost use Rattle.i7_resolution.specs.Resolutions.{IsJoined, IsResolution, both, first_of, goes_before, grammar_told, joined, known_in, listings_told, refused_before, resolution_by, rules_told, scenes_told, scope_in, texts_told, turn_of, with_actions, with_fault};
 ghost use Rattle.i7_resolution.specs.SourceActions.{actions_in, actions_lent};
 
 use crate::action_list::{ActionAt, actions_declared};
@@ -16,6 +16,7 @@ use crate::source_scenes::{ScenesFound, scenes_of};
 use crate::source_texts::{SourceText, TextsFound, found_in, texts_of};
 use i7_actions::Action;
 use i7_conditions::{Found, Scope};
+use i7_grammar::{Grammar, GrammarFound, grammar_of};
 use i7_names::SourceNames;
 use i7_rules::{Known, RulesFound, SourceRule, rules_of};
 use i7_sentences::Sentence;
@@ -24,15 +25,25 @@ use rule_order::ListingSentence;
 use std::alloc::{AllocError, Global};
 use world_meaning::{Fault, FaultCode, Tale, TextBytes};
 
-/// The rules of a source, the texts that describe, and where sentences list rules, each in the order of their sentences, and its
-/// scenes, by number.
+/// The rules of a source, the texts that describe, and where sentences list rules, each in the order of their sentences, its scenes, by
+/// number, and the lines and synonyms of its commands.
 #[derive(Debug, Drop)]
 pub struct Resolved {
     pub rules: Vec<SourceRule>,
     pub texts: Vec<SourceText>,
     pub listings: Vec<ListingSentence>,
     pub scenes: Vec<MeantScene>,
+    pub grammar: Grammar,
 }
+
+/// The same, one behind the other.
+type Lists = (
+    (
+        ((Vec<SourceRule>, Vec<SourceText>), Vec<ListingSentence>),
+        Vec<MeantScene>,
+    ),
+    Grammar,
+);
 
 /// What is resolved of a source.
 #[derive(Debug, Drop)]
@@ -41,8 +52,8 @@ pub enum Resolution {
     Refused(Fault),
 }
 
-/// Where a code comes among those that refuse a source for its rules, texts, listings and scenes, and for its actions and rulebooks'
-/// names.
+/// Where a code comes among those that refuse a source for its rules, texts, listings, scenes and commands, and for its actions and
+/// rulebooks' names.
 fn turn_of(code: FaultCode) -> u8
     ensures { result ≡ turn_of code }
 {
@@ -74,82 +85,103 @@ fn first_of(one: Fault, other: Fault) -> Fault
     }
 }
 
-/// A refusal, or another before it.
-fn first_if(fault: Fault, other: Option<Fault>) -> Fault
-    ensures { result ≡ first_if fault other }
+/// Both, or the first refusal.
+fn both<A: Drop, B: Drop>(one: Result<A, Fault>, other: Result<B, Fault>) -> Result<(A, B), Fault>
+    ensures { result ≡ both one other }
 {
-    match other {
-        None => fault,
-        Some(other) => first_of(fault, other),
+    match one {
+        Ok(one) => match other {
+            Ok(other) => Ok((one, other)),
+            Err(fault) => Err(fault),
+        },
+        Err(fault) => match other {
+            Ok(_) => Err(fault),
+            Err(other) => Err(first_of(fault, other)),
+        },
     }
 }
 
-/// What refuses a source for its texts.
-fn texts_fault(texts: &TextsFound) -> Option<Fault>
-    ensures { result ≡ texts_fault texts.now }
+/// The rules, or the refusal for them.
+fn rules_told(rules: RulesFound) -> Result<Vec<SourceRule>, Fault>
+    ensures { result ≡ rules_told rules }
+{
+    match rules {
+        RulesFound::Says(rules) => Ok(rules),
+        RulesFound::Refused(fault) => Err(fault),
+    }
+}
+
+/// The texts, or the refusal for them.
+fn texts_told(texts: TextsFound) -> Result<Vec<SourceText>, Fault>
+    ensures { result ≡ texts_told texts }
 {
     match texts {
-        TextsFound::Says(_) => None,
-        TextsFound::Refused(fault) => Some(*fault),
+        TextsFound::Says(texts) => Ok(texts),
+        TextsFound::Refused(fault) => Err(fault),
     }
 }
 
-/// What refuses a source for its sentences that list rules.
-fn listings_fault(listings: &ListingsFound) -> Option<Fault>
-    ensures { result ≡ listings_fault listings.now }
+/// Where rules are listed, or the refusal for that.
+fn listings_told(listings: ListingsFound) -> Result<Vec<ListingSentence>, Fault>
+    ensures { result ≡ listings_told listings }
 {
     match listings {
-        ListingsFound::Says(_) => None,
-        ListingsFound::Refused(fault) => Some(*fault),
+        ListingsFound::Says(listings) => Ok(listings),
+        ListingsFound::Refused(fault) => Err(fault),
     }
 }
 
-/// What refuses a source for what its sentences say of scenes.
-fn scenes_fault(scenes: &ScenesFound) -> Option<Fault>
-    ensures { result ≡ scenes_fault scenes.now }
+/// The scenes, or the refusal for them.
+fn scenes_told(scenes: ScenesFound) -> Result<Vec<MeantScene>, Fault>
+    ensures { result ≡ scenes_told scenes }
 {
     match scenes {
-        ScenesFound::Says(_) => None,
-        ScenesFound::Refused(fault) => Some(*fault),
+        ScenesFound::Says(scenes) => Ok(scenes),
+        ScenesFound::Refused(fault) => Err(fault),
     }
 }
 
-/// All four, or the first refusal.
+/// What commands and words mean, or the refusal for that.
+fn grammar_told(grammar: GrammarFound) -> Result<Grammar, Fault>
+    ensures { result ≡ grammar_told grammar }
+{
+    match grammar {
+        GrammarFound::Says(grammar) => Ok(grammar),
+        GrammarFound::Refused(fault) => Err(fault),
+    }
+}
+
+/// All that is told, or the refusal.
+fn resolution_by(told: Result<Lists, Fault>) -> Resolution
+    ensures { result ≡ resolution_by told }
+{
+    match told {
+        Ok(((((rules, texts), listings), scenes), grammar)) => Resolution::Says(Resolved {
+            rules,
+            texts,
+            listings,
+            scenes,
+            grammar,
+        }),
+        Err(fault) => Resolution::Refused(fault),
+    }
+}
+
+/// All of them, or the first refusal.
 fn joined(
     rules: RulesFound,
     texts: TextsFound,
     listings: ListingsFound,
     scenes: ScenesFound,
+    grammar: GrammarFound,
 ) -> Resolution
-    ensures { result ≡ joined rules texts listings scenes }
+    ensures { result ≡ joined rules texts listings scenes grammar }
 {
-    match rules {
-        RulesFound::Says(rules) => match texts {
-            TextsFound::Says(texts) => match listings {
-                ListingsFound::Says(listings) => match scenes {
-                    ScenesFound::Says(scenes) => Resolution::Says(Resolved {
-                        rules,
-                        texts,
-                        listings,
-                        scenes,
-                    }),
-                    ScenesFound::Refused(fault) => Resolution::Refused(fault),
-                },
-                ListingsFound::Refused(fault) => {
-                    Resolution::Refused(first_if(fault, scenes_fault(&scenes)))
-                }
-            },
-            TextsFound::Refused(fault) => {
-                let first = first_if(fault, listings_fault(&listings));
-                Resolution::Refused(first_if(first, scenes_fault(&scenes)))
-            }
-        },
-        RulesFound::Refused(fault) => {
-            let first = first_if(fault, texts_fault(&texts));
-            let first = first_if(first, listings_fault(&listings));
-            Resolution::Refused(first_if(first, scenes_fault(&scenes)))
-        }
-    }
+    let told = both(rules_told(rules), texts_told(texts));
+    let told = both(told, listings_told(listings));
+    let told = both(told, scenes_told(scenes));
+    let told = both(told, grammar_told(grammar));
+    resolution_by(told)
 }
 
 /// Refused so, or before that for what is told already.
@@ -191,7 +223,7 @@ fn with_actions(
     Ok(with_fault(FaultCode::Twice, book, apart))
 }
 
-/// What is told of rules, texts, listings and scenes where so much is known.
+/// What is told of rules, texts, listings, scenes and commands where so much is known.
 fn joined_of(
     alloc: Global,
     known: &Known<'_>,
@@ -204,7 +236,8 @@ fn joined_of(
     let texts = texts_of(alloc, known, sentences)?;
     let listings = listings_of(alloc, known, sentences)?;
     let scenes = scenes_of(alloc, known, recurring, sentences)?;
-    Ok(joined(rules, texts, listings, scenes))
+    let grammar = grammar_of(alloc, known.names, known.actions, known.objects, sentences)?;
+    Ok(joined(rules, texts, listings, scenes, grammar))
 }
 
 /// The names of rulebooks, as they are known.
@@ -232,11 +265,11 @@ pub fn text_said(alloc: Global, names: &SourceNames, text: &[u8]) -> Result<Foun
     Ok(found)
 }
 
-/// The rules of a source, the texts that describe, where sentences list rules, and when its scenes begin and end, where its names
-/// stand for this and its sentences mean this tale, or the refusal that stands: each code is looked for in all rules, texts,
-/// listings and scenes before the next, and told at its lowest line. These are C9, C7, C8, C12 and C5, as `rules_of`, `texts_of`,
-/// `listings_of` and `scenes_of` have them, C9 of an action whose name another has and of a rulebook that is named as rules of an
-/// action are, and C12 of an action that is one too many.
+/// The rules of a source, the texts that describe, where sentences list rules, when its scenes begin and end, and what commands and
+/// words mean, where its names stand for this and its sentences mean this tale, or the refusal that stands: each code is looked for
+/// in all rules, texts, listings, scenes and commands before the next, and told at its lowest line. These are C9, C7, C8, C12 and
+/// C5, as `rules_of`, `texts_of`, `listings_of`, `scenes_of` and `grammar_of` have them, C9 of an action whose name another has and
+/// of a rulebook that is named as rules of an action are, and C12 of an action that is one too many.
 #[tactic(auto, unfolding(crate::specs::SourceActions::actions_in))]
 pub fn resolution_of(
     alloc: Global,
