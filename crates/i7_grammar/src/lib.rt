@@ -6,12 +6,12 @@ mod grammar;
 mod known;
 mod laws;
 mod limits;
-mod object_words;
 mod target;
 mod telling;
 mod text_tokens;
 mod text_words;
 mod understood;
+mod word_table;
 
 pub use grammar::{Grammar, GrammarFound, grammar_of};
 pub use laws::{grammar_is_sound, one_grammar};

@@ -8,11 +8,11 @@ ghost use Rattle.i7_grammar.specs.TextTokens.{words_among};
 ghost use Rattle.i7_grammar.specs.Understood.{all_lent, understood_lent};
 
 use crate::limits::{any_is_full, any_is_long, line_unless};
-use crate::object_words::{has_many, mention_told, words_by_name};
 use crate::target::Target;
 use crate::text_tokens::tokens_of;
 use crate::text_words::words_among;
 use crate::understood::Understood;
+use crate::word_table::{has_many, mention_told, words_by_name};
 use command_grammar::{GrammarLine, Synonym};
 use i7_sentences::lower_of;
 use object_words::Strings;

@@ -1,6 +1,6 @@
 use Rattle.std.proofs.Common.{◌≡◌, length}
 use Rattle.i7_grammar.specs.GrammarScans.{with_texts}
-use Rattle.i7_grammar.proofs.object_words.mention_texts.Given as goal
+use Rattle.i7_grammar.proofs.word_table.mention_texts.Given as goal
 
 abbrev pub invariant-loop-rest : goal.invariant-loop-rest
 invariant-loop-rest l = with_texts l.words l.rest ≡ with_texts l.initial.words l.texts
