@@ -1,6 +1,6 @@
 -- The object that is found of words is the one that they mean by its name.
-use Rattle.std.proofs.Common.{◌≡◌, ◌<◌, ℕ, List, [], ◌∷◌, refl, sym, subst, arith, ap, ◌∙◌}
-use Rattle.std.specs.Prelude.{Option, Some, None}
+use Rattle.std.proofs.Common.{◌≡◌, ◌<◌, List, [], ◌∷◌, refl, sym, arith, ap, ◌∙◌}
+use Rattle.std.specs.Prelude.{None}
 use Rattle.play_meaning.specs.Trees.{Object, The, Noun, SecondNoun, Location, Nothing, Turning, RoomFrom, DoorFrom}
 use Rattle.i7_conditions.specs.Marks.{marks_of}
 use Rattle.i7_conditions.specs.Objects.{IsObjectFound, Means, froms, told}

@@ -1,5 +1,5 @@
 -- What sentences tell that no refusal stands for is within the limits and suits the actions and objects.
-use Rattle.std.proofs.Common.{◌≡◌, ℕ, zero, suc, ◌+◌, ◌<◌, ◌≤◌, Bool, true, false, not, ◌&&◌, List, [], ◌∷◌, ◌++◌, length, map, refl, ap, ◌∙◌, sym, subst, arith, append-nil, append_assoc}
+use Rattle.std.proofs.Common.{◌≡◌, ℕ, zero, suc, ◌+◌, ◌≤◌, Bool, true, false, not, ◌&&◌, List, [], ◌∷◌, ◌++◌, length, map, refl, ap, ◌∙◌, sym, subst, arith, append-nil, append_assoc}
 use Rattle.std.specs.Prelude.{◌==◌, ◌||◌, nat_le, nat_lt, count_by, slice_get, Option, Some, None, if◌then◌else◌}
 use Rattle.std.specs.Char.{to_ascii_lowercase}
 use Rattle.std.specs.List.{flat_map, list_all, list_any, slice_split}
@@ -11,7 +11,6 @@ use Rattle.object_words.proofs.StringLemmas.{length_mapped}
 use Rattle.world_meaning.specs.Spelling.{lowered}
 use Rattle.world_meaning.specs.declared.fault.FaultCode.TheVariants.{TooMany, UnknownName, WrongKind}
 use Rattle.play_meaning.specs.Grammar.{Line, is_slot}
-use Rattle.command_grammar.specs.declared.synonym.Synonym.{Synonym}
 use Rattle.i7_actions.specs.Parts.{is_name}
 use Rattle.i7_actions.specs.declared.action.Action.{Action}
 use Rattle.i7_actions.specs.declared.action.NounCount.{NounCount}
@@ -21,16 +20,16 @@ use Rattle.i7_sentences.specs.Lowest.{lower_of, lowest}
 use Rattle.i7_sentences.specs.declared.sentence.Assertion.{Assertion}
 use Rattle.i7_sentences.specs.declared.sentence.Assertion.TheVariants as asserts
 use Rattle.i7_sentences.specs.declared.sentence.Sentence.{Sentence}
-use Rattle.i7_grammar.specs.GrammarFacts.{AreSound, IsSound, has_nouns, have_few_words, is_line_for, is_small_byte, is_synonym_of, worded}
+use Rattle.i7_grammar.specs.GrammarFacts.{AreSound, IsSound, has_nouns, is_line_for, is_small_byte, is_synonym_of}
 use Rattle.i7_grammar.specs.GrammarScans.{are_many, has_many, set_words, with_texts, with_words}
 use Rattle.i7_grammar.specs.Grammars.{All, IsGrammarFound, all_suit, grammar_by, grammar_meant, refused_or, unknown_at, is_full, is_long, is_over, is_wordy, line_by, line_unless, lines_by, lines_in, lines_told, most_lines, noun_number, over_at, placed, suits, synonym_by, synonyms_by, synonyms_in, synonyms_told, unsuited_at}
 use Rattle.i7_grammar.specs.Targets.{Known, action_from, object_by, object_of, target_of}
 use Rattle.i7_grammar.specs.TextTokens.{is_blank, tokens_of, word_run, words_among}
-use Rattle.i7_grammar.specs.Understood.{Understood, understood_as, understood_by, understood_in}
+use Rattle.i7_grammar.specs.Understood.{Understood, understood_as, understood_in}
 use Rattle.i7_grammar.specs.declared.grammar.GrammarFound.{GrammarFound}
 use Rattle.i7_grammar.specs.declared.target.Target.{Target}
 use Rattle.i7_grammar.specs.declared.target.Target.TheVariants.{Action as Acts, Object as Names}
-use Rattle.i7_grammar.proofs.Reaching.{count_more, lines_more, many_wordy, set_behind, synonyms_more, words_before, words_more}
+use Rattle.i7_grammar.proofs.Reaching.{lines_more, many_wordy, set_behind, words_before, words_more}
 
 -- ---- nothing is found
 
@@ -297,9 +296,11 @@ sound k us all = by_unknown (lowest unknown_at us)
     by_over : (over : Option ℕ) → lowest unsuited_at us ≡ None → lowest (over_at k) (placed [] us) ≡ over → IsSound k (refused_or TooMany over (All (lines_in us) (synonyms_in us)))
     by_over None suit is = sound_told k us all suit is
     by_over (Some line) suit is = tt
+
     by_unsuited : (unsuited : Option ℕ) → lowest unsuited_at us ≡ unsuited → IsSound k (refused_or WrongKind unsuited (refused_or TooMany (lowest (over_at k) (placed [] us)) (All (lines_in us) (synonyms_in us))))
     by_unsuited None is = by_over (lowest (over_at k) (placed [] us)) is refl
     by_unsuited (Some line) is = tt
+
     by_unknown : (unknown : Option ℕ) → IsSound k (refused_or UnknownName unknown (refused_or WrongKind (lowest unsuited_at us) (refused_or TooMany (lowest (over_at k) (placed [] us)) (All (lines_in us) (synonyms_in us)))))
     by_unknown None = by_unsuited (lowest unsuited_at us) refl
     by_unknown (Some line) = tt

@@ -1,6 +1,6 @@
 -- The sentences that tell what texts mean as they are looked through from the first to the last.
 use Rattle.std.specs.Prelude.{ℕ, ◌+◌, Bool, false, not, ◌||◌, nat_lt, List, [], ◌∷◌, fold, length, map, slice_get, slice_set, Option, Some, None}
-use Rattle.std.specs.List.{flat_map, list_any}
+use Rattle.std.specs.List.{list_any}
 use Rattle.world_meaning.specs.Spelling.{lowered}
 use Rattle.world_meaning.specs.declared.fault.FaultCode.TheVariants.{TooMany}
 use Rattle.world_meaning.specs.declared.tale.Object.{Object}
@@ -11,7 +11,7 @@ use Rattle.i7_grammar.specs.Grammars.{All, GrammarMeant, is_full, is_long, line_
 use Rattle.i7_grammar.specs.TextTokens.{words_among}
 use Rattle.i7_grammar.specs.Understood.{Understood}
 use Rattle.i7_grammar.specs.declared.target.Target.{Target}
-use Rattle.i7_grammar.specs.declared.target.Target.TheVariants.{Action, Object as Names}
+use Rattle.i7_grammar.specs.declared.target.Target.TheVariants.{Object as Names}
 
 -- the words of each object by its name, the first having this number
 abbrev pub named_from : ℕ → List Object → List (List (List ℕ))

@@ -8,7 +8,7 @@ use Rattle.i7_conditions.specs.NamesOf.{has_operators, meanings_of, plurals_of}
 use Rattle.i7_conditions.specs.Operators.{holds_operator}
 use Rattle.i7_conditions.specs.Scopes.{Scope}
 use Rattle.i7_conditions.specs.declared.found.Found.{Found}
-use Rattle.i7_conditions.specs.declared.found.Found.TheVariants.{Read, TooMany, Unread}
+use Rattle.i7_conditions.specs.declared.found.Found.TheVariants.{Read}
 use Rattle.i7_conditions.specs.declared.names.Names.{Names}
 use Rattle.i7_grammar.specs.Targets.{Known}
 use Rattle.i7_grammar.specs.declared.known.Known.{Known as Lent}

@@ -116,10 +116,7 @@ fn unsuited_at(alloc: Global, here: &Understood<'_>) -> Result<Option<u32>, Allo
 
 /// The lowest such line.
 #[tactic(auto, using(i7_sentences::proofs::Lowest::lower_steps))]
-pub fn lowest_unsuited(
-    alloc: Global,
-    all: &[Understood<'_>],
-) -> Result<Option<u32>, AllocError>
+pub fn lowest_unsuited(alloc: Global, all: &[Understood<'_>]) -> Result<Option<u32>, AllocError>
     ensures { IfOk result (λ line. line ≡ lowest unsuited_at (all_lent all.now)) }
 {
     let mut low = None;
@@ -135,9 +132,7 @@ pub fn lowest_unsuited(
 pub fn any_is_long(texts: &[TextBytes]) -> bool
     ensures { result ≡ list_any is_long texts.now }
 {
-    texts
-        .iter()
-        .any(|text| text.as_slice().len() > MOST_BYTES)
+    texts.iter().any(|text| text.as_slice().len() > MOST_BYTES)
 }
 
 /// Whether a text has too many tokens for a line.

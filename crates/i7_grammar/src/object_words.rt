@@ -51,11 +51,7 @@ fn mention_text(alloc: Global, words: &mut Strings, text: &[u8]) -> Result<(), A
 }
 
 /// Mentions the words of texts.
-fn mention_texts(
-    alloc: Global,
-    words: &mut Strings,
-    texts: &[TextBytes],
-) -> Result<(), AllocError>
+fn mention_texts(alloc: Global, words: &mut Strings, texts: &[TextBytes]) -> Result<(), AllocError>
     ensures { OnOk result (words.new ≡ with_texts words.old texts.now) }
 {
     let mut rest = texts;

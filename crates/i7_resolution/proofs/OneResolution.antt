@@ -28,7 +28,7 @@ use Rattle.i7_rules.specs.declared.source_rules.SourceRule.{SourceRule}
 use Rattle.i7_sentences.specs.ActionDeclarations.{actions_declared}
 use Rattle.i7_sentences.specs.declared.sentence.Sentence.{Sentence}
 use Rattle.i7_resolution.specs.BookNames.{book_twice}
-use Rattle.i7_resolution.specs.Resolutions.{IsJoined, IsResolution, Lists, both, first_of, grammar_told, joined, listings_told, naming_of, resolved, rules_told, scenes_told, texts_told, with_fault}
+use Rattle.i7_resolution.specs.Resolutions.{IsJoined, IsResolution, Lists, both, first_of, grammar_told, joined, listings_told, naming_of, resolution_by, rules_told, scenes_told, texts_told, with_fault}
 use Rattle.i7_resolution.specs.ResolutionsMeant.{All as Resolved, ResolutionMeant, Refused as Unresolved, resolution_meant}
 use Rattle.i7_resolution.specs.SourceActions.{action_over, action_twice, actions_in}
 use Rattle.i7_resolution.specs.SourceListings.{ListingsMeant, listings_meant}
@@ -133,7 +133,7 @@ whole (Err fault) = Unresolved fault
 abbrev all_in : Lists → Meant
 all_in = pairs (pairs (pairs (pairs rules_in texts_in) listings_in) scenes_in) grammar_in
 
-whole_so : (all : Result Lists Fault) → resolution_meant (resolved all) ≡ whole (so_told all_in all)
+whole_so : (all : Result Lists Fault) → resolution_meant (resolution_by all) ≡ whole (so_told all_in all)
 whole_so (Ok all) = refl
 whole_so (Err fault) = refl
 

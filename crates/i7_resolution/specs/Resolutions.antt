@@ -111,14 +111,14 @@ grammar_told (spoken.Refused fault) = Err fault
 abbrev pub Lists : Type 0
 Lists = (((Vec SourceRule × Vec SourceText) × Vec ListingSentence) × Vec MeantScene) × Grammar
 
-abbrev pub resolved : Result Lists Fault → Resolution
-resolved (Ok all) = Says (record { rules = all.0.0.0.0; texts = all.0.0.0.1; listings = all.0.0.1; scenes = all.0.1; grammar = all.1 })
-resolved (Err fault) = Refused fault
+abbrev pub resolution_by : Result Lists Fault → Resolution
+resolution_by (Ok all) = Says (record { rules = all.0.0.0.0; texts = all.0.0.0.1; listings = all.0.0.1; scenes = all.0.1; grammar = all.1 })
+resolution_by (Err fault) = Refused fault
 
 -- all of them, or the first refusal
 abbrev pub joined : RulesFound → TextsFound → ListingsFound → ScenesFound → GrammarFound → Resolution
 joined rules texts listings scenes grammar =
-    resolved (both (both (both (both (rules_told rules) (texts_told texts)) (listings_told listings)) (scenes_told scenes)) (grammar_told grammar))
+    resolution_by (both (both (both (both (rules_told rules) (texts_told texts)) (listings_told listings)) (scenes_told scenes)) (grammar_told grammar))
 
 -- refused so, or before that for what is told already
 abbrev pub refused_before : Fault → Resolution → Resolution

@@ -5,7 +5,7 @@ ghost use Rattle.i7_phrases.specs.Texts.{found_text, text_is_over};
 ghost use Rattle.i7_rules.specs.Knowns.{known_of};
 ghost use Rattle.i7_sentences.specs.ActionDeclarations.{actions_declared};
 ghost use Rattle.i7_resolution.specs.SourceTexts.{SaysIn};
-ghost use Rattle.i7_resolution.specs.Resolutions.{IsJoined, IsResolution, both, first_of, goes_before, grammar_told, joined, known_in, listings_told, refused_before, resolved, rules_told, scenes_told, scope_in, texts_told, turn_of, with_actions, with_fault};
+ghost use Rattle.i7_resolution.specs.Resolutions.{IsJoined, IsResolution, both, first_of, goes_before, grammar_told, joined, known_in, listings_told, refused_before, resolution_by, rules_told, scenes_told, scope_in, texts_told, turn_of, with_actions, with_fault};
 ghost use Rattle.i7_resolution.specs.SourceActions.{actions_in, actions_lent};
 
 use crate::action_list::{ActionAt, actions_declared};
@@ -152,8 +152,8 @@ fn grammar_told(grammar: GrammarFound) -> Result<Grammar, Fault>
 }
 
 /// All that is told, or the refusal.
-fn resolved(told: Result<Lists, Fault>) -> Resolution
-    ensures { result ≡ resolved told }
+fn resolution_by(told: Result<Lists, Fault>) -> Resolution
+    ensures { result ≡ resolution_by told }
 {
     match told {
         Ok(((((rules, texts), listings), scenes), grammar)) => Resolution::Says(Resolved {
@@ -181,7 +181,7 @@ fn joined(
     let told = both(told, listings_told(listings));
     let told = both(told, scenes_told(scenes));
     let told = both(told, grammar_told(grammar));
-    resolved(told)
+    resolution_by(told)
 }
 
 /// Refused so, or before that for what is told already.

@@ -10,7 +10,7 @@ use Rattle.i7_grammar.specs.declared.grammar.Grammar.{Grammar}
 use Rattle.i7_grammar.specs.declared.grammar.GrammarFound.{GrammarFound}
 use Rattle.i7_grammar.specs.declared.grammar.GrammarFound.TheVariants as spoken
 use Rattle.i7_resolution.specs.BookNames.{book_twice}
-use Rattle.i7_resolution.specs.Resolutions.{IsResolution, Lists, both, grammar_told, joined, listings_told, resolved as resolved_of, rules_told, scenes_told, texts_told, with_fault}
+use Rattle.i7_resolution.specs.Resolutions.{IsResolution, Lists, both, grammar_told, joined, listings_told, resolution_by, rules_told, scenes_told, texts_told, with_fault}
 use Rattle.i7_resolution.specs.SourceActions.{action_over, action_twice, actions_in}
 use Rattle.i7_resolution.specs.declared.resolution.Resolution.{Resolution}
 use Rattle.i7_resolution.specs.declared.resolution.Resolution.TheVariants.{Says, Refused}
@@ -64,7 +64,7 @@ grammar_said : (found : GrammarFound) (grammar : Grammar) → grammar_told found
 grammar_said (spoken.Says told) grammar is = ap (λ (all : Grammar). spoken.Says all) cc
 grammar_said (spoken.Refused fault) grammar is = absurd cc
 
-resolved_said : (lists : Result Lists Fault) (resolved : Resolved) → Says resolved ≡ resolved_of lists
+resolved_said : (lists : Result Lists Fault) (resolved : Resolved) → Says resolved ≡ resolution_by lists
     → lists ≡ Ok ((((resolved.rules, resolved.texts), resolved.listings), resolved.scenes), resolved.grammar)
 resolved_said (Ok all) resolved is = ap (λ (r : Resolved). Ok ((((r.rules, r.texts), r.listings), r.scenes), r.grammar)) (same_resolved _ resolved (sym is))
   where
