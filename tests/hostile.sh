@@ -1,6 +1,6 @@
 #!/usr/bin/env bash
 # Sources of the greatest length that are hard on a reader: each is answered within a second, and those of few
-# sentences, phrases, pieces of texts and words of rules with at most 40 bytes of memory for each of theirs. And stories whose rules
+# sentences, phrases, pieces of texts and words of rules and commands with at most 40 bytes of memory for each of theirs. And stories whose rules
 # and codes are hard on a loader: each plays or is refused within a second, as the first part of its name says.
 # Use: tests/hostile.sh PROGRAM
 set -u
@@ -274,7 +274,7 @@ for source in *.i7; do
     action_of_* | action_named_as_actions.i7 | action_without_end.i7 | actions_of_long_names.i7 | actions_of_many_words.i7) want=0 limit=unlimited ;;
     rules_of_actions.i7 | listings_of_actions.i7 | rulebooks_of_actions.i7) want=0 limit=unlimited ;;
     understand_texts.i7 | understand_words_of_one.i7 | understand_long_words.i7 | understand_words_among_things.i7 | understand_sentences.i7 | understand_lines.i7 | understand_actions.i7) want=0 limit=unlimited ;;
-    understand_unknown.i7 | understand_texts_too_many.i7) limit=unlimited ;;
+    understand_unknown.i7 | understand_texts_too_many.i7 | understand_long_text.i7 | understand_longer_text.i7 | understand_meaning.i7) limit=unlimited ;;
     actions_in_places.i7 | actions_many.i7 | actions_of_one_name.i7 | actions_of_near_names.i7 | actions_of_one_front.i7 | actions_tried.i7) limit=unlimited ;;
     closed_texts.i7 | rule_colons.i7 | scene_changes.i7 | rule_pattern_words.i7 | rule_substitutions.i7 | rules_many.i7 | long_*) limit=unlimited ;;
   esac
