@@ -1,6 +1,6 @@
 -- The lines of the grammar and the synonyms of sentences that mean a tale suit its actions and objects, and are few.
 use Rattle.std.proofs.Common.{◌≡◌, ◌≤◌, ◌∙◌, ap, refl, sym, subst, ℕ, ◌+◌, Bool, true, ◌&&◌, leb, eqb, ltb, List, [], ◌∷◌, ◌++◌, length, map, Option, Some, None, arith}
-use Rattle.std.specs.Prelude.{count_by, slice_get, take}
+use Rattle.std.specs.Prelude.{count_by, slice_get}
 use Rattle.std.specs.List.{list_all}
 use Rattle.std.specs.Option.{option_map}
 use Rattle.std.proofs.lemmas.Bool.{and_from, and_parts}
@@ -18,9 +18,8 @@ use Rattle.play_meaning.specs.Grammar.{Line, is_slot}
 use Rattle.play_meaning.specs.StandardActions.{standard_needs}
 use Rattle.i7_actions.specs.Actions.{count_needed, counted, standard_actions}
 use Rattle.i7_actions.specs.declared.action.Action.{Action}
-use Rattle.i7_grammar.specs.GrammarFacts.{AreSound, IsSound, has_nouns, have_few_words, is_line_for, is_small_byte, is_synonym_of, worded as words_each}
-use Rattle.i7_grammar.specs.Grammars.{IsGrammarFound, grammar_meant, noun_number}
-use Rattle.i7_grammar.specs.declared.grammar.GrammarFound.{GrammarFound}
+use Rattle.i7_grammar.specs.GrammarFacts.{AreSound, has_nouns, is_line_for, is_small_byte, is_synonym_of, worded as words_each}
+use Rattle.i7_grammar.specs.Grammars.{IsGrammarFound, noun_number}
 use Rattle.i7_grammar.specs.declared.grammar.GrammarFound.TheVariants as spoken
 use Rattle.i7_grammar.proofs.Sound.{sound_found}
 use Rattle.i7_resolution.specs.Resolutions.{naming_of}
@@ -30,7 +29,7 @@ use Rattle.i7_sentences.specs.declared.sentence.Sentence.{Sentence}
 use Rattle.story_format.specs.Checks.{is_small}
 use Rattle.story_format.specs.Contents.{Contents}
 use Rattle.story_format.specs.Holding.{has_few_words, has_first_noun, is_line_of, is_number, nouns_needed}
-use Rattle.story_format.specs.Making.{worded, worded_from}
+use Rattle.story_format.specs.Making.{worded, worded_at, worded_from}
 use Rattle.story_format.specs.RuleMaking.{noun_count}
 use Rattle.story_format.proofs.StoryLemmas.{all_at}
 use Rattle.story_file.specs.Meanings.{AreMeant, known_said}
@@ -100,7 +99,7 @@ all_known sentences few =
 
 same_words : (synonyms : List Synonym) (o : ℕ) (objects : List Object) → list_all has_few_words (worded_from synonyms o objects) ≡ list_all (λ words. leb (length words) 32) (words_each synonyms o objects)
 same_words synonyms o [] = refl
-same_words synonyms o (object ∷ objects) = ap (λ (b : Bool). has_few_words _ && b) (same_words synonyms (o + 1) objects)
+same_words synonyms o (object ∷ objects) = ap (λ (b : Bool). has_few_words (worded_at synonyms o object) && b) (same_words synonyms (o + 1) objects)
 
 all_small : (count : ℕ) (synonyms : List Synonym) → list_all (is_synonym_of count) synonyms ≡ true → list_all (λ synonym. is_small synonym.word) synonyms ≡ true
 all_small count [] are = refl

@@ -73,12 +73,12 @@ resolved_said (Ok all) resolved is = ap (λ (r : Resolved). Ok ((((r.rules, r.te
 resolved_said (Err fault) resolved is = absurd cc
 
 -- each of them says what is resolved
-pub record AllSaid (rules : RulesFound) (texts : TextsFound) (listings : ListingsFound) (scenes : ScenesFound) (grammar : GrammarFound) (resolved : Resolved) : Type 0 where
-  pub rules : rules ≡ ruled.Says resolved.rules
-  pub texts : texts ≡ texted.Says resolved.texts
-  pub listings : listings ≡ listed.Says resolved.listings
-  pub scenes : scenes ≡ staged.Says resolved.scenes
-  pub grammar : grammar ≡ spoken.Says resolved.grammar
+pub record AllSaid (of_rules : RulesFound) (of_texts : TextsFound) (of_listings : ListingsFound) (of_scenes : ScenesFound) (of_grammar : GrammarFound) (resolved : Resolved) : Type 0 where
+  pub rules : of_rules ≡ ruled.Says resolved.rules
+  pub texts : of_texts ≡ texted.Says resolved.texts
+  pub listings : of_listings ≡ listed.Says resolved.listings
+  pub scenes : of_scenes ≡ staged.Says resolved.scenes
+  pub grammar : of_grammar ≡ spoken.Says resolved.grammar
 
 all_said : (rules : RulesFound) (texts : TextsFound) (listings : ListingsFound) (scenes : ScenesFound) (grammar : GrammarFound) (resolved : Resolved)
     → Says resolved ≡ joined rules texts listings scenes grammar → AllSaid rules texts listings scenes grammar resolved
