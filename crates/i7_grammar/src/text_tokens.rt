@@ -1,13 +1,14 @@
 //! The tokens of a text: words, and slots between brackets.
-ghost use Rattle.std.specs.Prelude.{◌≡◌, ◌<◌, ◌∷◌, ◌++◌, [], length, map, IfOk, IfSome, MatchOption, OnOk};
+ghost use Rattle.std.specs.Prelude.{◌≡◌, ◌++◌, map, IfOk, OnOk};
 ghost use Rattle.std.specs.List.{flat_map};
 ghost use Rattle.command_grammar.specs.Lines.{token_meant};
 ghost use Rattle.play_meaning.specs.Grammar.{Word};
 ghost use Rattle.i7_sentences.specs.TextPieces.{parts_of};
 ghost use Rattle.i7_grammar.specs.TextTokens.{behind_bracket, has_slot, slot_of, tokens_in, tokens_of, word_tokens};
 
-use crate::text_words::{around_closing, parted_at, words_among};
+use crate::text_words::words_among;
 use command_grammar::KeptToken;
+use i7_sentences::{behind_closing, first_part, in_front_of_closing};
 use std::alloc::{AllocError, Global};
 use world_meaning::{TextBytes, is_spelled};
 
@@ -44,19 +45,9 @@ fn add_words(alloc: Global, bytes: &[u8], all: &mut Vec<KeptToken>) -> Result<()
 fn add_bracket(alloc: Global, part: &[u8], all: &mut Vec<KeptToken>) -> Result<(), AllocError>
     ensures { OnOk result (map token_meant all.new.items ≡ map token_meant all.old.items ++ behind_bracket part.now) }
 {
-    let (front, behind) = around_closing(part);
-    let words = words_among(alloc, front)?;
+    let words = words_among(alloc, in_front_of_closing(part))?;
     all.push(slot_of(words.as_slice()))?;
-    add_words(alloc, behind, all)
-}
-
-/// The part up to the first `[`, and the bytes behind that.
-#[tactic(auto, using(i7_sentences::proofs::Telling::part_steps))]
-fn first_part(text: &[u8]) -> Option<(&[u8], &[u8])>
-    ensures parts { MatchOption result (parts_of text.now ≡ text.now ∷ []) (λ parts. parts_of text.now ≡ parts.0.now ∷ parts_of parts.1.now) }
-    ensures shorter { IfSome result (λ parts. length parts.1.now < length text.now) }
-{
-    parted_at(b'[', text)
+    add_words(alloc, behind_closing(part), all)
 }
 
 /// Adds what stands behind each `[`.

@@ -1,7 +1,6 @@
 //! The words of a text: what stands between blanks.
 ghost use Rattle.std.specs.Prelude.{◌≡◌, ◌<◌, ◌≤◌, ◌++◌, length, map, IfOk, MatchOption, OnOk};
 ghost use Rattle.std.specs.List.{after_first, before_first, position_or_len};
-ghost use Rattle.i7_sentences.specs.BracketedWords.{is_byte};
 ghost use Rattle.i7_grammar.specs.TextTokens.{is_blank, word_run, words_among};
 
 use std::alloc::{AllocError, Global};
@@ -67,39 +66,4 @@ pub fn words_among(alloc: Global, bytes: &[u8]) -> Result<Vec<&[u8]>, AllocError
     }
     add_word(rest, &mut all)?;
     Ok(all)
-}
-
-/// How many bytes stand in front of the first such byte.
-fn place_of(byte: u8, bytes: &[u8]) -> usize
-    ensures place { result ≡ position_or_len (is_byte byte) bytes.now }
-    ensures within { result ≤ length bytes.now }
-{
-    bytes.iter().take_while(|other| **other != byte).count()
-}
-
-/// The bytes in front of the first such byte, and those behind it; none where there is none.
-pub fn parted_at(byte: u8, bytes: &[u8]) -> Option<(&[u8], &[u8])>
-    ensures { MatchOption result (length bytes.now ≤ position_or_len (is_byte byte) bytes.now) (λ parts.
-        (position_or_len (is_byte byte) bytes.now < length bytes.now)
-        × (parts.0.now ≡ before_first (is_byte byte) bytes.now)
-        × (parts.1.now ≡ after_first (is_byte byte) bytes.now)
-        × (length parts.1.now < length bytes.now)) }
-{
-    let (front, rest) = bytes.split_at(place_of(byte, bytes));
-    match rest {
-        [] => None,
-        [_, behind @ ..] => Some((front, behind)),
-    }
-}
-
-/// The bytes in front of the first `]`, or all, and those behind it.
-pub fn around_closing(bytes: &[u8]) -> (&[u8], &[u8])
-    ensures front { result.0.now ≡ before_first (is_byte 93) bytes.now }
-    ensures behind { result.1.now ≡ after_first (is_byte 93) bytes.now }
-{
-    let (front, rest) = bytes.split_at(place_of(b']', bytes));
-    match rest {
-        [] => (front, rest),
-        [_, behind @ ..] => (front, behind),
-    }
 }

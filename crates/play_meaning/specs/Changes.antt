@@ -1,5 +1,5 @@
--- What changes of the world do: one that is not allowed, or that is of nothing, does nothing.
-use Rattle.std.specs.Prelude.{ℕ, ℤ, Bool, not, ◌&&◌, ◌||◌, ◌==◌, Option, None, Some, if◌then◌else◌}
+-- What changes of the world do: one that is not allowed, or that is of nothing, does nothing; and what comes of asking for one.
+use Rattle.std.specs.Prelude.{◌≡◌, ◌⊎◌, ℕ, ℤ, Bool, true, false, not, ◌&&◌, ◌||◌, ◌==◌, List, [], ◌∷◌, ◌++◌, Option, None, Some, Result, Ok, Err, if◌then◌else◌}
 use Rattle.world_meaning.specs.Placing.{can_be_held, can_hold, keeps_player, may_be_taken}
 use Rattle.world_meaning.specs.declared.place.Place.{Place}
 use Rattle.world_meaning.specs.declared.place.Rel.{Rel}
@@ -7,6 +7,8 @@ use Rattle.world_meaning.specs.declared.place.Rel.TheVariants.{In, On, Carried}
 use Rattle.play_meaning.specs.Seeing.{encloses}
 use Rattle.play_meaning.specs.Settings.{Setting, container_kind, kinds_of, person_kind, room_kind, supporter_kind}
 use Rattle.play_meaning.specs.Worlds.{World, set_flag, set_number, set_place}
+use Rattle.play_meaning.specs.declared.fault.WorldFault.{WorldFault}
+use Rattle.play_meaning.specs.declared.fault.WorldFault.TheVariants.{Memory, Misplaced}
 
 -- a thing may be put there: the kinds allow it, the player stays directly in a room, and nothing comes to stand in itself
 unfoldable pub may_be_put : Setting → World → ℕ → Place → Bool
@@ -50,3 +52,26 @@ make_so s (Some o) property value w = if s.has_flag o property then set_flag pro
 abbrev pub make_number : Setting → Option ℕ → ℕ → ℤ → World → World
 make_number s None property value w = w
 make_number s (Some o) property value w = if s.has_number o property then set_number property o value w else w
+
+-- ---- what comes of asking for a change
+
+-- whether it is allowed is told; memory is asked for only where it is
+abbrev pub Allows : {A : Type 0} → Result A WorldFault → Bool → Type 0
+Allows (Ok done) allowed = allowed ≡ true
+Allows (Err Misplaced) allowed = allowed ≡ false
+Allows (Err Memory) allowed = allowed ≡ true
+
+-- the world behind it: the change's, which is the same world where it isn't allowed, unless memory was refused
+abbrev pub behind : {A : Type 0} → Result A WorldFault → World → World → World
+behind (Ok done) changed w = changed
+behind (Err Misplaced) changed w = changed
+behind (Err Memory) changed w = w
+
+-- the world before a change that was made is remembered behind those before earlier ones
+abbrev pub remembered : {A : Type 0} → Result A WorldFault → World → List World → List World
+remembered (Ok done) w past = past ++ w ∷ []
+remembered (Err fault) w past = past
+
+-- a world was remembered, or none
+abbrev pub Remembers : World → List World → List World → Type 0
+Remembers w past now = (now ≡ past) ⊎ (now ≡ past ++ w ∷ [])

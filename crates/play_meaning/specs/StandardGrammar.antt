@@ -1,7 +1,6 @@
 -- The commands that every story understands, behind those of the author's.
 use Rattle.std.specs.Prelude.{ℕ, List, [], ◌∷◌, codes}
-use Rattle.play_meaning.specs.Grammar.{Direction, Grammar, Line, Something, Word}
-use Rattle.play_meaning.specs.Settings.{Setting}
+use Rattle.play_meaning.specs.Grammar.{Direction, Line, Something, Word}
 use Rattle.play_meaning.specs.StandardActions.{closing, dropping, examining, going, inserting, jumping, looking, opening, putting_on, switching_off, switching_on, taking, taking_inventory, taking_off, waiting, wearing}
 
 abbrev pub alone : ℕ → List ℕ → Line
@@ -36,7 +35,3 @@ standard_lines =
     ∷ verb_with switching_on (codes "switch") (codes "on") ∷ verb_with switching_on (codes "turn") (codes "on")
     ∷ verb_with switching_off (codes "switch") (codes "off") ∷ verb_with switching_off (codes "turn") (codes "off")
     ∷ []
-
--- the grammar of a story of these objects, which go by these words; no line is an author's so far
-abbrev pub standard_grammar : Setting → (ℕ → List (List ℕ)) → Grammar
-standard_grammar s words = record { setting = s; words = words; lines = standard_lines }

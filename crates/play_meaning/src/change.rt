@@ -1,8 +1,10 @@
 //! A change of the world as data, and what comes of making it.
-ghost use Rattle.std.specs.Prelude.{◌≡◌};
+ghost use Rattle.std.specs.Prelude.{◌≡◌, OnErr, OnOk};
+ghost use Rattle.play_meaning.specs.Changes.{Remembers};
 ghost use Rattle.play_meaning.specs.Effects.{made};
 
-use crate::{GroundMut, SceneNow};
+use crate::{GroundMut, SceneNow, WorldFault};
+use std::alloc::AllocError;
 use world_meaning::{ObjNo, Rel, TextBytes};
 
 /// One change of the world: a call of `GroundMut` with its arguments, properties, variables and scenes by their numbers.
@@ -42,12 +44,17 @@ impl Default for Change {
     }
 }
 
-/// Makes a change, for which it takes no memory; one that isn't allowed does nothing.
-pub fn make<G: GroundMut>(ground: &mut G, change: Change)
-    ensures made { G.world ground.new ≡ made (G.fixed ground.old).setting (G.world ground.old) change }
+/// Makes a change; one that isn't allowed does nothing.
+///
+/// # Errors
+/// Want of memory for taking the change back; nothing is changed then.
+pub fn make<G: GroundMut>(ground: &mut G, change: Change) -> Result<(), AllocError>
+    ensures made { OnOk result (G.world ground.new ≡ made (G.fixed ground.old).setting (G.world ground.old) change) }
+    ensures refused { OnErr result (G.world ground.new ≡ G.world ground.old) }
+    ensures past { Remembers (G.world ground.old) (G.past ground.old) (G.past ground.new) }
     ensures fixed { G.fixed ground.new ≡ G.fixed ground.old }
 {
-    let _ = match change {
+    let answer = match change {
         Change::SetFlag {
             object,
             property,
@@ -68,4 +75,8 @@ pub fn make<G: GroundMut>(ground: &mut G, change: Change)
         Change::SetScene { scene, now } => ground.set_scene(scene, now),
         Change::EndStory(text) => ground.end_story(text),
     };
+    match answer {
+        Err(WorldFault::Memory) => Err(AllocError),
+        _ => Ok(()),
+    }
 }

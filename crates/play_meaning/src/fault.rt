@@ -7,4 +7,7 @@ pub enum WorldFault {
     /// The kinds don't allow it, the number isn't there, or a thing would come to stand in itself.
     #[error("that can't be so")]
     Misplaced,
+    /// Memory for taking the change back was refused.
+    #[error("out of memory")]
+    Memory,
 }

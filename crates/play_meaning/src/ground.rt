@@ -106,54 +106,65 @@ pub trait Ground {
         ensures { result ≡ encloses (world self.now) holder object };
 }
 
-/// A story in play that may be changed. Each call makes its one change, or answers `Misplaced` exactly where the kinds, the rules
-/// of placing or the numbers don't allow it and changes nothing then. None takes memory.
+/// A story in play that may be changed, and that remembers the worlds before its changes. Each call makes its one change; or it
+/// answers `Misplaced`, exactly where the kinds, the rules of placing or the numbers don't allow the change, or `Memory`, where
+/// that for remembering was refused, and changes nothing then.
 pub trait GroundMut: Ground {
-    ghost use Rattle.std.specs.Prelude.{◌≡◌, Some, is_ok, length, nat_lt, true};
-    ghost use Rattle.play_meaning.specs.Changes.{make_number, make_so, may_be_put, put_at, take_away};
+    ghost use Rattle.std.specs.Prelude.{◌≡◌, List, Some, length, nat_lt, true};
+    ghost use Rattle.play_meaning.specs.Changes.{Allows, behind, make_number, make_so, may_be_put, put_at, remembered, take_away};
     ghost use Rattle.play_meaning.specs.Settings.{kinds_of};
-    ghost use Rattle.play_meaning.specs.Worlds.{end_with, set_scene, set_variable};
+    ghost use Rattle.play_meaning.specs.Worlds.{World, end_with, set_scene, set_variable};
     ghost use Rattle.world_meaning.specs.Placing.{may_be_taken};
+
+    /// The worlds before each change that was made, the oldest in front.
+    ghost past: { Self → List World };
 
     /// Makes an either-or property true of an object or not.
     fn set_flag(&mut self, object: ObjNo, property: u8, value: bool) -> Result<(), WorldFault>
-        ensures answer { is_ok result ≡ (Self.fixed self.old).setting.has_flag object property }
-        ensures world { Self.world self.new ≡ make_so (Self.fixed self.old).setting (Some object) property value (Self.world self.old) }
+        ensures answer { Allows result ((Self.fixed self.old).setting.has_flag object property) }
+        ensures world { Self.world self.new ≡ behind result (make_so (Self.fixed self.old).setting (Some object) property value (Self.world self.old)) (Self.world self.old) }
+        ensures past { past self.new ≡ remembered result (Self.world self.old) (past self.old) }
         ensures fixed { Self.fixed self.new ≡ Self.fixed self.old };
 
     /// Sets an object's number in a number property.
     fn set_number(&mut self, object: ObjNo, property: u8, value: i32) -> Result<(), WorldFault>
-        ensures answer { is_ok result ≡ (Self.fixed self.old).setting.has_number object property }
-        ensures world { Self.world self.new ≡ make_number (Self.fixed self.old).setting (Some object) property value (Self.world self.old) }
+        ensures answer { Allows result ((Self.fixed self.old).setting.has_number object property) }
+        ensures world { Self.world self.new ≡ behind result (make_number (Self.fixed self.old).setting (Some object) property value (Self.world self.old)) (Self.world self.old) }
+        ensures past { past self.new ≡ remembered result (Self.world self.old) (past self.old) }
         ensures fixed { Self.fixed self.new ≡ Self.fixed self.old };
 
     /// Sets a variable.
     fn set_variable(&mut self, variable: u8, value: i32) -> Result<(), WorldFault>
-        ensures answer { is_ok result ≡ nat_lt variable (length (Self.world self.old).variables) }
-        ensures world { Self.world self.new ≡ set_variable variable value (Self.world self.old) }
+        ensures answer { Allows result (nat_lt variable (length (Self.world self.old).variables)) }
+        ensures world { Self.world self.new ≡ behind result (set_variable variable value (Self.world self.old)) (Self.world self.old) }
+        ensures past { past self.new ≡ remembered result (Self.world self.old) (past self.old) }
         ensures fixed { Self.fixed self.new ≡ Self.fixed self.old };
 
     /// Sets where a scene stands.
     fn set_scene(&mut self, scene: u8, now: SceneNow) -> Result<(), WorldFault>
-        ensures answer { is_ok result ≡ nat_lt scene (length (Self.world self.old).scenes) }
-        ensures world { Self.world self.new ≡ set_scene scene now (Self.world self.old) }
+        ensures answer { Allows result (nat_lt scene (length (Self.world self.old).scenes)) }
+        ensures world { Self.world self.new ≡ behind result (set_scene scene now (Self.world self.old)) (Self.world self.old) }
+        ensures past { past self.new ≡ remembered result (Self.world self.old) (past self.old) }
         ensures fixed { Self.fixed self.new ≡ Self.fixed self.old };
 
     /// Puts an object somewhere.
     fn put(&mut self, object: ObjNo, relation: Rel, holder: ObjNo) -> Result<(), WorldFault>
-        ensures answer { is_ok result ≡ may_be_put (Self.fixed self.old).setting (Self.world self.old) object (record { relation = relation; holder = holder }) }
-        ensures world { Self.world self.new ≡ put_at (Self.fixed self.old).setting object (record { relation = relation; holder = holder }) (Self.world self.old) }
+        ensures answer { Allows result (may_be_put (Self.fixed self.old).setting (Self.world self.old) object (record { relation = relation; holder = holder })) }
+        ensures world { Self.world self.new ≡ behind result (put_at (Self.fixed self.old).setting object (record { relation = relation; holder = holder }) (Self.world self.old)) (Self.world self.old) }
+        ensures past { past self.new ≡ remembered result (Self.world self.old) (past self.old) }
         ensures fixed { Self.fixed self.new ≡ Self.fixed self.old };
 
     /// Takes an object away from where it is, so that it is nowhere.
     fn take_out(&mut self, object: ObjNo) -> Result<(), WorldFault>
-        ensures answer { is_ok result ≡ may_be_taken (kinds_of (Self.fixed self.old).setting) object }
-        ensures world { Self.world self.new ≡ take_away (Self.fixed self.old).setting (Some object) (Self.world self.old) }
+        ensures answer { Allows result (may_be_taken (kinds_of (Self.fixed self.old).setting) object) }
+        ensures world { Self.world self.new ≡ behind result (take_away (Self.fixed self.old).setting (Some object) (Self.world self.old)) (Self.world self.old) }
+        ensures past { past self.new ≡ remembered result (Self.world self.old) (past self.old) }
         ensures fixed { Self.fixed self.new ≡ Self.fixed self.old };
 
-    /// Ends the story with a text. This is never refused.
+    /// Ends the story with a text. This is always allowed.
     fn end_story(&mut self, text: TextBytes) -> Result<(), WorldFault>
-        ensures answer { is_ok result ≡ true }
-        ensures world { Self.world self.new ≡ end_with text (Self.world self.old) }
+        ensures answer { Allows result true }
+        ensures world { Self.world self.new ≡ behind result (end_with text (Self.world self.old)) (Self.world self.old) }
+        ensures past { past self.new ≡ remembered result (Self.world self.old) (past self.old) }
         ensures fixed { Self.fixed self.new ≡ Self.fixed self.old };
 }
