@@ -23,7 +23,7 @@ use Rattle.story_format.specs.Carrying.{code_if_some}
 use Rattle.action_stages.specs.Answering.{Answers}
 use Rattle.action_stages.specs.Applying.{rule_applies}
 use Rattle.action_stages.specs.Bodies.{AreCodesIn, body_in, condition_in}
-use Rattle.action_stages.specs.StoryPlay.{body_told, coded_story, rule_told}
+use Rattle.world_store.specs.StoryPlay.{body_told, coded_story, rule_told}
 
 pub all_mapped : {A B : Type 0} (p : B → Bool) (f : A → B) (xs : List A) → list_all p (map f xs) ≡ list_all (λ x. p (f x)) xs
 all_mapped p f [] = refl

@@ -18,7 +18,7 @@ use Rattle.world_store.specs.StoryGames.{plain_story}
 use Rattle.world_store.specs.StorySettings.{setting_of}
 use Rattle.action_stages.specs.Answering.{ends_so}
 use Rattle.action_stages.specs.Bodies.{rest_of}
-use Rattle.action_stages.specs.StoryPlay.{coded_story}
+use Rattle.world_store.specs.StoryPlay.{coded_story}
 
 pub effect_is : (t : Tables) (p q : Progress) (now : ActionNow) (rule : ℕ) (answer : HostAnswer) (ends : Result Flow Abandon)
     → HasEffect rule (record { tables = t; world = p.world }) now answer → q ≡ say answer.text (change (all_made (setting_of t) answer.changes.items) p) → ((r : Progress) → ends_so

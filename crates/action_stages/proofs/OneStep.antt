@@ -21,7 +21,7 @@ use Rattle.world_store.specs.StoryWorlds.{IsKept}
 use Rattle.action_stages.specs.Bodies.{AreCodesIn, StepsSo, frame_in}
 use Rattle.action_stages.specs.Lasting.{IsAsLong, Lasts}
 use Rattle.action_stages.specs.Measures.{LowersNoWork}
-use Rattle.action_stages.specs.StoryPlay.{coded_story}
+use Rattle.world_store.specs.StoryPlay.{coded_story}
 use Rattle.action_stages.proofs.Ending.{Worked, worked}
 use Rattle.action_stages.proofs.Lasting.{as_long, step_lasts}
 

@@ -35,7 +35,7 @@ use Rattle.story_format.specs.declared.rule_entry.RuleEntry.{RuleEntry}
 use Rattle.story_format.specs.declared.tables.Tables.{Tables}
 use Rattle.action_stages.specs.Measures.{HasEnded, IsOver, LowersNoWork}
 use Rattle.action_stages.specs.Lowering.{HasSoundBodies, HasSoundBody}
-use Rattle.action_stages.specs.StoryPlay.{body_told, coded_story, rule_told}
+use Rattle.world_store.specs.StoryPlay.{body_told, coded_story, rule_told}
 use Rattle.action_stages.proofs.Ending.{body_ends, longer}
 use Rattle.action_stages.proofs.TaleRules.{at_place, told_at}
 

@@ -33,7 +33,7 @@ use Rattle.world_store.specs.StorySettings.{setting_of}
 use Rattle.action_stages.specs.Alike.{ArePlayedAlike}
 use Rattle.action_stages.proofs.Lowering.{inner_lowers, stories_lower}
 use Rattle.action_stages.specs.Measures.{LowersNoWork}
-use Rattle.action_stages.specs.StoryPlay.{coded_story, game_in_play}
+use Rattle.world_store.specs.StoryPlay.{coded_story, game_in_play}
 use Rattle.story_format.specs.TaleScripts.{whole_script}
 use Rattle.action_stages.proofs.OtherBodies.{bodies_acted, bodies_consulted, doing}
 use Rattle.action_stages.proofs.TaleBodies.{bodies_at, sound_bodies}

@@ -25,7 +25,7 @@ use Rattle.story_format.specs.declared.rule_tables.SceneEntry.{SceneEntry}
 use Rattle.world_meaning.specs.declared.needs.Needs.{Needs}
 use Rattle.world_meaning.specs.declared.needs.Slot.{Slot}
 use Rattle.world_meaning.specs.declared.needs.Slot.TheVariants.{Absent, Carried, Touched, Visible}
-use Rattle.action_stages.specs.StoryPlay.{adjective_told, aspect_told, needs_in, needs_told, rule_told, scene_told, slot_of}
+use Rattle.world_store.specs.StoryPlay.{adjective_told, aspect_told, needs_in, needs_told, rule_told, scene_told, slot_of}
 
 -- ---- by places
 

@@ -29,7 +29,7 @@ use Rattle.world_meaning.specs.declared.session.Abandon.{Abandon}
 use Rattle.world_store.specs.StorySettings.{fixed_of}
 use Rattle.action_stages.specs.Applying.{test_answer}
 use Rattle.action_stages.specs.Bodies.{AreCodesIn}
-use Rattle.action_stages.specs.StoryPlay.{coded_story}
+use Rattle.world_store.specs.StoryPlay.{coded_story}
 
 -- among codes of which one is this there is one at least
 some_there : (judged : List Judged) (n : ℕ) (j : Judged) → slice_get judged n ≡ Some j → (left : ℕ) × (length judged ≡ suc left)

@@ -5,7 +5,6 @@ pub mod Lasting
 pub mod Lowering
 pub mod Measures
 pub mod Alike
-pub mod StoryPlay
 pub mod Parts
 pub mod Performing
 pub mod Stages

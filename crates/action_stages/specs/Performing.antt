@@ -7,7 +7,7 @@ use Rattle.play_meaning.specs.Progress.{Asked, Progress}
 use Rattle.play_meaning.specs.declared.outcome.Outcome.{Outcome}
 use Rattle.play_meaning.specs.declared.outcome.Outcome.TheVariants.{Success}
 use Rattle.story_format.specs.declared.tables.Tables.{Tables}
-use Rattle.action_stages.specs.StoryPlay.{game_in_play}
+use Rattle.world_store.specs.StoryPlay.{game_in_play}
 
 pub record Performed : Type 0 where
   pub progress : Progress

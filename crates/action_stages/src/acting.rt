@@ -12,7 +12,7 @@ ghost use Rattle.action_stages.specs.Answering.{Answers, asked, done};
 ghost use Rattle.action_stages.specs.Bodies.{AreCodesIn, CameTo, at, step_at};
 ghost use Rattle.action_stages.specs.Parts.{part_of};
 ghost use Rattle.action_stages.specs.Performing.{below};
-ghost use Rattle.action_stages.specs.StoryPlay.{coded_story, game_in_play};
+ghost use Rattle.world_store.specs.StoryPlay.{coded_story, game_in_play};
 ghost use Rattle.world_store.specs.StorySettings.{setting_of};
 
 use crate::failing::{access, asks_holding, fails, light, say_first_taking};
@@ -294,7 +294,7 @@ fn report_in<P: Playing>(
 
 /// A part of an action.
 #[cycle(acting)]
-#[tactic(auto, unfolding(crate::specs::Parts::part_of, play_meaning::specs::CodedStories::game_of_codes, crate::specs::StoryPlay::coded_story))]
+#[tactic(auto, unfolding(crate::specs::Parts::part_of, play_meaning::specs::CodedStories::game_of_codes, world_store::specs::StoryPlay::coded_story))]
 fn part_in<P: Playing>(
     alloc: Global,
     codes: &[Verified],

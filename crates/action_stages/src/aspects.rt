@@ -7,7 +7,7 @@ ghost use Rattle.play_meaning.specs.Values.{is_so};
 ghost use Rattle.story_format.specs.Carrying.{number_if_some};
 ghost use Rattle.story_format.specs.declared.rule_entry.Aspect.TheVariants.{Kind};
 ghost use Rattle.world_store.specs.StorySettings.{setting_of};
-ghost use Rattle.action_stages.specs.StoryPlay.{adjective_told, aspect_told, rule_told};
+ghost use Rattle.world_store.specs.StoryPlay.{adjective_told, aspect_told, rule_told};
 
 use play_meaning::{ActNo, ActionNow};
 use story_format::{Aspect, KindAspect, PropertySide, RuleEntry};

@@ -7,7 +7,7 @@ ghost use Rattle.story_format.specs.Carrying.{code_if_some};
 ghost use Rattle.action_stages.specs.Answering.{Answers};
 ghost use Rattle.action_stages.specs.Applying.{rule_applies, test_answer};
 ghost use Rattle.action_stages.specs.Bodies.{AreCodesIn};
-ghost use Rattle.action_stages.specs.StoryPlay.{coded_story, rule_told};
+ghost use Rattle.world_store.specs.StoryPlay.{coded_story, rule_told};
 
 use crate::aspects::is_about;
 use play_meaning::{ActionNow, sound_codes_run};

@@ -3,7 +3,7 @@ ghost use Rattle.std.specs.Prelude.{◌≡◌, ◌≤◌, ℕ, Some, slice_get, 
 ghost use Rattle.story_format.specs.Counts.{counts_of};
 ghost use Rattle.story_format.specs.RuleChecks.{is_right_body};
 ghost use Rattle.action_stages.specs.Bodies.{body_in, does_told};
-ghost use Rattle.action_stages.specs.StoryPlay.{body_told, coded_story};
+ghost use Rattle.world_store.specs.StoryPlay.{body_told, coded_story};
 ghost use Rattle.action_stages.specs.declared.playing.Does.TheVariants.{Standard};
 
 use crate::playing::Does;
@@ -26,7 +26,7 @@ fn done_by(story: &Story, body: &RuleBody) -> Does
 }
 
 /// What a rule does, if it is there.
-#[tactic(auto, unfolding(crate::specs::StoryPlay::coded_story))]
+#[tactic(auto, unfolding(world_store::specs::StoryPlay::coded_story))]
 pub fn does(story: &Story, rule: u16) -> Option<Does>
     ensures told { does_told result ≡ body_in (slice_get (coded_story story.now).rules rule) }
     ensures low { (number : ℕ) → result ≡ Some (Standard number) → 1 ≤ number }

@@ -6,7 +6,7 @@ ghost use Rattle.play_meaning.specs.Seeing.{is_visible};
 ghost use Rattle.play_meaning.specs.Truth.{of_some};
 ghost use Rattle.world_meaning.specs.declared.session.Abandon.TheVariants.{Memory};
 ghost use Rattle.world_store.specs.StorySettings.{setting_of};
-ghost use Rattle.action_stages.specs.StoryPlay.{game_in_play};
+ghost use Rattle.world_store.specs.StoryPlay.{game_in_play};
 ghost use Rattle.action_stages.specs.Answering.{Answers, asked};
 
 use crate::playing::Playing;
@@ -45,7 +45,7 @@ pub fn fails<P: Playing>(play: &mut P, text: &[u8]) -> Result<Option<Outcome>, A
 }
 
 /// An action that needs light fails in darkness.
-#[tactic(auto, unfolding(play_meaning::specs::Acting::visibility, play_meaning::specs::CodedStories::game_of_codes, crate::specs::StoryPlay::coded_story))]
+#[tactic(auto, unfolding(play_meaning::specs::Acting::visibility, play_meaning::specs::CodedStories::game_of_codes, world_store::specs::StoryPlay::coded_story))]
 pub fn light<P: Playing>(play: &mut P, now: &ActionNow) -> Result<Option<Outcome>, Abandon>
     ensures same { P.tables play.new ≡ P.tables play.old }
     ensures kept { P.loaded play.new ≡ P.loaded play.old }

@@ -1,7 +1,7 @@
 //! What a story's actions need, and which rules its books list.
 ghost use Rattle.std.specs.Prelude.{◌≡◌, ◌+◌, ◌<◌, ◌^◌, IfSome, slice_get};
 ghost use Rattle.play_meaning.specs.CodedStories.{game_of_codes};
-ghost use Rattle.action_stages.specs.StoryPlay.{coded_story, needs_told, slot_of};
+ghost use Rattle.world_store.specs.StoryPlay.{coded_story, needs_told, slot_of};
 
 use play_meaning::ActNo;
 use story_format::{ActionEntry, Story};
@@ -40,7 +40,7 @@ fn needs_told(entry: &ActionEntry) -> Needs
 }
 
 /// What an action needs; one that isn't there needs nothing.
-#[tactic(auto, unfolding(play_meaning::specs::CodedStories::game_of_codes, crate::specs::StoryPlay::coded_story))]
+#[tactic(auto, unfolding(play_meaning::specs::CodedStories::game_of_codes, world_store::specs::StoryPlay::coded_story))]
 pub fn needs_of(story: &Story, action: ActNo) -> Needs
     ensures { result ≡ (game_of_codes (coded_story story.now)).needs action }
 {
@@ -51,7 +51,7 @@ pub fn needs_of(story: &Story, action: ActNo) -> Needs
 }
 
 /// The rule at a place of a rulebook.
-#[tactic(auto, using(crate::proofs::Asked::asked_rules), unfolding(play_meaning::specs::CodedStories::game_of_codes, crate::specs::StoryPlay::coded_story))]
+#[tactic(auto, using(crate::proofs::Asked::asked_rules), unfolding(play_meaning::specs::CodedStories::game_of_codes, world_store::specs::StoryPlay::coded_story))]
 pub fn rule_at(story: &Story, book: u16, place: usize) -> Option<u16>
     ensures rule { result ≡ slice_get ((game_of_codes (coded_story story.now)).books book) place }
     ensures few { IfSome result (λ rule. place + 1 < 2 ^ 64) }

@@ -16,7 +16,7 @@ ghost use Rattle.story_code.specs.Runs.{MayDo};
 ghost use Rattle.story_code.specs.Steps.{leads_on};
 ghost use Rattle.story_format.specs.declared.tables.Tables.{Tables};
 ghost use Rattle.world_store.specs.StorySettings.{setting_of};
-ghost use Rattle.action_stages.specs.StoryPlay.{coded_story, game_in_play};
+ghost use Rattle.world_store.specs.StoryPlay.{coded_story, game_in_play};
 ghost use Rattle.action_stages.specs.Answering.{Answers, Comes};
 ghost use Rattle.action_stages.specs.declared.playing.Does.TheVariants.{Standard};
 ghost use Rattle.action_stages.specs.Bodies.{AreCodesIn, StepsSo, body_in, does_told, rest_of};

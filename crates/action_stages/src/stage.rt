@@ -12,7 +12,7 @@ ghost use Rattle.action_stages.specs.Applying.{test_answer};
 ghost use Rattle.action_stages.specs.Bodies.{AreCodesIn};
 ghost use Rattle.action_stages.specs.Performing.{below, ended_so, performed};
 ghost use Rattle.action_stages.specs.Stages.{story_of, progress_of, tables_of};
-ghost use Rattle.action_stages.specs.StoryPlay.{coded_story, game_in_play};
+ghost use Rattle.world_store.specs.StoryPlay.{coded_story, game_in_play};
 
 use crate::acting::{act_in, consult_in};
 use crate::conditions::test;

@@ -4,7 +4,7 @@ ghost use Rattle.play_meaning.specs.Progress.{most_work};
 ghost use Rattle.story_code.specs.Runs.{MayDo};
 ghost use Rattle.story_code.specs.Steps.{leads_on};
 ghost use Rattle.action_stages.specs.Bodies.{AreCodesIn, StepsSo};
-ghost use Rattle.action_stages.specs.StoryPlay.{coded_story};
+ghost use Rattle.world_store.specs.StoryPlay.{coded_story};
 
 use play_meaning::ActionNow;
 use std::alloc::Global;

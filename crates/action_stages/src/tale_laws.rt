@@ -10,7 +10,7 @@ ghost use Rattle.story_format.specs.Making.{tables_of};
 ghost use Rattle.story_format.specs.TaleScripts.{whole_script};
 ghost use Rattle.world_meaning.specs.declared.tale.Tale.{Tale};
 ghost use Rattle.action_stages.specs.Alike.{ArePlayedAlike};
-ghost use Rattle.action_stages.specs.StoryPlay.{game_in_play};
+ghost use Rattle.world_store.specs.StoryPlay.{game_in_play};
 
 /// The game of a tale's tables, whose rules are codes and whose rulebooks are stored in their order, is played as the tale's own,
 /// whose rules are what its sentences say: rulebooks and actions come to the same, however deep they are nested, and its scenes begin

@@ -17,7 +17,7 @@ use Rattle.story_format.specs.Codes.{codes_told}
 use Rattle.story_format.specs.declared.rule_tables.SceneEntry.{SceneEntry}
 use Rattle.story_format.specs.declared.tables.Tables.{Tables}
 use Rattle.world_store.specs.StorySettings.{setting_of}
-use Rattle.action_stages.specs.StoryPlay.{coded_story, game_in_play, scene_told}
+use Rattle.world_store.specs.StoryPlay.{coded_story, game_in_play, scene_told}
 use Rattle.scenes.specs.Passes.{IsSceneOf, IsTestIfSome, answer_of, begins_now, ends_now, in_turn, may_begin}
 
 abbrev ended : SceneNow

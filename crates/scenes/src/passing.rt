@@ -7,7 +7,7 @@ ghost use Rattle.story_format.specs.Codes.{codes_told};
 ghost use Rattle.world_store.specs.StorySettings.{setting_of};
 ghost use Rattle.action_stages.specs.Answering.{Answers};
 ghost use Rattle.action_stages.specs.Stages.{progress_of, story_of, tables_of};
-ghost use Rattle.action_stages.specs.StoryPlay.{game_in_play};
+ghost use Rattle.world_store.specs.StoryPlay.{game_in_play};
 ghost use Rattle.scenes.specs.Passes.{IsSceneOf, IsTestIfSome, begins_now, ends_now, in_turn, may_begin};
 
 use action_stages::{HasWorld, Stage, follow, holds};

@@ -18,7 +18,7 @@ use Rattle.story_file.proofs.Held.{tale_kept}
 use Rattle.story_file.proofs.Ranges.{says_ranged}
 use Rattle.action_stages.proofs.TaleGames.{played_alike}
 use Rattle.action_stages.specs.Alike.{ArePlayedAlike}
-use Rattle.action_stages.specs.StoryPlay.{game_in_play}
+use Rattle.world_store.specs.StoryPlay.{game_in_play}
 use Rattle.source_player.proofs.AlikeRuns.{broken_game_alike, game_alike}
 use Rattle.source_player.specs.SourceRuns.{BrokeOffGame, LeavesSource, LeavesStory, PlayedSource, PlayedStory}
 use Rattle.source_player.specs.declared.source_run.SourceRunFault.{SourceRunFault}

@@ -15,7 +15,7 @@ use Rattle.story_file.specs.Compilations.{IsRefused, Means, game_meant}
 use Rattle.story_player.specs.Begun.{IsUnbegun}
 use Rattle.story_player.specs.Breaks.{Blames}
 use Rattle.story_player.specs.Runs.{BrokeOff, Played, Streams, streams_of, most_input}
-use Rattle.action_stages.specs.StoryPlay.{game_in_play}
+use Rattle.world_store.specs.StoryPlay.{game_in_play}
 use Rattle.story_player.specs.declared.fault.RunFault.{RunFault}
 use Rattle.source_player.specs.declared.source_run.SourceRunFault.{SourceRunFault}
 use Rattle.source_player.specs.declared.source_run.SourceRunFault.TheVariants.{Source, Story, Start, Run}

@@ -1,5 +1,6 @@
 //! Bodies of rules, run step by step.
 ghost use Rattle.std.specs.Prelude.{◌≡◌, ℕ, List, Ok, OnErr, OnOk, true};
+ghost use Rattle.play_meaning.specs.Changes.{Remembers};
 ghost use Rattle.play_meaning.specs.Machines.{does};
 ghost use Rattle.play_meaning.specs.Operands.{gives};
 ghost use Rattle.play_meaning.specs.Stands.{GivesObject};
@@ -9,7 +10,7 @@ ghost use Rattle.story_code.specs.Runs.{AreDescribedBy, AreSoundTogether, IsServ
 ghost use Rattle.story_code.specs.Steps.{CarriesOn, DoneSo, StepsSo, leads_on};
 ghost use Rattle.story_code.specs.declared.step.Step.{Step};
 
-use crate::changing::{end_story, make_number, make_so, move_to, put, take_away};
+use crate::changing::{end_story, make_number, make_so, make_variable, move_to, put, take_away};
 use crate::describing::description;
 use crate::fetching::fetch;
 use crate::looping::next_object;
@@ -42,7 +43,8 @@ fn change<G: GroundMut>(
     requires served { IsServed instruction state.old }
     requires loops { LoopsSuit codes.now state.old instruction }
     ensures step { CarriesOn (G.fixed ground.old) codes.now now.now (G.world ground.old) instruction state.old text.old.items result (G.world ground.new) state.new text.new.items }
-    ensures kept { OnErr result (G.world ground.new ≡ G.world ground.old) }
+    ensures kept { OnErr result ((G.world ground.new ≡ G.world ground.old) × (G.past ground.new ≡ G.past ground.old)) }
+    ensures past { Remembers (G.world ground.old) (G.past ground.old) (G.past ground.new) }
     ensures fixed { G.fixed ground.new ≡ G.fixed ground.old }
     ensures small { (z : Counts) → OnOk result (GivesObject (gives z instruction) state.new.operands) }
     ensures same { state.new.code ≡ state.old.code }
@@ -50,29 +52,30 @@ fn change<G: GroundMut>(
     match instruction {
         Instruction::SetFlag(property, value) => {
             let object = object_at(state.take());
-            make_so(ground, object, property, value);
+            make_so(ground, object, property, value)?;
         }
         Instruction::SetProp(property) => {
             let number = state.take();
             let object = object_at(state.take());
-            make_number(ground, object, property, number);
+            make_number(ground, object, property, number)?;
         }
         Instruction::SetVar(variable) => {
-            let _ = ground.set_variable(variable, state.take());
+            let number = state.take();
+            make_variable(ground, variable, number)?;
         }
         Instruction::PutAt(relation) => {
             let holder = object_at(state.take());
             let object = object_at(state.take());
-            put(ground, object, relation, holder);
+            put(ground, object, relation, holder)?;
         }
         Instruction::Move => {
             let holder = object_at(state.take());
             let object = object_at(state.take());
-            move_to(ground, object, holder);
+            move_to(ground, object, holder)?;
         }
         Instruction::Away => {
             let object = object_at(state.take());
-            take_away(ground, object);
+            take_away(ground, object)?;
         }
         Instruction::EndStory(string) => end_story(alloc, ground, string)?,
         _ => {
@@ -136,7 +139,8 @@ fn carry_on<G: GroundMut>(
     requires served { IsServed instruction state.old }
     requires loops { LoopsSuit codes.now state.old instruction }
     ensures step { CarriesOn (G.fixed ground.old) codes.now now.now (G.world ground.old) instruction state.old text.old.items result (G.world ground.new) state.new text.new.items }
-    ensures kept { OnErr result (G.world ground.new ≡ G.world ground.old) }
+    ensures kept { OnErr result ((G.world ground.new ≡ G.world ground.old) × (G.past ground.new ≡ G.past ground.old)) }
+    ensures past { Remembers (G.world ground.old) (G.past ground.old) (G.past ground.new) }
     ensures fixed { G.fixed ground.new ≡ G.fixed ground.old }
     ensures small { (z : Counts) → OnOk result (GivesObject (gives z instruction) state.new.operands) }
     ensures same { state.new.code ≡ state.old.code }
@@ -186,7 +190,8 @@ fn do_in_body<G: GroundMut>(
     requires served { IsServed instruction state.old }
     requires loops { LoopsSuit codes.now state.old instruction }
     ensures step { DoneSo (G.fixed ground.old) codes.now now.now (G.world ground.old) instruction state.old text.old.items result (G.world ground.new) state.new text.new.items }
-    ensures kept { OnErr result (G.world ground.new ≡ G.world ground.old) }
+    ensures kept { OnErr result ((G.world ground.new ≡ G.world ground.old) × (G.past ground.new ≡ G.past ground.old)) }
+    ensures past { Remembers (G.world ground.old) (G.past ground.old) (G.past ground.new) }
     ensures fixed { G.fixed ground.new ≡ G.fixed ground.old }
     ensures small { (z : Counts) → OnOk result (GivesObject (gives z instruction) state.new.operands) }
     ensures same { state.new.code ≡ state.old.code }
@@ -223,7 +228,8 @@ fn do_in_body<G: GroundMut>(
 ///
 /// # Errors
 /// Out of range where a sum, a difference or a product is; too much work where a loop turns behind ten thousand units of
-/// work; want of memory where a text found none. The world is as it was then; a part of the text may have been added.
+/// work; want of memory where a text found none, or a change can't be remembered. The world is as it was then, and nothing more
+/// is remembered; a part of the text may have been added.
 pub fn step_plain<G: GroundMut>(
     alloc: Global,
     ground: &mut G,
@@ -238,7 +244,8 @@ pub fn step_plain<G: GroundMut>(
     ensures step { StepsSo (G.fixed ground.old) codes.now now.now (G.world ground.old) state.old text.old.items result (G.world ground.new) state.new text.new.items }
     ensures stands { (came : Step) → result ≡ Ok came → leads_on came ≡ true → MayDo codes.now state.new }
     ensures same { state.new.code ≡ state.old.code }
-    ensures kept { OnErr result (G.world ground.new ≡ G.world ground.old) }
+    ensures kept { OnErr result ((G.world ground.new ≡ G.world ground.old) × (G.past ground.new ≡ G.past ground.old)) }
+    ensures past { Remembers (G.world ground.old) (G.past ground.old) (G.past ground.new) }
     ensures fixed { G.fixed ground.new ≡ G.fixed ground.old }
 {
     match fetch(codes, state) {

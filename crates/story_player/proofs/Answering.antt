@@ -16,7 +16,7 @@ use Rattle.story_format.specs.declared.tables.Tables.{Tables}
 use Rattle.world_store.specs.StartWorlds.{start_world}
 use Rattle.world_store.specs.StoryWorlds.{StoryWorld}
 use Rattle.action_stages.specs.Answering.{Breaks}
-use Rattle.action_stages.specs.StoryPlay.{coded_story, game_in_play}
+use Rattle.world_store.specs.StoryPlay.{coded_story, game_in_play}
 use Rattle.story_player.specs.Begun.{IsBegun}
 use Rattle.story_player.specs.Sessions.{answer_with, refusal_of}
 use Rattle.story_player.specs.Spoken.{Spoken}

@@ -15,7 +15,7 @@ use Rattle.play_meaning.specs.Seeing.{is_visible}
 use Rattle.play_meaning.specs.Sessions.{Answer, State, answer_to, read_answer, unless_ended}
 use Rattle.play_meaning.specs.Worlds.{World}
 use Rattle.story_format.specs.declared.tables.Tables.{Tables}
-use Rattle.action_stages.specs.StoryPlay.{coded_story, game_in_play}
+use Rattle.world_store.specs.StoryPlay.{coded_story, game_in_play}
 use Rattle.world_store.specs.StoryGrammars.{grammar_of}
 use Rattle.world_store.specs.StorySettings.{setting_of}
 use Rattle.world_store.specs.StoryWorlds.{StoryWorld}

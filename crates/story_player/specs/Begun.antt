@@ -1,6 +1,6 @@
 -- A story behind its opening, and why none is begun.
 use Rattle.std.specs.Prelude.{◌≡◌, ◌≢◌, ℕ, List, [], None}
-use Rattle.action_stages.specs.StoryPlay.{game_in_play}
+use Rattle.world_store.specs.StoryPlay.{game_in_play}
 use Rattle.play_meaning.specs.Sessions.{opened}
 use Rattle.story_format.specs.declared.tables.Tables.{Tables}
 use Rattle.story_player.specs.Turns.{ending_told}

@@ -7,7 +7,7 @@ use Rattle.world_meaning.specs.declared.session.Abandon.TheVariants.{Memory, Nes
 use Rattle.world_meaning.specs.declared.session.ReplyKind.{ReplyKind}
 use Rattle.world_meaning.specs.declared.session.ReplyKind.TheVariants.{Kept, Free, Abandoned, Ended, Over}
 use Rattle.story_format.specs.declared.tables.Tables.{Tables}
-use Rattle.action_stages.specs.StoryPlay.{game_in_play}
+use Rattle.world_store.specs.StoryPlay.{game_in_play}
 use Rattle.story_player.specs.Spoken.{Spoken}
 use Rattle.story_player.specs.declared.session.Session.{Session}
 

@@ -8,7 +8,7 @@ ghost use Rattle.play_meaning.specs.Turns.{opening};
 ghost use Rattle.standard_rules.specs.HostTables.{rule_count};
 ghost use Rattle.world_meaning.specs.declared.session.Abandon.TheVariants.{Memory};
 ghost use Rattle.action_stages.specs.Answering.{Breaks};
-ghost use Rattle.action_stages.specs.StoryPlay.{game_in_play};
+ghost use Rattle.world_store.specs.StoryPlay.{game_in_play};
 ghost use Rattle.command_parser.specs.Readings.{said_text, told as told_of};
 ghost use Rattle.command_parser.specs.Settling.{is_asking};
 ghost use Rattle.story_player.specs.Begun.{IsUnbegun};

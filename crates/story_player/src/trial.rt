@@ -8,7 +8,7 @@ ghost use Rattle.world_meaning.specs.declared.session.Abandon.TheVariants.{Memor
 ghost use Rattle.world_store.specs.StartWorlds.{start_world};
 ghost use Rattle.action_stages.specs.Answering.{Breaks};
 ghost use Rattle.action_stages.specs.Stages.{progress_of, tables_of};
-ghost use Rattle.action_stages.specs.StoryPlay.{game_in_play};
+ghost use Rattle.world_store.specs.StoryPlay.{game_in_play};
 ghost use Rattle.story_player.specs.Begun.{IsBegun};
 ghost use Rattle.story_player.specs.Turns.{IsToldOf, done_in, told_text as told_with};
 

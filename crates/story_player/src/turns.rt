@@ -4,7 +4,7 @@ ghost use Rattle.play_meaning.specs.Consulting.{every_turn_book, play_begins_boo
 ghost use Rattle.play_meaning.specs.Turns.{count_turn, follow, look_round, opening, parts, pass, perform, turn, unless_over};
 ghost use Rattle.action_stages.specs.Answering.{Answers, Comes};
 ghost use Rattle.action_stages.specs.Stages.{progress_of, story_of, tables_of};
-ghost use Rattle.action_stages.specs.StoryPlay.{game_in_play};
+ghost use Rattle.world_store.specs.StoryPlay.{game_in_play};
 ghost use Rattle.story_player.specs.Turns.{done_in};
 
 use action_stages::{Stage, count_turn, follow, perform};

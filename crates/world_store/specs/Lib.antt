@@ -4,3 +4,4 @@ pub mod StoryGrammars
 pub mod StoryGames
 pub mod StoryWorlds
 pub mod Rows
+pub mod StoryPlay

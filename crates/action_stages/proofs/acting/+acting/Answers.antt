@@ -3,7 +3,7 @@ use Rattle.play_meaning.specs.Consulting.{consult}
 use Rattle.play_meaning.specs.Acting.{inner_of}
 use Rattle.play_meaning.specs.CodedStories.{game_of_codes}
 use Rattle.story_code.specs.Steps.{leads_on}
-use Rattle.action_stages.specs.StoryPlay.{coded_story}
+use Rattle.world_store.specs.StoryPlay.{coded_story}
 use Rattle.action_stages.specs.Bodies.{CameTo, at, step_at}
 use Rattle.action_stages.proofs.Running.{steps_break, steps_end, steps_on}
 use Rattle.action_stages.proofs.Walking.{walk_breaks, walk_decides, walk_goes}

@@ -6,7 +6,7 @@ use Rattle.play_meaning.specs.CodedStories.{game_of_codes}
 use Rattle.play_meaning.specs.Consulting.{ask, consult}
 use Rattle.play_meaning.specs.Progress.{first_decision}
 use Rattle.action_stages.specs.Bodies.{IsRunning, left_at}
-use Rattle.action_stages.specs.StoryPlay.{coded_story, game_in_play}
+use Rattle.world_store.specs.StoryPlay.{coded_story, game_in_play}
 use Rattle.action_stages.specs.Parts.{part_of}
 use Rattle.action_stages.proofs.acting.+acting.Given as goal
 

@@ -3,7 +3,7 @@ use Rattle.play_meaning.specs.Worlds.{World}
 use Rattle.world_store.specs.StorySettings.{fixed_of}
 use Rattle.world_store.specs.StoryWorlds.{StoryWorld}
 use Rattle.action_stages.specs.Bodies.{StepsSo}
-use Rattle.action_stages.specs.StoryPlay.{coded_story}
+use Rattle.world_store.specs.StoryPlay.{coded_story}
 use Rattle.action_stages.proofs.OneStep.{bound_again, described_by, steps_so, work_within}
 use Rattle.action_stages.proofs.stepping.step_kept.Goals as goal
 

@@ -2,7 +2,7 @@
 use Rattle.std.proofs.Common.{◌≡◌}
 use Rattle.play_meaning.specs.Turns.{pass}
 use Rattle.action_stages.specs.Stages.{progress_of, story_of, tables_of}
-use Rattle.action_stages.specs.StoryPlay.{game_in_play}
+use Rattle.world_store.specs.StoryPlay.{game_in_play}
 use Rattle.scenes.proofs.Scenes.{left_of}
 use Rattle.scenes.proofs.passing.pass.Given as goal
 

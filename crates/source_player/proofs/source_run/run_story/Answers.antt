@@ -1,5 +1,5 @@
 use Rattle.story_player.specs.Sessions.{game_of, state_of}
-use Rattle.action_stages.specs.StoryPlay.{game_in_play}
+use Rattle.world_store.specs.StoryPlay.{game_in_play}
 use Rattle.story_player.specs.Watches.{watched_inner}
 use Rattle.source_player.proofs.Plays.{broke_game}
 use Rattle.source_player.proofs.source_run.run_story.Goals as goal

@@ -2,7 +2,7 @@ use Rattle.std.proofs.Common.{◌≡◌, ℕ, subst, sym}
 use Rattle.play_meaning.specs.Machines.{Abandons}
 use Rattle.story_code.specs.Runs.{MayDo, Standing}
 use Rattle.action_stages.specs.Bodies.{step_at}
-use Rattle.action_stages.specs.StoryPlay.{coded_story}
+use Rattle.world_store.specs.StoryPlay.{coded_story}
 use Rattle.action_stages.proofs.OneStep.{stands_behind}
 use Rattle.action_stages.proofs.going.StagePlaying.step.Goals as goal
 
