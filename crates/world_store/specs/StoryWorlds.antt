@@ -1,9 +1,10 @@
 -- A story in play: its tables, the world of the moment, whose lists have the lengths that the story gives, and the worlds before it.
 use Rattle.std.specs.Prelude.{◌≡◌, ◌<◌, ◌≤◌, ℕ, true, List, [], ◌∷◌, ◌++◌, length, slice_get, slice_index_or, take, Option, Some, Result}
+use Rattle.object_tree.specs.Places.{holder_of}
 use Rattle.play_meaning.specs.Changes.{behind, remembered}
 use Rattle.play_meaning.specs.Settings.{room_kind}
 use Rattle.play_meaning.specs.Turns.{most_turns}
-use Rattle.play_meaning.specs.Worlds.{World, holder_in, place_of}
+use Rattle.play_meaning.specs.Worlds.{World, place_of}
 use Rattle.play_meaning.specs.declared.fault.WorldFault.{WorldFault}
 use Rattle.story_format.specs.InPlay.{is_of}
 use Rattle.story_format.specs.Spells.{IsStory}
@@ -45,7 +46,7 @@ pub record IsKept (t : Tables) (w : World) : Type 0 where
   pub player : place_of w 0 ≡ Some (record { relation = In; holder = here })
   pub turns : w.turns ≤ most_turns
   pub tree : IsTree (place_of w)
-  pub holders : (thing holder : ℕ) → holder_in (place_of w thing) ≡ Some holder → holder < length w.places
+  pub holders : (thing holder : ℕ) → holder_of w.places thing ≡ Some holder → holder < length w.places
 
 -- all of them are
 abbrev pub AreKept : Tables → List World → Type 0

@@ -15,6 +15,8 @@ impl Model for Mark {
     ghost Value = { ℕ };
 
     ghost view = { λ mark. mark.0 };
+
+    ghost inverse = { λ n. record { 0 = n } };
 }
 
 impl World {

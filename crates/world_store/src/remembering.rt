@@ -22,9 +22,15 @@ pub(crate) enum Was {
         value: i32,
     },
     /// What a variable was.
-    Variable { variable: u8, value: i32 },
+    Variable {
+        variable: u8,
+        value: i32,
+    },
     /// Where a scene stood.
-    Scene { scene: u8, now: SceneNow },
+    Scene {
+        scene: u8,
+        now: SceneNow,
+    },
     /// Where an object was.
     Placed {
         object: ObjNo,

@@ -1,6 +1,7 @@
 //! The world of the moment, and how a change of it is taken back.
 ghost use Rattle.std.specs.Prelude.{◌≡◌, ◌<◌, ℕ, IfOk, Some, length};
-ghost use Rattle.play_meaning.specs.Worlds.{holder_in, place_of};
+ghost use Rattle.object_tree.specs.Places.{holder_of};
+ghost use Rattle.play_meaning.specs.Worlds.{place_of};
 ghost use Rattle.world_meaning.specs.Chains.{IsTree};
 ghost use Rattle.world_store.specs.Pasts.{undone, world_of};
 
@@ -51,8 +52,9 @@ impl State {
     }
 
     /// Takes back a change that replaced this. What an object was held by before it is there, and no chain was endless.
+    #[tactic(auto, unfolding(play_meaning::specs::Worlds::set_flag, play_meaning::specs::Worlds::set_number))]
     pub(crate) fn undo(&mut self, was: Was)
-        requires holders { (thing holder : ℕ) → holder_in (place_of (undone was (world_of self.old)) thing) ≡ Some holder → holder < length self.old.tree }
+        requires holders { (thing holder : ℕ) → holder_of (undone was (world_of self.old)).places thing ≡ Some holder → holder < length self.old.tree }
         requires tree { IsTree (place_of (undone was (world_of self.old))) }
         ensures { world_of self.new ≡ undone was (world_of self.old) }
     {
