@@ -1,8 +1,9 @@
 -- What comes behind a world of a log, and the way back to it.
-use Rattle.std.proofs.Common.{◌≡◌, ◌∙◌, ap, sym, refl, subst, ℕ, suc, ◌+◌, ◌≤◌, ◌⊎◌, inl, inr, List, [], ◌∷◌, ◌++◌, length, take, drop, arith}
+use Rattle.std.proofs.Common.{◌≡◌, ◌∙◌, ap, sym, refl, subst, ℕ, suc, ◌+◌, ◌≤◌, ◌⊎◌, inl, inr, List, [], ◌∷◌, ◌++◌, length, take, nat_lt, false, ltb-false, arith}
 use Rattle.std.specs.Prelude.{Err, Ok, OnErr, Result, slice_index_or}
-use Rattle.std.proofs.lemmas.List.{get_or-take, get_or_push, length-take, length_push, take-append-le, take-take, take_all, take_at}
-use Rattle.play_meaning.specs.Worlds.{World}
+use Rattle.std.proofs.lemmas.List.{get_or-take, get_or_push, length-take, length_push, set_past, take-append-le, take-take, take_all, take_at}
+use Rattle.play_meaning.specs.Worlds.{World, set_scene}
+use Rattle.play_meaning.specs.declared.scene.SceneNow.{SceneNow}
 use Rattle.play_meaning.specs.declared.fault.WorldFault.{WorldFault}
 use Rattle.play_meaning.specs.declared.fault.WorldFault.TheVariants.{Memory, Misplaced}
 use Rattle.story_code.specs.Steps.{LeadsBack}
@@ -57,6 +58,10 @@ changed_behind (Err fault) made s t is left = same_log s t (ap (λ (v : StoryWor
 -- what comes behind leaves what is at a place that is there
 pub same_back : (since : ℕ) (s t : StoryWorld) → IsThere (back_at since s) → ComesBehind s t → back_at since t ≡ back_at since s
 same_back since s t there behind = ap (λ (front : List World). record { since = since; front = front }) (behind since (there_within s since there)).1
+
+-- a scene that isn't there is not set
+pub no_scene : (w : World) (scene : ℕ) (now : SceneNow) → nat_lt scene (length w.scenes) ≡ false → set_scene scene now w ≡ w
+no_scene w scene now is = ap (λ scenes. record w { scenes = scenes }) (set_past w.scenes scene now (ltb-false scene (length w.scenes) is))
 
 -- ---- the way back
 

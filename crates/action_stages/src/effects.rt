@@ -78,6 +78,7 @@ impl<'a> Rules<'a> {
 }
 
 /// Asks for a change.
+#[tactic(auto, using(story_code::proofs::Unchanged::no_variable, crate::proofs::Returning::no_scene))]
 fn make(world: &mut World, change: Change) -> Result<(), WorldFault>
     ensures world { world.new ≡ changed result (made (setting_of world.old.tables) world.old.world change) world.old }
     ensures left { OnErr result (world.new ≡ world.old) }
