@@ -8,6 +8,7 @@ mod Following
 pub mod Forward
 mod Lasting
 mod Levels
+mod Making
 pub mod Lowering
 pub mod OtherBodies
 pub mod AlikeSessions

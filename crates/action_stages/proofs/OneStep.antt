@@ -1,5 +1,5 @@
 -- One step of a body over a loaded story's world.
-use Rattle.std.proofs.Common.{◌≡◌, ◌∙◌, ap, sym, refl, subst, ℕ, zero, suc, ◌≤◌, ◌⊎◌, inl, inr, List, [], ◌∷◌, ◌++◌, length, arith}
+use Rattle.std.proofs.Common.{◌≡◌, ◌∙◌, ap, sym, refl, subst, ℕ, zero, suc, ◌≤◌, inl, inr, List, [], ◌∷◌, ◌++◌, length, arith}
 use Rattle.std.specs.Prelude.{Result, Ok, Err, OnErr, OnOk, Some, slice_get}
 use Rattle.std.proofs.lemmas.Option.{same_Some}
 use Rattle.play_meaning.specs.Codes.{Codes, code_of, frame_of, test_of}
@@ -139,9 +139,9 @@ one_more t (x ∷ xs) w are is zero v e = are zero v e
 one_more t (x ∷ xs) w are is (suc i) v e = one_more t xs w (λ j u there. are (suc j) u there) is i v e
 
 -- on a refusal both stay
-pub first_left : {A B : Type 0} (result : Result Step Abandon) → OnErr result (A × B) → OnErr result A
-first_left (Ok came) both = tt
-first_left (Err reason) both = both.0
+first_left : (v w : World) (now past : List World) (result : Result Step Abandon) → OnErr result ((v ≡ w) × (now ≡ past)) → OnErr result (v ≡ w)
+first_left v w now past (Ok came) both = tt
+first_left v w now past (Err reason) both = both.0
 
 -- all worlds of the log behind a step are the story's, since those before it were and one was remembered at the most
 pub all_bound : (s v : StoryWorld) (b : Tables) (judged : List Judged) (now : ActionNow) (from to : Standing) (text said : List ℕ) (result : Result Step Abandon) → ◌≡◌ {A = Tables} b s.tables
@@ -153,7 +153,7 @@ all_bound s v b judged now from to text said result same so before behind fixed 
     (before i w (sym (λ j. slice_get (both.1 j ++ both.0 j ∷ []) i) ∙ there))
 all_bound s v b judged now from to text said result same so before behind fixed left (inr is) =
     let here = bound_again s.tables v.tables b judged now s.world v.world from to text said result same so (here_kept s.tables s.past s.world before) (here_kept v.tables v.past v.world behind)
-    fixed (first_left result left) in
+    fixed (first_left v.world s.world v.past s.past result left) in
     let all : AreKept b (worlds s) = λ i w there. subst (λ (t : Tables). IsKept t w) (sym same) (before i w there) in
     subst (λ (past : List World). AreKept b (past ++ v.world ∷ [])) (sym is) (one_more b (worlds s) v.world all here)
 

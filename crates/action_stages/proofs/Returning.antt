@@ -1,13 +1,11 @@
 -- What comes behind a world of a log, and the way back to it.
-use Rattle.std.proofs.Common.{◌≡◌, ◌∙◌, ap, sym, refl, subst, ℕ, suc, ◌+◌, ◌≤◌, ◌⊎◌, inl, inr, List, [], ◌∷◌, ◌++◌, length, take, nat_lt, false, ltb-false, arith}
+use Rattle.std.proofs.Common.{◌≡◌, ◌∙◌, ap, sym, refl, ℕ, suc, ◌≤◌, inl, inr, List, [], ◌∷◌, ◌++◌, length, take, nat_lt, false, ltb-false, arith}
 use Rattle.std.specs.Prelude.{Err, Ok, OnErr, Result, slice_index_or}
 use Rattle.std.proofs.lemmas.List.{get_or-take, get_or_push, length-take, length_push, set_past, take-append-le, take-take, take_all, take_at}
 use Rattle.play_meaning.specs.Worlds.{World, set_scene}
 use Rattle.play_meaning.specs.declared.scene.SceneNow.{SceneNow}
 use Rattle.play_meaning.specs.declared.fault.WorldFault.{WorldFault}
-use Rattle.play_meaning.specs.declared.fault.WorldFault.TheVariants.{Memory, Misplaced}
 use Rattle.story_code.specs.Steps.{LeadsBack}
-use Rattle.story_format.specs.declared.tables.Tables.{Tables}
 use Rattle.world_store.specs.StoryWorlds.{StoryWorld, changed, reverted, worlds}
 use Rattle.action_stages.specs.Returning.{Back, ComesBehind, IsThere, back_at, back_to, front_at}
 
@@ -38,9 +36,10 @@ behind_both s t u first second = λ mark within. let a = first mark within in le
 -- another world behind the same worlds
 pub pushed : (s t : StoryWorld) → t.past ≡ worlds s → ComesBehind s t
 pushed s t is = λ mark within.
-    let long = ap length is ∙ worlds_long s in
-    (omega (arith, within, long),
-     ap (λ (past : List World). take (suc mark) (past ++ t.world ∷ [])) is ∙ take-append-le (suc mark) (worlds s) (t.world ∷ []) (omega (arith, within, worlds_long s)))
+    let long = ap length is ∙ worlds_long s in (
+      omega (arith, within, long),
+      ap (λ (past : List World). take (suc mark) (past ++ t.world ∷ [])) is ∙ take-append-le (suc mark) (worlds s) (t.world ∷ []) (omega (arith, within, worlds_long s)),
+    )
 
 same_log : (s t : StoryWorld) → t.world ≡ s.world → t.past ≡ s.past → ComesBehind s t
 same_log s t world past = λ mark within.
@@ -75,10 +74,10 @@ brought_back s t tables front =
     let long = ap length front ∙ worlds_long s in
     let within : here ≤ length t.past = omega (arith, long, worlds_long t, length-take (suc here) (worlds t)) in
     let world : slice_index_or (worlds t) here t.world ≡ s.world =
-        sym (get_or-take (suc here) (worlds t) here t.world (omega arith)) ∙ ap (λ (ws : List World). slice_index_or ws here t.world) front ∙ at_back s.past s.world t.world here refl in
+    sym (get_or-take (suc here) (worlds t) here t.world (omega arith)) ∙ ap (λ (ws : List World). slice_index_or ws here t.world) front ∙ at_back s.past s.world t.world here refl in
     let past : take here t.past ≡ s.past =
-        sym (take-append-le here t.past (t.world ∷ []) within) ∙ sym (take-take here (suc here) (worlds t) (omega arith)) ∙ ap (take here) front
-        ∙ take_at s.past (s.world ∷ []) here refl in
+    sym (take-append-le here t.past (t.world ∷ []) within) ∙ sym (take-take here (suc here) (worlds t) (omega arith)) ∙ ap (take here) front
+    ∙ take_at s.past (s.world ∷ []) here refl in
     λ i. record { tables = tables i; world = world i; past = past i }
 
 pub back_again : (s t : StoryWorld) (since : ℕ) → t.tables ≡ s.tables → back_at since t ≡ back_to s → reverted since t ≡ s
@@ -92,6 +91,7 @@ pub back_behind : (s t : StoryWorld) (since : ℕ) → back_at since t ≡ back_
 back_behind s t since back = λ mark within.
     let place : since ≡ length s.past = ap (λ (b : Back). b.since) back in
     let front : front_at since t ≡ worlds s = ap (λ (b : Back). b.front) back in
-    let long = ap length front ∙ worlds_long s in
-    (omega (arith, within, place, long, worlds_long t, length-take (suc since) (worlds t)),
-     sym (take-take (suc mark) (suc since) (worlds t) (omega (arith, within, place))) ∙ ap (take (suc mark)) front)
+    let long = ap length front ∙ worlds_long s in (
+      omega (arith, within, place, long, worlds_long t, length-take (suc since) (worlds t)),
+      sym (take-take (suc mark) (suc since) (worlds t) (omega (arith, within, place))) ∙ ap (take (suc mark)) front,
+    )

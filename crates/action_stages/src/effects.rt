@@ -120,17 +120,20 @@ fn make_one(world: &mut World, change: Change) -> Result<(), Abandon>
     }
 }
 
-/// Makes changes in order.
+/// Makes changes in order, up to the first that is refused.
 pub fn make_all(world: &mut World, changes: SmallVec<Change, 2>) -> Result<(), Abandon>
     ensures made { OnOk result (world.new.world ≡ all_made (setting_of world.old.tables) changes.items world.old.world) }
     ensures refused { OnErr result (result ≡ Err Memory) }
     ensures tables { world.new.tables ≡ world.old.tables }
     ensures behind { ComesBehind world.old world.new }
 {
+    let mut answer = Ok(());
     for change in changes {
-        make_one(world, change)?;
+        if answer.is_ok() {
+            answer = make_one(world, change);
+        }
     }
-    Ok(())
+    answer
 }
 
 /// How a rule ends.
