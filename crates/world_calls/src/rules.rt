@@ -98,7 +98,7 @@ pub fn rule_told(
     let answer = standard(alloc, id, world, &now)?;
     let line = told(alloc, &answer)?;
     for change in answer.changes {
-        make(world, change);
+        make(world, change)?;
     }
     Ok(Some(line))
 }
