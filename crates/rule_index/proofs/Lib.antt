@@ -1,0 +1,2 @@
+mod ClassLemmas
+mod WalkLemmas
