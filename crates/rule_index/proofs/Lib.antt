@@ -1,2 +1,2 @@
-mod ClassLemmas
-mod WalkLemmas
+pub mod ClassLemmas
+pub mod WalkLemmas

@@ -51,8 +51,8 @@ fn is_action(number: u8, action: u8) -> bool
 
 /// Whether a rule's entry admits what is asked.
 #[tactic(auto, unfolding(play_meaning::specs::Admitting::admits))]
-fn entry_admits(story: &Story, entry: &RuleEntry, asked: Asked) -> bool
-    ensures { result ≡ entry_admits (setting_of story.now) asked.action asked.noun asked.room (Some entry.now) }
+fn entry_admits(story: &Story, entry: &RuleEntry, asked: &Asked) -> bool
+    ensures { result ≡ entry_admits (setting_of story.now) asked.now.action asked.now.noun asked.now.room (Some entry.now) }
 {
     is_action(entry.action, asked.action.get())
         && may_be_met(story, &entry.noun, asked.noun)
@@ -61,8 +61,8 @@ fn entry_admits(story: &Story, entry: &RuleEntry, asked: Asked) -> bool
 
 /// Whether a rule admits what is asked; one that isn't there doesn't.
 #[tactic(auto, unfolding(crate::specs::Buckets::rule_admits))]
-pub fn admits(story: &Story, rule: u16, asked: Asked) -> bool
-    ensures { result ≡ rule_admits story.now asked.action asked.noun asked.room rule }
+pub fn admits(story: &Story, rule: u16, asked: &Asked) -> bool
+    ensures { result ≡ rule_admits story.now asked.now.action asked.now.noun asked.now.room rule }
 {
     match story.rule(usize::from(rule)) {
         None => false,

@@ -95,8 +95,8 @@ impl Index {
         let listed = story.rules_listed(book);
         let asked = Asked { action, noun, room };
         match class_in(self.books.as_slice(), book, action) {
-            None => first_listed(story, listed, from, asked),
-            Some(class) => first_of_class(story, listed, class, from, asked),
+            None => first_listed(story, listed, from, &asked),
+            Some(class) => first_of_class(story, listed, class, from, &asked),
         }
     }
 }

@@ -8,8 +8,8 @@ use crate::admitting::{Asked, admits};
 use story_format::Story;
 
 /// The rule at a place of a book, if it is there and admits what is asked.
-pub fn admitted(story: &Story, listed: &[u16], place: usize, asked: Asked) -> Option<u16>
-    ensures { result ≡ passing (rule_admits story.now asked.action asked.noun asked.room) (slice_get listed.now place) }
+pub fn admitted(story: &Story, listed: &[u16], place: usize, asked: &Asked) -> Option<u16>
+    ensures { result ≡ passing (rule_admits story.now asked.now.action asked.now.noun asked.now.room) (slice_get listed.now place) }
 {
     let rule = *listed.get(place)?;
     if admits(story, rule, asked) { Some(rule) } else { None }
@@ -20,10 +20,10 @@ pub fn first_listed(
     story: &Story,
     listed: &[u16],
     from: usize,
-    asked: Asked,
+    asked: &Asked,
 ) -> Option<(usize, u16)>
-    ensures { MatchOption result (NoneIsLeft (rule_admits story.now asked.action asked.noun asked.room) listed.now from)
-        (λ found. IsFirstFrom (rule_admits story.now asked.action asked.noun asked.room) listed.now from found.0 found.1) }
+    ensures { MatchOption result (NoneIsLeft (rule_admits story.now asked.now.action asked.now.noun asked.now.room) listed.now from)
+        (λ found. IsFirstFrom (rule_admits story.now asked.now.action asked.now.noun asked.now.room) listed.now from found.0 found.1) }
 {
     for place in from..listed.len() {
         if let Some(rule) = admitted(story, listed, place, asked) {
@@ -48,11 +48,11 @@ pub fn first_of_class(
     listed: &[u16],
     class: &[u16],
     from: usize,
-    asked: Asked,
+    asked: &Asked,
 ) -> Option<(usize, u16)>
-    requires class { class.now ≡ places_where (rule_suits story.now asked.action) 0 listed.now }
-    ensures { MatchOption result (NoneIsLeft (rule_admits story.now asked.action asked.noun asked.room) listed.now from)
-        (λ found. IsFirstFrom (rule_admits story.now asked.action asked.noun asked.room) listed.now from found.0 found.1) }
+    requires class { class.now ≡ places_where (rule_suits story.now asked.now.action) 0 listed.now }
+    ensures { MatchOption result (NoneIsLeft (rule_admits story.now asked.now.action asked.now.noun asked.now.room) listed.now from)
+        (λ found. IsFirstFrom (rule_admits story.now asked.now.action asked.now.noun asked.now.room) listed.now from found.0 found.1) }
 {
     let mut rest = behind(class, from);
     while let [place, after @ ..] = rest {
