@@ -1,5 +1,5 @@
 -- Which rules of a book admit an action, a noun and a room, and where they stand in it.
-use Rattle.std.specs.Prelude.{◌≡◌, ℕ, Bool, false, List, filter, Option, None, Some, slice_get}
+use Rattle.std.specs.Prelude.{ℕ, Bool, false, ◌==◌, List, filter, position, Option, None, Some, slice_get}
 use Rattle.play_meaning.specs.Admitting.{admits}
 use Rattle.play_meaning.specs.CodedStories.{head_of}
 use Rattle.play_meaning.specs.Settings.{Setting}
@@ -22,6 +22,10 @@ rule_admits t action noun room rule = entry_admits (setting_of t) action noun ro
 abbrev pub bucket_of : Tables → (book action : ℕ) → (noun room : Option ℕ) → List ℕ
 bucket_of t book action noun room = filter (rule_admits t action noun room) (rules_listed t book)
 
--- the rule stands at this place of its book, from 0
-abbrev pub IsPlaceInBook : Tables → (rule place : ℕ) → Type 0
-IsPlaceInBook t rule place = (book : ℕ) → book_of_rule t rule ≡ Some book → slice_get (rules_listed t book) place ≡ Some rule
+abbrev pub place_listed : Tables → (rule : ℕ) → (book : Option ℕ) → Option ℕ
+place_listed t rule None = None
+place_listed t rule (Some book) = position (λ other. other == rule) (rules_listed t book)
+
+-- the place at which a rule stands in its book, from 0; a rule that its book doesn't list stands nowhere
+abbrev pub place_in_book : Tables → (rule : ℕ) → Option ℕ
+place_in_book t rule = place_listed t rule (book_of_rule t rule)

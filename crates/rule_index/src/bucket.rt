@@ -57,12 +57,16 @@ impl<'a> Iterator for Bucket<'a> {
 
     ghost remaining = { item_count (λ s. s) };
 
+    #[tactic(auto, using(crate::proofs::WalkLemmas::kept_first, crate::proofs::WalkLemmas::none_kept))]
     fn next(&mut self) -> Option<u16> {
-        let (place, rule) =
-            self.index
-                .first_from(self.book, self.action, self.noun, self.room, self.from)?;
-        self.from = place + 1;
-        Some(rule)
+        let index = self.index;
+        match index.first_from(self.book, self.action, self.noun, self.room, self.from) {
+            None => None,
+            Some((place, rule)) => {
+                self.from = place + 1;
+                Some(rule)
+            }
+        }
     }
 }
 

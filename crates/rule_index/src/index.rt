@@ -1,8 +1,8 @@
 //! The index of a story's rules.
-ghost use Rattle.std.specs.Prelude.{◌≡◌, ◌+◌, ◌<◌, ◌^◌, IfOk, IfSome, MatchOption};
+ghost use Rattle.std.specs.Prelude.{◌≡◌, ◌==◌, ◌+◌, ◌<◌, ◌^◌, IfOk, IfSome, MatchOption, position};
 ghost use Rattle.story_format.specs.Facts.{rules_listed};
 ghost use Rattle.story_format.specs.declared.tables.Tables.{Tables};
-ghost use Rattle.rule_index.specs.Buckets.{rule_admits};
+ghost use Rattle.rule_index.specs.Buckets.{place_in_book, rule_admits};
 ghost use Rattle.rule_index.specs.Classes.{AreIndexed, class_of};
 ghost use Rattle.rule_index.specs.Walks.{IsFirstFrom, NoneIsLeft};
 
@@ -63,6 +63,13 @@ fn class_in(books: &[Classes], book: u16, action: ActNo) -> Option<&[u16]>
     books.get(usize::from(book))?.get(action.get())
 }
 
+/// The place of a rule among those that a book lists.
+fn place_in(listed: &[u16], rule: u16) -> Option<usize>
+    ensures { result ≡ position (λ other. other == rule) listed.now }
+{
+    listed.iter().position(|other| *other == rule)
+}
+
 impl Index {
     /// The index of a story.
     ///
@@ -97,6 +104,16 @@ impl Index {
         match class_in(self.books.as_slice(), book, action) {
             None => first_listed(story, listed, from, &asked),
             Some(class) => first_of_class(story, listed, class, from, &asked),
+        }
+    }
+    /// The place at which a rule stands in its book, from 0; none of one that its book doesn't list.
+    pub fn place(&self, rule: u16) -> Option<usize>
+        ensures { result ≡ place_in_book self.now rule }
+    {
+        let story = self.story.as_ref();
+        match story.book_of_rule(usize::from(rule)) {
+            None => None,
+            Some(book) => place_in(story.rules_listed(book), rule),
         }
     }
 }

@@ -1,5 +1,5 @@
 //! Walks over a book's rules, from a place on, to the first that admits an action, a noun and a room.
-ghost use Rattle.std.specs.Prelude.{◌≡◌, ℕ, Bool, List, MatchOption, drop, slice_get};
+ghost use Rattle.std.specs.Prelude.{◌≡◌, ℕ, Bool, List, [], ◌∷◌, MatchOption, drop, slice_get};
 ghost use Rattle.rule_index.specs.Buckets.{rule_admits};
 ghost use Rattle.rule_index.specs.Classes.{places_where, rule_suits};
 ghost use Rattle.rule_index.specs.Walks.{IsFirstFrom, NoneIsLeft, passing};
@@ -42,6 +42,16 @@ fn behind(class: &[u16], from: usize) -> &[u16]
     rest
 }
 
+/// The first of a class's places, and those behind it.
+fn parted(places: &[u16]) -> Option<(u16, &[u16])>
+    ensures { MatchOption result (places.now ≡ []) (λ parts. places.now ≡ parts.0 ∷ parts.1.now) }
+{
+    match places {
+        [] => None,
+        [place, behind @ ..] => Some((*place, behind)),
+    }
+}
+
 /// The first of the listed rules from a place on that admits what is asked, where the class of the action is at hand.
 pub fn first_of_class(
     story: &Story,
@@ -55,8 +65,8 @@ pub fn first_of_class(
         (λ found. IsFirstFrom (rule_admits story.now asked.now.action asked.now.noun asked.now.room) listed.now from found.0 found.1) }
 {
     let mut rest = behind(class, from);
-    while let [place, after @ ..] = rest {
-        let place = usize::from(*place);
+    while let Some((place, after)) = parted(rest) {
+        let place = usize::from(place);
         if let Some(rule) = admitted(story, listed, place, asked) {
             return Some((place, rule));
         }

@@ -1,5 +1,5 @@
 use Rattle.std.proofs.Common.{◌≡◌, ◌∙◌, ap, subst, sym, ℕ, ◌≤◌, true, false, length, drop, ltb, rules, arith}
-use Rattle.std.specs.List.{IsPartitionPoint, IsPartitionedBy}
+use Rattle.std.specs.List.Sorted.{IsPartitionPoint, IsPartitionedBy}
 use Rattle.std.proofs.lemmas.List.Sorted.{IsPartitionPoint-from_clause, IsPartitionedBy-ltb}
 use Rattle.rule_index.specs.Classes.{places_where}
 use Rattle.rule_index.proofs.WalkLemmas.{class_behind, rising_places}

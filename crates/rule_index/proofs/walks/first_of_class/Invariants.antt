@@ -5,8 +5,8 @@ use Rattle.rule_index.specs.Classes.{rule_suits}
 use Rattle.rule_index.proofs.WalkLemmas.{IsLeft}
 use Rattle.rule_index.proofs.walks.first_of_class.Given as goal
 
-abbrev pub invariant-loop-rest : goal.invariant-loop-rest
-invariant-loop-rest l = IsLeft (rule_suits l.story l.asked.action) (rule_admits l.story l.asked.action l.asked.noun l.asked.room) l.listed l.from l.rest
+abbrev pub invariant-loop-place : goal.invariant-loop-place
+invariant-loop-place l = IsLeft (rule_suits l.story l.asked.action) (rule_admits l.story l.asked.action l.asked.noun l.asked.room) l.listed l.from l.rest
 
-abbrev pub decreases-loop-rest : goal.decreases-loop-rest
-decreases-loop-rest l = length l.rest
+abbrev pub decreases-loop-place : goal.decreases-loop-place
+decreases-loop-place l = length l.rest
