@@ -9,3 +9,6 @@ pub mod Views
 pub mod Directing
 pub mod RowLemmas
 pub mod Atlases
+pub mod Pasts
+pub mod Reverted
+pub mod Logged

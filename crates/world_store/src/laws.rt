@@ -1,5 +1,5 @@
 //! What holds of every story in play, of its worlds and their changes, and of the dark.
-ghost use Rattle.std.specs.Prelude.{◌≡◌, ◌≢◌, ◌⊎◌, ◌<◌, ℕ, ℤ, Bool, true, false, List, Option, Some, length};
+ghost use Rattle.std.specs.Prelude.{◌≡◌, ◌≢◌, ◌⊎◌, ◌<◌, ◌++◌, ℕ, ℤ, Bool, true, false, List, Option, Some, length};
 ghost use Rattle.play_meaning.specs.PlainTales.{story_of_script};
 ghost use Rattle.play_meaning.specs.Seeing.{encloses, has_light, is_visible, root_of};
 ghost use Rattle.play_meaning.specs.Settings.{Setting, direction_kind, thing_kind};
@@ -13,9 +13,10 @@ ghost use Rattle.story_format.specs.TaleScripts.{whole_script};
 ghost use Rattle.world_meaning.specs.Sight.{direction};
 ghost use Rattle.world_meaning.specs.declared.place.Place.{Place};
 ghost use Rattle.world_meaning.specs.declared.tale.Tale.{Tale};
+ghost use Rattle.world_store.specs.AskedChanges.{AreSetters, Asked, all_changed};
 ghost use Rattle.world_store.specs.StoryGames.{plain_story};
 ghost use Rattle.world_store.specs.StorySettings.{setting_of};
-ghost use Rattle.world_store.specs.StoryWorlds.{IsKept};
+ghost use Rattle.world_store.specs.StoryWorlds.{AreKept, StoryWorld, reverted, worlds};
 
 use crate::World;
 use world_meaning::ObjNo;
@@ -26,14 +27,14 @@ pub fn worlds_are_of_their_stories(world: &World)
     ensures { IsWorldOf (setting_of world.now.tables) world.now.world }
 {
     let _ = world.chain(ObjNo::new(0));
-    let _ = &world.tree;
+    let _ = &world.state;
 }
 
 /// What is of kind direction is a direction, and no thing or room.
 pub fn directions_are_directions(world: &World)
     ensures { (o : ℕ) → (setting_of world.now.tables).is_of o direction_kind ≡ true → root_of (setting_of world.now.tables) o ≡ Some direction }
 {
-    let _ = &world.tree;
+    let _ = &world.state;
 }
 
 /// The tables of a tale that a story file holds, and of which it says this, give the game of the tale: the same setting,
@@ -49,6 +50,14 @@ pub fn changes_leave_others()
     ensures numbers { (w : PlayWorld) (property o of x : ℕ) (value : ℤ) → (property ≢ of) ⊎ (o ≢ x) → number_of (set_number property o value w) of x ≡ number_of w of x }
 {}
 
+/// A mark brings the story back that it was taken of, whatever was added to its log since: after any changes that were asked for,
+/// refused ones among them.
+pub fn marks_bring_back_the_world()
+    ensures added { (old new : StoryWorld) (more : List PlayWorld) → new.tables ≡ old.tables → worlds new ≡ worlds old ++ more
+        → reverted (length old.past) new ≡ old }
+    ensures asked { (s : StoryWorld) (changes : List Asked) → AreSetters changes s → reverted (length s.past) (all_changed changes s) ≡ s }
+{}
+
 /// In the dark nothing is visible of things but the player and what the player holds.
 pub fn the_dark_hides()
     ensures { (s : Setting) (w : PlayWorld) (o : ℕ) → has_light s w ≡ false → s.is_of o thing_kind ≡ true → is_visible s w o ≡ true
@@ -56,11 +65,11 @@ pub fn the_dark_hides()
 {}
 
 /// What is known of any world that is handed in: it says of each object where it is, whether each property is true of it,
-/// and its numbers, and the player is directly in a room.
+/// and its numbers, and the player is directly in a room; and so did the worlds before it.
 pub fn worlds_are_whole(world: &World)
-    ensures { IsKept world.now.tables world.now.world }
+    ensures { AreKept world.now.tables (worlds world.now) }
 {
-    let _ = &world.tree;
+    let _ = &world.state;
 }
 
 /// In a world of a story what is set is read: of objects that have the property, of where objects are, and of the variables and
@@ -77,5 +86,5 @@ pub fn what_is_set_is_read(world: &World)
     ensures scenes { (scene : ℕ) (now : SceneNow) → scene < length world.now.world.scenes
         → scene_of (set_scene scene now world.now.world) scene ≡ now }
 {
-    let _ = &world.tree;
+    let _ = &world.state;
 }

@@ -9,14 +9,19 @@ mod columns;
 mod describing;
 mod ground;
 mod laws;
+mod marks;
+mod remembering;
 mod sight;
+mod state;
 mod view;
 mod world;
 
 pub use bound::Bound;
 pub use laws::{
-    changes_leave_others, directions_are_directions, tables_give_their_tales_game, the_dark_hides,
-    what_is_set_is_read, worlds_are_of_their_stories, worlds_are_whole,
+    changes_leave_others, directions_are_directions, marks_bring_back_the_world,
+    tables_give_their_tales_game, the_dark_hides, what_is_set_is_read, worlds_are_of_their_stories,
+    worlds_are_whole,
 };
+pub use marks::Mark;
 pub use play_meaning::WorldFault;
 pub use world::World;
