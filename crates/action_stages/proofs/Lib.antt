@@ -1,4 +1,5 @@
 mod Asked
+pub mod Returning
 pub mod Coming
 mod DoneRules
 pub mod Ending

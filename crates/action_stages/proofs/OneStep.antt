@@ -106,6 +106,8 @@ kept_again t x w v kept other fixed long =
       room = sym (ap (λ (f : Fixed). f.setting.is_of other.here room_kind) fixed) ∙ other.room;
       player = other.player;
       turns = other.turns;
+      tree = other.tree;
+      holders = other.holders;
     }
 
 -- ---- from a whole world on

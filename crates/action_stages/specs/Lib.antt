@@ -8,3 +8,4 @@ pub mod Alike
 pub mod Parts
 pub mod Performing
 pub mod Stages
+pub mod Returning

@@ -12,6 +12,7 @@ ghost use Rattle.action_stages.specs.Answering.{Answers, asked, done};
 ghost use Rattle.action_stages.specs.Bodies.{AreCodesIn, CameTo, at, step_at};
 ghost use Rattle.action_stages.specs.Parts.{part_of};
 ghost use Rattle.action_stages.specs.Performing.{below};
+ghost use Rattle.action_stages.specs.Returning.{IsThere};
 ghost use Rattle.world_store.specs.StoryPlay.{coded_story, game_in_play};
 ghost use Rattle.world_store.specs.StorySettings.{setting_of};
 
@@ -35,6 +36,7 @@ fn tries_in<P: Playing>(
     depth: u8,
 ) -> Result<(), Abandon>
     requires told { AreCodesIn codes.now (coded_story (P.tables play.old)) }
+    requires there { IsThere (P.loaded play.old).back }
     ensures same { P.tables play.new ≡ P.tables play.old }
     ensures kept { P.loaded play.new ≡ P.loaded play.old }
     ensures answer { Answers result (λ done. P.progress play.new) ((below (P.tables play.old) depth).tries action.now (P.progress play.old)) }
@@ -58,6 +60,7 @@ fn follows_in<P: Playing>(
     depth: u8,
 ) -> Result<(), Abandon>
     requires told { AreCodesIn codes.now (coded_story (P.tables play.old)) }
+    requires there { IsThere (P.loaded play.old).back }
     ensures same { P.tables play.new ≡ P.tables play.old }
     ensures kept { P.loaded play.new ≡ P.loaded play.old }
     ensures answer { Answers result (λ done. P.progress play.new) ((below (P.tables play.old) depth).follows book now.now (P.progress play.old)) }
@@ -80,6 +83,7 @@ fn step_in<P: Playing>(
     depth: u8,
 ) -> Result<Option<Flow>, Abandon>
     requires told { AreCodesIn codes.now (coded_story (P.tables play.old)) }
+    requires there { IsThere (P.loaded play.old).back }
     requires stands { MayDo codes.now state.old }
     ensures same { P.tables play.new ≡ P.tables play.old }
     ensures kept { P.loaded play.new ≡ P.loaded play.old }
@@ -117,6 +121,7 @@ fn code_in<P: Playing>(
     depth: u8,
 ) -> Result<Flow, Abandon>
     requires told { AreCodesIn codes.now (coded_story (P.tables play.old)) }
+    requires there { IsThere (P.loaded play.old).back }
     requires body { IsBody codes.now code }
     ensures same { P.tables play.new ≡ P.tables play.old }
     ensures kept { P.loaded play.new ≡ P.loaded play.old }
@@ -146,6 +151,7 @@ fn standard_in<P: Playing>(
     depth: u8,
 ) -> Result<Flow, Abandon>
     requires told { AreCodesIn codes.now (coded_story (P.tables play.old)) }
+    requires there { IsThere (P.loaded play.old).back }
     requires low { 1 ≤ rule }
     requires high { rule ≤ 61 }
     ensures same { P.tables play.new ≡ P.tables play.old }
@@ -175,6 +181,7 @@ fn body_in<P: Playing>(
     depth: u8,
 ) -> Result<Flow, Abandon>
     requires told { AreCodesIn codes.now (coded_story (P.tables play.old)) }
+    requires there { IsThere (P.loaded play.old).back }
     ensures same { P.tables play.new ≡ P.tables play.old }
     ensures kept { P.loaded play.new ≡ P.loaded play.old }
     ensures answer { Answers result (done (P.progress play.new)) ((game_in_play (P.tables play.old)).body rule (below (P.tables play.old) depth) now.now (P.progress play.old)) }
@@ -199,6 +206,7 @@ fn ask_in<P: Playing>(
     depth: u8,
 ) -> Result<Option<Outcome>, Abandon>
     requires told { AreCodesIn codes.now (coded_story (P.tables play.old)) }
+    requires there { IsThere (P.loaded play.old).back }
     ensures same { P.tables play.new ≡ P.tables play.old }
     ensures kept { P.loaded play.new ≡ P.loaded play.old }
     ensures answer { Answers result (asked (P.progress play.new)) (ask (game_in_play (P.tables play.old)) (below (P.tables play.old) depth) book now.now rule (P.progress play.old)) }
@@ -223,6 +231,7 @@ pub fn consult_in<P: Playing>(
     depth: u8,
 ) -> Result<Option<Outcome>, Abandon>
     requires told { AreCodesIn codes.now (coded_story (P.tables play.old)) }
+    requires there { IsThere (P.loaded play.old).back }
     ensures same { P.tables play.new ≡ P.tables play.old }
     ensures kept { P.loaded play.new ≡ P.loaded play.old }
     ensures answer { Answers result (asked (P.progress play.new)) (consult (game_in_play (P.tables play.old)) (below (P.tables play.old) depth) book now.now (P.progress play.old)) }
@@ -251,6 +260,7 @@ fn held_in<P: Playing>(
     depth: u8,
 ) -> Result<Option<Outcome>, Abandon>
     requires told { AreCodesIn codes.now (coded_story (P.tables play.old)) }
+    requires there { IsThere (P.loaded play.old).back }
     ensures same { P.tables play.new ≡ P.tables play.old }
     ensures kept { P.loaded play.new ≡ P.loaded play.old }
     ensures answer { Answers result (asked (P.progress play.new)) (carrying (setting_of (P.tables play.old)) (below (P.tables play.old) depth) slot noun.now (P.progress play.old)) }
@@ -282,6 +292,7 @@ fn report_in<P: Playing>(
     depth: u8,
 ) -> Result<Option<Outcome>, Abandon>
     requires told { AreCodesIn codes.now (coded_story (P.tables play.old)) }
+    requires there { IsThere (P.loaded play.old).back }
     ensures same { P.tables play.new ≡ P.tables play.old }
     ensures kept { P.loaded play.new ≡ P.loaded play.old }
     ensures answer { Answers result (asked (P.progress play.new)) (report (game_in_play (P.tables play.old)) (below (P.tables play.old) depth) now.now (P.progress play.old)) }
@@ -304,6 +315,7 @@ fn part_in<P: Playing>(
     depth: u8,
 ) -> Result<Option<Outcome>, Abandon>
     requires told { AreCodesIn codes.now (coded_story (P.tables play.old)) }
+    requires there { IsThere (P.loaded play.old).back }
     ensures same { P.tables play.new ≡ P.tables play.old }
     ensures kept { P.loaded play.new ≡ P.loaded play.old }
     ensures answer { Answers result (asked (P.progress play.new)) (part_of (game_in_play (P.tables play.old)) (below (P.tables play.old) depth) now.now part (P.progress play.old)) }
@@ -331,6 +343,7 @@ pub fn act_in<P: Playing>(
     depth: u8,
 ) -> Result<Option<Outcome>, Abandon>
     requires told { AreCodesIn codes.now (coded_story (P.tables play.old)) }
+    requires there { IsThere (P.loaded play.old).back }
     ensures same { P.tables play.new ≡ P.tables play.old }
     ensures kept { P.loaded play.new ≡ P.loaded play.old }
     ensures answer { Answers result (asked (P.progress play.new)) (act (game_in_play (P.tables play.old)) (below (P.tables play.old) depth) now.now (P.progress play.old)) }

@@ -1,15 +1,17 @@
 //! What the standard rules do: the stored function of a rule is called, its changes are made and its text is said.
-ghost use Rattle.std.specs.Prelude.{◌≡◌, ◌≤◌, IfOk, Err};
+ghost use Rattle.std.specs.Prelude.{◌≡◌, ◌≤◌, IfOk, Err, OnErr, OnOk};
 ghost use Rattle.play_meaning.specs.Effects.{all_made, ended, made};
 ghost use Rattle.play_meaning.specs.Progress.{Progress};
 ghost use Rattle.standard_rules.specs.Answers.{HasEffect, ends_of};
 ghost use Rattle.standard_rules.specs.HostTables.{rule_count};
 ghost use Rattle.standard_rules.specs.Hosts.{are_there, has_object};
 ghost use Rattle.world_store.specs.StorySettings.{setting_of};
-ghost use Rattle.world_store.specs.StoryWorlds.{in_world};
+ghost use Rattle.world_meaning.specs.declared.session.Abandon.TheVariants.{Memory};
+ghost use Rattle.world_store.specs.StoryWorlds.{changed};
 ghost use Rattle.action_stages.specs.Answering.{ends_so};
+ghost use Rattle.action_stages.specs.Returning.{ComesBehind};
 
-use play_meaning::{ActionNow, Change, Flow, Outcome};
+use play_meaning::{ActionNow, Change, Flow, Outcome, WorldFault};
 use smallvec::SmallVec;
 use standard_rules::{HostAnswer, HostOutcome, HostTable, standard};
 use std::alloc::{AllocError, Global};
@@ -75,11 +77,13 @@ impl<'a> Rules<'a> {
     }
 }
 
-/// Makes a change; one that isn't allowed does nothing.
-fn make(world: &mut World, change: Change)
-    ensures { world.new ≡ in_world world.old (made (setting_of world.old.tables) world.old.world change) }
+/// Asks for a change.
+#[tactic(auto, using(story_code::proofs::Unchanged::no_variable, crate::proofs::Returning::no_scene))]
+fn make(world: &mut World, change: Change) -> Result<(), WorldFault>
+    ensures world { world.new ≡ changed result (made (setting_of world.old.tables) world.old.world change) world.old }
+    ensures left { OnErr result (world.new ≡ world.old) }
 {
-    let _ = match change {
+    match change {
         Change::SetFlag {
             object,
             property,
@@ -99,16 +103,34 @@ fn make(world: &mut World, change: Change)
         Change::TakeOut(object) => world.take_out(object),
         Change::SetScene { scene, now } => world.set_scene(scene, now),
         Change::EndStory(text) => world.end_story(text),
-    };
+    }
+}
+
+/// Makes a change; one that isn't allowed does nothing.
+#[tactic(auto, using(crate::proofs::Returning::changed_behind))]
+fn make_one(world: &mut World, change: Change) -> Result<(), Abandon>
+    ensures made { OnOk result (world.new.world ≡ made (setting_of world.old.tables) world.old.world change) }
+    ensures refused { OnErr result (result ≡ Err Memory) }
+    ensures tables { world.new.tables ≡ world.old.tables }
+    ensures behind { ComesBehind world.old world.new }
+{
+    match make(world, change) {
+        Err(WorldFault::Memory) => Err(Abandon::Memory),
+        _ => Ok(()),
+    }
 }
 
 /// Makes changes in order.
-pub fn make_all(world: &mut World, changes: SmallVec<Change, 2>)
-    ensures { world.new ≡ in_world world.old (all_made (setting_of world.old.tables) changes.items world.old.world) }
+pub fn make_all(world: &mut World, changes: SmallVec<Change, 2>) -> Result<(), Abandon>
+    ensures made { OnOk result (world.new.world ≡ all_made (setting_of world.old.tables) changes.items world.old.world) }
+    ensures refused { OnErr result (result ≡ Err Memory) }
+    ensures tables { world.new.tables ≡ world.old.tables }
+    ensures behind { ComesBehind world.old world.new }
 {
     for change in changes {
-        make(world, change);
+        make_one(world, change)?;
     }
+    Ok(())
 }
 
 /// How a rule ends.

@@ -1,6 +1,7 @@
 //! A stage: a loaded story with its stored rules, the world that play has come to, what was said and the work that was done.
 ghost use Rattle.std.specs.Prelude.{◌≡◌};
 ghost use Rattle.play_meaning.specs.Truth.{has_thing};
+ghost use Rattle.action_stages.specs.Returning.{back_at};
 
 use crate::conditions::applies;
 use crate::does::does;
@@ -16,7 +17,7 @@ use std::alloc::Global;
 use story_code::{RunState, Step, Verified, is_held, say_name};
 use story_format::Story;
 use world_meaning::{Abandon, Needs, ObjNo, Rel};
-use world_store::World;
+use world_store::{Mark, World};
 
 /// A story in play, of which rulebooks are consulted and actions performed.
 #[derive(Drop)]
@@ -26,6 +27,8 @@ pub struct Stage<'a> {
     pub(crate) world: World,
     pub(crate) text: Vec<u8>,
     pub(crate) work: Work,
+    /// Where the world stood as the stage was set up.
+    pub(crate) since: Mark,
 }
 
 /// Whether the player carries or wears an object.
@@ -50,7 +53,7 @@ impl HasWorld for Stage<'_> {
 impl Playing for Stage<'_> {
     ghost tables = { λ s. s.world.tables };
 
-    ghost loaded = { λ s. s.story.now };
+    ghost loaded = { λ s. record { story = s.story.now; back = back_at s.since s.world } };
 
     ghost progress = { λ g. record { world = g.world.world; text = g.text.items; work = g.work } };
 
@@ -131,7 +134,7 @@ impl Playing for Stage<'_> {
             tries,
             outcome,
         } = answer;
-        make_all(&mut self.world, changes);
+        make_all(&mut self.world, changes)?;
         self.say(text.as_slice())?;
         Ok(Owed {
             tries,

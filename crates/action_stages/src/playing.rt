@@ -42,11 +42,12 @@ pub struct Owed {
 
 /// A story in play, and where play has come to.
 pub trait Playing {
+    ghost use Rattle.action_stages.specs.Returning.{IsThere, Loaded};
     ghost use Rattle.action_stages.specs.declared.playing.Owed.{Owed};
 
     ghost tables: { Self → Tables };
 
-    ghost loaded: { Self → Tables };
+    ghost loaded: { Self → Loaded };
 
     ghost progress: { Self → Progress };
 
@@ -120,6 +121,7 @@ pub trait Playing {
     fn standard(&mut self, alloc: Global, rule: u8, now: &ActionNow) -> Result<Owed, Abandon>
         requires low { 1 ≤ rule }
         requires high { rule ≤ 61 }
+        requires there { IsThere (loaded self.old).back }
         ensures same { tables self.new ≡ tables self.old }
         ensures kept { loaded self.new ≡ loaded self.old }
         ensures effect { IfOk result (λ owed. (inner : Inner)
@@ -136,6 +138,7 @@ pub trait Playing {
     ) -> Result<Step, Abandon>
         requires told { AreCodesIn codes.now (coded_story (tables self.old)) }
         requires stands { MayDo codes.now state.old }
+        requires there { IsThere (loaded self.old).back }
         ensures same { tables self.new ≡ tables self.old }
         ensures kept { loaded self.new ≡ loaded self.old }
         ensures step { StepsSo (coded_story (tables self.old)) now.now state.old (progress self.old) result state.new (progress self.new) }

@@ -2,16 +2,19 @@
 ghost use Rattle.std.specs.Prelude.{◌≡◌, ◌≤◌, Err, OnErr, OnOk};
 ghost use Rattle.play_meaning.specs.Acting.{act};
 ghost use Rattle.play_meaning.specs.Consulting.{consult};
-ghost use Rattle.play_meaning.specs.Progress.{fresh, say};
-ghost use Rattle.play_meaning.specs.Turns.{count_turn, follow, no_action};
+ghost use Rattle.play_meaning.specs.Progress.{change, fresh, say};
+ghost use Rattle.play_meaning.specs.Turns.{count_turn, follow, most_turns, no_action};
+ghost use Rattle.play_meaning.specs.Worlds.{set_scene};
 ghost use Rattle.standard_rules.specs.HostTables.{rule_count};
 ghost use Rattle.story_format.specs.Codes.{AreCodesOf, IsTestOf};
-ghost use Rattle.world_meaning.specs.declared.session.Abandon.TheVariants.{Memory};
-ghost use Rattle.action_stages.specs.Answering.{Answers, Comes, asked};
+ghost use Rattle.world_meaning.specs.declared.session.Abandon.TheVariants.{Memory, NumberOutOfRange};
+ghost use Rattle.world_store.specs.StoryWorlds.{StoryWorld};
+ghost use Rattle.action_stages.specs.Answering.{Answers, asked};
 ghost use Rattle.action_stages.specs.Applying.{test_answer};
 ghost use Rattle.action_stages.specs.Bodies.{AreCodesIn};
 ghost use Rattle.action_stages.specs.Performing.{below, ended_so, performed};
-ghost use Rattle.action_stages.specs.Stages.{story_of, progress_of, tables_of};
+ghost use Rattle.action_stages.specs.Returning.{IsThere, back_at, back_to};
+ghost use Rattle.action_stages.specs.Stages.{back_of, progress_of, story_of, tables_of};
 ghost use Rattle.world_store.specs.StoryPlay.{coded_story, game_in_play};
 
 use crate::acting::{act_in, consult_in};
@@ -20,7 +23,7 @@ use crate::effects::Rules;
 use crate::going::Stage;
 use crate::playing::Playing;
 use crate::work::Work;
-use play_meaning::{ActNo, ActionNow, Outcome};
+use play_meaning::{ActNo, ActionNow, Outcome, SceneNow, WorldFault};
 use standard_rules::HostTable;
 use std::alloc::Global;
 use story_code::Verified;
@@ -51,20 +54,25 @@ fn codes_of(story: &Story) -> &[Verified]
 }
 
 impl<'a> Stage<'a> {
-    /// A stage of a story in this world, where nothing was said and no work done.
+    /// A stage of a story in this world, to which it may go back, where nothing was said and no work done.
+    #[tactic(auto, using(crate::proofs::Returning::back_here, crate::proofs::Returning::there_here))]
     pub fn new(alloc: Global, story: &'a Story, table: &'a HostTable, world: World) -> Stage<'a>
         requires complete { rule_count table.now ≡ 61 }
         requires told { world.tables ≡ story.now }
         ensures story { story_of result ≡ story.now }
         ensures tables { tables_of result ≡ story.now }
         ensures progress { progress_of result ≡ fresh world.world }
+        ensures back { back_of result ≡ back_to world }
+        ensures there { IsThere (back_of result) }
     {
+        let since = world.mark();
         Stage {
             story,
             rules: Rules::new(table),
             world,
             text: Vec::new(alloc),
             work: Work::none(),
+            since,
         }
     }
 
@@ -87,6 +95,7 @@ impl<'a> Stage<'a> {
     pub fn into_parts(self) -> (World, Vec<u8>)
         ensures world { result.0.world ≡ (progress_of self.entry).world }
         ensures tables { result.0.tables ≡ tables_of self.entry }
+        ensures back { back_at (back_of self.entry).since result.0 ≡ back_of self.entry }
         ensures text { result.1.items ≡ (progress_of self.entry).text }
     {
         let Stage { world, text, .. } = self;
@@ -97,8 +106,22 @@ impl<'a> Stage<'a> {
     pub fn into_world(self) -> World
         ensures world { result.world ≡ (progress_of self.entry).world }
         ensures tables { result.tables ≡ tables_of self.entry }
+        ensures back { back_at (back_of self.entry).since result ≡ back_of self.entry }
     {
         let Stage { world, .. } = self;
+        world
+    }
+
+    /// The world as it was when the stage was set up, taken out. Takes no memory.
+    #[tactic(auto, using(crate::proofs::Returning::back_again, crate::proofs::Returning::there_within))]
+    pub fn into_world_before(self) -> World
+        requires there { IsThere (back_of self.entry) }
+        ensures { (before : StoryWorld) → tables_of self.entry ≡ before.tables → back_of self.entry ≡ back_to before → result ≡ before }
+    {
+        let Stage {
+            mut world, since, ..
+        } = self;
+        world.revert(since);
         world
     }
 }
@@ -117,10 +140,12 @@ pub fn consult(
     depth: u8,
 ) -> Result<Option<Outcome>, Abandon>
     requires told { tables_of stage.old ≡ story_of stage.old }
+    requires there { IsThere (back_of stage.old) }
     requires depth { depth ≤ 16 }
     ensures answer { Answers result (asked (progress_of stage.new)) (consult (game_in_play (story_of stage.old)) (below (story_of stage.old) depth) book now.now (progress_of stage.old)) }
     ensures story { story_of stage.new ≡ story_of stage.old }
     ensures tables { tables_of stage.new ≡ story_of stage.old }
+    ensures back { back_of stage.new ≡ back_of stage.old }
 {
     let codes = codes_of(stage.story);
     consult_in(alloc, codes, stage, book, now, depth)
@@ -133,9 +158,11 @@ pub fn consult(
 #[tactic(auto, using(crate::proofs::Following::followed_so, crate::proofs::Following::followed_not))]
 pub fn follow(alloc: Global, stage: &mut Stage<'_>, book: u16) -> Result<(), Abandon>
     requires told { tables_of stage.old ≡ story_of stage.old }
+    requires there { IsThere (back_of stage.old) }
     ensures answer { Answers result (λ done. progress_of stage.new) (follow (game_in_play (story_of stage.old)) book (progress_of stage.old)) }
     ensures story { story_of stage.new ≡ story_of stage.old }
     ensures tables { tables_of stage.new ≡ story_of stage.old }
+    ensures back { back_of stage.new ≡ back_of stage.old }
 {
     consult(alloc, stage, book, &NO_ACTION, LEVELS)?;
     Ok(())
@@ -153,10 +180,12 @@ pub fn perform(
     depth: u8,
 ) -> Result<Outcome, Abandon>
     requires told { tables_of stage.old ≡ story_of stage.old }
+    requires there { IsThere (back_of stage.old) }
     requires depth { depth ≤ 16 }
     ensures answer { Answers result (ended_so (progress_of stage.new)) (performed (act (game_in_play (story_of stage.old)) (below (story_of stage.old) depth) now (progress_of stage.old))) }
     ensures story { story_of stage.new ≡ story_of stage.old }
     ensures tables { tables_of stage.new ≡ story_of stage.old }
+    ensures back { back_of stage.new ≡ back_of stage.old }
 {
     let codes = codes_of(stage.story);
     match act_in(alloc, codes, stage, &now, depth)? {
@@ -165,21 +194,44 @@ pub fn perform(
     }
 }
 
-/// Counts the turn, if there is a number for it. Takes no memory.
+/// Counts the turn, if there is a number for it.
 ///
 /// # Errors
-/// Out of range, exactly at the highest count.
+/// Out of range, exactly at the highest count, and below it want of memory for taking the count back; nothing is counted then.
 pub fn count_turn(stage: &mut Stage<'_>) -> Result<(), Abandon>
-    ensures answer { Comes result (λ done. progress_of stage.new) (count_turn (progress_of stage.old)) }
+    requires there { IsThere (back_of stage.old) }
+    ensures answer { Answers result (λ done. progress_of stage.new) (count_turn (progress_of stage.old)) }
+    ensures last { most_turns ≤ (progress_of stage.old).world.turns → result ≡ Err NumberOutOfRange }
     ensures left { OnErr result (progress_of stage.new ≡ progress_of stage.old) }
     ensures story { story_of stage.new ≡ story_of stage.old }
     ensures tables { tables_of stage.new ≡ tables_of stage.old }
+    ensures back { back_of stage.new ≡ back_of stage.old }
 {
     if stage.world.turns() >= MOST_TURNS {
         return Err(Abandon::NumberOutOfRange);
     }
-    stage.world.next_turn();
-    Ok(())
+    match stage.world.next_turn() {
+        Ok(()) => Ok(()),
+        Err(_) => Err(Abandon::Memory),
+    }
+}
+
+/// Sets where a scene stands.
+///
+/// # Errors
+/// Want of memory for taking that back; nothing is set then.
+pub fn set_scene(stage: &mut Stage<'_>, scene: u8, now: SceneNow) -> Result<(), Abandon>
+    requires there { IsThere (back_of stage.old) }
+    ensures set { OnOk result (progress_of stage.new ≡ change (set_scene scene now) (progress_of stage.old)) }
+    ensures refused { OnErr result ((result ≡ Err Memory) × (progress_of stage.new ≡ progress_of stage.old)) }
+    ensures story { story_of stage.new ≡ story_of stage.old }
+    ensures tables { tables_of stage.new ≡ tables_of stage.old }
+    ensures back { back_of stage.new ≡ back_of stage.old }
+{
+    match stage.world.set_scene(scene, now) {
+        Err(WorldFault::Memory) => Err(Abandon::Memory),
+        _ => Ok(()),
+    }
 }
 
 /// What a test of the story answers, outside an action. Nothing is said or done.
@@ -192,6 +244,7 @@ pub fn holds(alloc: Global, stage: &mut Stage<'_>, code: u16) -> Result<bool, Ab
     ensures answer { Answers result (λ is. is) (test_answer (story_of stage.old) no_action code (progress_of stage.old).world) }
     ensures story { story_of stage.new ≡ story_of stage.old }
     ensures tables { tables_of stage.new ≡ story_of stage.old }
+    ensures back { back_of stage.new ≡ back_of stage.old }
     ensures progress { progress_of stage.new ≡ progress_of stage.old }
 {
     let codes = codes_of(stage.story);
@@ -207,6 +260,7 @@ pub fn say(_alloc: Global, stage: &mut Stage<'_>, text: &[u8]) -> Result<(), Aba
     ensures refused { OnErr result ((result ≡ Err Memory) × (progress_of stage.new ≡ progress_of stage.old)) }
     ensures story { story_of stage.new ≡ story_of stage.old }
     ensures tables { tables_of stage.new ≡ tables_of stage.old }
+    ensures back { back_of stage.new ≡ back_of stage.old }
 {
     Playing::say(stage, text)
 }

@@ -4,6 +4,7 @@ ghost use Rattle.play_meaning.specs.Progress.{most_work};
 ghost use Rattle.story_code.specs.Runs.{MayDo};
 ghost use Rattle.story_code.specs.Steps.{leads_on};
 ghost use Rattle.action_stages.specs.Bodies.{AreCodesIn, StepsSo};
+ghost use Rattle.action_stages.specs.Returning.{ComesBehind};
 ghost use Rattle.world_store.specs.StoryPlay.{coded_story};
 
 use play_meaning::ActionNow;
@@ -32,7 +33,8 @@ pub fn step_kept(
     ensures step { StepsSo (coded_story world.old.tables) now.now
         state.old (record { world = world.old.world; text = text.old.items; work = state.old.work })
         result state.new (record { world = world.new.world; text = text.new.items; work = state.new.work }) }
-    ensures left { OnErr result (world.new ≡ world.old) }
+    ensures left { OnErr result (world.new.world ≡ world.old.world) }
+    ensures behind { ComesBehind world.old world.new }
     ensures stands { IfOk result (λ came. leads_on came ≡ true → MayDo codes.now state.new) }
     ensures code { state.new.code ≡ state.old.code }
     ensures within { OnOk result (state.new.work ≤ most_work) }

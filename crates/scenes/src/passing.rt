@@ -6,11 +6,12 @@ ghost use Rattle.story_format.specs.Carrying.{code_if_some};
 ghost use Rattle.story_format.specs.Codes.{codes_told};
 ghost use Rattle.world_store.specs.StorySettings.{setting_of};
 ghost use Rattle.action_stages.specs.Answering.{Answers};
-ghost use Rattle.action_stages.specs.Stages.{progress_of, story_of, tables_of};
+ghost use Rattle.action_stages.specs.Returning.{IsThere};
+ghost use Rattle.action_stages.specs.Stages.{back_of, progress_of, story_of, tables_of};
 ghost use Rattle.world_store.specs.StoryPlay.{game_in_play};
 ghost use Rattle.scenes.specs.Passes.{IsSceneOf, IsTestIfSome, begins_now, ends_now, in_turn, may_begin};
 
-use action_stages::{HasWorld, Stage, follow, holds};
+use action_stages::{Stage, follow, holds, set_scene};
 use play_meaning::SceneNow;
 use std::alloc::Global;
 use story_format::SceneEntry;
@@ -64,6 +65,7 @@ fn holds_if_some(alloc: Global, stage: &mut Stage<'_>, code: u16) -> Result<bool
     ensures answer { Answers result (λ is. is) (answer_or false (codes_told (story_of stage.old)) (setting_of (story_of stage.old)) no_action (progress_of stage.old).world (code_if_some code)) }
     ensures story { story_of stage.new ≡ story_of stage.old }
     ensures tables { tables_of stage.new ≡ story_of stage.old }
+    ensures back { back_of stage.new ≡ back_of stage.old }
     ensures progress { progress_of stage.new ≡ progress_of stage.old }
 {
     if code == NONE {
@@ -84,6 +86,7 @@ fn ends_now(
     ensures answer { Answers result (λ is. is) (ends_now (story_of stage.old) scene entry.now (progress_of stage.old).world) }
     ensures story { story_of stage.new ≡ story_of stage.old }
     ensures tables { tables_of stage.new ≡ story_of stage.old }
+    ensures back { back_of stage.new ≡ back_of stage.old }
     ensures progress { progress_of stage.new ≡ progress_of stage.old }
 {
     if !stage.world().scene(scene).happens {
@@ -104,6 +107,7 @@ fn begins_now(
     ensures answer { Answers result (λ is. is) (begins_now (story_of stage.old) scene entry.now (progress_of stage.old).world) }
     ensures story { story_of stage.new ≡ story_of stage.old }
     ensures tables { tables_of stage.new ≡ story_of stage.old }
+    ensures back { back_of stage.new ≡ back_of stage.old }
     ensures progress { progress_of stage.new ≡ progress_of stage.old }
 {
     if stage.world().scene(scene).happens {
@@ -121,11 +125,13 @@ fn set_and_follow(
     book: u16,
 ) -> Result<(), Abandon>
     requires told { tables_of stage.old ≡ story_of stage.old }
+    requires there { IsThere (back_of stage.old) }
     ensures answer { Answers result (λ done. progress_of stage.new) (set_and_follow true (game_in_play (story_of stage.old)) scene now book (progress_of stage.old)) }
     ensures story { story_of stage.new ≡ story_of stage.old }
     ensures tables { tables_of stage.new ≡ story_of stage.old }
+    ensures back { back_of stage.new ≡ back_of stage.old }
 {
-    let _ = stage.world_mut().set_scene(scene, now);
+    set_scene(stage, scene, now)?;
     follow(alloc, stage, book)
 }
 
@@ -137,10 +143,12 @@ fn end_if_due(
     entry: &SceneEntry,
 ) -> Result<(), Abandon>
     requires told { tables_of stage.old ≡ story_of stage.old }
+    requires there { IsThere (back_of stage.old) }
     requires entry { IsSceneOf (story_of stage.old) scene entry.now }
     ensures answer { Answers result (λ done. progress_of stage.new) (ending_of (game_in_play (story_of stage.old)) scene (progress_of stage.old)) }
     ensures story { story_of stage.new ≡ story_of stage.old }
     ensures tables { tables_of stage.new ≡ story_of stage.old }
+    ensures back { back_of stage.new ≡ back_of stage.old }
 {
     if !ends_now(alloc, stage, scene, entry)? {
         return Ok(());
@@ -164,10 +172,12 @@ fn begin_if_due(
     entry: &SceneEntry,
 ) -> Result<(), Abandon>
     requires told { tables_of stage.old ≡ story_of stage.old }
+    requires there { IsThere (back_of stage.old) }
     requires entry { IsSceneOf (story_of stage.old) scene entry.now }
     ensures answer { Answers result (λ done. progress_of stage.new) (beginning_of (game_in_play (story_of stage.old)) (entry.now.recurring == 1) scene (progress_of stage.old)) }
     ensures story { story_of stage.new ≡ story_of stage.old }
     ensures tables { tables_of stage.new ≡ story_of stage.old }
+    ensures back { back_of stage.new ≡ back_of stage.old }
 {
     let begins = begins_now(alloc, stage, scene, entry)?;
     if !begins || !may_begin(stage, scene, entry) {
@@ -180,9 +190,11 @@ fn begin_if_due(
 #[tactic(auto, using(crate::proofs::Scenes::turn_rules))]
 fn in_turn(alloc: Global, stage: &mut Stage<'_>, scene: u8) -> Result<(), Abandon>
     requires told { tables_of stage.old ≡ story_of stage.old }
+    requires there { IsThere (back_of stage.old) }
     ensures answer { Answers result (λ done. progress_of stage.new) (in_turn (game_in_play (story_of stage.old)) scene (slice_get (story_of stage.old).rules.scenes scene) (progress_of stage.old)) }
     ensures story { story_of stage.new ≡ story_of stage.old }
     ensures tables { tables_of stage.new ≡ story_of stage.old }
+    ensures back { back_of stage.new ≡ back_of stage.old }
 {
     let Some(entry) = entry_of(stage, scene) else {
         return Ok(());
@@ -200,9 +212,11 @@ fn in_turn(alloc: Global, stage: &mut Stage<'_>, scene: u8) -> Result<(), Abando
 #[tactic(auto, using(crate::proofs::Scenes::pass_rules))]
 pub fn pass(alloc: Global, stage: &mut Stage<'_>) -> Result<(), Abandon>
     requires told { tables_of stage.old ≡ story_of stage.old }
+    requires there { IsThere (back_of stage.old) }
     ensures answer { Answers result (λ done. progress_of stage.new) (pass (game_in_play (story_of stage.old)) (progress_of stage.old)) }
     ensures story { story_of stage.new ≡ story_of stage.old }
     ensures tables { tables_of stage.new ≡ story_of stage.old }
+    ensures back { back_of stage.new ≡ back_of stage.old }
 {
     let count = stage.world().story().scene_count();
     for scene in 0..count as u8 {

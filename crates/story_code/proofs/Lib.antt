@@ -49,3 +49,4 @@ pub mod Texts
 pub mod Truths
 pub mod WalkLemmas
 pub mod Within
+pub mod Unchanged

@@ -1,5 +1,5 @@
 -- What a step of a body comes to: the run goes on or ends, or its caller does an action or follows a rulebook first.
-use Rattle.std.specs.Prelude.{◌≡◌, ◌≢◌, ℕ, Bool, true, false, List, MatchResult, Result}
+use Rattle.std.specs.Prelude.{◌≡◌, ◌≢◌, ◌⊎◌, ℕ, Bool, true, false, List, [], ◌∷◌, ◌++◌, MatchResult, Result}
 use Rattle.play_meaning.specs.Attempts.{Attempt}
 use Rattle.play_meaning.specs.Codes.{frame_of, test_of}
 use Rattle.play_meaning.specs.Doing.{Inner}
@@ -59,6 +59,11 @@ StepsSo fixed judged now w s text result v t said = MatchResult result
     (λ reason. reason ≢ Memory → (inner : Inner) → step (body_frame fixed judged now inner) (code_at judged s.code) (state_in s w text) ≡ Abandons reason)
 
 -- ---- instructions
+
+-- from the world behind an instruction one can go back to that before it: they are the same, and nothing more is remembered, or
+-- that before it is
+abbrev pub LeadsBack : World → List World → World → List World → Type 0
+LeadsBack w past v now = ((v ≡ w) × (now ≡ past)) ⊎ (now ≡ past ++ w ∷ [])
 
 -- an instruction of a body does so
 abbrev pub DoneSo : Fixed → List Judged → ActionNow → World → Instruction → Standing → List ℕ → Result Step Abandon → World → Standing → List ℕ → Type 0

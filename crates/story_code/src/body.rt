@@ -1,13 +1,12 @@
 //! Bodies of rules, run step by step.
 ghost use Rattle.std.specs.Prelude.{◌≡◌, ℕ, List, Ok, OnErr, OnOk, true};
-ghost use Rattle.play_meaning.specs.Changes.{Remembers};
 ghost use Rattle.play_meaning.specs.Machines.{does};
 ghost use Rattle.play_meaning.specs.Operands.{gives};
 ghost use Rattle.play_meaning.specs.Stands.{GivesObject};
 ghost use Rattle.play_meaning.specs.declared.instruction.Instruction.TheVariants.{Next};
 ghost use Rattle.play_meaning.specs.declared.operand.Counts.{Counts};
 ghost use Rattle.story_code.specs.Runs.{AreDescribedBy, AreSoundTogether, IsServed, LoopsSuit, MayDo};
-ghost use Rattle.story_code.specs.Steps.{CarriesOn, DoneSo, StepsSo, leads_on};
+ghost use Rattle.story_code.specs.Steps.{CarriesOn, DoneSo, LeadsBack, StepsSo, leads_on};
 ghost use Rattle.story_code.specs.declared.step.Step.{Step};
 
 use crate::changing::{end_story, make_number, make_so, make_variable, move_to, put, take_away};
@@ -44,7 +43,7 @@ fn change<G: GroundMut>(
     requires loops { LoopsSuit codes.now state.old instruction }
     ensures step { CarriesOn (G.fixed ground.old) codes.now now.now (G.world ground.old) instruction state.old text.old.items result (G.world ground.new) state.new text.new.items }
     ensures kept { OnErr result ((G.world ground.new ≡ G.world ground.old) × (G.past ground.new ≡ G.past ground.old)) }
-    ensures past { Remembers (G.world ground.old) (G.past ground.old) (G.past ground.new) }
+    ensures past { LeadsBack (G.world ground.old) (G.past ground.old) (G.world ground.new) (G.past ground.new) }
     ensures fixed { G.fixed ground.new ≡ G.fixed ground.old }
     ensures small { (z : Counts) → OnOk result (GivesObject (gives z instruction) state.new.operands) }
     ensures same { state.new.code ≡ state.old.code }
@@ -140,7 +139,7 @@ fn carry_on<G: GroundMut>(
     requires loops { LoopsSuit codes.now state.old instruction }
     ensures step { CarriesOn (G.fixed ground.old) codes.now now.now (G.world ground.old) instruction state.old text.old.items result (G.world ground.new) state.new text.new.items }
     ensures kept { OnErr result ((G.world ground.new ≡ G.world ground.old) × (G.past ground.new ≡ G.past ground.old)) }
-    ensures past { Remembers (G.world ground.old) (G.past ground.old) (G.past ground.new) }
+    ensures past { LeadsBack (G.world ground.old) (G.past ground.old) (G.world ground.new) (G.past ground.new) }
     ensures fixed { G.fixed ground.new ≡ G.fixed ground.old }
     ensures small { (z : Counts) → OnOk result (GivesObject (gives z instruction) state.new.operands) }
     ensures same { state.new.code ≡ state.old.code }
@@ -191,7 +190,7 @@ fn do_in_body<G: GroundMut>(
     requires loops { LoopsSuit codes.now state.old instruction }
     ensures step { DoneSo (G.fixed ground.old) codes.now now.now (G.world ground.old) instruction state.old text.old.items result (G.world ground.new) state.new text.new.items }
     ensures kept { OnErr result ((G.world ground.new ≡ G.world ground.old) × (G.past ground.new ≡ G.past ground.old)) }
-    ensures past { Remembers (G.world ground.old) (G.past ground.old) (G.past ground.new) }
+    ensures past { LeadsBack (G.world ground.old) (G.past ground.old) (G.world ground.new) (G.past ground.new) }
     ensures fixed { G.fixed ground.new ≡ G.fixed ground.old }
     ensures small { (z : Counts) → OnOk result (GivesObject (gives z instruction) state.new.operands) }
     ensures same { state.new.code ≡ state.old.code }
@@ -245,7 +244,7 @@ pub fn step_plain<G: GroundMut>(
     ensures stands { (came : Step) → result ≡ Ok came → leads_on came ≡ true → MayDo codes.now state.new }
     ensures same { state.new.code ≡ state.old.code }
     ensures kept { OnErr result ((G.world ground.new ≡ G.world ground.old) × (G.past ground.new ≡ G.past ground.old)) }
-    ensures past { Remembers (G.world ground.old) (G.past ground.old) (G.past ground.new) }
+    ensures past { LeadsBack (G.world ground.old) (G.past ground.old) (G.world ground.new) (G.past ground.new) }
     ensures fixed { G.fixed ground.new ≡ G.fixed ground.old }
 {
     match fetch(codes, state) {

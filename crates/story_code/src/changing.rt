@@ -1,9 +1,10 @@
 //! Changes of the world: one that is not allowed, or that is of nothing, does nothing.
 ghost use Rattle.std.specs.Prelude.{◌≡◌, ◌≢◌, [], Err, MatchResult, OnErr, OnOk, slice_index_or};
-ghost use Rattle.play_meaning.specs.Changes.{Remembers, make_number, make_so, move, put, relation_to, take_away};
+ghost use Rattle.play_meaning.specs.Changes.{make_number, make_so, move, put, relation_to, take_away};
 ghost use Rattle.play_meaning.specs.Worlds.{end_with, set_variable};
 ghost use Rattle.play_meaning.specs.declared.fault.WorldFault.TheVariants.{Memory as Unremembered};
 ghost use Rattle.world_meaning.specs.declared.session.Abandon.TheVariants.{Memory};
+ghost use Rattle.story_code.specs.Steps.{LeadsBack};
 
 use play_meaning::{Ground, GroundMut, WorldFault};
 use std::alloc::Global;
@@ -28,7 +29,7 @@ pub fn make_so<G: GroundMut>(
 ) -> Result<(), Abandon>
     ensures made { OnOk result (G.world ground.new ≡ make_so (G.fixed ground.old).setting object property value (G.world ground.old)) }
     ensures refused { OnErr result ((result ≡ Err Memory) × (G.world ground.new ≡ G.world ground.old) × (G.past ground.new ≡ G.past ground.old)) }
-    ensures past { Remembers (G.world ground.old) (G.past ground.old) (G.past ground.new) }
+    ensures past { LeadsBack (G.world ground.old) (G.past ground.old) (G.world ground.new) (G.past ground.new) }
     ensures fixed { G.fixed ground.new ≡ G.fixed ground.old }
 {
     match object {
@@ -46,7 +47,7 @@ pub fn make_number<G: GroundMut>(
 ) -> Result<(), Abandon>
     ensures made { OnOk result (G.world ground.new ≡ make_number (G.fixed ground.old).setting object property value (G.world ground.old)) }
     ensures refused { OnErr result ((result ≡ Err Memory) × (G.world ground.new ≡ G.world ground.old) × (G.past ground.new ≡ G.past ground.old)) }
-    ensures past { Remembers (G.world ground.old) (G.past ground.old) (G.past ground.new) }
+    ensures past { LeadsBack (G.world ground.old) (G.past ground.old) (G.world ground.new) (G.past ground.new) }
     ensures fixed { G.fixed ground.new ≡ G.fixed ground.old }
 {
     match object {
@@ -56,10 +57,11 @@ pub fn make_number<G: GroundMut>(
 }
 
 /// Sets a variable.
+#[tactic(auto, using(crate::proofs::Unchanged::no_variable))]
 pub fn make_variable<G: GroundMut>(ground: &mut G, variable: u8, value: i32) -> Result<(), Abandon>
     ensures made { OnOk result (G.world ground.new ≡ set_variable variable value (G.world ground.old)) }
     ensures refused { OnErr result ((result ≡ Err Memory) × (G.world ground.new ≡ G.world ground.old) × (G.past ground.new ≡ G.past ground.old)) }
-    ensures past { Remembers (G.world ground.old) (G.past ground.old) (G.past ground.new) }
+    ensures past { LeadsBack (G.world ground.old) (G.past ground.old) (G.world ground.new) (G.past ground.new) }
     ensures fixed { G.fixed ground.new ≡ G.fixed ground.old }
 {
     unless_refused(ground.set_variable(variable, value))
@@ -74,7 +76,7 @@ pub fn put<G: GroundMut>(
 ) -> Result<(), Abandon>
     ensures made { OnOk result (G.world ground.new ≡ put (G.fixed ground.old).setting object relation holder (G.world ground.old)) }
     ensures refused { OnErr result ((result ≡ Err Memory) × (G.world ground.new ≡ G.world ground.old) × (G.past ground.new ≡ G.past ground.old)) }
-    ensures past { Remembers (G.world ground.old) (G.past ground.old) (G.past ground.new) }
+    ensures past { LeadsBack (G.world ground.old) (G.past ground.old) (G.world ground.new) (G.past ground.new) }
     ensures fixed { G.fixed ground.new ≡ G.fixed ground.old }
 {
     let Some(object) = object else {
@@ -109,7 +111,7 @@ pub fn move_to<G: GroundMut>(
 ) -> Result<(), Abandon>
     ensures made { OnOk result (G.world ground.new ≡ move (G.fixed ground.old).setting object holder (G.world ground.old)) }
     ensures refused { OnErr result ((result ≡ Err Memory) × (G.world ground.new ≡ G.world ground.old) × (G.past ground.new ≡ G.past ground.old)) }
-    ensures past { Remembers (G.world ground.old) (G.past ground.old) (G.past ground.new) }
+    ensures past { LeadsBack (G.world ground.old) (G.past ground.old) (G.world ground.new) (G.past ground.new) }
     ensures fixed { G.fixed ground.new ≡ G.fixed ground.old }
 {
     let Some(holder) = holder else {
@@ -125,7 +127,7 @@ pub fn move_to<G: GroundMut>(
 pub fn take_away<G: GroundMut>(ground: &mut G, object: Option<ObjNo>) -> Result<(), Abandon>
     ensures made { OnOk result (G.world ground.new ≡ take_away (G.fixed ground.old).setting object (G.world ground.old)) }
     ensures refused { OnErr result ((result ≡ Err Memory) × (G.world ground.new ≡ G.world ground.old) × (G.past ground.new ≡ G.past ground.old)) }
-    ensures past { Remembers (G.world ground.old) (G.past ground.old) (G.past ground.new) }
+    ensures past { LeadsBack (G.world ground.old) (G.past ground.old) (G.world ground.new) (G.past ground.new) }
     ensures fixed { G.fixed ground.new ≡ G.fixed ground.old }
 {
     match object {
@@ -138,7 +140,7 @@ pub fn take_away<G: GroundMut>(ground: &mut G, object: Option<ObjNo>) -> Result<
 pub fn end_story<G: GroundMut>(alloc: Global, ground: &mut G, string: u16) -> Result<(), Abandon>
     ensures made { OnOk result (G.world ground.new ≡ end_with (slice_index_or (G.fixed ground.old).strings string []) (G.world ground.old)) }
     ensures refused { OnErr result ((result ≡ Err Memory) × (G.world ground.new ≡ G.world ground.old) × (G.past ground.new ≡ G.past ground.old)) }
-    ensures past { Remembers (G.world ground.old) (G.past ground.old) (G.past ground.new) }
+    ensures past { LeadsBack (G.world ground.old) (G.past ground.old) (G.world ground.new) (G.past ground.new) }
     ensures fixed { G.fixed ground.new ≡ G.fixed ground.old }
 {
     match TextBytes::copied(alloc, ground.string(string)) {

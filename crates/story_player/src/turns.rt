@@ -2,8 +2,9 @@
 ghost use Rattle.std.specs.Prelude.{◌≡◌, [], ◌∷◌, Ok};
 ghost use Rattle.play_meaning.specs.Consulting.{every_turn_book, play_begins_book};
 ghost use Rattle.play_meaning.specs.Turns.{count_turn, follow, look_round, opening, parts, pass, perform, turn, unless_over};
-ghost use Rattle.action_stages.specs.Answering.{Answers, Comes};
-ghost use Rattle.action_stages.specs.Stages.{progress_of, story_of, tables_of};
+ghost use Rattle.action_stages.specs.Answering.{Answers};
+ghost use Rattle.action_stages.specs.Returning.{IsThere};
+ghost use Rattle.action_stages.specs.Stages.{back_of, progress_of, story_of, tables_of};
 ghost use Rattle.world_store.specs.StoryPlay.{game_in_play};
 ghost use Rattle.story_player.specs.Turns.{done_in};
 
@@ -39,9 +40,11 @@ fn look_round() -> ActionNow
 #[tactic(auto, using(crate::proofs::Parts::performed_so, crate::proofs::Parts::performed_not))]
 fn act(alloc: Global, stage: &mut Stage<'_>, now: ActionNow) -> Result<(), Abandon>
     requires told { tables_of stage.old ≡ story_of stage.old }
+    requires there { IsThere (back_of stage.old) }
     ensures answer { Answers result (λ done. progress_of stage.new) (perform (game_in_play (story_of stage.old)) now (progress_of stage.old)) }
     ensures story { story_of stage.new ≡ story_of stage.old }
     ensures tables { tables_of stage.new ≡ story_of stage.old }
+    ensures back { back_of stage.new ≡ back_of stage.old }
 {
     perform(alloc, stage, now, LEVELS)?;
     Ok(())
@@ -50,9 +53,11 @@ fn act(alloc: Global, stage: &mut Stage<'_>, now: ActionNow) -> Result<(), Aband
 /// Performs an action, unless the story has ended.
 fn act_unless_over(alloc: Global, stage: &mut Stage<'_>, now: ActionNow) -> Result<(), Abandon>
     requires told { tables_of stage.old ≡ story_of stage.old }
+    requires there { IsThere (back_of stage.old) }
     ensures answer { Answers result (λ done. progress_of stage.new) (unless_over (progress_of stage.old).world.ended (perform (game_in_play (story_of stage.old)) now) (progress_of stage.old)) }
     ensures story { story_of stage.new ≡ story_of stage.old }
     ensures tables { tables_of stage.new ≡ story_of stage.old }
+    ensures back { back_of stage.new ≡ back_of stage.old }
 {
     match stage.world().ended() {
         Some(_) => Ok(()),
@@ -63,9 +68,11 @@ fn act_unless_over(alloc: Global, stage: &mut Stage<'_>, now: ActionNow) -> Resu
 /// Follows a rulebook, unless the story has ended.
 fn follow_unless_over(alloc: Global, stage: &mut Stage<'_>, book: u16) -> Result<(), Abandon>
     requires told { tables_of stage.old ≡ story_of stage.old }
+    requires there { IsThere (back_of stage.old) }
     ensures answer { Answers result (λ done. progress_of stage.new) (unless_over (progress_of stage.old).world.ended (follow (game_in_play (story_of stage.old)) book) (progress_of stage.old)) }
     ensures story { story_of stage.new ≡ story_of stage.old }
     ensures tables { tables_of stage.new ≡ story_of stage.old }
+    ensures back { back_of stage.new ≡ back_of stage.old }
 {
     match stage.world().ended() {
         Some(_) => Ok(()),
@@ -76,9 +83,11 @@ fn follow_unless_over(alloc: Global, stage: &mut Stage<'_>, book: u16) -> Result
 /// Makes a scene pass, unless the story has ended.
 fn pass_unless_over(alloc: Global, stage: &mut Stage<'_>) -> Result<(), Abandon>
     requires told { tables_of stage.old ≡ story_of stage.old }
+    requires there { IsThere (back_of stage.old) }
     ensures answer { Answers result (λ done. progress_of stage.new) (unless_over (progress_of stage.old).world.ended (pass (game_in_play (story_of stage.old))) (progress_of stage.old)) }
     ensures story { story_of stage.new ≡ story_of stage.old }
     ensures tables { tables_of stage.new ≡ story_of stage.old }
+    ensures back { back_of stage.new ≡ back_of stage.old }
 {
     match stage.world().ended() {
         Some(_) => Ok(()),
@@ -89,9 +98,11 @@ fn pass_unless_over(alloc: Global, stage: &mut Stage<'_>) -> Result<(), Abandon>
 /// Counts the turn, if there is a number for it, unless the story has ended.
 fn count_unless_over(stage: &mut Stage<'_>) -> Result<(), Abandon>
     requires told { tables_of stage.old ≡ story_of stage.old }
-    ensures answer { Comes result (λ done. progress_of stage.new) (unless_over (progress_of stage.old).world.ended count_turn (progress_of stage.old)) }
+    requires there { IsThere (back_of stage.old) }
+    ensures answer { Answers result (λ done. progress_of stage.new) (unless_over (progress_of stage.old).world.ended count_turn (progress_of stage.old)) }
     ensures story { story_of stage.new ≡ story_of stage.old }
     ensures tables { tables_of stage.new ≡ story_of stage.old }
+    ensures back { back_of stage.new ≡ back_of stage.old }
 {
     match stage.world().ended() {
         Some(_) => Ok(()),
@@ -103,9 +114,11 @@ fn count_unless_over(stage: &mut Stage<'_>) -> Result<(), Abandon>
 #[tactic(auto, using(crate::proofs::Parts::parts_rules))]
 fn behind_pass(alloc: Global, stage: &mut Stage<'_>) -> Result<(), Abandon>
     requires told { tables_of stage.old ≡ story_of stage.old }
+    requires there { IsThere (back_of stage.old) }
     ensures answer { Answers result (λ done. progress_of stage.new) (parts (follow (game_in_play (story_of stage.old)) every_turn_book ∷ count_turn ∷ pass (game_in_play (story_of stage.old)) ∷ []) (progress_of stage.old)) }
     ensures story { story_of stage.new ≡ story_of stage.old }
     ensures tables { tables_of stage.new ≡ story_of stage.old }
+    ensures back { back_of stage.new ≡ back_of stage.old }
 {
     follow_unless_over(alloc, stage, EVERY_TURN)?;
     count_unless_over(stage)?;
@@ -117,9 +130,11 @@ fn behind_pass(alloc: Global, stage: &mut Stage<'_>) -> Result<(), Abandon>
 #[tactic(auto, using(crate::proofs::Parts::behind_rules))]
 fn behind_action(alloc: Global, stage: &mut Stage<'_>) -> Result<(), Abandon>
     requires told { tables_of stage.old ≡ story_of stage.old }
+    requires there { IsThere (back_of stage.old) }
     ensures answer { Answers result (λ done. progress_of stage.new) (parts (pass (game_in_play (story_of stage.old)) ∷ follow (game_in_play (story_of stage.old)) every_turn_book ∷ count_turn ∷ pass (game_in_play (story_of stage.old)) ∷ []) (progress_of stage.old)) }
     ensures story { story_of stage.new ≡ story_of stage.old }
     ensures tables { tables_of stage.new ≡ story_of stage.old }
+    ensures back { back_of stage.new ≡ back_of stage.old }
 {
     pass_unless_over(alloc, stage)?;
     behind_pass(alloc, stage)?;
@@ -130,9 +145,11 @@ fn behind_action(alloc: Global, stage: &mut Stage<'_>) -> Result<(), Abandon>
 #[tactic(auto, using(crate::proofs::Parts::behind_rules), unfolding(play_meaning::specs::Turns::turn))]
 fn turn(alloc: Global, stage: &mut Stage<'_>, now: ActionNow) -> Result<(), Abandon>
     requires told { tables_of stage.old ≡ story_of stage.old }
+    requires there { IsThere (back_of stage.old) }
     ensures answer { Answers result (λ done. progress_of stage.new) (turn (game_in_play (story_of stage.old)) now (progress_of stage.old)) }
     ensures story { story_of stage.new ≡ story_of stage.old }
     ensures tables { tables_of stage.new ≡ story_of stage.old }
+    ensures back { back_of stage.new ≡ back_of stage.old }
 {
     act_unless_over(alloc, stage, now)?;
     behind_action(alloc, stage)?;
@@ -143,9 +160,11 @@ fn turn(alloc: Global, stage: &mut Stage<'_>, now: ActionNow) -> Result<(), Aban
 #[tactic(auto, using(crate::proofs::Parts::parts_rules))]
 fn begin_play(alloc: Global, stage: &mut Stage<'_>) -> Result<(), Abandon>
     requires told { tables_of stage.old ≡ story_of stage.old }
+    requires there { IsThere (back_of stage.old) }
     ensures answer { Answers result (λ done. progress_of stage.new) (parts (follow (game_in_play (story_of stage.old)) play_begins_book ∷ perform (game_in_play (story_of stage.old)) look_round ∷ []) (progress_of stage.old)) }
     ensures story { story_of stage.new ≡ story_of stage.old }
     ensures tables { tables_of stage.new ≡ story_of stage.old }
+    ensures back { back_of stage.new ≡ back_of stage.old }
 {
     follow_unless_over(alloc, stage, PLAY_BEGINS)?;
     act_unless_over(alloc, stage, look_round())?;
@@ -156,9 +175,11 @@ fn begin_play(alloc: Global, stage: &mut Stage<'_>) -> Result<(), Abandon>
 #[tactic(auto, using(crate::proofs::Parts::behind_rules), unfolding(play_meaning::specs::Turns::opening))]
 pub(crate) fn opening(alloc: Global, stage: &mut Stage<'_>) -> Result<(), Abandon>
     requires told { tables_of stage.old ≡ story_of stage.old }
+    requires there { IsThere (back_of stage.old) }
     ensures answer { Answers result (λ done. progress_of stage.new) (opening (game_in_play (story_of stage.old)) (progress_of stage.old)) }
     ensures story { story_of stage.new ≡ story_of stage.old }
     ensures tables { tables_of stage.new ≡ story_of stage.old }
+    ensures back { back_of stage.new ≡ back_of stage.old }
 {
     pass_unless_over(alloc, stage)?;
     begin_play(alloc, stage)?;
@@ -173,9 +194,11 @@ pub(crate) fn done(
     apart: bool,
 ) -> Result<(), Abandon>
     requires told { tables_of stage.old ≡ story_of stage.old }
+    requires there { IsThere (back_of stage.old) }
     ensures answer { Answers result (λ done. progress_of stage.new) (done_in apart (game_in_play (story_of stage.old)) now (progress_of stage.old)) }
     ensures story { story_of stage.new ≡ story_of stage.old }
     ensures tables { tables_of stage.new ≡ story_of stage.old }
+    ensures back { back_of stage.new ≡ back_of stage.old }
 {
     if apart {
         Ok(act(alloc, stage, now)?)

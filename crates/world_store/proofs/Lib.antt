@@ -9,3 +9,5 @@ pub mod Views
 pub mod Directing
 pub mod RowLemmas
 pub mod Atlases
+pub mod Pasts
+pub mod Reverted

@@ -1,7 +1,7 @@
 //! Which story a world is of: code that knows a world by what its words are read against alone leaves open which tables it is
 //! of behind it, so that it is told that again.
 ghost use Rattle.std.specs.Prelude.{◌≡◌, IfOk};
-ghost use Rattle.world_store.specs.StoryWorlds.{IsKept};
+ghost use Rattle.world_store.specs.StoryWorlds.{AreKept, worlds};
 
 use crate::World;
 use crate::atlas::Atlas;
@@ -33,10 +33,10 @@ impl World {
         })
     }
 
-    /// The world is one of this story, whose lists it has.
+    /// The world is one of this story, whose lists it has, and so are those before it.
     pub fn bind(&mut self, bound: Bound)
-        requires kept { IsKept bound self.old.world }
-        ensures { self.new ≡ record { tables = bound; world = self.old.world } }
+        requires kept { AreKept bound (worlds self.old) }
+        ensures { self.new ≡ record self.old { tables = bound } }
     {
         self.atlas = bound.atlas;
     }

@@ -1,85 +1,127 @@
 //! What changes the world: each setter makes one change, where the rules of the kinds and of placing allow it.
-ghost use Rattle.std.specs.Prelude.{◌≡◌, ◌<◌, ℕ, Some, is_ok, length, nat_lt, true};
-ghost use Rattle.play_meaning.specs.Changes.{make_number, make_so, may_be_put, put_at, take_away};
+ghost use Rattle.std.specs.Prelude.{◌≡◌, ◌<◌, ◌∷◌, ◌++◌, [], ℕ, MatchResult, Some, length, nat_lt, true};
+ghost use Rattle.play_meaning.specs.Changes.{Allows, make_number, make_so, may_be_put, put_at, take_away};
 ghost use Rattle.play_meaning.specs.Settings.{kinds_of};
 ghost use Rattle.play_meaning.specs.Worlds.{chain, end_with, next_turn, place_of, set_scene, set_variable};
 ghost use Rattle.world_meaning.specs.Chains.{IsChain};
 ghost use Rattle.world_meaning.specs.Placing.{can_be_held, can_hold, keeps_player, may_be_taken};
 ghost use Rattle.play_meaning.specs.Turns.{most_turns};
 ghost use Rattle.world_store.specs.StorySettings.{setting_of};
-ghost use Rattle.world_store.specs.StoryWorlds.{in_world};
+ghost use Rattle.world_store.specs.StoryWorlds.{changed};
 
 use crate::World;
+use crate::remembering::Was;
 use crate::sight::is_in;
 use play_meaning::{SceneNow, WorldFault};
+use std::alloc::AllocError;
 use world_meaning::{KindNo, ObjNo, Rel, TextBytes};
 
 impl World {
     /// Makes an either-or property, by its number, true of an object or not. Misplaced where the object's kind lacks it.
     #[tactic(auto, unfolding(play_meaning::specs::Worlds::set_flag))]
     pub fn set_flag(&mut self, object: ObjNo, property: u8, value: bool) -> Result<(), WorldFault>
-        ensures answer { is_ok result ≡ (setting_of self.old.tables).has_flag object property }
-        ensures world { self.new ≡ in_world self.old (make_so (setting_of self.old.tables) (Some object) property value self.old.world) }
+        ensures answer { Allows result ((setting_of self.old.tables).has_flag object property) }
+        ensures world { self.new ≡ changed result (make_so (setting_of self.old.tables) (Some object) property value self.old.world) self.old }
     {
         if !self.has_flag(object, property) {
             return Err(WorldFault::Misplaced);
         }
-        self.flags.set(property, object, value);
+        let was = self.flag(object, property);
+        let was = Was::Flag {
+            property,
+            object,
+            value: was,
+        };
+        let Ok(()) = self.log.write(was) else {
+            return Err(WorldFault::Memory);
+        };
+        self.state.flags.set(property, object, value);
         Ok(())
     }
 
     /// Sets an object's number in a number property, by the property's number. Misplaced where the object's kind lacks it.
     #[tactic(auto, unfolding(play_meaning::specs::Worlds::set_number))]
     pub fn set_number(&mut self, object: ObjNo, property: u8, value: i32) -> Result<(), WorldFault>
-        ensures answer { is_ok result ≡ (setting_of self.old.tables).has_number object property }
-        ensures world { self.new ≡ in_world self.old (make_number (setting_of self.old.tables) (Some object) property value self.old.world) }
+        ensures answer { Allows result ((setting_of self.old.tables).has_number object property) }
+        ensures world { self.new ≡ changed result (make_number (setting_of self.old.tables) (Some object) property value self.old.world) self.old }
     {
         if !self.has_number(object, property) {
             return Err(WorldFault::Misplaced);
         }
-        self.numbers.set(property, object, value);
+        let was = self.number(object, property);
+        let was = Was::Number {
+            property,
+            object,
+            value: was,
+        };
+        let Ok(()) = self.log.write(was) else {
+            return Err(WorldFault::Memory);
+        };
+        self.state.numbers.set(property, object, value);
         Ok(())
     }
 
     /// Sets a variable, by its number. Misplaced where there is none.
     pub fn set_variable(&mut self, variable: u8, value: i32) -> Result<(), WorldFault>
-        ensures answer { is_ok result ≡ nat_lt variable (length self.old.world.variables) }
-        ensures world { self.new ≡ in_world self.old (set_variable variable value self.old.world) }
+        ensures answer { Allows result (nat_lt variable (length self.old.world.variables)) }
+        ensures world { self.new ≡ changed result (set_variable variable value self.old.world) self.old }
     {
-        match self.variables.get_mut(usize::from(variable)) {
-            Some(old) => *old = value,
-            None => return Err(WorldFault::Misplaced),
-        }
+        let Some(old) = self.state.variables.get_mut(usize::from(variable)) else {
+            return Err(WorldFault::Misplaced);
+        };
+        let was = Was::Variable {
+            variable,
+            value: *old,
+        };
+        let Ok(()) = self.log.write(was) else {
+            return Err(WorldFault::Memory);
+        };
+        *old = value;
         Ok(())
     }
 
     /// Sets where a scene stands, by its number. Misplaced where there is none.
     pub fn set_scene(&mut self, scene: u8, now: SceneNow) -> Result<(), WorldFault>
-        ensures answer { is_ok result ≡ nat_lt scene (length self.old.world.scenes) }
-        ensures world { self.new ≡ in_world self.old (set_scene scene now self.old.world) }
+        ensures answer { Allows result (nat_lt scene (length self.old.world.scenes)) }
+        ensures world { self.new ≡ changed result (set_scene scene now self.old.world) self.old }
     {
-        match self.scenes.get_mut(usize::from(scene)) {
-            Some(old) => *old = now,
-            None => return Err(WorldFault::Misplaced),
-        }
+        let Some(old) = self.state.scenes.get_mut(usize::from(scene)) else {
+            return Err(WorldFault::Misplaced);
+        };
+        let was = Was::Scene { scene, now: *old };
+        let Ok(()) = self.log.write(was) else {
+            return Err(WorldFault::Memory);
+        };
+        *old = now;
         Ok(())
     }
 
-    /// Counts a turn more.
-    pub fn next_turn(&mut self)
+    /// Counts a turn more. Where that for remembering is refused the world is as it was.
+    pub fn next_turn(&mut self) -> Result<(), AllocError>
         requires { self.old.world.turns < most_turns }
-        ensures { self.new ≡ in_world self.old (next_turn self.old.world) }
+        ensures { MatchResult result (λ _. self.new ≡ record self.old { world = next_turn self.old.world; past = self.old.past ++ self.old.world ∷ [] })
+            (λ _. self.new ≡ self.old) }
     {
-        self.turns += 1;
+        let Ok(()) = self.log.write(Was::Turns(self.state.turns)) else {
+            return Err(AllocError);
+        };
+        self.state.turns += 1;
+        Ok(())
     }
 
-    /// Ends the story with a text. This is never refused.
+    /// Ends the story with a text. This is always allowed.
     pub fn end_story(&mut self, text: TextBytes) -> Result<(), WorldFault>
-        ensures answer { is_ok result ≡ true }
-        ensures world { self.new ≡ in_world self.old (end_with text self.old.world) }
+        ensures answer { Allows result true }
+        ensures world { self.new ≡ changed result (end_with text self.old.world) self.old }
     {
-        self.ended = Some(text);
-        Ok(())
+        let ended = self.state.ended.replace(text);
+        match self.log.write(Was::Ended(ended)) {
+            Ok(()) => Ok(()),
+            Err(was) => {
+                self.state.undo(was);
+                Err(WorldFault::Memory)
+            }
+        }
     }
 
     /// Whether an object may be held: a thing, but no door.
@@ -125,26 +167,35 @@ impl World {
     /// Puts an object somewhere. Misplaced where the kinds don't allow it, the player would not be directly in a room, or
     /// the object would come to stand in itself.
     pub fn put(&mut self, object: ObjNo, relation: Rel, holder: ObjNo) -> Result<(), WorldFault>
-        ensures answer { is_ok result ≡ may_be_put (setting_of self.old.tables) self.old.world object (record { relation = relation; holder = holder }) }
-        ensures world { self.new ≡ in_world self.old (put_at (setting_of self.old.tables) object (record { relation = relation; holder = holder }) self.old.world) }
+        ensures answer { Allows result (may_be_put (setting_of self.old.tables) self.old.world object (record { relation = relation; holder = holder })) }
+        ensures world { self.new ≡ changed result (put_at (setting_of self.old.tables) object (record { relation = relation; holder = holder }) self.old.world) self.old }
     {
         if !self.may_be_put(object, relation, holder) {
             return Err(WorldFault::Misplaced);
         }
-        self.tree
+        let place = self.holder(object);
+        let Ok(()) = self.log.write(Was::Placed { object, place }) else {
+            return Err(WorldFault::Memory);
+        };
+        self.state
+            .tree
             .put(object, relation, holder)
             .map_err(|_| WorldFault::Misplaced)
     }
 
     /// Takes an object away from where it is, so that it is nowhere. Misplaced where it is no thing, a door or the player.
     pub fn take_out(&mut self, object: ObjNo) -> Result<(), WorldFault>
-        ensures answer { is_ok result ≡ may_be_taken (kinds_of (setting_of self.old.tables)) object }
-        ensures world { self.new ≡ in_world self.old (take_away (setting_of self.old.tables) (Some object) self.old.world) }
+        ensures answer { Allows result (may_be_taken (kinds_of (setting_of self.old.tables)) object) }
+        ensures world { self.new ≡ changed result (take_away (setting_of self.old.tables) (Some object) self.old.world) self.old }
     {
         if !self.can_be_held(object) || object.get() == 0 {
             return Err(WorldFault::Misplaced);
         }
-        self.tree.take_out(object);
+        let place = self.holder(object);
+        let Ok(()) = self.log.write(Was::Placed { object, place }) else {
+            return Err(WorldFault::Memory);
+        };
+        self.state.tree.take_out(object);
         Ok(())
     }
 }

@@ -29,7 +29,8 @@ fn read_at<T: Copy>(values: &[T], place: Option<usize>, otherwise: T) -> T
     }
 }
 
-fn write_at<T: Copy>(values: &mut Vec<T>, place: Option<usize>, value: T)
+/// Sets the value at a place, where there is one.
+pub(crate) fn write_at<T: Copy>(values: &mut Vec<T>, place: Option<usize>, value: T)
     ensures { values.new.items ≡ write_at values.old.items place value }
 {
     if let Some(place) = place {

@@ -107,6 +107,8 @@ impl Ground for World {
 }
 
 impl GroundMut for World {
+    ghost past = { λ w. w.past };
+
     fn set_flag(&mut self, object: ObjNo, property: u8, value: bool) -> Result<(), WorldFault> {
         self.set_flag(object, property, value)
     }

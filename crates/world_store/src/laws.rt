@@ -15,7 +15,7 @@ ghost use Rattle.world_meaning.specs.declared.place.Place.{Place};
 ghost use Rattle.world_meaning.specs.declared.tale.Tale.{Tale};
 ghost use Rattle.world_store.specs.StoryGames.{plain_story};
 ghost use Rattle.world_store.specs.StorySettings.{setting_of};
-ghost use Rattle.world_store.specs.StoryWorlds.{IsKept};
+ghost use Rattle.world_store.specs.StoryWorlds.{AreKept, worlds};
 
 use crate::World;
 use world_meaning::ObjNo;
@@ -26,14 +26,14 @@ pub fn worlds_are_of_their_stories(world: &World)
     ensures { IsWorldOf (setting_of world.now.tables) world.now.world }
 {
     let _ = world.chain(ObjNo::new(0));
-    let _ = &world.tree;
+    let _ = &world.state;
 }
 
 /// What is of kind direction is a direction, and no thing or room.
 pub fn directions_are_directions(world: &World)
     ensures { (o : ℕ) → (setting_of world.now.tables).is_of o direction_kind ≡ true → root_of (setting_of world.now.tables) o ≡ Some direction }
 {
-    let _ = &world.tree;
+    let _ = &world.state;
 }
 
 /// The tables of a tale that a story file holds, and of which it says this, give the game of the tale: the same setting,
@@ -56,11 +56,11 @@ pub fn the_dark_hides()
 {}
 
 /// What is known of any world that is handed in: it says of each object where it is, whether each property is true of it,
-/// and its numbers, and the player is directly in a room.
+/// and its numbers, and the player is directly in a room; and so did the worlds before it.
 pub fn worlds_are_whole(world: &World)
-    ensures { IsKept world.now.tables world.now.world }
+    ensures { AreKept world.now.tables (worlds world.now) }
 {
-    let _ = &world.tree;
+    let _ = &world.state;
 }
 
 /// In a world of a story what is set is read: of objects that have the property, of where objects are, and of the variables and
@@ -77,5 +77,5 @@ pub fn what_is_set_is_read(world: &World)
     ensures scenes { (scene : ℕ) (now : SceneNow) → scene < length world.now.world.scenes
         → scene_of (set_scene scene now world.now.world) scene ≡ now }
 {
-    let _ = &world.tree;
+    let _ = &world.state;
 }

@@ -9,7 +9,10 @@ mod columns;
 mod describing;
 mod ground;
 mod laws;
+mod marks;
+mod remembering;
 mod sight;
+mod state;
 mod view;
 mod world;
 
@@ -18,5 +21,6 @@ pub use laws::{
     changes_leave_others, directions_are_directions, tables_give_their_tales_game, the_dark_hides,
     what_is_set_is_read, worlds_are_of_their_stories, worlds_are_whole,
 };
+pub use marks::Mark;
 pub use play_meaning::WorldFault;
 pub use world::World;

@@ -68,7 +68,7 @@ impl World {
     pub fn on_view(&self, alloc: Global) -> Result<Vec<ObjNo>, AllocError>
         ensures { IfOk result (λ seen. seen.items ≡ on_view (setting_of self.now.tables) self.now.world) }
     {
-        let things = self.tree.children(self.location());
+        let things = self.state.tree.children(self.location());
         Ok(self.on_view_among(alloc, things)?)
     }
 
@@ -100,7 +100,7 @@ impl World {
     ) -> Result<Vec<ObjNo>, AllocError>
         ensures { IfOk result (λ held. held.items ≡ filter (is_held self.now.world relation (Some holder)) (objects_of (setting_of self.now.tables))) }
     {
-        let things = self.tree.children(holder);
+        let things = self.state.tree.children(holder);
         Ok(self.held_among(alloc, things, relation, holder)?)
     }
 

@@ -1,5 +1,5 @@
 //! The world of a story in play: how it begins, its copy, and what is read off it.
-ghost use Rattle.std.specs.Prelude.{◌≡◌, ◌≤◌, ℕ, IfOk, Some, length, map};
+ghost use Rattle.std.specs.Prelude.{◌≡◌, ◌≤◌, ℕ, [], IfOk, Some, length, map};
 ghost use Rattle.std.specs.List.{list_any, range_with_len};
 ghost use Rattle.std.specs.Option.{option_map};
 ghost use Rattle.play_meaning.specs.Seeing.{encloses, is_held_by};
@@ -14,13 +14,15 @@ ghost use Rattle.world_store.specs.StorySettings.{setting_of};
 
 use crate::atlas::Atlas;
 use crate::columns::Columns;
+use crate::remembering::Log;
+use crate::state::State;
 use object_tree::{Chain, Tree};
 use play_meaning::SceneNow;
 use std::alloc::{AllocError, Global};
 use std::marker::Model;
 use std::rc::Rc;
 use story_format::Story;
-use world_meaning::{Exits, KindNo, ObjNo, Place, TextBytes};
+use world_meaning::{Exits, KindNo, ObjNo, Place};
 
 /// A scene that never began.
 const NOT_BEGUN: SceneNow = SceneNow {
@@ -28,47 +30,24 @@ const NOT_BEGUN: SceneNow = SceneNow {
     has_begun: false,
 };
 
-/// Where the objects of a story are, what is true of them, their numbers, and where variables, scenes, the turn count
-/// and the ending stand.
+/// A story in play: its world of the moment, and what each change of it replaced.
 #[derive(Drop)]
 pub struct World {
     pub(crate) atlas: Rc<Atlas>,
-    pub(crate) tree: Tree,
-    pub(crate) flags: Columns<bool>,
-    pub(crate) numbers: Columns<i32>,
-    pub(crate) variables: Vec<i32>,
-    pub(crate) scenes: Vec<SceneNow>,
-    pub(crate) turns: u32,
-    pub(crate) ended: Option<TextBytes>,
+    pub(crate) state: State,
+    pub(crate) log: Log,
 }
 
 impl Model for World {
-    ghost use Rattle.world_store.specs.StoryWorlds.{IsKept, StoryWorld};
+    ghost use Rattle.world_store.specs.StoryWorlds.{IsStoryWorld, StoryWorld};
 
     ghost Value = { StoryWorld };
 
-    ghost view = { λ w. record {
-      tables = w.atlas.value;
-      world = record {
-        places = w.tree;
-        flags = w.flags;
-        numbers = w.numbers;
-        variables = w.variables.items;
-        scenes = w.scenes.items;
-        turns = w.turns;
-        ended = w.ended;
-      };
-    } };
+    ghost use Rattle.world_store.specs.Pasts.{story_world, world_of};
 
-    ghost invariant = { λ w. IsKept w.atlas.value (record {
-      places = w.tree;
-      flags = w.flags;
-      numbers = w.numbers;
-      variables = w.variables.items;
-      scenes = w.scenes.items;
-      turns = w.turns;
-      ended = w.ended;
-    }) };
+    ghost view = { λ w. story_world w.atlas.value (world_of w.state) w.log };
+
+    ghost invariant = { λ w. IsStoryWorld (story_world w.atlas.value (world_of w.state) w.log) };
 }
 
 /// Which either-or properties are true of which objects as a story begins.
@@ -106,16 +85,6 @@ fn start_tree(alloc: Global, story: &Story) -> Result<Tree, AllocError>
     Tree::from_places(alloc, places.as_slice())
 }
 
-/// A copy of the ending's text, if there is one.
-fn copied(alloc: Global, text: &Option<TextBytes>) -> Result<Option<TextBytes>, AllocError>
-    ensures { IfOk result (λ copy. copy ≡ text.now) }
-{
-    match text {
-        None => Ok(None),
-        Some(text) => Ok(Some(TextBytes::copied(alloc, text.as_slice())?)),
-    }
-}
-
 /// Whether a holder stands in a chain.
 fn stands_in(chain: Chain<'_>, holder: ObjNo) -> bool
     ensures { result ≡ list_any (is_held_by holder) chain.entry }
@@ -132,7 +101,7 @@ impl World {
     /// The world with which a story begins.
     #[tactic(auto, unfolding(crate::specs::StartWorlds::start_world))]
     pub fn start(alloc: Global, story: &Rc<Story>) -> Result<World, AllocError>
-        ensures { IfOk result (λ world. world ≡ record { tables = story.now.value; world = start_world story.now.value }) }
+        ensures { IfOk result (λ world. world ≡ record { tables = story.now.value; world = start_world story.now.value; past = [] }) }
     {
         let told = story.as_ref();
         let tree = start_tree(alloc, told)?;
@@ -141,8 +110,7 @@ impl World {
         let variables = told.variables(alloc)?;
         let scenes = vec![in alloc; NOT_BEGUN; told.scene_count()]?;
         let atlas = Rc::new(alloc, Atlas::new(alloc, story)?)?;
-        Ok(World {
-            atlas,
+        let state = State {
             tree,
             flags,
             numbers,
@@ -150,22 +118,22 @@ impl World {
             scenes,
             turns: 1,
             ended: None,
+        };
+        Ok(World {
+            atlas,
+            state,
+            log: Log::new(alloc),
         })
     }
 
-    /// A world that is equal to this one, of the same story.
+    /// A world that is equal to this one, of the same story. What was before it isn't known of it.
     pub fn copy(&self, alloc: Global) -> Result<World, AllocError>
-        ensures { IfOk result (λ world. world ≡ self.now) }
+        ensures { IfOk result (λ world. world ≡ record self.now { past = [] }) }
     {
         Ok(World {
             atlas: self.atlas.clone()?,
-            tree: self.tree.copy(alloc)?,
-            flags: self.flags.copy(alloc)?,
-            numbers: self.numbers.copy(alloc)?,
-            variables: Vec::from_slice(alloc, self.variables.as_slice())?,
-            scenes: Vec::from_slice(alloc, self.scenes.as_slice())?,
-            turns: self.turns,
-            ended: copied(alloc, &self.ended)?,
+            state: self.state.copy(alloc)?,
+            log: Log::new(alloc),
         })
     }
 
@@ -187,7 +155,7 @@ impl World {
     pub fn holder(&self, object: ObjNo) -> Option<Place>
         ensures { result ≡ place_of self.now.world object }
     {
-        self.tree.holder(object)
+        self.state.tree.holder(object)
     }
 
     /// The chain of an object: where it is, where its holder is, and so on.
@@ -196,7 +164,7 @@ impl World {
         ensures chain { result ≡ chain self.now.world object }
         ensures ends { (other : ℕ) → IsChain (place_of self.now.world) other (chain self.now.world other) }
     {
-        self.tree.chain(object)
+        self.state.tree.chain(object)
     }
 
     /// Whether an either-or property, by its number, is true of an object.
@@ -204,7 +172,7 @@ impl World {
     pub fn flag(&self, object: ObjNo, property: u8) -> bool
         ensures { result ≡ is_true_of self.now.world property object }
     {
-        self.flags.at(property, object, false)
+        self.state.flags.at(property, object, false)
     }
 
     /// An object's number in a number property, by the property's number; 0 where its kind lacks that.
@@ -212,14 +180,14 @@ impl World {
     pub fn number(&self, object: ObjNo, property: u8) -> i32
         ensures { result ≡ number_of self.now.world property object }
     {
-        self.numbers.at(property, object, 0)
+        self.state.numbers.at(property, object, 0)
     }
 
     /// A variable, by its number; 0 where there is none.
     pub fn variable(&self, variable: u8) -> i32
         ensures { result ≡ variable_of self.now.world variable }
     {
-        match self.variables.get(usize::from(variable)) {
+        match self.state.variables.get(usize::from(variable)) {
             Some(value) => *value,
             None => 0,
         }
@@ -229,7 +197,7 @@ impl World {
     pub fn scene(&self, scene: u8) -> SceneNow
         ensures { result ≡ scene_of self.now.world scene }
     {
-        match self.scenes.get(usize::from(scene)) {
+        match self.state.scenes.get(usize::from(scene)) {
             Some(now) => *now,
             None => NOT_BEGUN,
         }
@@ -240,14 +208,14 @@ impl World {
         ensures count { result ≡ self.now.world.turns }
         ensures most { result ≤ most_turns }
     {
-        self.turns
+        self.state.turns
     }
 
     /// The text with which the story ended, if it has.
     pub fn ended(&self) -> Option<&[u8]>
         ensures { option_map (λ text. text.now) result ≡ self.now.world.ended }
     {
-        match &self.ended {
+        match &self.state.ended {
             None => None,
             Some(text) => Some(text.as_slice()),
         }
@@ -257,7 +225,7 @@ impl World {
     pub fn location(&self) -> ObjNo
         ensures { location_of self.now.world ≡ Some result }
     {
-        match self.tree.holder(ObjNo::new(0)) {
+        match self.state.tree.holder(ObjNo::new(0)) {
             Some(place) => place.holder,
             None => ObjNo::new(0),
         }

@@ -1,0 +1,50 @@
+//! Marks in the log of a world, to which it is turned back.
+ghost use Rattle.std.specs.Prelude.{◌≡◌, ◌≤◌, ◌<◌, ◌∷◌, ◌++◌, [], length};
+ghost use Rattle.world_store.specs.StoryWorlds.{reverted};
+
+use crate::World;
+use std::marker::Model;
+
+/// A place in the log of a world: so many changes were made before it.
+#[derive(Clone, Copy, Debug, PartialEq, Eq)]
+pub struct Mark(usize);
+
+impl Model for Mark {
+    ghost use Rattle.std.specs.Prelude.{ℕ};
+
+    ghost Value = { ℕ };
+
+    ghost view = { λ mark. mark.0 };
+
+    ghost inverse = { λ n. record { 0 = n } };
+}
+
+impl World {
+    /// The present place of the log. It takes no memory.
+    pub fn mark(&self) -> Mark
+        ensures { result ≡ length self.now.past }
+    {
+        Mark(self.log.len())
+    }
+
+    /// Takes back the last change.
+    fn undo_last(&mut self)
+        requires { 0 < length self.old.past }
+        ensures tables { self.new.tables ≡ self.old.tables }
+        ensures past { self.old.past ≡ self.new.past ++ self.new.world ∷ [] }
+    {
+        if let Some(was) = self.log.take_last() {
+            self.state.undo(was);
+        }
+    }
+
+    /// Takes back each change since a mark, the newest first. It takes no memory, and cannot fail.
+    pub fn revert(&mut self, mark: Mark)
+        requires { mark ≤ length self.old.past }
+        ensures { self.new ≡ reverted mark self.old }
+    {
+        while self.log.len() > mark.0 {
+            self.undo_last();
+        }
+    }
+}
