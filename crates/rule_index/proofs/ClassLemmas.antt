@@ -54,3 +54,9 @@ pub classes_more : (t : Tables) (book action : ℕ) (listed class : List ℕ) (c
     → listed ≡ rules_listed t book → class ≡ places_where (rule_suits t action) 0 listed → AreClasses t book (classes ++ class ∷ [])
 classes_more t book action listed class classes so_far count told is =
     each_more (λ n places. places ≡ class_of t book n) classes class so_far (class_is t book action listed class told is ∙ ap (class_of t book) (sym count))
+
+pub class_there : (t s : Tables) (book action : ℕ) (listed class : List ℕ) → s ≡ t → listed ≡ rules_listed s book → class ≡ class_of t book action
+    → class ≡ places_where (rule_suits s action) 0 listed
+unfolding class_of
+class_there t s book action listed class same told is =
+    is ∙ ap (λ (t : Tables). places_where (rule_suits t action) 0 (rules_listed t book)) (sym same) ∙ ap (places_where (rule_suits s action) 0) (sym told)

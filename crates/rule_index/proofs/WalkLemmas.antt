@@ -2,6 +2,7 @@
 use Rattle.std.proofs.Common.{◌≡◌, ◌∙◌, ap, sym, refl, subst, ℕ, zero, suc, ◌+◌, ◌-◌, ◌<◌, ◌≤◌, Bool, true, false, List, [], ◌∷◌, length, drop, drop-drop, filter, Option, Some, None, arith, ltb, ltb-true, ltb-false}
 use Rattle.std.specs.Prelude.{◌&&◌, slice_get, slice_index_or, if◌then◌else◌}
 use Rattle.std.proofs.lemmas.Option.{slice_get_past, slice_get_within}
+use Rattle.std.specs.Iterator.{MakesProgress, item_count}
 use Rattle.std.specs.List.Sorted.{IsNonDecreasingBy, IsPartitionPoint}
 use Rattle.play_meaning.specs.Admitting.{admits}
 use Rattle.story_format.specs.declared.rule_entry.RuleEntry.{RuleEntry}
@@ -10,6 +11,9 @@ use Rattle.world_store.specs.StorySettings.{setting_of}
 use Rattle.rule_index.specs.Buckets.{entry_admits, rule_admits}
 use Rattle.rule_index.specs.Classes.{entry_suits, places_where, rule_suits}
 use Rattle.rule_index.specs.Walks.{IsFirstFrom, NoneIsLeft, NonePasses, passing}
+
+up : (n : ℕ) → suc (n + 1) ≡ suc n + 1
+up n = omega arith
 
 -- ---- what passes at a place
 
@@ -86,7 +90,7 @@ begins_by p k y ys place after false not is more =
       skipped = suc b.skipped;
       is_place = omega (arith, b.is_place);
       none = λ n rule low high there. over n rule b high there;
-      more = b.more;
+      more = b.more ∙ ap (λ n. places_where p (place + 1) (drop n (y ∷ ys))) (up b.skipped);
     }
   where
     over : (n rule : ℕ) (b : Begins p (k + 1) ys place after) → n < suc b.skipped → slice_get (y ∷ ys) n ≡ Some rule → p rule ≡ false
@@ -99,13 +103,13 @@ begins p k (y ∷ ys) place after is = begins_by p k y ys place after (p y) refl
 
 ends_by : (p : ℕ → Bool) (k y : ℕ) (ys : List ℕ) (b : Bool) → p y ≡ b → ◌≡◌ {A = List ℕ} [] (if b then k ∷ places_where p (k + 1) ys else places_where p (k + 1) ys)
     → ([] ≡ places_where p (k + 1) ys → NoneIsLeft p ys 0) → NoneIsLeft p (y ∷ ys) 0
-ends_by p k y ys true holds is more = absurd cc
+ends_by p k y ys true holds is more n rule low there = absurd cc
 ends_by p k y ys false not is more zero rule low there = let same : y ≡ rule = cc in ap p (sym same) ∙ not
 ends_by p k y ys false not is more (suc n) rule low there = more is n rule (omega arith) there
 
 ends : (p : ℕ → Bool) (k : ℕ) (ys : List ℕ) → [] ≡ places_where p k ys → NoneIsLeft p ys 0
 ends p k [] is n rule low there = absurd cc
-ends p k (y ∷ ys) is = ends_by p k y ys (p y) refl is (λ same. ends p (k + 1) ys same)
+ends p k (y ∷ ys) is n rule low there = ends_by p k y ys (p y) refl is (λ same. ends p (k + 1) ys same) n rule low there
 
 get_behind : (rules : List ℕ) (at n : ℕ) → slice_get (drop at rules) n ≡ slice_get rules (at + n)
 get_behind rules zero n = let same : n ≡ 0 + n = omega arith in ap (slice_get rules) same
@@ -256,9 +260,11 @@ module _ (p : ℕ → Bool) where
   first_kept (x ∷ xs) zero (suc gap) (suc place) rule is none there passes =
       ap (λ b. if b then x ∷ filter p xs else filter p xs) (none 0 x (omega arith) (omega arith) refl)
       ∙ first_kept xs 0 gap place rule (omega arith) (λ n r low high is. none (suc n) r (omega arith) (omega arith) is) there passes
+      ∙ ap (λ n. rule ∷ filter p (drop n (x ∷ xs))) (up place)
   first_kept (x ∷ xs) (suc from) gap zero rule is none there passes = absurd (omega arith)
   first_kept (x ∷ xs) (suc from) gap (suc place) rule is none there passes =
       first_kept xs from gap place rule (omega arith) (λ n r low high is. none (suc n) r (omega arith) (omega arith) is) there passes
+      ∙ ap (λ n. rule ∷ filter p (drop n (x ∷ xs))) (up place)
 
   pub kept_first : (xs : List ℕ) (from place rule : ℕ) → IsFirstFrom p xs from place rule → filter p (drop from xs) ≡ rule ∷ filter p (drop (place + 1) xs)
   kept_first xs from place rule first =
@@ -271,3 +277,11 @@ module _ (p : ℕ → Bool) where
   none_kept (x ∷ xs) zero none =
       ap (λ b. if b then x ∷ filter p xs else filter p xs) (none 0 x (omega arith) refl) ∙ none_kept xs 0 (λ n r low is. none (suc n) r (omega arith) is)
   none_kept (x ∷ xs) (suc from) none = none_kept xs from (λ n r low is. none (suc n) r (omega arith) is)
+
+-- an item that came was the first of those that were left
+pub goes_on : {A : Type 0} (can : List A → Type 0) → ((l : List A) → can l) → (s t : List A) (x : A) → s ≡ x ∷ t → MakesProgress can (item_count (λ rest. rest)) s (Some x) t
+goes_on can always s t x e = record {
+  on = λ _. (always t, tt, subst (λ l. length t < length l) (sym e) (omega arith));
+  keeps = always t;
+  rests = λ _. tt;
+}

@@ -1,5 +1,5 @@
 //! Walks over a book's rules, from a place on, to the first that admits an action, a noun and a room.
-ghost use Rattle.std.specs.Prelude.{◌≡◌, ℕ, Bool, List, [], ◌∷◌, MatchOption, drop, slice_get};
+ghost use Rattle.std.specs.Prelude.{◌≡◌, ◌+◌, ◌<◌, ◌^◌, ℕ, Bool, IfSome, List, [], ◌∷◌, MatchOption, drop, slice_get};
 ghost use Rattle.rule_index.specs.Buckets.{rule_admits};
 ghost use Rattle.rule_index.specs.Classes.{places_where, rule_suits};
 ghost use Rattle.rule_index.specs.Walks.{IsFirstFrom, NoneIsLeft, passing};
@@ -22,8 +22,9 @@ pub fn first_listed(
     from: usize,
     asked: &Asked,
 ) -> Option<(usize, u16)>
-    ensures { MatchOption result (NoneIsLeft (rule_admits story.now asked.now.action asked.now.noun asked.now.room) listed.now from)
+    ensures first { MatchOption result (NoneIsLeft (rule_admits story.now asked.now.action asked.now.noun asked.now.room) listed.now from)
         (λ found. IsFirstFrom (rule_admits story.now asked.now.action asked.now.noun asked.now.room) listed.now from found.0 found.1) }
+    ensures few { IfSome result (λ found. found.0 + 1 < 2 ^ 64) }
 {
     for place in from..listed.len() {
         if let Some(rule) = admitted(story, listed, place, asked) {
@@ -61,8 +62,9 @@ pub fn first_of_class(
     asked: &Asked,
 ) -> Option<(usize, u16)>
     requires class { class.now ≡ places_where (rule_suits story.now asked.now.action) 0 listed.now }
-    ensures { MatchOption result (NoneIsLeft (rule_admits story.now asked.now.action asked.now.noun asked.now.room) listed.now from)
+    ensures first { MatchOption result (NoneIsLeft (rule_admits story.now asked.now.action asked.now.noun asked.now.room) listed.now from)
         (λ found. IsFirstFrom (rule_admits story.now asked.now.action asked.now.noun asked.now.room) listed.now from found.0 found.1) }
+    ensures few { IfSome result (λ found. found.0 + 1 < 2 ^ 64) }
 {
     let mut rest = behind(class, from);
     while let Some((place, after)) = parted(rest) {
