@@ -2,7 +2,8 @@
 """Makes each call of the object tree and of a story's world that takes memory, with each of its allocations refused in turn.
 Each run must end in one of three ways: with status 4 and no answer, where there was no memory for the story; with status 0 and
 the answers of the plain run but for one call, which answers that it was refused and is made where it is made again; or with
-those of the plain run, where a table that grows did with less.
+those of the plain run, where a table that grows did with less. A call that changes a world is made on a copy, and answers that it
+was refused only where the world behind it is as it was; `revert` makes a change of each sort and turns the copy back.
 
 Use: tests/refused_calls.py PROGRAM    (the program of `i7story`; that of `world_calls` stands beside it)"""
 import os
@@ -14,11 +15,14 @@ import tempfile
 here = pathlib.Path(__file__).resolve().parent
 program = pathlib.Path(sys.argv[1]).resolve().parents[2] / "world_calls/out/world_calls"
 # Each call twice: the second time has all memory, so that what a refused call leaves is seen.
-CALLS = ["tree", "tree", "start", "start", "copy", "copy", "see", "list"]
-PLAIN = ["tree: made"] * 2 + ["start: made"] * 2 + ["copy: made"] * 2 + ["see: 1", "list: 19"]
+CHANGES = ["set_flag", "set_number", "set_variable", "put", "take_out", "end_story", "next_turn"]
+MAKING = ["tree", "start", "copy", *CHANGES, "revert"]
+CALLS = [word for word in MAKING for _ in range(2)] + ["see", "list"]
+PLAIN = [f"{word}: made" for word in CALLS[:-2]] + ["see: 1", "list: 19"]
 # The tables that a call makes, each with its own allocation: of a tree the places and two sorts of links; of a world these,
-# properties, numbers and variables. The furnished story has no scenes.
-LEAST = {"tree": 3, "start": 6, "copy": 6}
+# properties, numbers and variables; and of a copy that is changed, its log. An ending has its text besides, and six changes make a
+# log grow more than once. The furnished story has no scenes.
+LEAST = {"tree": 3, "start": 6, "copy": 6, **{word: 7 for word in CHANGES}, "end_story": 8, "revert": 9}
 # The descriptor to which the shim writes the number of allocations.
 COUNT = 9
 

@@ -1,6 +1,7 @@
 -- One step of a body over a loaded story's world.
-use Rattle.std.proofs.Common.{◌≡◌, ◌∙◌, ap, sym, refl, subst, ℕ, ◌≤◌, List, length, arith}
-use Rattle.std.specs.Prelude.{Result, Ok, Err, OnErr, OnOk}
+use Rattle.std.proofs.Common.{◌≡◌, ◌∙◌, ap, sym, refl, subst, ℕ, zero, suc, ◌≤◌, ◌⊎◌, inl, inr, List, [], ◌∷◌, ◌++◌, length, arith}
+use Rattle.std.specs.Prelude.{Result, Ok, Err, OnErr, OnOk, Some, slice_get}
+use Rattle.std.proofs.lemmas.Option.{same_Some}
 use Rattle.play_meaning.specs.Codes.{Codes, code_of, frame_of, test_of}
 use Rattle.play_meaning.specs.Doing.{Inner}
 use Rattle.play_meaning.specs.Grounds.{Fixed, telling_by}
@@ -11,13 +12,13 @@ use Rattle.play_meaning.specs.Worlds.{World}
 use Rattle.play_meaning.specs.declared.action.ActionNow.{ActionNow}
 use Rattle.story_code.specs.Runs.{AreDescribedBy, MayDo, Standing, code_at, codes_of, state_in}
 use Rattle.story_code.specs.Soundness.{Judged}
-use Rattle.story_code.specs.Steps.{StepsSo as PlainlySo, body_frame, stepped}
+use Rattle.story_code.specs.Steps.{LeadsBack, StepsSo as PlainlySo, body_frame, stepped}
 use Rattle.story_code.specs.declared.step.Step.{Step}
 use Rattle.story_code.specs.declared.step.Step.TheVariants.{Done, Failure, Follow, GoesOn, NoDecision, Success, Try}
 use Rattle.story_format.specs.declared.tables.Tables.{Tables}
 use Rattle.world_meaning.specs.declared.session.Abandon.{Abandon}
 use Rattle.world_store.specs.StorySettings.{fixed_of, setting_of}
-use Rattle.world_store.specs.StoryWorlds.{IsKept}
+use Rattle.world_store.specs.StoryWorlds.{AreKept, IsKept, StoryWorld, worlds}
 use Rattle.action_stages.specs.Bodies.{AreCodesIn, StepsSo, frame_in}
 use Rattle.action_stages.specs.Lasting.{IsAsLong, Lasts}
 use Rattle.action_stages.specs.Measures.{LowersNoWork}
@@ -121,6 +122,40 @@ module _ (t x b : Tables) (judged : List Judged) (now : ActionNow) (w v : World)
   pub bound_again : IsKept t w → IsKept x v → ◌≡◌ {A = Fixed} (fixed_of x) (fixed_of t) → OnErr result (v ≡ w) → IsKept b v
   bound_again kept other fixed left = subst (λ (b : Tables). IsKept b v) (sym same) (kept_again t x w v kept other fixed (world_lasts (fixed_of t) judged now w v s u text said result
       so left))
+
+-- ---- the worlds of the log
+
+here_kept : (t : Tables) (xs : List World) (w : World) → AreKept t (xs ++ w ∷ []) → IsKept t w
+here_kept t xs w are = are (length xs) w (seam xs w)
+  where
+    seam : (xs : List World) (w : World) → slice_get (xs ++ w ∷ []) (length xs) ≡ Some w
+    seam [] w = refl
+    seam (x ∷ xs) w = seam xs w
+
+one_more : (t : Tables) (xs : List World) (w : World) → AreKept t xs → IsKept t w → AreKept t (xs ++ w ∷ [])
+one_more t [] w are is zero v e = subst (IsKept t) (same_Some w v e) is
+one_more t [] w are is (suc i) v e = absurd cc
+one_more t (x ∷ xs) w are is zero v e = are zero v e
+one_more t (x ∷ xs) w are is (suc i) v e = one_more t xs w (λ j u there. are (suc j) u there) is i v e
+
+-- on a refusal both stay
+pub first_left : {A B : Type 0} (result : Result Step Abandon) → OnErr result (A × B) → OnErr result A
+first_left (Ok came) both = tt
+first_left (Err reason) both = both.0
+
+-- all worlds of the log behind a step are the story's, since those before it were and one was remembered at the most
+pub all_bound : (s v : StoryWorld) (b : Tables) (judged : List Judged) (now : ActionNow) (from to : Standing) (text said : List ℕ) (result : Result Step Abandon) → ◌≡◌ {A = Tables} b s.tables
+    → PlainlySo (fixed_of s.tables) judged now s.world from text result v.world to said → AreKept s.tables (worlds s) → AreKept v.tables (worlds v)
+    → ◌≡◌ {A = Fixed} (fixed_of v.tables) (fixed_of s.tables) → OnErr result ((v.world ≡ s.world) × (v.past ≡ s.past)) → LeadsBack s.world s.past v.world v.past
+    → AreKept b (worlds v)
+all_bound s v b judged now from to text said result same so before behind fixed left (inl both) = λ i w there.
+    subst (λ (t : Tables). IsKept t w) (sym same)
+    (before i w (sym (λ j. slice_get (both.1 j ++ both.0 j ∷ []) i) ∙ there))
+all_bound s v b judged now from to text said result same so before behind fixed left (inr is) =
+    let here = bound_again s.tables v.tables b judged now s.world v.world from to text said result same so (here_kept s.tables s.past s.world before) (here_kept v.tables v.past v.world behind)
+    fixed (first_left result left) in
+    let all : AreKept b (worlds s) = λ i w there. subst (λ (t : Tables). IsKept t w) (sym same) (before i w there) in
+    subst (λ (past : List World). AreKept b (past ++ v.world ∷ [])) (sym is) (one_more b (worlds s) v.world all here)
 
 -- a run of a body stands whatever work was done
 pub stands_behind : (judged : List Judged) (s : Standing) (work : ℕ) → MayDo judged s → MayDo judged (record s { work = work })

@@ -130,7 +130,7 @@ impl<'a> Stage<'a> {
     /// The world as it was when the stage was set up, taken out. Takes no memory.
     #[tactic(auto, using(crate::proofs::Returning::back_again, crate::proofs::Returning::there_within))]
     pub fn into_world_before(self) -> World
-        requires there { IsThere (back_of self.entry) }
+        requires there { IsThere (back_of self) }
         ensures { (before : StoryWorld) → tables_of self.entry ≡ before.tables → back_of self.entry ≡ back_to before → result ≡ before }
     {
         let Stage {

@@ -1,5 +1,5 @@
 -- What contracts see of a session: its story's game, and its state.
-use Rattle.std.specs.Prelude.{ℕ, Bool, true, false, Option, None, Some, map, if◌then◌else◌}
+use Rattle.std.specs.Prelude.{ℕ, Bool, true, false, Option, None, Some, if◌then◌else◌}
 use Rattle.play_meaning.specs.Games.{Game}
 use Rattle.play_meaning.specs.Sessions.{Answer, State}
 use Rattle.world_meaning.specs.declared.session.Abandon.{Abandon}
@@ -8,18 +8,19 @@ use Rattle.world_meaning.specs.declared.session.ReplyKind.{ReplyKind}
 use Rattle.world_meaning.specs.declared.session.ReplyKind.TheVariants.{Kept, Free, Abandoned, Ended, Over}
 use Rattle.story_format.specs.declared.tables.Tables.{Tables}
 use Rattle.world_store.specs.StoryPlay.{game_in_play}
+use Rattle.story_player.specs.KeptWorlds.{kept_in, world_in}
 use Rattle.story_player.specs.Spoken.{Spoken}
 use Rattle.story_player.specs.declared.session.Session.{Session}
 
 -- the story that is played, by its tables
 abbrev pub story_of : {X : _} {F : _} {g : _} → Session X F g → Tables
-story_of session = session.world.tables
+story_of session = session.story.value
 
 abbrev pub game_of : {X : _} {F : _} {g : _} → Session X F g → Game
 game_of session = game_in_play (story_of session)
 
 abbrev pub state_of : {X : _} {F : _} {g : _} → Session X F g → State
-state_of session = record { world = session.world.world; kept = map (λ before. before.world) session.kept.items; question = session.question; ending = session.ending }
+state_of session = record { world = world_in session.world; kept = kept_in session.world session.kept.items; question = session.question; ending = session.ending }
 
 -- a reply, and the state in which a session is behind it
 abbrev pub answer_with : Spoken → State → Answer

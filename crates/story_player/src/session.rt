@@ -12,7 +12,7 @@ ghost use Rattle.world_store.specs.StoryPlay.{game_in_play};
 ghost use Rattle.command_parser.specs.Readings.{said_text, told as told_of};
 ghost use Rattle.command_parser.specs.Settling.{is_asking};
 ghost use Rattle.story_player.specs.Begun.{IsUnbegun};
-ghost use Rattle.story_player.specs.KeptWorlds.{AreOf};
+ghost use Rattle.story_player.specs.KeptWorlds.{HasGoneOn, IsHome};
 ghost use Rattle.story_player.specs.Turns.{IsToldOf, done_in, ending_told, kind_told, taken_up};
 ghost use Rattle.story_player.specs.Typed.{told, told_reading};
 ghost use Rattle.world_store.specs.StoryGrammars.{grammar_of};
@@ -23,7 +23,7 @@ use crate::asking::asking_text;
 use crate::fault::StartFault;
 use crate::reading::{read_typed, said_text};
 use crate::telling::abandon_text;
-use crate::trial::{Told, opened, tried};
+use crate::trial::{opened, tried};
 use crate::typed::Typed;
 use crate::{Reply, texts};
 use action_stages::needs_of;
@@ -32,31 +32,29 @@ use command_parser::{Question, Reading, Said};
 use play_meaning::ActionNow;
 use standard_rules::HostTable;
 use std::alloc::Global;
-use std::mem;
 use std::rc::Rc;
 use story_format::Story;
 use world_meaning::{Abandon, Ending, ReplyKind, TextBytes};
-use world_store::World;
+use world_store::{Mark, World};
 
-/// The most worlds that are kept.
+/// The most turns that can be taken back.
 const MOST_KEPT: usize = 8;
 
-/// A story in play: its stored rules, its world, the worlds before the last kept turns, the latest in front, the question that is
-/// open, if one is, and how it ended, if it has.
+/// A story in play: its stored rules, its world, the places of its log at which the last kept turns began, the latest in front, the
+/// question that is open, if one is, and how it ended, if it has. The world is there but while an action is done on it.
 #[derive(Drop)]
 pub struct Session {
     alloc: Global,
     story: Rc<Story>,
     hosts: HostTable,
-    world: World,
-    kept: HeapCircularBuffer<World>,
+    world: Option<World>,
+    kept: HeapCircularBuffer<Mark>,
     question: Option<Question>,
     ending: Option<Ending>,
     opening: TextBytes,
     ghost opened: { opening ≡ (opened (game_in_play story.value)).text },
     ghost whole: { rule_count hosts ≡ 61 },
-    ghost world_story: { world.tables ≡ story.value },
-    ghost kept_story: { AreOf story.value kept.items },
+    ghost home: { IsHome story.value world kept.items },
     ghost room: { kept.capacity ≡ 8 },
 }
 
@@ -115,7 +113,7 @@ impl Session {
                 alloc,
                 story,
                 hosts,
-                world: told.world,
+                world: Some(told.world),
                 kept,
                 question: None,
                 ending,
@@ -132,12 +130,20 @@ impl Session {
         self.opening.as_slice()
     }
 
+    /// The world, with its log.
+    fn here(&self) -> &World
+        ensures { self.now.world ≡ Some result.now }
+    {
+        self.world.as_ref().unwrap()
+    }
+
     /// The world as it is now.
+    #[tactic(auto, using(crate::proofs::Keepings::home_here))]
     pub fn world(&self) -> &World
         ensures world { result.now.world ≡ (state_of self.now).world }
         ensures story { result.now.tables ≡ story_of self.now }
     {
-        &self.world
+        self.here()
     }
 
     /// How the session ended, if it has.
@@ -147,57 +153,42 @@ impl Session {
         self.ending
     }
 
-    /// What comes of an action, done on a copy of the world.
-    fn trial(&self, now: ActionNow, apart: bool) -> Result<Told, Abandon>
+    /// What comes of an action that is done on the world: where it is abandoned the world is as it was.
+    fn trial(&mut self, now: ActionNow, apart: bool) -> Result<TextBytes, Abandon>
         ensures told { MatchResult result
-            (λ told. IsToldOf (done_in apart (game_of self.now) now (fresh (state_of self.now).world)) told.world.world told.text)
-            (Breaks (done_in apart (game_of self.now) now (fresh (state_of self.now).world))) }
-        ensures story { IfOk result (λ told. told.world.tables ≡ story_of self.now) }
+            (λ text. IsToldOf (done_in apart (game_of self.old) now (fresh (state_of self.old).world)) (state_of self.new).world text)
+            (Breaks (done_in apart (game_of self.old) now (fresh (state_of self.old).world))) }
+        ensures behind { OnOk result (HasGoneOn self.old.world self.new.world) }
+        ensures left { OnErr result (self.new.world ≡ self.old.world) }
+        ensures marks { self.new.kept ≡ self.old.kept }
+        ensures question { self.new.question ≡ self.old.question }
+        ensures ending { self.new.ending ≡ self.old.ending }
+        ensures game { game_of self.new ≡ game_of self.old }
+        ensures story { story_of self.new ≡ story_of self.old }
     {
-        let Ok(world) = self.world.copy(self.alloc) else {
-            return Err(Abandon::Memory);
-        };
-        tried(
+        let world = self.world.take().unwrap();
+        let (world, told) = tried(
             self.alloc,
             self.story.as_ref(),
             &self.hosts,
             world,
             now,
             apart,
-        )
+        );
+        self.world = Some(world);
+        told
     }
 
-    /// Takes up what came of an action by itself.
-    fn take_up(&mut self, told: Told) -> Reply
-        requires going { (state_of self.old).ending ≡ None }
-        requires story { told.world.tables ≡ story_of self.old }
-        ensures answer { answer_with result (state_of self.new) ≡ taken_up true (state_of self.old) told.world.world told.text }
+    /// Takes up what came of an action; of a turn the place where it began is kept.
+    fn take_up(&mut self, text: TextBytes, kind: ReplyKind) -> Reply
+        ensures text { result ≡ record { text = text; kind = kind_told kind (state_of self.old).world.ended } }
+        ensures state { state_of self.new ≡ record (state_of self.old) { question = None; ending = ending_told (state_of self.old).world.ended } }
         ensures game { game_of self.new ≡ game_of self.old }
         ensures story { story_of self.new ≡ story_of self.old }
     {
-        let Told { world, text } = told;
         self.question = None;
-        self.ending = ending_of(&world);
-        let kind = kind_of(&world, ReplyKind::Free);
-        self.world = world;
-        Reply::made(text, kind)
-    }
-
-    /// Takes up what came of a turn; the world before it is kept.
-    fn take_up_turn(&mut self, told: Told) -> Reply
-        requires going { (state_of self.old).ending ≡ None }
-        requires story { told.world.tables ≡ story_of self.old }
-        ensures answer { answer_with result (state_of self.new) ≡ taken_up false (state_of self.old) told.world.world told.text }
-        ensures game { game_of self.new ≡ game_of self.old }
-        ensures story { story_of self.new ≡ story_of self.old }
-    {
-        let Told { world, text } = told;
-        self.question = None;
-        self.ending = ending_of(&world);
-        let kind = kind_of(&world, ReplyKind::Kept);
-        let before = mem::replace(&mut self.world, world);
-        self.kept.push_front(before);
-        Reply::made(text, kind)
+        self.ending = ending_of(self.world());
+        Reply::made(text, kind_of(self.world(), kind))
     }
 
     /// Does an action: in a turn, of which the world before it is kept, or by itself where it is out of world. Where it is
@@ -209,13 +200,14 @@ impl Session {
         ensures story { story_of self.new ≡ story_of self.old }
     {
         let apart = needs_of(self.story.as_ref(), now.action).out_of_world;
+        let mark = self.here().mark();
         match self.trial(now, apart) {
-            Ok(told) => {
+            Ok(text) => {
                 if apart {
-                    self.take_up(told)
-                } else {
-                    self.take_up_turn(told)
+                    return self.take_up(text, ReplyKind::Free);
                 }
+                self.kept.push_front(mark);
+                self.take_up(text, ReplyKind::Kept)
             }
             Err(reason) => {
                 self.question = None;
@@ -233,8 +225,10 @@ impl Session {
         self.question = None;
         match self.kept.pop_front() {
             None => Reply::fixed(texts::NOTHING_TO_UNDO, ReplyKind::Free),
-            Some(kept) => {
-                self.world = kept;
+            Some(mark) => {
+                let mut world = self.world.take().unwrap();
+                world.revert(mark);
+                self.world = Some(world);
                 Reply::fixed(texts::UNDONE, ReplyKind::Free)
             }
         }
@@ -268,7 +262,7 @@ impl Session {
         ensures game { game_of self.new ≡ game_of self.old }
         ensures story { story_of self.new ≡ story_of self.old }
     {
-        match asking_text(self.alloc, &self.world, question.candidates()) {
+        match asking_text(self.alloc, self.world(), question.candidates()) {
             Ok(text) => {
                 self.question = Some(question);
                 Reply::made(text, ReplyKind::Free)
@@ -319,7 +313,7 @@ impl Session {
         if self.ending.is_some() {
             return Reply::fixed(b"", ReplyKind::Over);
         }
-        match read_typed(self.alloc, &self.world, self.question.as_ref(), typed) {
+        match read_typed(self.alloc, self.world(), self.question.as_ref(), typed) {
             Ok(reading) => self.answer(reading),
             Err(_) => self.leave_unasked(),
         }

@@ -1,5 +1,9 @@
-//! The calls, by their words, on the world with which a story begins.
+//! The calls, by their words, on the world with which a story begins; those that change it are made on a copy.
+use crate::changes::{change_of, changed};
+use crate::pair::{are_same, reverted};
+use crate::words::Words;
 use object_tree::Tree;
+use play_meaning::{Change, WorldFault};
 use std::alloc::Global;
 use std::rc::Rc;
 use story_format::Story;
@@ -10,8 +14,10 @@ use world_store::World;
 #[derive(Clone, Copy, Debug)]
 pub enum Answer {
     Made,
-    /// There was no memory for it.
+    /// There was no memory for it, and the world is as it was.
     Refused,
+    /// The world isn't as it should be behind it.
+    Spoilt,
     Told(usize),
     Unknown,
 }
@@ -42,6 +48,99 @@ fn visible_count(story: &Story, world: &World) -> usize {
     seen
 }
 
+/// The words of a change of each sort that the furnished story allows, without those of scenes, of which it has none.
+fn words_of(call: &str) -> Option<&'static str> {
+    match call {
+        "set_flag" => Some("chest open true"),
+        "set_number" => Some("coin weight 9"),
+        "set_variable" => Some("1 40"),
+        "put" => Some("coin on table"),
+        "take_out" => Some("coin"),
+        "end_story" => Some("You won."),
+        _ => None,
+    }
+}
+
+/// What is told of a call by whether it was made, and of a world behind it that should be as it was only where it was refused.
+fn told_of(is_made: bool, world: &World, behind: &World) -> Answer {
+    if is_made == are_same(world, behind) {
+        Answer::Spoilt
+    } else {
+        made(is_made)
+    }
+}
+
+/// Makes a change of a copy.
+fn change_told(alloc: Global, world: &World, change: Change) -> Answer {
+    let Ok(mut copy) = world.copy(alloc) else {
+        return Answer::Refused;
+    };
+    match changed(&mut copy, change) {
+        Ok(()) => told_of(true, world, &copy),
+        Err(WorldFault::Memory) => told_of(false, world, &copy),
+        Err(WorldFault::Misplaced) => Answer::Spoilt,
+    }
+}
+
+/// Counts a turn more of a copy, in its first turn.
+fn turn_told(alloc: Global, world: &World) -> Answer {
+    let Ok(mut copy) = world.copy(alloc) else {
+        return Answer::Refused;
+    };
+    if copy.turns() > 1 {
+        return Answer::Unknown;
+    }
+    let done = copy.next_turn().is_ok();
+    told_of(done, world, &copy)
+}
+
+/// Makes a change of each sort, as long as there is memory, and answers whether all were made.
+fn are_made(alloc: Global, world: &mut World) -> bool {
+    for call in [
+        "set_flag",
+        "set_number",
+        "set_variable",
+        "put",
+        "take_out",
+        "end_story",
+    ] {
+        let words = words_of(call).unwrap_or("");
+        let done = match change_of(alloc, call, &mut Words::of(words)) {
+            Some(change) => changed(world, change).is_ok(),
+            None => false,
+        };
+        if !done {
+            return false;
+        }
+    }
+    true
+}
+
+/// Changes a copy and turns it back, so that it is as it was.
+fn revert_told(alloc: Global, world: &World) -> Answer {
+    let Ok(mut copy) = world.copy(alloc) else {
+        return Answer::Refused;
+    };
+    let mark = copy.mark();
+    let done = are_made(alloc, &mut copy);
+    if reverted(&mut copy, mark) && are_same(world, &copy) {
+        made(done)
+    } else {
+        Answer::Spoilt
+    }
+}
+
+/// What the call of a change answers; there may be no memory for its text.
+fn changing(alloc: Global, world: &World, call: &str) -> Answer {
+    let Some(words) = words_of(call) else {
+        return Answer::Unknown;
+    };
+    match change_of(alloc, call, &mut Words::of(words)) {
+        Some(change) => change_told(alloc, world, change),
+        None => Answer::Refused,
+    }
+}
+
 /// What the call of a word answers.
 pub fn called(alloc: Global, story: &Rc<Story>, world: &World, word: &str) -> Answer {
     match word {
@@ -51,6 +150,8 @@ pub fn called(alloc: Global, story: &Rc<Story>, world: &World, word: &str) -> An
         "copy" => made(world.copy(alloc).is_ok()),
         "see" => Answer::Told(sees_last(story.as_ref(), world)),
         "list" => Answer::Told(visible_count(story.as_ref(), world)),
-        _ => Answer::Unknown,
+        "next_turn" => turn_told(alloc, world),
+        "revert" => revert_told(alloc, world),
+        _ => changing(alloc, world, word),
     }
 }

@@ -54,6 +54,7 @@ fn tell(out: &mut Stdout, word: &str, answer: Answer) -> bool {
     match answer {
         Answer::Made => writeln!(out, "{word}: made").is_ok(),
         Answer::Refused => writeln!(out, "{word}: refused").is_ok(),
+        Answer::Spoilt => writeln!(out, "{word}: spoilt").is_ok(),
         Answer::Told(told) => writeln!(out, "{word}: {told}").is_ok(),
         Answer::Unknown => writeln!(out, "{word}: no such call").is_ok(),
     }

@@ -5,13 +5,15 @@ use std::mem;
 use std::rc::Rc;
 use story_format::Story;
 use world_meaning::ObjNo;
-use world_store::World;
+use world_store::{Mark, World};
 
-/// The world that is called, and the other: at first another beginning, and behind a copy what was copied.
+/// The world that is called, and the other: at first another beginning, and behind a copy what was copied; and the marks to which
+/// worlds were not yet turned back.
 #[derive(Drop)]
 pub struct Pair {
     pub here: World,
     other: World,
+    marks: Vec<Mark>,
 }
 
 /// Whether two worlds say the same of an object: where it is, its number, and its properties.
@@ -21,12 +23,38 @@ fn agree_on(world: &World, other: &World, object: ObjNo) -> bool {
         && (0..11u8).all(|property| world.flag(object, property) == other.flag(object, property))
 }
 
+/// Whether two worlds say the same of all objects.
+fn agree_on_all(world: &World, other: &World) -> bool {
+    (0..world.object_count())
+        .map(ObjNo::new)
+        .all(|object| agree_on(world, other, object))
+}
+
+/// Whether two worlds say the same of all that the furnished story has: of its objects, its two variables, the turn count and
+/// the ending.
+pub fn are_same(world: &World, other: &World) -> bool {
+    agree_on_all(world, other)
+        && (0..2u8).all(|variable| world.variable(variable) == other.variable(variable))
+        && world.turns() == other.turns()
+        && world.ended() == other.ended()
+}
+
+/// Turns a world back to a mark, where that is in its log, and answers whether it is.
+pub fn reverted(world: &mut World, mark: Mark) -> bool {
+    let is_there = mark.is_upto(world.mark());
+    if is_there {
+        world.revert(mark);
+    }
+    is_there
+}
+
 impl Pair {
     /// Two worlds as a story begins.
     pub fn begun(alloc: Global, story: &Rc<Story>) -> Result<Pair, AllocError> {
         Ok(Pair {
             here: World::start(alloc, story)?,
             other: World::start(alloc, story)?,
+            marks: Vec::new(alloc),
         })
     }
 
@@ -44,8 +72,20 @@ impl Pair {
 
     /// Whether the worlds say the same of all objects.
     pub fn agree(&self) -> bool {
-        (0..self.here.object_count())
-            .map(ObjNo::new)
-            .all(|object| agree_on(&self.here, &self.other, object))
+        agree_on_all(&self.here, &self.other)
+    }
+
+    /// Marks the present place of the log of the world that is called.
+    pub fn mark(&mut self) -> Result<(), AllocError> {
+        let mark = self.here.mark();
+        Ok(self.marks.push(mark)?)
+    }
+
+    /// Turns the world that is called back to the last of the marks that are left, and answers whether there was one in its log.
+    pub fn revert(&mut self) -> bool {
+        match self.marks.pop() {
+            Some(mark) => reverted(&mut self.here, mark),
+            None => false,
+        }
     }
 }

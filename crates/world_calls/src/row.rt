@@ -55,7 +55,7 @@ fn make_told(
     let call = words.word();
     match change_of(alloc, call, words) {
         Some(change) if words.are_read() => {
-            make(world, change);
+            make(world, change)?;
             made(alloc)
         }
         _ => unknown(alloc),
@@ -65,7 +65,7 @@ fn make_told(
 /// Counts a turn more, if they aren't too many.
 fn next_turn_told(alloc: Global, world: &mut World) -> Result<String, AllocError> {
     if world.turns() < MANY_TURNS {
-        world.next_turn();
+        world.next_turn()?;
         made(alloc)
     } else {
         format!(in alloc; "too many turns")
@@ -118,10 +118,20 @@ fn words_told(
     }
 }
 
+/// Turns the world that is called back to the last mark that is left.
+fn revert_told(alloc: Global, pair: &mut Pair) -> Result<String, AllocError> {
+    if pair.revert() {
+        made(alloc)
+    } else {
+        format!(in alloc; "no such mark")
+    }
+}
+
 /// What a call answers. Beside those of the world there are `make` in front of a change, which makes it by the function of that
 /// name; `rule`, what the standard rule of a number answers of a noun and a second one, its changes being made; `perform`, what an action
-/// says and comes to, and `consult`, what a rulebook does outside an action; `copy`, behind which the calls go to the copy; `other`, behind which they go to the world that isn't called; and
-/// `agree`, whether the two worlds say the same of all objects.
+/// says and comes to, and `consult`, what a rulebook does outside an action; `copy`, behind which the calls go to the copy; `other`, behind which they go to the world that isn't called;
+/// `agree`, whether the two worlds say the same of all objects; `mark`, and `revert`, which turns the world that is called back to the
+/// last mark that is left.
 fn call_told(
     alloc: Global,
     pair: &mut Pair,
@@ -137,6 +147,11 @@ fn call_told(
             pair.swap();
             made(alloc)
         }
+        "mark" => {
+            pair.mark()?;
+            made(alloc)
+        }
+        "revert" => revert_told(alloc, pair),
         "agree" => truth_told(alloc, pair.agree()),
         "next_turn" => next_turn_told(alloc, &mut pair.here),
         "on_view" => objects_told(alloc, pair.here.on_view(alloc)?.as_slice()),

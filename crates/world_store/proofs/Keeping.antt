@@ -4,6 +4,7 @@ use Rattle.std.specs.Prelude.{Option, Some, None, ◌&&◌, ◌^◌, option_map,
 use Rattle.std.specs.List.{range_with_len}
 use Rattle.std.proofs.Math.ListN.{length-set}
 use Rattle.std.proofs.lemmas.Bool.{eqb-true, eqb-false, cases_Bool, and_parts}
+use Rattle.std.proofs.lemmas.Bool.Decides.{eqb_tells}
 use Rattle.std.proofs.lemmas.List.{length-map}
 use Rattle.std.proofs.lemmas.List.FromFn.{length-map-range_with_len}
 use Rattle.std.proofs.lemmas.Option.{none-some, same_Some}
@@ -15,9 +16,11 @@ use Rattle.world_meaning.specs.Standing.{place_at}
 use Rattle.world_meaning.specs.declared.place.Place.{Place}
 use Rattle.world_meaning.specs.declared.place.Rel.{Rel}
 use Rattle.world_meaning.specs.declared.place.Rel.TheVariants.{In, On, Carried, Worn, Part}
+use Rattle.object_tree.proofs.Moves.{moved, tree_taken}
 use Rattle.object_tree.specs.Places.{holder_of, place_of}
 use Rattle.play_meaning.specs.Settings.{room_kind}
-use Rattle.play_meaning.specs.Worlds.{World, not_begun}
+use Rattle.play_meaning.specs.Turns.{most_turns}
+use Rattle.play_meaning.specs.Worlds.{World, next_turn, not_begun, set_flag, set_number, set_place, set_scene, set_variable}
 use Rattle.play_meaning.specs.declared.scene.SceneNow.{SceneNow}
 use Rattle.story_format.specs.Facts.{start_of}
 use Rattle.story_format.specs.InPlay.{is_of, is_of_in, start_flags, start_number, start_numbers, start_variable, start_variables, starts_true}
@@ -106,6 +109,8 @@ kept_at_start t story = record {
   room = room_at_start t story;
   player = at_or (places_in t.objects) 0 ∙ player_in_room t story;
   turns = omega arith;
+  tree = tree_of (places_in t.objects) t refl story;
+  holders = holders_of (places_in t.objects) t refl story;
 }
 
 pub kept_begun : (t u : Tables) (places : List (Option Place)) (flags : List (List Bool)) (numbers : List (List ℤ)) (variables : List ℤ) (scenes : List SceneNow) → u ≡ t
@@ -119,12 +124,135 @@ kept_begun t u places flags numbers variables scenes same p f n v s story =
     let begun : start_world t ≡ w = λ i. record { places = sym p i; flags = sym f i; numbers = sym n i; variables = sym v i; scenes = sym s i; turns = 1; ended = None } in
     subst (λ (x : Tables). IsKept x w) (sym same) (subst (λ (x : World). IsKept t x) begun (kept_at_start t story))
 
--- ---- changes
+-- ---- changes of lists
 
--- the player's place, and with it all places
-moved : (t : Tables) (w : World) (places : List (Option Place)) (here : ℕ) → IsKept t w → length places ≡ length w.places → is_of t here room_kind ≡ true
-    → place_of places 0 ≡ Some (record { relation = In; holder = here }) → IsKept t (record w { places = places })
-moved t w places here k same room player = record { story = k.story; objects = same ∙ k.objects; flags = k.flags; numbers = k.numbers; variables = k.variables; scenes = k.scenes; here = here; room = room; player = player; turns = k.turns }
+pub cells_kept : {A : Type 0} (rows : List (List A)) (count height i o : ℕ) (value : A) → AreColumns rows count height
+    → AreColumns (slice_set rows i (slice_set (slice_index_or rows i []) o value)) count height
+cells_kept {A = A} rows count height i o value k = record { many = length-set rows i row ∙ k.many; high = high }
+  where
+    row : List A
+    row = slice_set (slice_index_or rows i []) o value
+
+    high : (column : ℕ) → column < count → length (slice_index_or (slice_set rows i row) column []) ≡ height
+    high column below =
+        elim (eqb_tells column i) [
+          | inl is ↦
+              let there : i < length rows = omega (arith, below, is.1, k.many) in
+              ap (λ n. length (slice_index_or (slice_set rows i row) n [])) is.1 ∙ ap length (get_or-set_same rows i row [] there)
+              ∙ length-set (slice_index_or rows i []) o value ∙ ap (λ n. length (slice_index_or rows n [])) (sym is.1) ∙ k.high column below
+          | inr isnt ↦ ap length (get_or-set_other rows i column row [] isnt.1) ∙ k.high column below
+        ]
+
+pub flag_kept : (t : Tables) (w : World) (property o : ℕ) (value : Bool) → IsKept t w → IsKept t (set_flag property o value w)
+unfolding set_flag
+flag_kept t w property o value k = record {
+  story = k.story;
+  objects = k.objects;
+  flags = cells_kept w.flags (length t.world.flags) (length t.objects) property o value k.flags;
+  numbers = k.numbers;
+  variables = k.variables;
+  scenes = k.scenes;
+  here = k.here;
+  room = k.room;
+  player = k.player;
+  turns = k.turns;
+  tree = k.tree;
+  holders = k.holders;
+}
+
+pub number_kept : (t : Tables) (w : World) (property o : ℕ) (value : ℤ) → IsKept t w → IsKept t (set_number property o value w)
+unfolding set_number
+number_kept t w property o value k = record {
+  story = k.story;
+  objects = k.objects;
+  flags = k.flags;
+  numbers = cells_kept w.numbers (length t.world.numbers) (length t.objects) property o value k.numbers;
+  variables = k.variables;
+  scenes = k.scenes;
+  here = k.here;
+  room = k.room;
+  player = k.player;
+  turns = k.turns;
+  tree = k.tree;
+  holders = k.holders;
+}
+
+pub variable_kept : (t : Tables) (w : World) (variable : ℕ) (value : ℤ) → IsKept t w → IsKept t (set_variable variable value w)
+variable_kept t w variable value k = record {
+  story = k.story;
+  objects = k.objects;
+  flags = k.flags;
+  numbers = k.numbers;
+  variables = length-set w.variables variable value ∙ k.variables;
+  scenes = k.scenes;
+  here = k.here;
+  room = k.room;
+  player = k.player;
+  turns = k.turns;
+  tree = k.tree;
+  holders = k.holders;
+}
+
+pub scene_kept : (t : Tables) (w : World) (scene : ℕ) (now : SceneNow) → IsKept t w → IsKept t (set_scene scene now w)
+scene_kept t w scene now k = record {
+  story = k.story;
+  objects = k.objects;
+  flags = k.flags;
+  numbers = k.numbers;
+  variables = k.variables;
+  scenes = length-set w.scenes scene now ∙ k.scenes;
+  here = k.here;
+  room = k.room;
+  player = k.player;
+  turns = k.turns;
+  tree = k.tree;
+  holders = k.holders;
+}
+
+pub turn_kept : (t : Tables) (w : World) → w.turns < most_turns → IsKept t w → IsKept t (next_turn w)
+turn_kept t w fewer k = record {
+  story = k.story;
+  objects = k.objects;
+  flags = k.flags;
+  numbers = k.numbers;
+  variables = k.variables;
+  scenes = k.scenes;
+  here = k.here;
+  room = k.room;
+  player = k.player;
+  turns = one_more w.turns most_turns fewer;
+  tree = k.tree;
+  holders = k.holders;
+}
+  where
+    one_more : (n most : ℕ) → n < most → n + 1 ≤ most
+    one_more n most fewer = omega (arith, fewer)
+
+pub ending_kept : (t : Tables) (w : World) (text : Option (List ℕ)) → IsKept t w → IsKept t (record w { ended = text })
+ending_kept t w text k = record {
+  story = k.story;
+  objects = k.objects;
+  flags = k.flags;
+  numbers = k.numbers;
+  variables = k.variables;
+  scenes = k.scenes;
+  here = k.here;
+  room = k.room;
+  player = k.player;
+  turns = k.turns;
+  tree = k.tree;
+  holders = k.holders;
+}
+
+-- ---- changes of places
+
+holders_set : (places : List (Option Place)) (o : ℕ) (place : Option Place) (n : ℕ) → ((x holder : ℕ) → holder_of places x ≡ Some holder → holder < n)
+    → ((holder : ℕ) → option_map (λ p. p.holder) place ≡ Some holder → holder < n) → (x holder : ℕ) → holder_of (slice_set places o place) x ≡ Some holder → holder < n
+holders_set [] o place n were is x holder e = were x holder e
+holders_set (p ∷ places) zero place n were is zero holder e = is holder e
+holders_set (p ∷ places) zero place n were is (suc x) holder e = were (suc x) holder e
+holders_set (p ∷ places) (suc o) place n were is zero holder e = were zero holder e
+holders_set (p ∷ places) (suc o) place n were is (suc x) holder e = holders_set places o place n (λ y. were (suc y)) is x holder e
 
 not_none : (places : List (Option Place)) (place : Place) → place_of places 0 ≡ Some place → 0 < length places
 not_none [] place e = absurd (none-some place e)
@@ -140,19 +268,47 @@ directly place is = by place.relation place.holder is
     by Worn holder is = absurd cc
     by Part holder is = absurd cc
 
-pub keeps_put : (t : Tables) (w : World) (kinds : Kinds) (o : ℕ) (place : Place) (places : List (Option Place)) → IsKept t w → kinds.is_room ≡ (λ x. is_of t x room_kind)
-    → keeps_player kinds o place ≡ true
-    → places ≡ slice_set w.places o (Some place) → IsKept t (record w { places = places })
-keeps_put t w kinds o place places k rooms keeps is =
+-- a place of an object that is there and in no cycle then, from which the player stays in a room
+moved_kept : (t : Tables) (w : World) (o : ℕ) (place : Option Place) (here : ℕ) → IsKept t w → is_of t here room_kind ≡ true
+    → place_of (slice_set w.places o place) 0 ≡ Some (record { relation = In; holder = here }) → IsTree (place_of (slice_set w.places o place))
+    → ((holder : ℕ) → option_map (λ p. p.holder) place ≡ Some holder → holder < length w.places) → IsKept t (set_place o place w)
+moved_kept t w o place here k room player tree within =
+    let same : length (slice_set w.places o place) ≡ length w.places = length-set w.places o place in
+    record {
+      story = k.story;
+      objects = same ∙ k.objects;
+      flags = k.flags;
+      numbers = k.numbers;
+      variables = k.variables;
+      scenes = k.scenes;
+      here = here;
+      room = room;
+      player = player;
+      turns = k.turns;
+      tree = tree;
+      holders = λ x holder e. let there = holders_set w.places o place (length w.places) k.holders within x holder e in omega (arith, there, same);
+    }
+
+pub put_kept : (t : Tables) (w : World) (kinds : Kinds) (o : ℕ) (place : Place) → IsKept t w → kinds.is_room ≡ (λ x. is_of t x room_kind) → keeps_player kinds o place ≡ true
+    → IsTree (place_of (slice_set w.places o (Some place))) → place.holder < length w.places → IsKept t (set_place o (Some place) w)
+put_kept t w kinds o place k rooms keeps tree there =
     elim (cases_Bool (eqb o 0)) [
       | inl player ↦
           let first : o ≡ 0 = eqb-true o 0 player in
           let inside : (is_in place.relation && kinds.is_room place.holder) ≡ true = rw player at keeps in
-          let there : place_of places 0 ≡ Some place = ap (λ (ps : List (Option Place)). place_of ps 0) (is ∙ ap (λ (n : ℕ). slice_set w.places n (Some place)) first)
+          let set : place_of (slice_set w.places o (Some place)) 0 ≡ Some place = ap (λ (n : ℕ). place_of (slice_set w.places n (Some place)) 0) first
           ∙ get_or-set_same w.places 0 (Some place) None (not_none w.places _ k.player) in
           let a_room : is_of t place.holder room_kind ≡ true = sym (ap (λ (f : ℕ → Bool). f place.holder) rooms) ∙ (and_parts _ _ inside).1 in
-          moved t w places place.holder k (ap length is ∙ length-set w.places o (Some place)) a_room (there ∙ ap Some (directly place (and_parts _ _ inside).0))
+          moved_kept t w o (Some place) place.holder k a_room (set ∙ ap Some (directly place (and_parts _ _ inside).0)) tree within
       | inr other ↦
           let away : 0 ≢ o = λ e. eqb-false o 0 other (sym e) in
-          moved t w places k.here k (ap length is ∙ length-set w.places o (Some place)) k.room (ap (λ (ps : List (Option Place)). place_of ps 0) is ∙ get_or-set_other w.places o 0 (Some place) None away ∙ k.player)
+          moved_kept t w o (Some place) k.here k k.room (get_or-set_other w.places o 0 (Some place) None away ∙ k.player) tree within
     ]
+  where
+    within : (holder : ℕ) → Some place.holder ≡ Some holder → holder < length w.places
+    within holder e = subst (λ (n : ℕ). n < length w.places) (same_Some place.holder holder e) there
+
+pub taken_kept : (t : Tables) (w : World) (o : ℕ) → IsKept t w → 0 ≢ o → o < length w.places → IsKept t (set_place o None w)
+taken_kept t w o k away there =
+    moved_kept t w o None k.here k k.room (get_or-set_other w.places o 0 None None away ∙ k.player)
+    (tree_taken (place_of w.places) (place_of (slice_set w.places o None)) o (moved w.places o None there) k.tree) (λ holder e. absurd (none-some holder e))

@@ -1,6 +1,6 @@
 -- What the laws of worlds cite.
 use Rattle.std.proofs.Common.{◌≡◌, ◌∙◌, ◌≢◌, ◌⊎◌, sym, ap, refl, ℕ, zero, suc, ◌<◌, ◌≤◌, ℤ, Bool, true, false, List, [], ◌∷◌, length, arith, inl, inr, get_or-set_same, get_or-set_other, eqb-true}
-use Rattle.std.specs.Prelude.{Option, Some, None, ◌&&◌, ◌||◌, ◌==◌, if◌then◌else◌, nat_lt, pos, slice_get, slice_index_or, slice_set}
+use Rattle.std.specs.Prelude.{Option, Some, None, option_map, ◌&&◌, ◌||◌, ◌==◌, if◌then◌else◌, nat_lt, pos, slice_get, slice_index_or, slice_set}
 use Rattle.std.proofs.lemmas.Bool.{ltb-false, ltb-true, cases_Bool}
 use Rattle.world_meaning.specs.Declarations.{has_property}
 use Rattle.world_meaning.specs.declared.declared.Granted.{Granted}
@@ -8,6 +8,7 @@ use Rattle.world_meaning.specs.Chains.{IsChain}
 use Rattle.world_meaning.specs.Sight.{thing, room, direction}
 use Rattle.world_meaning.specs.declared.place.Place.{Place}
 use Rattle.world_meaning.specs.declared.place.Rel.TheVariants.{In}
+use Rattle.object_tree.proofs.Climbs.{climb_chain}
 use Rattle.play_meaning.specs.Seeing.{encloses, has_light, is_in_view, is_visible, is_visible_as, is_visible_thing, stands_here}
 use Rattle.play_meaning.specs.Settings.{Setting, direction_kind, room_kind, thing_kind}
 use Rattle.play_meaning.specs.StoryWorlds.{IsWorldOf}
@@ -44,9 +45,13 @@ unfolding is_true_of setting_of
 true_there t w property o k is =
     omega (arith, true_within (slice_index_or w.flags property []) o is, at_most w.flags (length t.world.flags) (length t.objects) property k.flags)
 
-pub world_of_story : (t : Tables) (w : World) → IsKept t w → ((o : ℕ) → IsChain (place_of w) o (chain w o)) → IsWorldOf (setting_of t) w
-world_of_story t w k ends = record {
-  chains = ends;
+kept_chains : (t : Tables) (w : World) → IsKept t w → (o : ℕ) → IsChain (place_of w) o (chain w o)
+unfolding chain
+kept_chains t w k o = climb_chain (place_of w) (length w.places) o k.tree (λ x place e. k.holders x place.holder (ap (option_map (λ p. p.holder)) e))
+
+pub world_of_story : (t : Tables) (w : World) → IsKept t w → IsWorldOf (setting_of t) w
+world_of_story t w k = record {
+  chains = kept_chains t w k;
   room = record { relation = In; holder = k.here };
   player = k.player;
   there = λ property o is. true_there t w property o k is;

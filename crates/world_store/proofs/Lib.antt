@@ -11,3 +11,4 @@ pub mod RowLemmas
 pub mod Atlases
 pub mod Pasts
 pub mod Reverted
+pub mod Logged

@@ -7,7 +7,7 @@ use Rattle.play_meaning.specs.Worlds.{World, is_true_of, number_of, place_of, se
 use Rattle.play_meaning.specs.declared.scene.SceneNow.{SceneNow}
 use Rattle.story_format.specs.declared.tables.Tables.{Tables}
 use Rattle.world_store.specs.Pasts.{all_undone, past_of, story_world, undone}
-use Rattle.world_store.specs.StoryWorlds.{AreKept, IsKept, IsStoryWorld}
+use Rattle.world_store.specs.StoryWorlds.{AreKept, IsKept, IsStoryWorld, StoryWorld, worlds}
 use Rattle.world_meaning.specs.declared.place.Place.{Place}
 use Rattle.world_store.specs.declared.remembering.Was.{Was}
 
@@ -48,6 +48,20 @@ kept_more t [] w all kept (suc i) v e = absurd (none-some v e)
 kept_more t (x ∷ ws) w all kept zero v e = all 0 v e
 kept_more t (x ∷ ws) w all kept (suc i) v e = kept_more t ws w (λ j. all (suc j)) kept i v e
 
+pub kept_none : (t : Tables) → AreKept t []
+kept_none t i w e = absurd (none-some w e)
+
+-- a story without a past
+pub kept_without_past : (t u : Tables) (w v : World) (log : List Was) → u ≡ t → v ≡ w → log ≡ [] → IsKept t w → IsStoryWorld (story_world u v log)
+kept_without_past t u w v log tables world none kept =
+    let whole : story_world u v log ≡ record { tables = t; world = w; past = [] } = λ i. story_world (tables i) (world i) (none i) in
+    subst IsStoryWorld (sym whole) (record { now = kept; before = kept_none t })
+
+pub kept_in : (t a b : Tables) (w : World) (log : List Was) (s : StoryWorld) → story_world t w log ≡ s → a ≡ b → AreKept b (worlds s) → IsStoryWorld (story_world a w log)
+kept_in t a b w log s same is all =
+    let kept : AreKept a (past_of log w ++ w ∷ []) = subst (λ (u : Tables). AreKept u (past_of log w ++ w ∷ [])) (sym is) (subst (λ (x : StoryWorld). AreKept b (worlds x)) (sym same) all) in
+    record { now = kept_last a (past_of log w) w kept; before = kept_front a (past_of log w) w kept }
+
 -- ---- taking the last change back
 
 kept_before : (t : Tables) (all log : List Was) (was : Was) (w v : World) → all ≡ log ++ was ∷ [] → v ≡ undone was w → IsStoryWorld (story_world t w all)
@@ -67,7 +81,7 @@ set_back xs i value otherwise = set-set xs i value (slice_index_or xs i otherwis
 
 cell_back : {A : Type 0} (rows : List (List A)) (i o : ℕ) (value otherwise : A)
     → slice_set (slice_set rows i (slice_set (slice_index_or rows i []) o value)) i
-        (slice_set (slice_index_or (slice_set rows i (slice_set (slice_index_or rows i []) o value)) i []) o (slice_index_or (slice_index_or rows i []) o otherwise)) ≡ rows
+    (slice_set (slice_index_or (slice_set rows i (slice_set (slice_index_or rows i []) o value)) i []) o (slice_index_or (slice_index_or rows i []) o otherwise)) ≡ rows
 cell_back [] i o value otherwise = refl
 cell_back (row ∷ rows) zero o value otherwise = ap (λ r. r ∷ rows) (set_back row o value otherwise)
 cell_back (row ∷ rows) (suc i) o value otherwise = ap (λ rs. row ∷ rs) (cell_back rows i o value otherwise)

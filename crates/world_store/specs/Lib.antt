@@ -6,3 +6,4 @@ pub mod StoryWorlds
 pub mod Pasts
 pub mod Rows
 pub mod StoryPlay
+pub mod AskedChanges

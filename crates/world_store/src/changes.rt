@@ -10,11 +10,12 @@ ghost use Rattle.world_store.specs.StorySettings.{setting_of};
 ghost use Rattle.world_store.specs.StoryWorlds.{changed};
 
 use crate::World;
+use crate::columns::write_at;
 use crate::remembering::Was;
 use crate::sight::is_in;
 use play_meaning::{SceneNow, WorldFault};
 use std::alloc::AllocError;
-use world_meaning::{KindNo, ObjNo, Rel, TextBytes};
+use world_meaning::{KindNo, ObjNo, Place, Rel, TextBytes};
 
 impl World {
     /// Makes an either-or property, by its number, true of an object or not. Misplaced where the object's kind lacks it.
@@ -26,11 +27,10 @@ impl World {
         if !self.has_flag(object, property) {
             return Err(WorldFault::Misplaced);
         }
-        let was = self.flag(object, property);
         let was = Was::Flag {
             property,
             object,
-            value: was,
+            value: self.flag(object, property),
         };
         let Ok(()) = self.log.write(was) else {
             return Err(WorldFault::Memory);
@@ -48,11 +48,10 @@ impl World {
         if !self.has_number(object, property) {
             return Err(WorldFault::Misplaced);
         }
-        let was = self.number(object, property);
         let was = Was::Number {
             property,
             object,
-            value: was,
+            value: self.number(object, property),
         };
         let Ok(()) = self.log.write(was) else {
             return Err(WorldFault::Memory);
@@ -66,17 +65,21 @@ impl World {
         ensures answer { Allows result (nat_lt variable (length self.old.world.variables)) }
         ensures world { self.new ≡ changed result (set_variable variable value self.old.world) self.old }
     {
-        let Some(old) = self.state.variables.get_mut(usize::from(variable)) else {
+        if usize::from(variable) >= self.state.variables.len() {
             return Err(WorldFault::Misplaced);
-        };
+        }
         let was = Was::Variable {
             variable,
-            value: *old,
+            value: self.variable(variable),
         };
         let Ok(()) = self.log.write(was) else {
             return Err(WorldFault::Memory);
         };
-        *old = value;
+        write_at(
+            &mut self.state.variables,
+            Some(usize::from(variable)),
+            value,
+        );
         Ok(())
     }
 
@@ -85,14 +88,17 @@ impl World {
         ensures answer { Allows result (nat_lt scene (length self.old.world.scenes)) }
         ensures world { self.new ≡ changed result (set_scene scene now self.old.world) self.old }
     {
-        let Some(old) = self.state.scenes.get_mut(usize::from(scene)) else {
+        if usize::from(scene) >= self.state.scenes.len() {
             return Err(WorldFault::Misplaced);
+        }
+        let was = Was::Scene {
+            scene,
+            now: self.scene(scene),
         };
-        let was = Was::Scene { scene, now: *old };
         let Ok(()) = self.log.write(was) else {
             return Err(WorldFault::Memory);
         };
-        *old = now;
+        write_at(&mut self.state.scenes, Some(usize::from(scene)), now);
         Ok(())
     }
 
@@ -179,8 +185,8 @@ impl World {
         };
         self.state
             .tree
-            .put(object, relation, holder)
-            .map_err(|_| WorldFault::Misplaced)
+            .move_to(object, Some(Place { relation, holder }));
+        Ok(())
     }
 
     /// Takes an object away from where it is, so that it is nowhere. Misplaced where it is no thing, a door or the player.

@@ -1,5 +1,5 @@
 //! What holds of every story in play, of its worlds and their changes, and of the dark.
-ghost use Rattle.std.specs.Prelude.{◌≡◌, ◌≢◌, ◌⊎◌, ◌<◌, ℕ, ℤ, Bool, true, false, List, Option, Some, length};
+ghost use Rattle.std.specs.Prelude.{◌≡◌, ◌≢◌, ◌⊎◌, ◌<◌, ◌++◌, ℕ, ℤ, Bool, true, false, List, Option, Some, length};
 ghost use Rattle.play_meaning.specs.PlainTales.{story_of_script};
 ghost use Rattle.play_meaning.specs.Seeing.{encloses, has_light, is_visible, root_of};
 ghost use Rattle.play_meaning.specs.Settings.{Setting, direction_kind, thing_kind};
@@ -13,9 +13,10 @@ ghost use Rattle.story_format.specs.TaleScripts.{whole_script};
 ghost use Rattle.world_meaning.specs.Sight.{direction};
 ghost use Rattle.world_meaning.specs.declared.place.Place.{Place};
 ghost use Rattle.world_meaning.specs.declared.tale.Tale.{Tale};
+ghost use Rattle.world_store.specs.AskedChanges.{AreSetters, Asked, all_changed};
 ghost use Rattle.world_store.specs.StoryGames.{plain_story};
 ghost use Rattle.world_store.specs.StorySettings.{setting_of};
-ghost use Rattle.world_store.specs.StoryWorlds.{AreKept, worlds};
+ghost use Rattle.world_store.specs.StoryWorlds.{AreKept, StoryWorld, reverted, worlds};
 
 use crate::World;
 use world_meaning::ObjNo;
@@ -47,6 +48,14 @@ pub fn changes_leave_others()
     ensures places { (w : PlayWorld) (o other : ℕ) (place : Option Place) → o ≢ other → place_of (set_place o place w) other ≡ place_of w other }
     ensures flags { (w : PlayWorld) (property o of x : ℕ) (value : Bool) → (property ≢ of) ⊎ (o ≢ x) → is_true_of (set_flag property o value w) of x ≡ is_true_of w of x }
     ensures numbers { (w : PlayWorld) (property o of x : ℕ) (value : ℤ) → (property ≢ of) ⊎ (o ≢ x) → number_of (set_number property o value w) of x ≡ number_of w of x }
+{}
+
+/// A mark brings the story back that it was taken of, whatever was added to its log since: after any changes that were asked for,
+/// refused ones among them.
+pub fn marks_bring_back_the_world()
+    ensures added { (old new : StoryWorld) (more : List PlayWorld) → new.tables ≡ old.tables → worlds new ≡ worlds old ++ more
+        → reverted (length old.past) new ≡ old }
+    ensures asked { (s : StoryWorld) (changes : List Asked) → AreSetters changes s → reverted (length s.past) (all_changed changes s) ≡ s }
 {}
 
 /// In the dark nothing is visible of things but the player and what the player holds.

@@ -1,5 +1,5 @@
 //! Marks in the log of a world, to which it is turned back.
-ghost use Rattle.std.specs.Prelude.{◌≡◌, ◌≤◌, ◌<◌, ◌∷◌, ◌++◌, [], length};
+ghost use Rattle.std.specs.Prelude.{◌≡◌, ◌↔◌, IsTrue, ◌≤◌, ◌<◌, ◌∷◌, ◌++◌, [], length};
 ghost use Rattle.world_store.specs.StoryWorlds.{reverted};
 
 use crate::World;
@@ -17,6 +17,15 @@ impl Model for Mark {
     ghost view = { λ mark. mark.0 };
 
     ghost inverse = { λ n. record { 0 = n } };
+}
+
+impl Mark {
+    /// Whether it is no later than another of the same world: whether it is in the log of a world whose present place that is.
+    pub fn is_upto(self, other: Mark) -> bool
+        ensures { IsTrue result ↔ self ≤ other }
+    {
+        self.0 <= other.0
+    }
 }
 
 impl World {

@@ -75,7 +75,7 @@ impl State {
             Was::Scene { scene, now } => {
                 write_at(&mut self.scenes, Some(usize::from(scene)), now);
             }
-            Was::Placed { object, place } => self.tree.restore(object, place),
+            Was::Placed { object, place } => self.tree.move_to(object, place),
             Was::Turns(turns) => self.turns = turns,
             Was::Ended(text) => self.ended = text,
         }

@@ -119,11 +119,8 @@ impl World {
             turns: 1,
             ended: None,
         };
-        Ok(World {
-            atlas,
-            state,
-            log: Log::new(alloc),
-        })
+        let log = Log::new(alloc);
+        Ok(World { atlas, state, log })
     }
 
     /// A world that is equal to this one, of the same story. What was before it isn't known of it.

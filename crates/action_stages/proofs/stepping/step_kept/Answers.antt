@@ -1,10 +1,12 @@
 use Rattle.std.proofs.Common.{ap, subst, sym}
 use Rattle.play_meaning.specs.Worlds.{World}
+use Rattle.story_code.specs.Steps.{LeadsBack}
 use Rattle.world_store.specs.StorySettings.{fixed_of}
 use Rattle.world_store.specs.StoryWorlds.{StoryWorld}
 use Rattle.action_stages.specs.Bodies.{StepsSo}
 use Rattle.world_store.specs.StoryPlay.{coded_story}
-use Rattle.action_stages.proofs.OneStep.{bound_again, described_by, steps_so, work_within}
+use Rattle.action_stages.proofs.OneStep.{all_bound, described_by, steps_so, work_within}
+use Rattle.action_stages.proofs.Returning.{led_behind}
 use Rattle.action_stages.proofs.stepping.step_kept.Goals as goal
 
 pub step_plain-came-requires-clause-described : goal.step_plain-came-requires-clause-described
@@ -12,11 +14,15 @@ step_plain-came-requires-clause-described c = described_by c.args.world.now.tabl
 
 pub bind-requires : goal.bind-requires
 bind-requires c = record {
-  kept = bound_again c.args.world.now.tables c.step_plain-came.new.ground.tables c.in-Ok.bound c.args.codes.now c.args.now.now c.args.world.now.world c.step_plain-came.new.ground.world
-      c.args.state.now c.step_plain-came.new.state
+  kept = all_bound c.args.world.now c.step_plain-came.new.ground c.in-Ok.bound c.args.codes.now c.args.now.now c.args.state.now c.step_plain-came.new.state
       c.args.text.now.items c.step_plain-came.new.text.items c.step_plain-came.result c.in-Ok.ensures c.step_plain-came.ensures.step c.worlds_are_whole.ensures
-      c.worlds_are_whole-2.ensures c.step_plain-came.ensures.fixed c.step_plain-came.ensures.kept;
+      c.worlds_are_whole-2.ensures c.step_plain-came.ensures.fixed c.step_plain-came.ensures.kept c.step_plain-came.ensures.past;
 }
+
+pub returns-clause-behind : goal.returns-clause-behind
+returns-clause-behind c =
+    led_behind c.args.world.now c.bind.new.self
+    (subst (λ (v : StoryWorld). LeadsBack c.args.world.now.world c.args.world.now.past v.world v.past) (sym c.bind.ensures) c.step_plain-came.ensures.past)
 
 pub returns-clause-step : goal.returns-clause-step
 returns-clause-step c =

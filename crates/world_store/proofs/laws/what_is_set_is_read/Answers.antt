@@ -8,7 +8,7 @@ pub returns : goal.returns
 returns c =
     let t = c.args.world.now.tables in
     let w = c.args.world.now.world in
-    let kept = subst (λ (s : StoryWorld). IsKept s.tables s.world) c.world.view_is c.world.invariant in
+    let kept = subst (λ (s : StoryWorld). IsKept s.tables s.world) c.world.view_is c.world.invariant.now in
     record {
       flags = λ property o value has. flag_read t w property o value kept has;
       numbers = λ property o value has. number_read t w property o value kept has;
