@@ -71,41 +71,47 @@ consult_in-loop-place-preserved g t c =
       same = c.in-Ok-None.ensures.same ∙ c.loop-place.invariant.same;
       kept = c.in-Ok-None.ensures.kept ∙ c.loop-place.invariant.kept;
       rest = walk_goes (coded_story (g.P.Playing.tables c.args.play.now)) (coded_story (g.P.Playing.tables c.loop-place.play)) (ap coded_story c.loop-place.invariant.same) c.args.depth
-          c.args.book c.with_nouns-now.result c.in-Some.field-0.0 c.in-Some.field-0.1 (progress c.loop-place.play)
+          c.args.book c.with_nouns-now.result c.in-Some.place c.in-Some.rule (progress c.loop-place.play)
           (consult (game_of_codes (coded_story (g.P.Playing.tables c.args.play.now))) (inner_of (game_of_codes (coded_story (g.P.Playing.tables c.args.play.now))) c.args.depth)
           c.args.book c.args.now.now (progress c.args.play.now))
           (progress c.ask_in.new.play) c.in-Ok-None.field-0 (walk_over (coded_story (g.P.Playing.tables c.args.play.now)) (coded_story (g.P.Playing.tables c.loop-place.play)) (ap coded_story c.loop-place.invariant.same) c.args.depth
     c.args.book c.with_nouns-now.result c.loop-place.from (progress c.loop-place.play)
     (consult (game_of_codes (coded_story (g.P.Playing.tables c.args.play.now))) (inner_of (game_of_codes (coded_story (g.P.Playing.tables c.args.play.now))) c.args.depth)
     c.args.book c.args.now.now (progress c.args.play.now))
-    c.in-Some.field-0.0 c.in-Some.field-0.1 c.in-Some.ensures.next c.loop-place.invariant.rest) c.in-Some.ensures.next.there c.in-Ok-None.ensures.answer c.in-Ok-None.field-0-is;
+    c.in-Some.place c.in-Some.rule c.in-Some.ensures.next c.loop-place.invariant.rest) c.in-Some.ensures.next.there c.in-Ok-None.ensures.answer c.in-Ok-None.field-0-is;
     }
 
 pub consult_in-returns-in-Ok-Some-clause-answer : goal.consult_in-returns-in-Ok-Some-clause-answer
 consult_in-returns-in-Ok-Some-clause-answer g t c =
     let progress = g.P.Playing.progress in
     walk_decides (coded_story (g.P.Playing.tables c.args.play.now)) (coded_story (g.P.Playing.tables c.loop-place.play)) (ap coded_story c.loop-place.invariant.same) c.args.depth
-    c.args.book c.with_nouns-now.result c.in-Some.field-0.0 c.in-Some.field-0.1 (progress c.loop-place.play)
+    c.args.book c.with_nouns-now.result c.in-Some.place c.in-Some.rule (progress c.loop-place.play)
     (consult (game_of_codes (coded_story (g.P.Playing.tables c.args.play.now))) (inner_of (game_of_codes (coded_story (g.P.Playing.tables c.args.play.now))) c.args.depth) c.args.book
     c.args.now.now (progress c.args.play.now))
     (progress c.ask_in.new.play) c.in-Ok-Some.field-0 (walk_over (coded_story (g.P.Playing.tables c.args.play.now)) (coded_story (g.P.Playing.tables c.loop-place.play)) (ap coded_story c.loop-place.invariant.same) c.args.depth
     c.args.book c.with_nouns-now.result c.loop-place.from (progress c.loop-place.play)
     (consult (game_of_codes (coded_story (g.P.Playing.tables c.args.play.now))) (inner_of (game_of_codes (coded_story (g.P.Playing.tables c.args.play.now))) c.args.depth)
     c.args.book c.args.now.now (progress c.args.play.now))
-    c.in-Some.field-0.0 c.in-Some.field-0.1 c.in-Some.ensures.next c.loop-place.invariant.rest) c.in-Some.ensures.next.there c.in-Ok-Some.ensures.answer c.in-Ok-Some.outcome c.in-Ok-Some.field-0-is
+    c.in-Some.place c.in-Some.rule c.in-Some.ensures.next c.loop-place.invariant.rest) c.in-Some.ensures.next.there c.in-Ok-Some.ensures.answer c.in-Ok-Some.outcome c.in-Ok-Some.field-0-is
 
 pub consult_in-returns-in-Err-clause-answer : goal.consult_in-returns-in-Err-clause-answer
 consult_in-returns-in-Err-clause-answer g t c = λ other.
     let progress = g.P.Playing.progress in
     walk_breaks (coded_story (g.P.Playing.tables c.args.play.now)) (coded_story (g.P.Playing.tables c.loop-place.play)) (ap coded_story c.loop-place.invariant.same) c.args.depth
-    c.args.book c.with_nouns-now.result c.in-Some.field-0.0 c.in-Some.field-0.1 (progress c.loop-place.play)
+    c.args.book c.with_nouns-now.result c.in-Some.place c.in-Some.rule (progress c.loop-place.play)
     (consult (game_of_codes (coded_story (g.P.Playing.tables c.args.play.now))) (inner_of (game_of_codes (coded_story (g.P.Playing.tables c.args.play.now))) c.args.depth) c.args.book
     c.args.now.now (progress c.args.play.now))
     c.in-Err.reason (walk_over (coded_story (g.P.Playing.tables c.args.play.now)) (coded_story (g.P.Playing.tables c.loop-place.play)) (ap coded_story c.loop-place.invariant.same) c.args.depth
     c.args.book c.with_nouns-now.result c.loop-place.from (progress c.loop-place.play)
     (consult (game_of_codes (coded_story (g.P.Playing.tables c.args.play.now))) (inner_of (game_of_codes (coded_story (g.P.Playing.tables c.args.play.now))) c.args.depth)
     c.args.book c.args.now.now (progress c.args.play.now))
-    c.in-Some.field-0.0 c.in-Some.field-0.1 c.in-Some.ensures.next c.loop-place.invariant.rest) c.in-Some.ensures.next.there (c.in-Err.ensures.answer other)
+    c.in-Some.place c.in-Some.rule c.in-Some.ensures.next c.loop-place.invariant.rest) c.in-Some.ensures.next.there (c.in-Err.ensures.answer other)
 
 pub consult_in-returns-clause-answer : goal.consult_in-returns-clause-answer
-consult_in-returns-clause-answer g t c = ?
+consult_in-returns-clause-answer g t c =
+    let progress = g.P.Playing.progress in
+    walk_ends (coded_story (g.P.Playing.tables c.args.play.now)) (coded_story (g.P.Playing.tables c.loop-place.play)) (ap coded_story c.loop-place.invariant.same) c.args.depth
+    c.args.book c.with_nouns-now.result c.loop-place.from (progress c.loop-place.play)
+    (consult (game_of_codes (coded_story (g.P.Playing.tables c.args.play.now))) (inner_of (game_of_codes (coded_story (g.P.Playing.tables c.args.play.now))) c.args.depth)
+    c.args.book c.args.now.now (progress c.args.play.now))
+    c.in_default.ensures.next c.loop-place.invariant.rest
