@@ -21,8 +21,8 @@ use Rattle.action_stages.proofs.Asked.{books_listed, rule_there}
 abbrev pub Admitting : Type 0
 Admitting = (s : Setting) (w : World) (now : ActionNow) (rule : Rule) → is_about s w now rule ≡ true → admits s rule now.action now.noun (location_of w) ≡ true
 
-module _ (t : Tables) (book : ℕ) (now : ActionNow) (w : World) (room : ℕ) (law : Admitting) (here : location_of w ≡ Some room) where
-  apart : (rule : Rule) → admits (setting_of t) rule now.action now.noun (Some room) ≡ false → is_about (setting_of t) w now rule ≡ false
+module _ (t : Tables) (book : ℕ) (now : ActionNow) (w : World) (room : Option ℕ) (law : Admitting) (here : location_of w ≡ room) where
+  apart : (rule : Rule) → admits (setting_of t) rule now.action now.noun room ≡ false → is_about (setting_of t) w now rule ≡ false
   apart rule not = by (is_about (setting_of t) w now rule) refl
     where
       by : (b : Bool) → is_about (setting_of t) w now rule ≡ b → is_about (setting_of t) w now rule ≡ false
@@ -31,12 +31,12 @@ module _ (t : Tables) (book : ℕ) (now : ActionNow) (w : World) (room : ℕ) (l
           absurd cc
       by false not = not
 
-  entry_apart : (entry : Option RuleEntry) → entry_admits (setting_of t) now.action now.noun (Some room) entry ≡ false
+  entry_apart : (entry : Option RuleEntry) → entry_admits (setting_of t) now.action now.noun room entry ≡ false
       → coded_is_about (setting_of t) now w (option_map rule_told entry) ≡ false
   entry_apart None not = refl
   entry_apart (Some entry) not = apart (head_of (rule_told entry)) not
 
-  not_about : (rule : ℕ) → rule_admits t now.action now.noun (Some room) rule ≡ false → (game_in_play t).is_about rule now w ≡ false
+  not_about : (rule : ℕ) → rule_admits t now.action now.noun room rule ≡ false → (game_in_play t).is_about rule now w ≡ false
   unfolding rule_admits game_of_codes coded_story
   not_about rule not = ap (coded_is_about (setting_of t) now w) (rule_there t rule) ∙ entry_apart (slice_get t.rules.rules rule) not
 
@@ -44,7 +44,7 @@ module _ (t : Tables) (book : ℕ) (now : ActionNow) (w : World) (room : ℕ) (l
   unfolding game_of_codes coded_story
   listed_so = books_listed t.rules.books book
 
-  pub next_is : (from place rule : ℕ) → IsFirstFrom (rule_admits t now.action now.noun (Some room)) (rules_listed t book) from place rule
+  pub next_is : (from place rule : ℕ) → IsFirstFrom (rule_admits t now.action now.noun room) (rules_listed t book) from place rule
       → IsNext (game_in_play t) book now w from place rule
   next_is from place rule first = record {
     behind = first.behind;
@@ -52,5 +52,5 @@ module _ (t : Tables) (book : ℕ) (now : ActionNow) (w : World) (room : ℕ) (l
     others = λ n other low high there. not_about other (first.others n other low high (ap (λ rules. slice_get rules n) (sym listed_so) ∙ there));
   }
 
-  pub none_is : (from : ℕ) → NoneIsLeft (rule_admits t now.action now.noun (Some room)) (rules_listed t book) from → NoneBehindIsAbout (game_in_play t) book now w from
+  pub none_is : (from : ℕ) → NoneIsLeft (rule_admits t now.action now.noun room) (rules_listed t book) from → NoneBehindIsAbout (game_in_play t) book now w from
   none_is from none = λ n other low there. not_about other (none n other low (ap (λ rules. slice_get rules n) (sym listed_so) ∙ there))
