@@ -134,7 +134,9 @@ impl<'a> Stage<'a> {
         ensures { (before : StoryWorld) → tables_of self.entry ≡ before.tables → back_of self.entry ≡ back_to before → result ≡ before }
     {
         let Stage {
-            mut world, since, ..
+            mut world,
+            since,
+            ..
         } = self;
         world.revert(since);
         world

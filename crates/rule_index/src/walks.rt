@@ -12,7 +12,11 @@ pub fn admitted(story: &Story, listed: &[u16], place: usize, asked: &Asked) -> O
     ensures { result ≡ passing (rule_admits story.now asked.now.action asked.now.noun asked.now.room) (slice_get listed.now place) }
 {
     let rule = *listed.get(place)?;
-    if admits(story, rule, asked) { Some(rule) } else { None }
+    if admits(story, rule, asked) {
+        Some(rule)
+    } else {
+        None
+    }
 }
 
 /// The first of the listed rules from a place on that admits what is asked.

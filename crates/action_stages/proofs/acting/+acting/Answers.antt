@@ -75,10 +75,10 @@ consult_in-loop-place-preserved g t c =
           (consult (game_of_codes (coded_story (g.P.Playing.tables c.args.play.now))) (inner_of (game_of_codes (coded_story (g.P.Playing.tables c.args.play.now))) c.args.depth)
           c.args.book c.args.now.now (progress c.args.play.now))
           (progress c.ask_in.new.play) c.in-Ok-None.field-0 (walk_over (coded_story (g.P.Playing.tables c.args.play.now)) (coded_story (g.P.Playing.tables c.loop-place.play)) (ap coded_story c.loop-place.invariant.same) c.args.depth
-    c.args.book c.with_nouns-now.result c.loop-place.from (progress c.loop-place.play)
-    (consult (game_of_codes (coded_story (g.P.Playing.tables c.args.play.now))) (inner_of (game_of_codes (coded_story (g.P.Playing.tables c.args.play.now))) c.args.depth)
-    c.args.book c.args.now.now (progress c.args.play.now))
-    c.in-Some.place c.in-Some.rule c.in-Some.ensures.next c.loop-place.invariant.rest) c.in-Some.ensures.next.there c.in-Ok-None.ensures.answer c.in-Ok-None.field-0-is;
+          c.args.book c.with_nouns-now.result c.loop-place.from (progress c.loop-place.play)
+          (consult (game_of_codes (coded_story (g.P.Playing.tables c.args.play.now))) (inner_of (game_of_codes (coded_story (g.P.Playing.tables c.args.play.now))) c.args.depth)
+          c.args.book c.args.now.now (progress c.args.play.now))
+          c.in-Some.place c.in-Some.rule c.in-Some.ensures.next c.loop-place.invariant.rest) c.in-Some.ensures.next.there c.in-Ok-None.ensures.answer c.in-Ok-None.field-0-is;
     }
 
 pub consult_in-returns-in-Ok-Some-clause-answer : goal.consult_in-returns-in-Ok-Some-clause-answer
