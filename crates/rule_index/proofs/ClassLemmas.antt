@@ -1,12 +1,13 @@
 -- Classes grow by one, and an action that no rule names has the class of none.
-use Rattle.std.proofs.Common.{◌≡◌, ◌∙◌, ap, sym, refl, subst, ℕ, zero, suc, ◌+◌, Bool, true, false, List, [], ◌∷◌, ◌++◌, length, Option, Some, None}
+use Rattle.std.proofs.Common.{◌≡◌, ◌∙◌, ap, sym, refl, subst, ℕ, zero, suc, ◌+◌, Bool, true, false, List, [], ◌∷◌, ◌++◌, length, Option, Some, None, position}
 use Rattle.std.specs.Prelude.{◌==◌, ◌||◌, slice_get, if◌then◌else◌}
 use Rattle.std.specs.List.{list_any}
 use Rattle.play_meaning.specs.Rules.{is_action}
-use Rattle.story_format.specs.Facts.{rules_listed}
+use Rattle.story_format.specs.Facts.{book_of_rule, rules_listed}
 use Rattle.story_format.specs.Carrying.{number_if_some}
 use Rattle.story_format.specs.declared.rule_entry.RuleEntry.{RuleEntry}
 use Rattle.story_format.specs.declared.tables.Tables.{Tables}
+use Rattle.rule_index.specs.Buckets.{place_in_book, place_listed}
 use Rattle.rule_index.specs.Classes.{AreClasses, EachIs, class_of, entry_has, entry_suits, places_where, rule_has, rule_suits}
 
 -- one more
@@ -60,3 +61,9 @@ pub class_there : (t s : Tables) (book action : ℕ) (listed class : List ℕ) �
 unfolding class_of
 class_there t s book action listed class same told is =
     is ∙ ap (λ (t : Tables). places_where (rule_suits t action) 0 (rules_listed t book)) (sym same) ∙ ap (places_where (rule_suits s action) 0) (sym told)
+
+-- ---- places of rules
+
+pub place_so : (t : Tables) (rule book : ℕ) (result : Option ℕ) (listed : List ℕ) → Some book ≡ book_of_rule t rule → listed ≡ rules_listed t book
+    → result ≡ position (λ other. other == rule) listed → result ≡ place_in_book t rule
+place_so t rule book result listed is told place = place ∙ ap (position (λ other. other == rule)) told ∙ ap (place_listed t rule) is

@@ -70,6 +70,16 @@ fn place_in(listed: &[u16], rule: u16) -> Option<usize>
     listed.iter().position(|other| *other == rule)
 }
 
+/// The place of a rule in its book.
+fn place_told(story: &Story, rule: u16) -> Option<usize>
+    ensures { result ≡ place_in_book story.now rule }
+{
+    match story.book_of_rule(usize::from(rule)) {
+        None => None,
+        Some(book) => place_in(story.rules_listed(book), rule),
+    }
+}
+
 impl Index {
     /// The index of a story.
     ///
@@ -106,14 +116,11 @@ impl Index {
             Some(class) => first_of_class(story, listed, class, from, &asked),
         }
     }
+
     /// The place at which a rule stands in its book, from 0; none of one that its book doesn't list.
     pub fn place(&self, rule: u16) -> Option<usize>
         ensures { result ≡ place_in_book self.now rule }
     {
-        let story = self.story.as_ref();
-        match story.book_of_rule(usize::from(rule)) {
-            None => None,
-            Some(book) => place_in(story.rules_listed(book), rule),
-        }
+        place_told(self.story.as_ref(), rule)
     }
 }

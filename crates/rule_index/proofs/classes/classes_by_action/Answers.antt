@@ -1,4 +1,4 @@
-use Rattle.std.proofs.Common.{subst, sym, ap, ◌∙◌, ◌∷◌, [], length, arith, length-append}
+use Rattle.std.proofs.Common.{subst, sym, ap, ◌∷◌, [], length, arith, length-append}
 use Rattle.rule_index.specs.Classes.{AreClasses}
 use Rattle.rule_index.proofs.ClassLemmas.{classes_more}
 use Rattle.rule_index.proofs.classes.classes_by_action.Goals as goal

@@ -1,4 +1,4 @@
-use Rattle.std.proofs.Common.{◌≡◌, ◌∙◌, ap, sym, ◌∷◌}
+use Rattle.std.proofs.Common.{◌∙◌, ap, sym, ◌∷◌}
 use Rattle.rule_index.specs.Buckets.{rule_admits}
 use Rattle.rule_index.specs.Classes.{rule_suits}
 use Rattle.rule_index.proofs.WalkLemmas.{apart, left_found, left_more, left_none}
