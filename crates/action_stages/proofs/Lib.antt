@@ -1,4 +1,5 @@
 mod Asked
+mod PassedOver
 pub mod Returning
 pub mod Coming
 mod DoneRules

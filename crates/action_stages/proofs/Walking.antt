@@ -1,15 +1,18 @@
 -- The walk over a rulebook's rules, from a place on.
-use Rattle.std.proofs.Common.{◌≡◌, ℕ, zero, suc, ◌+◌, List, [], ◌∷◌, Option, None, Some, drop, map, refl, sym, ◌∙◌, ap, arith}
-use Rattle.std.specs.Prelude.{Err, Ok, slice_get}
+use Rattle.std.proofs.Common.{◌≡◌, ℕ, zero, suc, ◌+◌, ◌-◌, ◌<◌, ◌≤◌, false, List, [], ◌∷◌, Option, None, Some, drop, map, refl, sym, ◌∙◌, ap, subst, arith}
+use Rattle.std.specs.Prelude.{Err, Ok, slice_get, if◌then◌else◌}
 use Rattle.play_meaning.specs.Acting.{inner_of}
 use Rattle.play_meaning.specs.Attempts.{Attempt, next}
 use Rattle.play_meaning.specs.CodedStories.{CodedStory, game_of_codes}
-use Rattle.play_meaning.specs.Consulting.{ask}
+use Rattle.play_meaning.specs.Consulting.{applies, ask, done_if}
+use Rattle.play_meaning.specs.Doing.{Inner}
+use Rattle.play_meaning.specs.Games.{Game}
 use Rattle.play_meaning.specs.Progress.{Asked, Progress, first_decision, undecided, unless_decided}
 use Rattle.play_meaning.specs.declared.action.ActionNow.{ActionNow}
 use Rattle.play_meaning.specs.declared.outcome.Outcome.{Outcome}
 use Rattle.world_meaning.specs.declared.session.Abandon.{Abandon}
 use Rattle.action_stages.specs.Answering.{asked}
+use Rattle.action_stages.specs.Passing.{IsNext, NoneBehindIsAbout}
 
 drop_on : (xs : List ℕ) (place x : ℕ) → slice_get xs place ≡ Some x → drop place xs ≡ x ∷ drop (place + 1) xs
 drop_on [] place x is = let no : ⊥ = cc in absurd no
@@ -34,6 +37,61 @@ walk_end f xs place p is = ap (λ ys. first_decision (map f ys) p) (drop_end xs 
 
 pub ruleset walk_rules = (walk_on, walk_end)
 
+-- ---- rules that are passed over decide nothing
+
+module _ (f : ℕ → Progress → Attempt Asked) (p : Progress) where
+  skipped : (xs : List ℕ) (from gap place : ℕ) → place ≡ from + gap
+      → ((n rule : ℕ) → from ≤ n → n < place → slice_get xs n ≡ Some rule → f rule p ≡ Ok (undecided p))
+      → first_decision (map f (drop from xs)) p ≡ first_decision (map f (drop place xs)) p
+  skipped [] zero gap zero is none = refl
+  skipped [] zero gap (suc place) is none = refl
+  skipped [] (suc from) gap zero is none = refl
+  skipped [] (suc from) gap (suc place) is none = refl
+  skipped (x ∷ xs) zero gap zero is none = refl
+  skipped (x ∷ xs) zero zero (suc place) is none = absurd (omega arith)
+  skipped (x ∷ xs) zero (suc gap) (suc place) is none =
+      ap (λ first. next first (λ asked. unless_decided asked.decision asked.progress (first_decision (map f xs) asked.progress))) (none 0 x (omega arith) (omega arith) refl)
+      ∙ skipped xs 0 gap place (omega arith) (λ n rule low high there. none (suc n) rule (omega arith) (omega arith) there)
+  skipped (x ∷ xs) (suc from) gap zero is none = absurd (omega arith)
+  skipped (x ∷ xs) (suc from) gap (suc place) is none =
+      skipped xs from gap place (omega arith) (λ n rule low high there. none (suc n) rule (omega arith) (omega arith) there)
+
+  all_skipped : (xs : List ℕ) (from : ℕ) → ((n rule : ℕ) → from ≤ n → slice_get xs n ≡ Some rule → f rule p ≡ Ok (undecided p))
+      → first_decision (map f (drop from xs)) p ≡ Ok (undecided p)
+  all_skipped [] zero none = refl
+  all_skipped [] (suc from) none = refl
+  all_skipped (x ∷ xs) zero none =
+      ap (λ first. next first (λ asked. unless_decided asked.decision asked.progress (first_decision (map f xs) asked.progress))) (none 0 x (omega arith) refl)
+      ∙ all_skipped xs 0 (λ n rule low there. none (suc n) rule (omega arith) there)
+  all_skipped (x ∷ xs) (suc from) none = all_skipped xs from (λ n rule low there. none (suc n) rule (omega arith) there)
+
+-- a rule that isn't about what is there decides nothing when it is asked
+not_about : (g : Game) (inner : Inner) (book : ℕ) (now : ActionNow) (rule : ℕ) (p : Progress) → g.is_about rule now p.world ≡ false → ask g inner book now rule p ≡ Ok (undecided p)
+unfolding ask applies
+not_about g inner book now rule p not = ap (λ b. next (if b then g.holds rule now p.world else Ok false) (λ applies. done_if applies g inner book now rule p)) not
+
+module _ (k kk : CodedStory) (same : kk ≡ k) (depth book : ℕ) (now : ActionNow) (from : ℕ) (p : Progress) (whole : Attempt Asked) where
+  abbrev steps : ℕ → Progress → Attempt Asked
+  steps = ask (game_of_codes k) (inner_of (game_of_codes k) depth) book now
+
+  abbrev from_place : ℕ → Attempt Asked
+  from_place place = first_decision (map steps (drop place ((game_of_codes k).books book))) p
+
+  pub walk_over : (place rule : ℕ) → IsNext (game_of_codes kk) book now p.world from place rule → from_place from ≡ whole → from_place place ≡ whole
+  walk_over place rule next rest =
+      let is = subst (λ (k : CodedStory). IsNext (game_of_codes k) book now p.world from place rule) same next in
+      let low = is.behind in
+      sym (skipped steps p ((game_of_codes k).books book) from (place - from) place (omega arith)
+      (λ n other low high there. not_about (game_of_codes k) (inner_of (game_of_codes k) depth) book now other p (is.others n other low high there)))
+      ∙ rest
+
+  pub walk_ends : NoneBehindIsAbout (game_of_codes kk) book now p.world from → from_place from ≡ whole → whole ≡ Ok (undecided p)
+  walk_ends none rest =
+      let is = subst (λ (k : CodedStory). NoneBehindIsAbout (game_of_codes k) book now p.world from) same none in
+      sym rest
+      ∙ all_skipped steps p ((game_of_codes k).books book) from
+      (λ n other low there. not_about (game_of_codes k) (inner_of (game_of_codes k) depth) book now other p (is n other low there))
+
 -- ---- one rule of a book, where it is known that play is of the same story
 
 module _ (k kk : CodedStory) (same : kk ≡ k) (depth book : ℕ) (now : ActionNow) (place rule : ℕ) (p : Progress) (whole : Attempt Asked) where
@@ -44,7 +102,7 @@ module _ (k kk : CodedStory) (same : kk ≡ k) (depth book : ℕ) (now : ActionN
   left_from place = first_decision (map (asks k) (drop place ((game_of_codes k).books book)))
 
   abbrev IsThere : Type 0
-  IsThere = Some rule ≡ slice_get ((game_of_codes kk).books book) place
+  IsThere = slice_get ((game_of_codes kk).books book) place ≡ Some rule
 
   abbrev then_more : Attempt Asked → Attempt Asked
   then_more first = next first (λ asked. unless_decided asked.decision asked.progress (left_from (place + 1) asked.progress))
@@ -52,7 +110,7 @@ module _ (k kk : CodedStory) (same : kk ≡ k) (depth book : ℕ) (now : ActionN
   walked : left_from place p ≡ whole → IsThere → then_more (asks kk rule p) ≡ whole
   walked rest there =
       ap (λ k. then_more (asks k rule p)) same
-      ∙ sym (walk_on (asks k) ((game_of_codes k).books book) place rule p (ap (λ k. slice_get ((game_of_codes k).books book) place) (sym same) ∙ sym there)) ∙ rest
+      ∙ sym (walk_on (asks k) ((game_of_codes k).books book) place rule p (ap (λ k. slice_get ((game_of_codes k).books book) place) (sym same) ∙ there)) ∙ rest
 
   pub walk_breaks : (reason : Abandon) → left_from place p ≡ whole → IsThere → asks kk rule p ≡ Err reason → whole ≡ Err reason
   walk_breaks reason rest there is = sym (walked rest there) ∙ ap then_more is

@@ -6,6 +6,7 @@ pub mod Lowering
 pub mod Measures
 pub mod Alike
 pub mod Parts
+pub mod Passing
 pub mod Performing
 pub mod Stages
 pub mod Returning

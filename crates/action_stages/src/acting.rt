@@ -37,6 +37,7 @@ fn tries_in<P: Playing>(
 ) -> Result<(), Abandon>
     requires told { AreCodesIn codes.now (coded_story (P.tables play.old)) }
     requires there { IsThere (P.loaded play.old).back }
+    requires whole { P.tables play.old ≡ (P.loaded play.old).story }
     ensures same { P.tables play.new ≡ P.tables play.old }
     ensures kept { P.loaded play.new ≡ P.loaded play.old }
     ensures answer { Answers result (λ done. P.progress play.new) ((below (P.tables play.old) depth).tries action.now (P.progress play.old)) }
@@ -61,6 +62,7 @@ fn follows_in<P: Playing>(
 ) -> Result<(), Abandon>
     requires told { AreCodesIn codes.now (coded_story (P.tables play.old)) }
     requires there { IsThere (P.loaded play.old).back }
+    requires whole { P.tables play.old ≡ (P.loaded play.old).story }
     ensures same { P.tables play.new ≡ P.tables play.old }
     ensures kept { P.loaded play.new ≡ P.loaded play.old }
     ensures answer { Answers result (λ done. P.progress play.new) ((below (P.tables play.old) depth).follows book now.now (P.progress play.old)) }
@@ -84,6 +86,7 @@ fn step_in<P: Playing>(
 ) -> Result<Option<Flow>, Abandon>
     requires told { AreCodesIn codes.now (coded_story (P.tables play.old)) }
     requires there { IsThere (P.loaded play.old).back }
+    requires whole { P.tables play.old ≡ (P.loaded play.old).story }
     requires stands { MayDo codes.now state.old }
     ensures same { P.tables play.new ≡ P.tables play.old }
     ensures kept { P.loaded play.new ≡ P.loaded play.old }
@@ -122,6 +125,7 @@ fn code_in<P: Playing>(
 ) -> Result<Flow, Abandon>
     requires told { AreCodesIn codes.now (coded_story (P.tables play.old)) }
     requires there { IsThere (P.loaded play.old).back }
+    requires whole { P.tables play.old ≡ (P.loaded play.old).story }
     requires body { IsBody codes.now code }
     ensures same { P.tables play.new ≡ P.tables play.old }
     ensures kept { P.loaded play.new ≡ P.loaded play.old }
@@ -152,6 +156,7 @@ fn standard_in<P: Playing>(
 ) -> Result<Flow, Abandon>
     requires told { AreCodesIn codes.now (coded_story (P.tables play.old)) }
     requires there { IsThere (P.loaded play.old).back }
+    requires whole { P.tables play.old ≡ (P.loaded play.old).story }
     requires low { 1 ≤ rule }
     requires high { rule ≤ 61 }
     ensures same { P.tables play.new ≡ P.tables play.old }
@@ -182,6 +187,7 @@ fn body_in<P: Playing>(
 ) -> Result<Flow, Abandon>
     requires told { AreCodesIn codes.now (coded_story (P.tables play.old)) }
     requires there { IsThere (P.loaded play.old).back }
+    requires whole { P.tables play.old ≡ (P.loaded play.old).story }
     ensures same { P.tables play.new ≡ P.tables play.old }
     ensures kept { P.loaded play.new ≡ P.loaded play.old }
     ensures answer { Answers result (done (P.progress play.new)) ((game_in_play (P.tables play.old)).body rule (below (P.tables play.old) depth) now.now (P.progress play.old)) }
@@ -207,10 +213,12 @@ fn ask_in<P: Playing>(
 ) -> Result<Option<Outcome>, Abandon>
     requires told { AreCodesIn codes.now (coded_story (P.tables play.old)) }
     requires there { IsThere (P.loaded play.old).back }
+    requires whole { P.tables play.old ≡ (P.loaded play.old).story }
     ensures same { P.tables play.new ≡ P.tables play.old }
     ensures kept { P.loaded play.new ≡ P.loaded play.old }
     ensures answer { Answers result (asked (P.progress play.new)) (ask (game_in_play (P.tables play.old)) (below (P.tables play.old) depth) book now.now rule (P.progress play.old)) }
 {
+    play.count_test();
     if !play.applies(alloc, codes, rule, now)? {
         return Ok(None);
     }
@@ -219,7 +227,7 @@ fn ask_in<P: Playing>(
     Ok(decision_of(book, flow))
 }
 
-/// Consults a rulebook: its rules in order, up to the first decision.
+/// Consults a rulebook: its rules in order, up to the first decision. Rules that can't be about what is there are passed over.
 #[cycle(acting)]
 #[tactic(auto, using(crate::proofs::Walking::walk_rules), unfolding(play_meaning::specs::Consulting::consult))]
 pub fn consult_in<P: Playing>(
@@ -232,15 +240,16 @@ pub fn consult_in<P: Playing>(
 ) -> Result<Option<Outcome>, Abandon>
     requires told { AreCodesIn codes.now (coded_story (P.tables play.old)) }
     requires there { IsThere (P.loaded play.old).back }
+    requires whole { P.tables play.old ≡ (P.loaded play.old).story }
     ensures same { P.tables play.new ≡ P.tables play.old }
     ensures kept { P.loaded play.new ≡ P.loaded play.old }
     ensures answer { Answers result (asked (P.progress play.new)) (consult (game_in_play (P.tables play.old)) (below (P.tables play.old) depth) book now.now (P.progress play.old)) }
 {
     let now = with_nouns(now);
-    let mut place = 0;
-    while let Some(rule) = play.rule_at(book, place) {
+    let mut from = 0;
+    while let Some((place, rule)) = play.next_rule(book, &now, from) {
         match ask_in(alloc, codes, play, book, rule, &now, depth) {
-            Ok(None) => place += 1,
+            Ok(None) => from = place + 1,
             Ok(Some(outcome)) => return Ok(Some(outcome)),
             Err(reason) => return Err(reason),
         }
@@ -261,6 +270,7 @@ fn held_in<P: Playing>(
 ) -> Result<Option<Outcome>, Abandon>
     requires told { AreCodesIn codes.now (coded_story (P.tables play.old)) }
     requires there { IsThere (P.loaded play.old).back }
+    requires whole { P.tables play.old ≡ (P.loaded play.old).story }
     ensures same { P.tables play.new ≡ P.tables play.old }
     ensures kept { P.loaded play.new ≡ P.loaded play.old }
     ensures answer { Answers result (asked (P.progress play.new)) (carrying (setting_of (P.tables play.old)) (below (P.tables play.old) depth) slot noun.now (P.progress play.old)) }
@@ -293,6 +303,7 @@ fn report_in<P: Playing>(
 ) -> Result<Option<Outcome>, Abandon>
     requires told { AreCodesIn codes.now (coded_story (P.tables play.old)) }
     requires there { IsThere (P.loaded play.old).back }
+    requires whole { P.tables play.old ≡ (P.loaded play.old).story }
     ensures same { P.tables play.new ≡ P.tables play.old }
     ensures kept { P.loaded play.new ≡ P.loaded play.old }
     ensures answer { Answers result (asked (P.progress play.new)) (report (game_in_play (P.tables play.old)) (below (P.tables play.old) depth) now.now (P.progress play.old)) }
@@ -316,6 +327,7 @@ fn part_in<P: Playing>(
 ) -> Result<Option<Outcome>, Abandon>
     requires told { AreCodesIn codes.now (coded_story (P.tables play.old)) }
     requires there { IsThere (P.loaded play.old).back }
+    requires whole { P.tables play.old ≡ (P.loaded play.old).story }
     ensures same { P.tables play.new ≡ P.tables play.old }
     ensures kept { P.loaded play.new ≡ P.loaded play.old }
     ensures answer { Answers result (asked (P.progress play.new)) (part_of (game_in_play (P.tables play.old)) (below (P.tables play.old) depth) now.now part (P.progress play.old)) }
@@ -344,6 +356,7 @@ pub fn act_in<P: Playing>(
 ) -> Result<Option<Outcome>, Abandon>
     requires told { AreCodesIn codes.now (coded_story (P.tables play.old)) }
     requires there { IsThere (P.loaded play.old).back }
+    requires whole { P.tables play.old ≡ (P.loaded play.old).story }
     ensures same { P.tables play.new ≡ P.tables play.old }
     ensures kept { P.loaded play.new ≡ P.loaded play.old }
     ensures answer { Answers result (asked (P.progress play.new)) (act (game_in_play (P.tables play.old)) (below (P.tables play.old) depth) now.now (P.progress play.old)) }

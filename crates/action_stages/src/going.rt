@@ -7,11 +7,13 @@ use crate::conditions::applies;
 use crate::does::does;
 use crate::effects::{Rules, ends, make_all};
 use crate::lending::HasWorld;
-use crate::needs::{needs_of, rule_at};
+use crate::needs::needs_of;
+use crate::passing::next_rule;
 use crate::playing::{Does, Owed, Playing};
 use crate::stepping::step_kept;
 use crate::work::Work;
 use play_meaning::{ActNo, ActionNow, Naming};
+use rule_index::Index;
 use standard_rules::HostAnswer;
 use std::alloc::Global;
 use story_code::{RunState, Step, Verified, is_held, say_name};
@@ -29,6 +31,10 @@ pub struct Stage<'a> {
     pub(crate) work: Work,
     /// Where the world stood as the stage was set up.
     pub(crate) since: Mark,
+    pub(crate) index: &'a Index,
+    /// How many rules were asked.
+    pub(crate) tests: u64,
+    ghost indexed: { index.now ≡ story.now },
 }
 
 /// Whether the player carries or wears an object.
@@ -65,8 +71,12 @@ impl Playing for Stage<'_> {
         needs_of(self.world.story(), action)
     }
 
-    fn rule_at(&self, book: u16, place: usize) -> Option<u16> {
-        rule_at(self.world.story(), book, place)
+    fn next_rule(&self, book: u16, now: &ActionNow, from: usize) -> Option<(usize, u16)> {
+        next_rule(self.index, &self.world, book, now, from)
+    }
+
+    fn count_test(&mut self) {
+        self.tests = self.tests.saturating_add(1);
     }
 
     fn applies(

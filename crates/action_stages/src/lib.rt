@@ -13,6 +13,7 @@ mod going;
 mod lending;
 mod needs;
 mod parts;
+mod passing;
 mod playing;
 mod stage;
 mod stepping;

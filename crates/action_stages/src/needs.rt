@@ -1,5 +1,5 @@
-//! What a story's actions need, and which rules its books list.
-ghost use Rattle.std.specs.Prelude.{◌≡◌, ◌+◌, ◌<◌, ◌^◌, IfSome, slice_get};
+//! What a story's actions need.
+ghost use Rattle.std.specs.Prelude.{◌≡◌};
 ghost use Rattle.play_meaning.specs.CodedStories.{game_of_codes};
 ghost use Rattle.world_store.specs.StoryPlay.{coded_story, needs_told, slot_of};
 
@@ -48,17 +48,4 @@ pub fn needs_of(story: &Story, action: ActNo) -> Needs
         None => NOTHING,
         Some(entry) => needs_told(entry),
     }
-}
-
-/// The rule at a place of a rulebook.
-#[tactic(auto, using(crate::proofs::Asked::asked_rules), unfolding(play_meaning::specs::CodedStories::game_of_codes, world_store::specs::StoryPlay::coded_story))]
-pub fn rule_at(story: &Story, book: u16, place: usize) -> Option<u16>
-    ensures rule { result ≡ slice_get ((game_of_codes (coded_story story.now)).books book) place }
-    ensures few { IfSome result (λ rule. place + 1 < 2 ^ 64) }
-{
-    let rules = story.rules_listed(book);
-    if place >= rules.len() {
-        return None;
-    }
-    rules.get(place).copied()
 }

@@ -1,5 +1,5 @@
 //! What play asks of a story and of the world that it has come to.
-ghost use Rattle.std.specs.Prelude.{◌≡◌, ◌≤◌, ◌<◌, ◌+◌, ◌-◌, ◌^◌, ℕ, IfOk, IfSome, OnOk, OnErr, Err, Some, true, slice_get};
+ghost use Rattle.std.specs.Prelude.{◌≡◌, ◌≤◌, ◌<◌, ◌+◌, ◌-◌, ◌^◌, ℕ, IfOk, IfSome, MatchOption, OnOk, OnErr, Err, Some, true, slice_get};
 ghost use Rattle.play_meaning.specs.Acting.{has_noun};
 ghost use Rattle.play_meaning.specs.CodedStories.{telling_by_codes};
 ghost use Rattle.play_meaning.specs.Consulting.{applies};
@@ -20,6 +20,7 @@ ghost use Rattle.world_store.specs.StoryPlay.{coded_story, game_in_play};
 ghost use Rattle.action_stages.specs.Answering.{Answers, Comes};
 ghost use Rattle.action_stages.specs.declared.playing.Does.TheVariants.{Standard};
 ghost use Rattle.action_stages.specs.Bodies.{AreCodesIn, StepsSo, body_in, does_told, rest_of};
+ghost use Rattle.action_stages.specs.Passing.{IsNext, NoneBehindIsAbout};
 
 use play_meaning::{ActNo, ActionNow, Flow};
 use std::alloc::Global;
@@ -59,10 +60,18 @@ pub trait Playing {
     fn needs(&self, action: ActNo) -> Needs
         ensures { result ≡ (game_in_play (tables self.now)).needs action };
 
-    /// The rule at a place of a rulebook.
-    fn rule_at(&self, book: u16, place: usize) -> Option<u16>
-        ensures rule { result ≡ slice_get ((game_in_play (tables self.now)).books book) place }
-        ensures few { IfSome result (λ rule. place + 1 < 2 ^ 64) };
+    /// The first rule of a rulebook that may be about what is there, at a place or behind it, and its place.
+    fn next_rule(&self, book: u16, now: &ActionNow, from: usize) -> Option<(usize, u16)>
+        requires whole { tables self.now ≡ (loaded self.now).story }
+        ensures next { MatchOption result (NoneBehindIsAbout (game_in_play (tables self.now)) book now.now (progress self.now).world from)
+            (λ next. IsNext (game_in_play (tables self.now)) book now.now (progress self.now).world from next.0 next.1) }
+        ensures few { IfSome result (λ next. next.0 + 1 < 2 ^ 64) };
+
+    /// Counts that a rule is asked.
+    fn count_test(&mut self)
+        ensures same { tables self.new ≡ tables self.old }
+        ensures kept { loaded self.new ≡ loaded self.old }
+        ensures progress { progress self.new ≡ progress self.old };
 
     /// Whether a rule applies.
     fn applies(

@@ -24,6 +24,7 @@ use crate::going::Stage;
 use crate::playing::Playing;
 use crate::work::Work;
 use play_meaning::{ActNo, ActionNow, Outcome, SceneNow, WorldFault};
+use rule_index::Index;
 use standard_rules::HostTable;
 use std::alloc::Global;
 use story_code::Verified;
@@ -56,8 +57,15 @@ fn codes_of(story: &Story) -> &[Verified]
 impl<'a> Stage<'a> {
     /// A stage of a story in this world, to which it may go back, where nothing was said and no work done.
     #[tactic(auto, using(crate::proofs::Returning::back_here, crate::proofs::Returning::there_here))]
-    pub fn new(alloc: Global, story: &'a Story, table: &'a HostTable, world: World) -> Stage<'a>
+    pub fn new(
+        alloc: Global,
+        story: &'a Story,
+        index: &'a Index,
+        table: &'a HostTable,
+        world: World,
+    ) -> Stage<'a>
         requires complete { rule_count table.now ≡ 61 }
+        requires index { index.now ≡ story.now }
         requires told { world.tables ≡ story.now }
         ensures story { story_of result ≡ story.now }
         ensures tables { tables_of result ≡ story.now }
@@ -73,7 +81,14 @@ impl<'a> Stage<'a> {
             text: Vec::new(alloc),
             work: Work::none(),
             since,
+            index,
+            tests: 0,
         }
+    }
+
+    /// How many rules were asked so far, or the highest number where that is more. No contract says anything of it.
+    pub fn tests(&self) -> u64 {
+        self.tests
     }
 
     /// What was said.

@@ -3,6 +3,7 @@ use crate::hall::HALL;
 use crate::stored::table_refusing;
 use action_stages::{Stage, perform};
 use play_meaning::{ActNo, ActionNow, Outcome};
+use rule_index::Index;
 use standard_rules::HostTable;
 use std::alloc::Global;
 use std::rc::Rc;
@@ -23,7 +24,8 @@ fn looked(
         return Ok(false);
     }
     let world = World::start(rt.alloc(), story)?;
-    let mut stage = Stage::new(rt.alloc(), story.as_ref(), table, world);
+    let index = Index::build(rt.alloc(), story)?;
+    let mut stage = Stage::new(rt.alloc(), story.as_ref(), &index, table, world);
     let looking = ActionNow {
         action: ActNo::new(0),
         noun: None,

@@ -30,6 +30,7 @@ use action_stages::needs_of;
 use circular_buffer::HeapCircularBuffer;
 use command_parser::{Question, Reading, Said};
 use play_meaning::ActionNow;
+use rule_index::Index;
 use standard_rules::HostTable;
 use std::alloc::Global;
 use std::rc::Rc;
@@ -47,6 +48,7 @@ pub struct Session {
     alloc: Global,
     story: Rc<Story>,
     hosts: HostTable,
+    index: Index,
     world: Option<World>,
     kept: HeapCircularBuffer<Mark>,
     question: Option<Question>,
@@ -54,6 +56,7 @@ pub struct Session {
     opening: TextBytes,
     ghost opened: { opening ≡ (opened (game_in_play story.value)).text },
     ghost whole: { rule_count hosts ≡ 61 },
+    ghost indexed: { index ≡ story.value },
     ghost home: { IsHome story.value world kept.items },
     ghost room: { kept.capacity ≡ 8 },
 }
@@ -106,13 +109,17 @@ impl Session {
         let Ok(story) = Rc::new(alloc, story) else {
             return Err(StartFault::Memory);
         };
-        let told = opened(alloc, &story, &hosts)?;
+        let Ok(index) = Index::build(alloc, &story) else {
+            return Err(StartFault::Memory);
+        };
+        let told = opened(alloc, &story, &index, &hosts)?;
         let ending = ending_of(&told.world);
         match HeapCircularBuffer::with_capacity(alloc, MOST_KEPT) {
             Ok(kept) => Ok(Session {
                 alloc,
                 story,
                 hosts,
+                index,
                 world: Some(told.world),
                 kept,
                 question: None,
@@ -170,6 +177,7 @@ impl Session {
         let (world, told) = tried(
             self.alloc,
             self.story.as_ref(),
+            &self.index,
             &self.hosts,
             world,
             now,

@@ -18,6 +18,7 @@ use crate::telling::{abandon_text, told_text};
 use crate::turns::{done, opening};
 use action_stages::Stage;
 use play_meaning::ActionNow;
+use rule_index::Index;
 use standard_rules::HostTable;
 use std::alloc::Global;
 use std::rc::Rc;
@@ -60,11 +61,13 @@ fn tell_of(stage: Stage<'_>, mark: Mark) -> (World, Result<TextBytes, Abandon>)
 fn begun(
     alloc: Global,
     story: &Story,
+    index: &Index,
     hosts: &HostTable,
     world: World,
 ) -> (World, Result<TextBytes, Abandon>)
     requires whole { rule_count hosts.now ≡ 61 }
     requires told { world.tables ≡ story.now }
+    requires index { index.now ≡ story.now }
     ensures told { MatchResult result.1
         (λ text. IsToldOf (opening (game_in_play story.now) (fresh world.world)) result.0.world text)
         (Breaks (opening (game_in_play story.now) (fresh world.world))) }
@@ -72,7 +75,7 @@ fn begun(
     ensures left { OnErr result.1 (result.0 ≡ world) }
 {
     let mark = world.mark();
-    let mut stage = Stage::new(alloc, story, hosts, world);
+    let mut stage = Stage::new(alloc, story, index, hosts, world);
     match opening(alloc, &mut stage) {
         Ok(()) => tell_of(stage, mark),
         Err(reason) => (stage.into_world_before(), Err(reason)),
@@ -84,6 +87,7 @@ fn begun(
 pub(crate) fn tried(
     alloc: Global,
     story: &Story,
+    index: &Index,
     hosts: &HostTable,
     world: World,
     now: ActionNow,
@@ -91,6 +95,7 @@ pub(crate) fn tried(
 ) -> (World, Result<TextBytes, Abandon>)
     requires whole { rule_count hosts.now ≡ 61 }
     requires told { world.tables ≡ story.now }
+    requires index { index.now ≡ story.now }
     ensures told { MatchResult result.1
         (λ text. IsToldOf (done_in apart (game_in_play story.now) now (fresh world.world)) result.0.world text)
         (Breaks (done_in apart (game_in_play story.now) now (fresh world.world))) }
@@ -99,7 +104,7 @@ pub(crate) fn tried(
     ensures left { OnErr result.1 (result.0 ≡ world) }
 {
     let mark = world.mark();
-    let mut stage = Stage::new(alloc, story, hosts, world);
+    let mut stage = Stage::new(alloc, story, index, hosts, world);
     match done(alloc, &mut stage, now, apart) {
         Ok(()) => tell_of(stage, mark),
         Err(reason) => (stage.into_world_before(), Err(reason)),
@@ -110,16 +115,18 @@ pub(crate) fn tried(
 pub(crate) fn opened(
     alloc: Global,
     story: &Rc<Story>,
+    index: &Index,
     hosts: &HostTable,
 ) -> Result<Told, StartFault>
     requires whole { rule_count hosts.now ≡ 61 }
+    requires index { index.now ≡ story.now.value }
     ensures begun { IfOk result (λ told. IsBegun story.now.value told.world told.text) }
     ensures refused { IfErr result (λ fault. fault ≡ StartFault.Memory) }
 {
     let Ok(world) = World::start(alloc, story) else {
         return Err(StartFault::Memory);
     };
-    let (world, told) = begun(alloc, story.as_ref(), hosts, world);
+    let (world, told) = begun(alloc, story.as_ref(), index, hosts, world);
     match told {
         Ok(text) => Ok(Told { world, text }),
         Err(reason) => {

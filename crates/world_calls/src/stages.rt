@@ -6,6 +6,7 @@ use crate::rules::quoted;
 use crate::words::Words;
 use action_stages::{Stage, consult, perform};
 use play_meaning::{ActNo, ActionNow, Outcome};
+use rule_index::Index;
 use standard_rules::HostTable;
 use std::alloc::{AllocError, Global};
 use world_meaning::Abandon;
@@ -66,8 +67,9 @@ fn played(
     if !table.is_complete() {
         return Ok(None);
     }
+    let index = Index::build(alloc, world.shared_story())?;
     let copy = world.copy(alloc)?;
-    let mut stage = Stage::new(alloc, world.story(), table, copy);
+    let mut stage = Stage::new(alloc, world.story(), &index, table, copy);
     match done(alloc, &mut stage, asked) {
         Ok(outcome) => {
             let line = told(alloc, stage.text(), outcome)?;

@@ -6,7 +6,7 @@ use Rattle.story_code.specs.Steps.{leads_on}
 use Rattle.world_store.specs.StoryPlay.{coded_story}
 use Rattle.action_stages.specs.Bodies.{CameTo, at, step_at}
 use Rattle.action_stages.proofs.Running.{steps_break, steps_end, steps_on}
-use Rattle.action_stages.proofs.Walking.{walk_breaks, walk_decides, walk_goes}
+use Rattle.action_stages.proofs.Walking.{walk_breaks, walk_decides, walk_ends, walk_goes, walk_over}
 use Rattle.action_stages.proofs.acting.+acting.Goals as goal
 
 -- ---- a step of a body
@@ -64,33 +64,54 @@ code_in-returns-in-Err-clause-answer g t c = λ other.
 
 -- ---- a rulebook, rule by rule
 
-pub consult_in-loop-rule-preserved : goal.consult_in-loop-rule-preserved
-consult_in-loop-rule-preserved g t c =
+pub consult_in-loop-place-preserved : goal.consult_in-loop-place-preserved
+consult_in-loop-place-preserved g t c =
     let progress = g.P.Playing.progress in
     record {
-      same = c.in-Ok-None.ensures.same ∙ c.loop-rule.invariant.same;
-      kept = c.in-Ok-None.ensures.kept ∙ c.loop-rule.invariant.kept;
-      rest = walk_goes (coded_story (g.P.Playing.tables c.args.play.now)) (coded_story (g.P.Playing.tables c.loop-rule.play)) (ap coded_story c.loop-rule.invariant.same) c.args.depth
-          c.args.book c.with_nouns-now.result c.loop-rule.place c.in-Some.rule (progress c.loop-rule.play)
+      same = c.in-Ok-None.ensures.same ∙ c.loop-place.invariant.same;
+      kept = c.in-Ok-None.ensures.kept ∙ c.loop-place.invariant.kept;
+      rest = walk_goes (coded_story (g.P.Playing.tables c.args.play.now)) (coded_story (g.P.Playing.tables c.loop-place.play)) (ap coded_story c.loop-place.invariant.same) c.args.depth
+          c.args.book c.with_nouns-now.result c.in-Some.place c.in-Some.rule (progress c.loop-place.play)
           (consult (game_of_codes (coded_story (g.P.Playing.tables c.args.play.now))) (inner_of (game_of_codes (coded_story (g.P.Playing.tables c.args.play.now))) c.args.depth)
           c.args.book c.args.now.now (progress c.args.play.now))
-          (progress c.ask_in.new.play) c.in-Ok-None.field-0 c.loop-rule.invariant.rest c.in-Some.ensures.rule c.in-Ok-None.ensures.answer c.in-Ok-None.field-0-is;
+          (progress c.ask_in.new.play) c.in-Ok-None.field-0 (walk_over (coded_story (g.P.Playing.tables c.args.play.now)) (coded_story (g.P.Playing.tables c.loop-place.play)) (ap coded_story c.loop-place.invariant.same) c.args.depth
+          c.args.book c.with_nouns-now.result c.loop-place.from (progress c.loop-place.play)
+          (consult (game_of_codes (coded_story (g.P.Playing.tables c.args.play.now))) (inner_of (game_of_codes (coded_story (g.P.Playing.tables c.args.play.now))) c.args.depth)
+          c.args.book c.args.now.now (progress c.args.play.now))
+          c.in-Some.place c.in-Some.rule c.in-Some.ensures.next c.loop-place.invariant.rest) c.in-Some.ensures.next.there c.in-Ok-None.ensures.answer c.in-Ok-None.field-0-is;
     }
 
 pub consult_in-returns-in-Ok-Some-clause-answer : goal.consult_in-returns-in-Ok-Some-clause-answer
 consult_in-returns-in-Ok-Some-clause-answer g t c =
     let progress = g.P.Playing.progress in
-    walk_decides (coded_story (g.P.Playing.tables c.args.play.now)) (coded_story (g.P.Playing.tables c.loop-rule.play)) (ap coded_story c.loop-rule.invariant.same) c.args.depth
-    c.args.book c.with_nouns-now.result c.loop-rule.place c.in-Some.rule (progress c.loop-rule.play)
+    walk_decides (coded_story (g.P.Playing.tables c.args.play.now)) (coded_story (g.P.Playing.tables c.loop-place.play)) (ap coded_story c.loop-place.invariant.same) c.args.depth
+    c.args.book c.with_nouns-now.result c.in-Some.place c.in-Some.rule (progress c.loop-place.play)
     (consult (game_of_codes (coded_story (g.P.Playing.tables c.args.play.now))) (inner_of (game_of_codes (coded_story (g.P.Playing.tables c.args.play.now))) c.args.depth) c.args.book
     c.args.now.now (progress c.args.play.now))
-    (progress c.ask_in.new.play) c.in-Ok-Some.field-0 c.loop-rule.invariant.rest c.in-Some.ensures.rule c.in-Ok-Some.ensures.answer c.in-Ok-Some.outcome c.in-Ok-Some.field-0-is
+    (progress c.ask_in.new.play) c.in-Ok-Some.field-0 (walk_over (coded_story (g.P.Playing.tables c.args.play.now)) (coded_story (g.P.Playing.tables c.loop-place.play)) (ap coded_story c.loop-place.invariant.same) c.args.depth
+    c.args.book c.with_nouns-now.result c.loop-place.from (progress c.loop-place.play)
+    (consult (game_of_codes (coded_story (g.P.Playing.tables c.args.play.now))) (inner_of (game_of_codes (coded_story (g.P.Playing.tables c.args.play.now))) c.args.depth)
+    c.args.book c.args.now.now (progress c.args.play.now))
+    c.in-Some.place c.in-Some.rule c.in-Some.ensures.next c.loop-place.invariant.rest) c.in-Some.ensures.next.there c.in-Ok-Some.ensures.answer c.in-Ok-Some.outcome c.in-Ok-Some.field-0-is
 
 pub consult_in-returns-in-Err-clause-answer : goal.consult_in-returns-in-Err-clause-answer
 consult_in-returns-in-Err-clause-answer g t c = λ other.
     let progress = g.P.Playing.progress in
-    walk_breaks (coded_story (g.P.Playing.tables c.args.play.now)) (coded_story (g.P.Playing.tables c.loop-rule.play)) (ap coded_story c.loop-rule.invariant.same) c.args.depth
-    c.args.book c.with_nouns-now.result c.loop-rule.place c.in-Some.rule (progress c.loop-rule.play)
+    walk_breaks (coded_story (g.P.Playing.tables c.args.play.now)) (coded_story (g.P.Playing.tables c.loop-place.play)) (ap coded_story c.loop-place.invariant.same) c.args.depth
+    c.args.book c.with_nouns-now.result c.in-Some.place c.in-Some.rule (progress c.loop-place.play)
     (consult (game_of_codes (coded_story (g.P.Playing.tables c.args.play.now))) (inner_of (game_of_codes (coded_story (g.P.Playing.tables c.args.play.now))) c.args.depth) c.args.book
     c.args.now.now (progress c.args.play.now))
-    c.in-Err.reason c.loop-rule.invariant.rest c.in-Some.ensures.rule (c.in-Err.ensures.answer other)
+    c.in-Err.reason (walk_over (coded_story (g.P.Playing.tables c.args.play.now)) (coded_story (g.P.Playing.tables c.loop-place.play)) (ap coded_story c.loop-place.invariant.same) c.args.depth
+    c.args.book c.with_nouns-now.result c.loop-place.from (progress c.loop-place.play)
+    (consult (game_of_codes (coded_story (g.P.Playing.tables c.args.play.now))) (inner_of (game_of_codes (coded_story (g.P.Playing.tables c.args.play.now))) c.args.depth)
+    c.args.book c.args.now.now (progress c.args.play.now))
+    c.in-Some.place c.in-Some.rule c.in-Some.ensures.next c.loop-place.invariant.rest) c.in-Some.ensures.next.there (c.in-Err.ensures.answer other)
+
+pub consult_in-returns-clause-answer : goal.consult_in-returns-clause-answer
+consult_in-returns-clause-answer g t c =
+    let progress = g.P.Playing.progress in
+    walk_ends (coded_story (g.P.Playing.tables c.args.play.now)) (coded_story (g.P.Playing.tables c.loop-place.play)) (ap coded_story c.loop-place.invariant.same) c.args.depth
+    c.args.book c.with_nouns-now.result c.loop-place.from (progress c.loop-place.play)
+    (consult (game_of_codes (coded_story (g.P.Playing.tables c.args.play.now))) (inner_of (game_of_codes (coded_story (g.P.Playing.tables c.args.play.now))) c.args.depth)
+    c.args.book c.args.now.now (progress c.args.play.now))
+    c.in_default.ensures.next c.loop-place.invariant.rest

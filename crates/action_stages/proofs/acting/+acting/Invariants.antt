@@ -58,20 +58,20 @@ invariant-act_in-loop-part g l =
           l.fn.play);
     }
 
-abbrev pub invariant-consult_in-loop-rule : goal.invariant-consult_in-loop-rule
-invariant-consult_in-loop-rule g l =
+abbrev pub invariant-consult_in-loop-place : goal.invariant-consult_in-loop-place
+invariant-consult_in-loop-place g l =
     let tables = g.P.Playing.tables in
     let progress = g.P.Playing.progress in
     let game = game_in_play (tables l.fn.play) in
     record {
       same : tables l.play ≡ tables l.fn.play;
       kept : g.P.Playing.loaded l.play ≡ g.P.Playing.loaded l.fn.play;
-      rest : first_decision (map (ask game (inner_of game l.depth) l.book l.now) (drop l.place (game.books l.book))) (progress l.play) ≡ consult game (inner_of game l.fn.depth)
+      rest : first_decision (map (ask game (inner_of game l.depth) l.book l.now) (drop l.from (game.books l.book))) (progress l.play) ≡ consult game (inner_of game l.fn.depth)
           l.fn.book l.fn.now (progress l.fn.play);
     }
 
-abbrev pub decreases-consult_in-loop-rule : goal.decreases-consult_in-loop-rule
-decreases-consult_in-loop-rule g l = length ((game_in_play (g.P.Playing.tables l.play)).books l.book) - l.place
+abbrev pub decreases-consult_in-loop-place : goal.decreases-consult_in-loop-place
+decreases-consult_in-loop-place g l = length ((game_in_play (g.P.Playing.tables l.play)).books l.book) - l.from
 
 abbrev pub invariant-code_in-steps : goal.invariant-code_in-steps
 invariant-code_in-steps g l =
