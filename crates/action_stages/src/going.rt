@@ -6,7 +6,6 @@ ghost use Rattle.action_stages.specs.Returning.{back_at};
 use crate::conditions::applies;
 use crate::does::does;
 use crate::effects::{Rules, ends, make_all};
-use crate::lending::HasWorld;
 use crate::needs::needs_of;
 use crate::passing::next_rule;
 use crate::playing::{Does, Owed, Playing};
@@ -44,16 +43,6 @@ fn has_thing(world: &World, object: ObjNo) -> bool
     let player = ObjNo::new(0);
     is_held(world, Rel::Carried, Some(player), object)
         || is_held(world, Rel::Worn, Some(player), object)
-}
-
-impl HasWorld for Stage<'_> {
-    ghost held = { λ g. g.world };
-
-    ghost with_world = { λ g w. record g { world = w } };
-
-    fn world_mut(&mut self) -> &mut World {
-        &mut self.world
-    }
 }
 
 impl Playing for Stage<'_> {

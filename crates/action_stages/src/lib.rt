@@ -10,7 +10,6 @@ mod effects;
 mod end_laws;
 mod failing;
 mod going;
-mod lending;
 mod needs;
 mod parts;
 mod passing;
@@ -24,7 +23,6 @@ pub use end_laws::{
     each_step_is_nearer_the_end, runs_keep_their_outcome, sound_bodies_end, stories_lower_no_work,
 };
 pub use going::Stage;
-pub use lending::HasWorld;
 pub use needs::needs_of;
 pub use stage::{consult, count_turn, follow, holds, perform, say, set_scene};
 pub use tale_laws::{games_alike_have_one_session, stories_are_played_as_their_tales};
