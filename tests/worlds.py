@@ -5,9 +5,9 @@ Use: tests/worlds.py PROGRAM [FILE]    (the program of `i7story`; that of `world
 
 A row is a line: calls, `; ` in between, made one after the other on a world as the story begins, each with what it answers behind
 ` = `; one behind which nothing stands is to be made. The calls have the names of the methods of `World`, `Ground` and
-`GroundMut`, and the words of `crates/world_calls/src/names.rt`; that crate's `row.rt` says what `make`, `copy`, `other` and
-`agree` are. The story of FILE is that of the source of its name beside it, or that of its name in tests/story_files, or the furnished
-one, and a line that begins with `#` says what the rows below it are about."""
+`GroundMut`, and the words of `crates/world_calls/src/names.rt`; that crate's `row.rt` says what `make`, `copy`, `other`,
+`agree`, `mark` and `revert` are. The story of FILE is that of the source of its name beside it, or that of its name in
+tests/story_files, or the furnished one, and a line that begins with `#` says what the rows below it are about."""
 import pathlib
 import subprocess
 import sys

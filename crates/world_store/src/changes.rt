@@ -1,4 +1,5 @@
-//! What changes the world: each setter makes one change, where the rules of the kinds and of placing allow it.
+//! What changes the world: each setter makes one change, where the rules of the kinds and of placing allow it. What that replaces
+//! is written in the log before it: where memory for that is refused, `Memory` is answered, and nothing changes.
 ghost use Rattle.std.specs.Prelude.{◌≡◌, ◌<◌, ◌∷◌, ◌++◌, [], ℕ, MatchResult, Some, length, nat_lt, true};
 ghost use Rattle.play_meaning.specs.Changes.{Allows, make_number, make_so, may_be_put, put_at, take_away};
 ghost use Rattle.play_meaning.specs.Settings.{kinds_of};
@@ -102,7 +103,7 @@ impl World {
         Ok(())
     }
 
-    /// Counts a turn more. Where that for remembering is refused the world is as it was.
+    /// Counts a turn more, if there is memory for the log; the world is as it was where there is none.
     pub fn next_turn(&mut self) -> Result<(), AllocError>
         requires { self.old.world.turns < most_turns }
         ensures { MatchResult result (λ _. self.new ≡ record self.old { world = next_turn self.old.world; past = self.old.past ++ self.old.world ∷ [] })
