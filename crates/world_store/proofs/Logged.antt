@@ -1,6 +1,6 @@
 -- A change that was written in the log and made.
 use Rattle.std.proofs.Common.{◌≡◌, ◌∙◌, sym, ap, refl, subst, ℕ, ◌+◌, Bool, ℤ, List, [], ◌∷◌, ◌++◌}
-use Rattle.std.specs.Prelude.{◌<◌, Option, None, Some, slice_index_or, slice_set}
+use Rattle.std.specs.Prelude.{◌<◌, Option, Some, slice_index_or, slice_set}
 use Rattle.play_meaning.specs.Turns.{most_turns}
 use Rattle.play_meaning.specs.Worlds.{World, end_with, is_true_of, next_turn, number_of, place_of, scene_of, set_flag, set_number, set_place, set_scene, set_variable, variable_of}
 use Rattle.play_meaning.specs.declared.scene.SceneNow.{SceneNow}

@@ -1,7 +1,7 @@
 -- The worlds before the changes of a log: what writing a change adds to them, and what taking one back leaves.
-use Rattle.std.proofs.Common.{◌≡◌, ◌∙◌, sym, ap, refl, subst, ℕ, zero, suc, ◌+◌, ◌<◌, ◌≤◌, Bool, ℤ, List, [], ◌∷◌, ◌++◌, length, arith}
-use Rattle.std.specs.Prelude.{Option, None, Some, false, pos, slice_index_or, slice_set}
-use Rattle.std.proofs.lemmas.List.{length-append, set-get_or, set-set}
+use Rattle.std.proofs.Common.{◌≡◌, ◌∙◌, sym, ap, refl, subst, ℕ, zero, suc, Bool, ℤ, List, [], ◌∷◌, ◌++◌, length}
+use Rattle.std.specs.Prelude.{Option, None, false, pos, slice_index_or, slice_set}
+use Rattle.std.proofs.lemmas.List.{set-get_or, set-set}
 use Rattle.std.proofs.lemmas.Option.{none-some, same_Some}
 use Rattle.play_meaning.specs.Worlds.{World, is_true_of, number_of, place_of, set_flag, set_number, set_place, set_scene, set_variable, scene_of, variable_of}
 use Rattle.play_meaning.specs.declared.scene.SceneNow.{SceneNow}

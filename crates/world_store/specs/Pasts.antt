@@ -1,5 +1,5 @@
 -- The worlds before the changes that a log tells.
-use Rattle.std.specs.Prelude.{ℕ, List, [], ◌∷◌}
+use Rattle.std.specs.Prelude.{List, [], ◌∷◌}
 use Rattle.play_meaning.specs.Worlds.{World, set_flag, set_number, set_place, set_scene, set_variable}
 use Rattle.story_format.specs.declared.tables.Tables.{Tables}
 use Rattle.world_store.specs.StoryWorlds.{StoryWorld}

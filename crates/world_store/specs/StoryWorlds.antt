@@ -1,5 +1,5 @@
 -- A story in play: its tables, the world of the moment, whose lists have the lengths that the story gives, and the worlds before it.
-use Rattle.std.specs.Prelude.{◌≡◌, ◌<◌, ◌≤◌, ℕ, true, List, [], ◌∷◌, ◌++◌, length, slice_get, slice_index_or, take, Option, Some, Result}
+use Rattle.std.specs.Prelude.{◌≡◌, ◌<◌, ◌≤◌, ℕ, true, List, [], ◌∷◌, ◌++◌, length, slice_get, slice_index_or, take, Some, Result}
 use Rattle.object_tree.specs.Places.{holder_of}
 use Rattle.play_meaning.specs.Changes.{behind, remembered}
 use Rattle.play_meaning.specs.Settings.{room_kind}

@@ -61,6 +61,13 @@ impl Atlas {
         self.story.as_ref()
     }
 
+    /// The story, to be shared.
+    pub(crate) fn shared(&self) -> &Rc<Story>
+        ensures { result.now.value ≡ self.now }
+    {
+        &self.story
+    }
+
     /// The ways of a room, if it is one.
     pub(crate) fn exits(&self, room: ObjNo) -> Option<Exits>
         ensures { result ≡ exits_of self.now room }

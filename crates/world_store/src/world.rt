@@ -141,6 +141,13 @@ impl World {
         self.atlas.as_ref().story()
     }
 
+    /// The story that is played, to be shared.
+    pub fn shared_story(&self) -> &Rc<Story>
+        ensures { result.now.value ≡ self.now.tables }
+    {
+        self.atlas.as_ref().shared()
+    }
+
     /// The ways of a room, if it is one.
     pub(crate) fn exits(&self, room: ObjNo) -> Option<Exits>
         ensures { result ≡ exits_of self.now.tables room }

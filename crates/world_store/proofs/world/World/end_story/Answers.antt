@@ -1,5 +1,5 @@
 use Rattle.world_store.specs.Pasts.{world_of}
-use Rattle.world_store.proofs.Logged.{IsLogged, ending_logged}
+use Rattle.world_store.proofs.Logged.{ending_logged}
 use Rattle.world_store.proofs.world.World.end_story.Goals as goal
 
 pub invariant_of-self : goal.invariant_of-self

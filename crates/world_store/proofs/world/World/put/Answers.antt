@@ -3,7 +3,7 @@ use Rattle.std.specs.Prelude.{Bool, Some, if◌then◌else◌}
 use Rattle.play_meaning.specs.Worlds.{set_place}
 use Rattle.world_meaning.specs.declared.place.Place.{Place}
 use Rattle.world_store.specs.Pasts.{world_of}
-use Rattle.world_store.proofs.Logged.{IsLogged, place_logged}
+use Rattle.world_store.proofs.Logged.{place_logged}
 use Rattle.world_store.proofs.Putting.{kept_there, may_inside}
 use Rattle.world_store.proofs.world.World.put.Goals as goal
 

@@ -1,6 +1,6 @@
 use Rattle.std.proofs.Common.{◌≡◌, ◌∙◌, ◌≤◌, ◌<◌, ap, arith, length, sym}
 use Rattle.world_store.specs.Pasts.{world_of}
-use Rattle.world_store.specs.StoryWorlds.{StoryWorld, reverted}
+use Rattle.world_store.specs.StoryWorlds.{StoryWorld}
 use Rattle.world_store.proofs.Pasts.{past_length}
 use Rattle.world_store.proofs.Reverted.{reverted_back, reverted_here, shorter}
 use Rattle.world_store.proofs.world.World.revert.Goals as goal

@@ -1,8 +1,8 @@
-use Rattle.std.proofs.Common.{[], ◌∷◌, ◌++◌, ◌∙◌, ap, sym}
+use Rattle.std.proofs.Common.{[], ◌∷◌, ◌++◌, ◌∙◌, ap}
 use Rattle.std.specs.Prelude.{Bool, if◌then◌else◌}
 use Rattle.play_meaning.specs.Worlds.{set_flag}
 use Rattle.world_store.specs.Pasts.{world_of}
-use Rattle.world_store.proofs.Logged.{IsLogged, flag_logged}
+use Rattle.world_store.proofs.Logged.{flag_logged}
 use Rattle.world_store.proofs.world.World.set_flag.Goals as goal
 
 pub invariant_of-self-2 : goal.invariant_of-self-2

@@ -1,9 +1,9 @@
-use Rattle.std.proofs.Common.{[], of_z, to_z, w32, ◌∷◌, ◌++◌, ◌∙◌, ap, sym}
+use Rattle.std.proofs.Common.{[], of_z, to_z, w32, ◌∷◌, ◌++◌, ◌∙◌, ap}
 use mir.ValLaws.{to_z-of_z}
 use Rattle.std.specs.Prelude.{Bool, if◌then◌else◌}
 use Rattle.play_meaning.specs.Worlds.{set_number}
 use Rattle.world_store.specs.Pasts.{world_of}
-use Rattle.world_store.proofs.Logged.{IsLogged, number_logged}
+use Rattle.world_store.proofs.Logged.{number_logged}
 use Rattle.world_store.proofs.world.World.set_number.Goals as goal
 
 pub invariant_of-self-2 : goal.invariant_of-self-2

@@ -1,5 +1,5 @@
 use Rattle.world_store.specs.Pasts.{world_of}
-use Rattle.world_store.proofs.Logged.{IsLogged, scene_logged}
+use Rattle.world_store.proofs.Logged.{scene_logged}
 use Rattle.world_store.proofs.world.World.set_scene.Goals as goal
 
 pub invariant_of-self-2 : goal.invariant_of-self-2

@@ -1,7 +1,7 @@
 use Rattle.std.proofs.Common.{◌∙◌, of_z, to_z, w32}
 use mir.ValLaws.{to_z-of_z}
 use Rattle.world_store.specs.Pasts.{world_of}
-use Rattle.world_store.proofs.Logged.{IsLogged, variable_logged}
+use Rattle.world_store.proofs.Logged.{variable_logged}
 use Rattle.world_store.proofs.world.World.set_variable.Goals as goal
 
 pub invariant_of-self-2 : goal.invariant_of-self-2

@@ -4,7 +4,7 @@ use Rattle.play_meaning.specs.Settings.{kinds_of}
 use Rattle.play_meaning.specs.Worlds.{set_place}
 use Rattle.world_store.specs.Pasts.{world_of}
 use Rattle.world_store.specs.StorySettings.{setting_of}
-use Rattle.world_store.proofs.Logged.{IsLogged, place_logged}
+use Rattle.world_store.proofs.Logged.{place_logged}
 use Rattle.world_store.proofs.Putting.{held_inside, kept_without, taken_so}
 use Rattle.world_store.proofs.world.World.take_out.Goals as goal
 

@@ -1,4 +1,4 @@
-use Rattle.std.proofs.Common.{◌≡◌, ◌∙◌, ap, arith, length, refl, sym}
+use Rattle.std.proofs.Common.{◌∙◌, ap, arith, refl, sym}
 use Rattle.world_store.specs.Pasts.{undone, world_of}
 use Rattle.world_store.specs.StoryWorlds.{StoryWorld}
 use Rattle.world_store.proofs.Pasts.{kept_back, past_but_last}
