@@ -150,6 +150,8 @@ impl Ground for Stage {
 }
 
 impl GroundMut for Stage {
+    ghost past = { λ s. s.world.past };
+
     fn set_flag(&mut self, object: ObjNo, property: u8, value: bool) -> Result<(), WorldFault> {
         self.world.set_flag(object, property, value)
     }

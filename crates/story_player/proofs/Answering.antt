@@ -3,12 +3,12 @@ use Rattle.std.proofs.Common.{◌≡◌, ◌≢◌, ◌∙◌, ap, sym, refl, su
 use Rattle.world_meaning.specs.declared.session.Abandon.{Abandon}
 use Rattle.world_meaning.specs.declared.session.Abandon.TheVariants.{Memory, NestedTooDeep, NumberOutOfRange, TooMuchWork}
 use Rattle.world_meaning.specs.declared.session.ReplyKind.{ReplyKind}
-use Rattle.world_meaning.specs.declared.session.ReplyKind.TheVariants.{Abandoned, Free}
+use Rattle.world_meaning.specs.declared.session.ReplyKind.TheVariants.{Abandoned, Free, Kept}
 use Rattle.play_meaning.specs.Attempts.{Attempt}
 use Rattle.play_meaning.specs.CodedStories.{game_of_codes}
 use Rattle.play_meaning.specs.Games.{Acts, Game}
 use Rattle.play_meaning.specs.Progress.{Progress, fresh}
-use Rattle.play_meaning.specs.Sessions.{Answer, State, abandon_text, abandoned, acted, closed, opened, played, read_answer}
+use Rattle.play_meaning.specs.Sessions.{Answer, State, abandon_text, abandoned, acted, closed, keep, opened, played, read_answer}
 use Rattle.play_meaning.specs.Turns.{opening}
 use Rattle.play_meaning.specs.Worlds.{World}
 use Rattle.play_meaning.specs.declared.action.ActionNow.{ActionNow}
@@ -55,6 +55,22 @@ act_told g reply to s now apart w text is told taken =
     taken ∙ sym (played_to (kind_by apart) (kept_by apart s) s (done_in apart g now (fresh s.world)) w text told) ∙ sym (acted_is apart g now s)
     ∙ ap (λ b. acted b g now s) is ∙ ap (λ refused. read_answer g refused s (Acts now)) (sym none)
 
+-- an action by itself was taken up
+pub taken_apart : (reply : Spoken) (to from s : State) (apart : Bool) (text : List ℕ) → apart ≡ true → reply ≡ record { text = text; kind = kind_told Free from.world.ended }
+    → to ≡ record from { question = None; ending = ending_told from.world.ended } → from.kept ≡ s.kept → answer_with reply to ≡ taken_up apart s from.world text
+taken_apart reply to from s apart text is told state kept =
+    subst (λ (apart : Bool). answer_with reply to ≡ taken_up apart s from.world text) (sym is)
+    ((λ i. answer_with (told i) (state i))
+    ∙ (λ i. record { text = text; kind = kind_told Free from.world.ended; state = record { world = from.world; kept = kept i; question = None; ending = ending_told from.world.ended } }))
+
+-- a turn was, the world before it being kept
+pub taken_turn : (reply : Spoken) (to from s : State) (apart : Bool) (text : List ℕ) → apart ≡ false → reply ≡ record { text = text; kind = kind_told Kept from.world.ended }
+    → to ≡ record from { question = None; ending = ending_told from.world.ended } → from.kept ≡ keep s.world s.kept → answer_with reply to ≡ taken_up apart s from.world text
+taken_turn reply to from s apart text is told state kept =
+    subst (λ (apart : Bool). answer_with reply to ≡ taken_up apart s from.world text) (sym is)
+    ((λ i. answer_with (told i) (state i))
+    ∙ (λ i. record { text = text; kind = kind_told Kept from.world.ended; state = record { world = from.world; kept = kept i; question = None; ending = ending_told from.world.ended } }))
+
 abandoned_so : (g : Game) (s : State) (now : ActionNow) (reason : Abandon) → done_in (g.needs now.action).out_of_world g now (fresh s.world) ≡ Err reason
     → abandoned reason s ≡ acted (g.needs now.action).out_of_world g now s
 abandoned_so g s now reason is =
@@ -81,7 +97,7 @@ abbrev start_state : World → State
 start_state w = record { world = w; kept = []; question = None; ending = None }
 
 abbrev IsStart : Tables → StoryWorld → Type 0
-IsStart t start = start ≡ record { tables = t; world = start_world t }
+IsStart t start = start ≡ record { tables = t; world = start_world t; past = [] }
 
 opened_by : (t : Tables) (start : StoryWorld) → IsStart t start → opened (game_in_play t) ≡ played Free [] (start_state (start_world t)) (opening (game_in_play t) (fresh start.world))
 unfolding opened game_of_codes coded_story

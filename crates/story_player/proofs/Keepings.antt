@@ -1,16 +1,54 @@
 -- The places of a log to which turns are taken back, where one more is put in front of them or the first is taken away.
 use Rattle.std.proofs.Common.{◌≡◌, ◌∙◌, ap, sym, subst, refl, ℕ, zero, suc, ◌+◌, ◌<◌, ◌≤◌, List, [], ◌∷◌, ◌++◌, length, drop, take, map, Some, arith}
-use Rattle.std.specs.Prelude.{Option, None, slice_get, slice_index_or}
+use Rattle.std.specs.Prelude.{Err, Ok, OnErr, OnOk, Option, None, Result, is_some, nat_le, true, slice_get, slice_index_or}
+use Rattle.std.specs.Option.{ForSome}
+use Rattle.std.proofs.lemmas.Bool.{and_parts, le-leb, leb-true}
 use Rattle.std.proofs.lemmas.List.{get_or-take, get_or_default, get_or_push, length-take, take-append-le, take_more}
 use Rattle.std.proofs.lemmas.Option.{same_Some}
 use Rattle.play_meaning.specs.Worlds.{World}
+use Rattle.world_meaning.specs.declared.session.Abandon.{Abandon}
 use Rattle.story_format.specs.declared.tables.Tables.{Tables}
 use Rattle.world_store.specs.StoryWorlds.{StoryWorld, reverted, worlds}
 use Rattle.action_stages.specs.Returning.{ComesBehind, front_at}
 use Rattle.action_stages.proofs.Returning.{worlds_long}
-use Rattle.story_player.specs.KeptWorlds.{AreMarks, HasGoneOn, IsHome, kept_in, world_at, world_in}
+use Rattle.story_player.specs.KeptWorlds.{HasGoneOn, are_marks, kept_in, world_at, world_in}
 
 -- ---- the world that is there
+
+-- places up to this one, the latest in front
+abbrev pub AreMarks : ℕ → List ℕ → Type 0
+AreMarks last [] = Unit {0}
+AreMarks last (mark ∷ marks) = (mark ≤ last) × AreMarks mark marks
+
+marks_so : (last : ℕ) (marks : List ℕ) → are_marks last marks ≡ true → AreMarks last marks
+marks_so last [] are = tt
+marks_so last (mark ∷ marks) are = let both = and_parts (nat_le mark last) (are_marks mark marks) are in (leb-true mark last both.0, marks_so mark marks both.1)
+
+so_marks : (last : ℕ) (marks : List ℕ) → AreMarks last marks → are_marks last marks ≡ true
+so_marks last [] are = refl
+so_marks last (mark ∷ marks) are = rw (le-leb mark last are.0, so_marks mark marks are.1) refl
+
+-- a world of the story is there, and its log has these places
+pub record IsHome (t : Tables) (world : Option StoryWorld) (marks : List ℕ) : Type 0 where
+  pub now : StoryWorld
+  pub there : world ≡ Some now
+  pub tables : now.tables ≡ t
+  pub marks_are : AreMarks (length now.past) marks
+
+pub home_of : (t : Tables) (world : Option StoryWorld) (marks : List ℕ) → is_some world ≡ true → ForSome world (λ now. now.tables ≡ t)
+    → ForSome world (λ now. are_marks (length now.past) marks ≡ true) → IsHome t world marks
+home_of t None marks there tables are = absurd cc
+home_of t (Some now) marks there tables are = record { now = now; there = refl; tables = tables now refl; marks_are = marks_so (length now.past) marks (are now refl) }
+
+pub is_there : (t : Tables) (world : Option StoryWorld) (marks : List ℕ) → IsHome t world marks → is_some world ≡ true
+is_there t world marks home = ap is_some home.there
+
+pub is_of : (t : Tables) (world : Option StoryWorld) (marks : List ℕ) → IsHome t world marks → ForSome world (λ now. now.tables ≡ t)
+is_of t world marks home = λ now is. ap (λ (s : StoryWorld). s.tables) (sym (same_Some home.now now (sym home.there ∙ is))) ∙ home.tables
+
+pub are_there : (t : Tables) (world : Option StoryWorld) (marks : List ℕ) → IsHome t world marks → ForSome world (λ now. are_marks (length now.past) marks ≡ true)
+are_there t world marks home = λ now is.
+    ap (λ (s : StoryWorld). are_marks (length s.past) marks) (sym (same_Some home.now now (sym home.there ∙ is))) ∙ so_marks (length home.now.past) marks home.marks_are
 
 pub home_here : (t : Tables) (world : Option StoryWorld) (marks : List ℕ) (here : StoryWorld) → IsHome t world marks → world ≡ Some here
     → (here.tables ≡ t) × (here.world ≡ world_in world)
@@ -70,9 +108,10 @@ reverted_before s mark within = λ other less.
     let here : mark < length (worlds s) = omega (arith, within, worlds_long s) in
     let long : length (take mark s.past) ≡ mark = omega (arith, within, length-take mark s.past) in
     let front : worlds (reverted mark s) ≡ take (mark + 1) (worlds s) =
-        ap (λ (past : List World). past ++ world_at s mark ∷ []) (sym (take-append-le mark s.past (s.world ∷ []) within)) ∙ sym (take_more (worlds s) mark s.world here) in
-    (omega (arith, less, long, within),
-     sym (ap (take (suc other)) front ∙ take_front (suc other) (mark + 1) (worlds s) (omega (arith, less, long))))
+    ap (λ (past : List World). past ++ world_at s mark ∷ []) (sym (take-append-le mark s.past (s.world ∷ []) within)) ∙ sym (take_more (worlds s) mark s.world here) in (
+      omega (arith, less, long, within),
+      sym (ap (take (suc other)) front ∙ take_front (suc other) (mark + 1) (worlds s) (omega (arith, less, long))),
+    )
   where
     take_front : {A : Type 0} (n m : ℕ) (xs : List A) → n ≤ m → take n (take m xs) ≡ take n xs
     take_front zero m xs less = refl
@@ -145,3 +184,32 @@ module _ (t : Tables) (before : Option StoryWorld) (marks rest : List ℕ) (mark
       ap (λ (world : Option StoryWorld). kept_in world marks) here ∙ ap (map (world_at s)) (first_of marks rest mark first behind)
       ∙ ap (λ (kept : List World). world_at s mark ∷ kept)
       (same_kept (reverted mark s) s mark rest (reverted_before s mark are.0) (omega (arith, are.0, length-take mark s.past)) are.1)
+
+-- ---- an action on a session's world
+
+pub gone_behind : {A : Type 0} (result : Result A Abandon) (s now : StoryWorld) → OnOk result (ComesBehind s now) → OnErr result (now ≡ s) → ComesBehind s now
+gone_behind (Ok told) s now behind left = behind
+gone_behind (Err reason) s now behind left = λ mark within.
+    (subst (λ (t : StoryWorld). mark ≤ length t.past) (sym left) within, ap (front_at mark) left)
+
+pub home_on : (t : Tables) (before : Option StoryWorld) (marks : List ℕ) (s now : StoryWorld) → IsHome t before marks → before ≡ Some s → now.tables ≡ t → ComesBehind s now
+    → IsHome t (Some now) marks
+home_on t before marks s now was here story behind =
+    let same : was.now ≡ s = same_Some was.now s (sym was.there ∙ here) in
+    record {
+      now = now;
+      there = refl;
+      tables = story;
+      marks_are =
+          marks_within (length s.past) (length now.past) marks (behind (length s.past) (omega arith)).0
+          (subst (λ (s : StoryWorld). AreMarks (length s.past) marks) same was.marks_are);
+    }
+
+gone_on : (before : Option StoryWorld) (s now : StoryWorld) → before ≡ Some s → ComesBehind s now → HasGoneOn before (Some now)
+gone_on before s now here behind = λ a b is so.
+    subst (λ (a : StoryWorld). ComesBehind a b) (same_Some s a (sym here ∙ is)) (subst (λ (b : StoryWorld). ComesBehind s b) (same_Some now b so) behind)
+
+pub has_gone_on : {A : Type 0} (result : Result A Abandon) (before : Option StoryWorld) (s now : StoryWorld) → before ≡ Some s → OnOk result (ComesBehind s now)
+    → OnOk result (HasGoneOn before (Some now))
+has_gone_on (Ok told) before s now here behind = gone_on before s now here behind
+has_gone_on (Err reason) before s now here behind = tt

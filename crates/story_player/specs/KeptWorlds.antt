@@ -1,7 +1,6 @@
 -- The world of a session with its log, and the places of the log to which turns are taken back.
-use Rattle.std.specs.Prelude.{◌≡◌, ◌≤◌, ℕ, List, [], ◌∷◌, length, map, Option, None, Some, slice_index_or}
+use Rattle.std.specs.Prelude.{◌≡◌, ℕ, Bool, true, ◌&&◌, nat_le, List, [], ◌∷◌, map, Option, None, Some, slice_index_or}
 use Rattle.play_meaning.specs.Worlds.{World}
-use Rattle.story_format.specs.declared.tables.Tables.{Tables}
 use Rattle.world_store.specs.StoryWorlds.{StoryWorld, worlds}
 use Rattle.action_stages.specs.Returning.{ComesBehind}
 
@@ -23,17 +22,10 @@ abbrev pub kept_in : Option StoryWorld → List ℕ → List World
 kept_in None marks = []
 kept_in (Some s) marks = map (world_at s) marks
 
--- places up to this one, the latest in front
-abbrev pub AreMarks : ℕ → List ℕ → Type 0
-AreMarks last [] = Unit {0}
-AreMarks last (mark ∷ marks) = (mark ≤ last) × AreMarks mark marks
-
--- a world of the story is there, and its log has these places
-pub record IsHome (t : Tables) (world : Option StoryWorld) (marks : List ℕ) : Type 0 where
-  pub now : StoryWorld
-  pub there : world ≡ Some now
-  pub tables : now.tables ≡ t
-  pub marks_are : AreMarks (length now.past) marks
+-- whether these are places up to this one, the latest in front
+abbrev pub are_marks : ℕ → List ℕ → Bool
+are_marks last [] = true
+are_marks last (mark ∷ marks) = nat_le mark last && are_marks mark marks
 
 -- what was done on the world has lost nothing of its log
 abbrev pub HasGoneOn : Option StoryWorld → Option StoryWorld → Type 0

@@ -1,5 +1,6 @@
 //! A session: a story in play, line by line.
-ghost use Rattle.std.specs.Prelude.{◌≡◌, false, true, None, Some, IfErr, IfOk, MatchResult, OnOk};
+ghost use Rattle.std.specs.Prelude.{◌≡◌, false, true, None, Some, IfErr, IfOk, MatchResult, OnErr, OnOk, is_some, length};
+ghost use Rattle.std.specs.Option.{ForSome};
 ghost use Rattle.play_meaning.specs.Games.{Acts, Asks, Quit, Reading as Read, Says, Undo};
 ghost use Rattle.play_meaning.specs.Progress.{fresh};
 ghost use Rattle.play_meaning.specs.Sessions.{abandon_text, answer_of, answer_to, opened, read_answer};
@@ -12,7 +13,7 @@ ghost use Rattle.world_store.specs.StoryPlay.{game_in_play};
 ghost use Rattle.command_parser.specs.Readings.{said_text, told as told_of};
 ghost use Rattle.command_parser.specs.Settling.{is_asking};
 ghost use Rattle.story_player.specs.Begun.{IsUnbegun};
-ghost use Rattle.story_player.specs.KeptWorlds.{HasGoneOn, IsHome};
+ghost use Rattle.story_player.specs.KeptWorlds.{HasGoneOn, are_marks};
 ghost use Rattle.story_player.specs.Turns.{IsToldOf, done_in, ending_told, kind_told, taken_up};
 ghost use Rattle.story_player.specs.Typed.{told, told_reading};
 ghost use Rattle.world_store.specs.StoryGrammars.{grammar_of};
@@ -57,7 +58,9 @@ pub struct Session {
     ghost opened: { opening ≡ (opened (game_in_play story.value)).text },
     ghost whole: { rule_count hosts ≡ 61 },
     ghost indexed: { index ≡ story.value },
-    ghost home: { IsHome story.value world kept.items },
+    ghost there: { is_some world ≡ true },
+    ghost world_story: { ForSome world (λ now. now.tables ≡ story.value) },
+    ghost marks: { ForSome world (λ now. are_marks (length now.past) kept.items ≡ true) },
     ghost room: { kept.capacity ≡ 8 },
 }
 
@@ -145,7 +148,6 @@ impl Session {
     }
 
     /// The world as it is now.
-    #[tactic(auto, using(crate::proofs::Keepings::home_here))]
     pub fn world(&self) -> &World
         ensures world { result.now.world ≡ (state_of self.now).world }
         ensures story { result.now.tables ≡ story_of self.now }

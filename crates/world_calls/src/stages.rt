@@ -1,6 +1,7 @@
 //! Actions that are performed and rulebooks that are consulted on a stage, by their words.
 ghost use Rattle.std.specs.Prelude.{◌≡◌};
-ghost use Rattle.action_stages.specs.Stages.{story_of, tables_of};
+ghost use Rattle.action_stages.specs.Returning.{IsThere};
+ghost use Rattle.action_stages.specs.Stages.{back_of, story_of, tables_of};
 
 use crate::rules::quoted;
 use crate::words::Words;
@@ -49,7 +50,8 @@ const NO_ACTION: ActionNow = ActionNow {
 
 /// Does what is asked on a stage.
 fn done(alloc: Global, stage: &mut Stage<'_>, asked: Asked) -> Result<Option<Outcome>, Abandon>
-    requires { tables_of stage.old ≡ story_of stage.old }
+    requires told { tables_of stage.old ≡ story_of stage.old }
+    requires there { IsThere (back_of stage.old) }
 {
     match asked {
         Asked::Action(now) => Ok(Some(perform(alloc, stage, now, LEVELS)?)),

@@ -1,18 +1,60 @@
-use Rattle.std.proofs.Common.{◌≡◌, ◌∙◌, ap, sym}
-use Rattle.std.specs.Prelude.{Some, slice_get}
-use Rattle.story_player.proofs.Keepings.{popped_of}
+use Rattle.std.proofs.Common.{◌≡◌, ◌∙◌, ap, sym, subst, refl, List, Some}
+use Rattle.std.specs.Prelude.{None}
+use Rattle.play_meaning.specs.Sessions.{undone}
+use Rattle.play_meaning.specs.Worlds.{World}
+use Rattle.world_store.specs.StoryWorlds.{StoryWorld}
+use Rattle.story_player.specs.KeptWorlds.{kept_in}
+use Rattle.story_player.specs.Sessions.{state_of}
+use Rattle.story_player.proofs.Keepings.{IsHome, are_there, home_of, home_undone, is_of, kept_undone, mark_within}
 use Rattle.story_player.proofs.session.Session.undo.Goals as goal
+
+pub revert-requires : goal.revert-requires
+revert-requires g c =
+    let session = c.args.self.now in
+    let t = session.story.value in
+    let taken = c.take.ensures.value in
+    let there = c.unwrap-world.ensures in
+    let here : session.world ≡ Some c.unwrap-world.result = cc in
+    mark_within t session.world session.kept.items c.pop_front.new.self.items c.in-Some.mark c.unwrap-world.result
+    (home_of t session.world session.kept.items session.there session.world_story session.marks) here (sym c.in-Some.ensures.value) (ap (λ ring. ring.items) c.in-Some.ensures.items)
 
 pub invariant_of-self-in-Some : goal.invariant_of-self-in-Some
 invariant_of-self-in-Some g c =
     let session = c.args.self.now in
-    let before = c.in-Some.kept in
-    let first : slice_get session.kept.items 0 ≡ Some before = sym c.in-Some.ensures.value in
-    let popped = ap (λ ring. ring.items) c.in-Some.ensures.items in
+    let t = session.story.value in
+    let rest = c.pop_front.new.self.items in
+    let taken = c.take.ensures.value in
+    let there = c.unwrap-world.ensures in
+    let here : session.world ≡ Some c.unwrap-world.result = cc in
+    let home =
+    subst (λ (v : StoryWorld). IsHome t (Some v) rest) (sym c.revert.ensures)
+    (home_undone t session.world session.kept.items rest c.in-Some.mark c.unwrap-world.result
+    (home_of t session.world session.kept.items session.there session.world_story session.marks) here (sym c.in-Some.ensures.value) (ap (λ ring. ring.items) c.in-Some.ensures.items)) in
     record {
       opened = session.opened;
       whole = session.whole;
-      world_story = session.kept_story 0 before first;
-      kept_story = λ i w is. popped_of session.story.value session.kept.items c.pop_front.new.self.items popped session.kept_story i w is;
+      indexed = session.indexed;
+      there = refl;
+      world_story = is_of t (Some c.revert.new.self) rest home;
+      marks = are_there t (Some c.revert.new.self) rest home;
       room = ap (λ ring. ring.capacity) c.in-Some.ensures.items ∙ session.room;
     }
+
+pub returns-in-Some-clause-answer : goal.returns-in-Some-clause-answer
+returns-in-Some-clause-answer g c =
+    let session = c.args.self.now in
+    let s = state_of session in
+    let t = session.story.value in
+    let rest = c.pop_front.new.self.items in
+    let taken = c.take.ensures.value in
+    let there = c.unwrap-world.ensures in
+    let here : session.world ≡ Some c.unwrap-world.result = cc in
+    let kept =
+    kept_undone t session.world session.kept.items rest c.in-Some.mark c.unwrap-world.result
+    (home_of t session.world session.kept.items session.there session.world_story session.marks) here (sym c.in-Some.ensures.value) (ap (λ ring. ring.items) c.in-Some.ensures.items) in
+    (λ i. record {
+      text = (c.fixed-in-Some.ensures i).text;
+      kind = (c.fixed-in-Some.ensures i).kind;
+      state = record { world = (c.revert.ensures i).world; kept = kept_in (Some (c.revert.ensures i)) rest; question = None; ending = session.ending };
+    })
+    ∙ sym (ap (λ (worlds : List World). undone worlds s) kept)
