@@ -189,7 +189,7 @@ impl Session {
         told
     }
 
-    /// Takes up what came of an action; of a turn the place where it began is kept.
+    /// Takes up what came of an action, of which the world is already that: what is told of it, and no question is open.
     fn take_up(&mut self, text: TextBytes, kind: ReplyKind) -> Reply
         ensures text { result ≡ record { text = text; kind = kind_told kind (state_of self.old).world.ended } }
         ensures state { state_of self.new ≡ record (state_of self.old) { question = None; ending = ending_told (state_of self.old).world.ended } }

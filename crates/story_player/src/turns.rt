@@ -115,7 +115,8 @@ fn count_unless_over(stage: &mut Stage<'_>) -> Result<(), Abandon>
 fn behind_pass(alloc: Global, stage: &mut Stage<'_>) -> Result<(), Abandon>
     requires told { tables_of stage.old ≡ story_of stage.old }
     requires there { IsThere (back_of stage.old) }
-    ensures answer { Answers result (λ done. progress_of stage.new) (parts (follow (game_in_play (story_of stage.old)) every_turn_book ∷ count_turn ∷ pass (game_in_play (story_of stage.old)) ∷ []) (progress_of stage.old)) }
+    ensures answer { Answers result (λ done. progress_of stage.new)
+        (parts (follow (game_in_play (story_of stage.old)) every_turn_book ∷ count_turn ∷ pass (game_in_play (story_of stage.old)) ∷ []) (progress_of stage.old)) }
     ensures story { story_of stage.new ≡ story_of stage.old }
     ensures tables { tables_of stage.new ≡ story_of stage.old }
     ensures back { back_of stage.new ≡ back_of stage.old }
@@ -131,7 +132,8 @@ fn behind_pass(alloc: Global, stage: &mut Stage<'_>) -> Result<(), Abandon>
 fn behind_action(alloc: Global, stage: &mut Stage<'_>) -> Result<(), Abandon>
     requires told { tables_of stage.old ≡ story_of stage.old }
     requires there { IsThere (back_of stage.old) }
-    ensures answer { Answers result (λ done. progress_of stage.new) (parts (pass (game_in_play (story_of stage.old)) ∷ follow (game_in_play (story_of stage.old)) every_turn_book ∷ count_turn ∷ pass (game_in_play (story_of stage.old)) ∷ []) (progress_of stage.old)) }
+    ensures answer { Answers result (λ done. progress_of stage.new)
+        (parts (pass (game_in_play (story_of stage.old)) ∷ follow (game_in_play (story_of stage.old)) every_turn_book ∷ count_turn ∷ pass (game_in_play (story_of stage.old)) ∷ []) (progress_of stage.old)) }
     ensures story { story_of stage.new ≡ story_of stage.old }
     ensures tables { tables_of stage.new ≡ story_of stage.old }
     ensures back { back_of stage.new ≡ back_of stage.old }
@@ -161,7 +163,8 @@ fn turn(alloc: Global, stage: &mut Stage<'_>, now: ActionNow) -> Result<(), Aban
 fn begin_play(alloc: Global, stage: &mut Stage<'_>) -> Result<(), Abandon>
     requires told { tables_of stage.old ≡ story_of stage.old }
     requires there { IsThere (back_of stage.old) }
-    ensures answer { Answers result (λ done. progress_of stage.new) (parts (follow (game_in_play (story_of stage.old)) play_begins_book ∷ perform (game_in_play (story_of stage.old)) look_round ∷ []) (progress_of stage.old)) }
+    ensures answer { Answers result (λ done. progress_of stage.new)
+        (parts (follow (game_in_play (story_of stage.old)) play_begins_book ∷ perform (game_in_play (story_of stage.old)) look_round ∷ []) (progress_of stage.old)) }
     ensures story { story_of stage.new ≡ story_of stage.old }
     ensures tables { tables_of stage.new ≡ story_of stage.old }
     ensures back { back_of stage.new ≡ back_of stage.old }
