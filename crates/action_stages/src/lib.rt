@@ -1,4 +1,4 @@
-//! Rulebooks are consulted and actions performed over a loaded story: whole books are kept as lists, each rule is asked in
+//! Rulebooks are consulted and actions performed over a loaded story: each rule that its index doesn't pass over is asked in
 //! the world of its moment, and what is tried or followed is one level deeper. Bodies of rules come to an end.
 #![tactic(auto)]
 
