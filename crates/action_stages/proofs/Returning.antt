@@ -27,9 +27,6 @@ there_within s mark there = omega (arith, there, worlds_long s, length-take (suc
 
 -- ---- behind a world
 
-pub behind_itself : (s : StoryWorld) → ComesBehind s s
-behind_itself s = λ mark within. (within, refl)
-
 pub behind_both : (s t u : StoryWorld) → ComesBehind s t → ComesBehind t u → ComesBehind s u
 behind_both s t u first second = λ mark within. let a = first mark within in let b = second mark a.0 in (b.0, b.1 ∙ a.1)
 

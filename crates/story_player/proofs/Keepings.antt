@@ -50,12 +50,6 @@ pub are_there : (t : Tables) (world : Option StoryWorld) (marks : List ℕ) → 
 are_there t world marks home = λ now is.
     ap (λ (s : StoryWorld). are_marks (length s.past) marks) (sym (same_Some home.now now (sym home.there ∙ is))) ∙ so_marks (length home.now.past) marks home.marks_are
 
-pub home_here : (t : Tables) (world : Option StoryWorld) (marks : List ℕ) (here : StoryWorld) → IsHome t world marks → world ≡ Some here
-    → (here.tables ≡ t) × (here.world ≡ world_in world)
-home_here t world marks here home is =
-    let same : home.now ≡ here = same_Some home.now here (sym home.there ∙ is) in
-    (ap (λ (s : StoryWorld). s.tables) (sym same) ∙ home.tables, ap world_in (sym is))
-
 -- ---- marks
 
 pub marks_within : (last wider : ℕ) (marks : List ℕ) → last ≤ wider → AreMarks last marks → AreMarks wider marks
