@@ -30,5 +30,5 @@ one_game g h a = λ i. record {
   scenes = a.scenes i;
   begins = λ scene w. a.begins scene w i;
   ends = λ scene w. a.ends scene w i;
-  reads = λ question sees line. a.reads question sees line i;
+  reads = λ question sees words. a.reads question sees words i;
 }

@@ -1,17 +1,17 @@
 -- Where a sound code says what stands at a place, runs come to no other states.
-use Rattle.std.proofs.Common.{◌≡◌, ◌∙◌, ◌++◌, pos, negsuc, ap, sym, subst, ℕ, zero, suc, ◌+◌, ◌-◌, ◌<◌, ◌≤◌, Bool, true, false, List, [], ◌∷◌, length, length-append, length-drop, refl, ◌⊎◌, inl, inr, Option, Some, None, Ok, Err, ℤ, arith}
-use Rattle.std.specs.Prelude.{◌&&◌, ◌==◌, ◌+ℤ◌, ◌-ℤ◌, ◌*ℤ◌, int_le, int_lt, is_some, not, slice_index_or, take, drop, nat_lt, if◌then◌else◌}
+use Rattle.std.proofs.Common.{◌≡◌, ◌∙◌, ◌++◌, pos, negsuc, ap, sym, subst, ℕ, zero, suc, ◌+◌, ◌<◌, ◌≤◌, Bool, true, false, List, [], ◌∷◌, length, length-append, length-drop, refl, ◌⊎◌, inl, inr, Option, Some, None, Ok, Err, ℤ, arith}
+use Rattle.std.specs.Prelude.{◌==◌, ◌+ℤ◌, ◌-ℤ◌, ◌*ℤ◌, is_some, take, drop, nat_lt, if◌then◌else◌}
 use Rattle.std.proofs.lemmas.Bool.{and_parts, eqb-true, lt-ltb, ltb-true}
 use Rattle.play_meaning.specs.Attempts.{Attempt}
 use Rattle.world_meaning.specs.declared.session.Abandon.{Abandon}
 use Rattle.play_meaning.specs.Codes.{start_at}
 use Rattle.play_meaning.specs.Instructions as code
 use Rattle.play_meaning.specs.Instructions.{Instruction, at_place, size_of, sizes}
-use Rattle.play_meaning.specs.Machines.{Abandons, Answers, Frame, Goes, Leaves, State, Step, Stuck, behind, calculates, does, does_at, goes_to, is_true, next_object, object_at, of_one, of_two, passing_in, pushes, says, then_at, tried_with, turns_to, unless_abandoned, with_object, with_one, with_two}
-use Rattle.play_meaning.specs.Operands.{Body, Counts, Describing, Number, NumberOrObject, Object, Sort, Test, Truth, Use, are_alike, behind_eq, below, gives, is_object, names_what_is_there, operands_behind, serves, taken_from, takes, with_given}
+use Rattle.play_meaning.specs.Machines.{Abandons, Answers, Frame, Goes, State, Step, Stuck, behind, calculates, does, does_at, goes_to, is_true, next_object, object_at, of_one, of_two, passing_in, pushes, then_at, tried_with, turns_to, unless_abandoned, with_object, with_one, with_two}
+use Rattle.play_meaning.specs.Operands.{Counts, Number, NumberOrObject, Object, Sort, Truth, Use, are_alike, behind_eq, below, gives, is_object, names_what_is_there, operands_behind, serves, taken_from, takes, with_given}
 use Rattle.play_meaning.specs.Progress.{Progress, change, say, spend}
 use Rattle.play_meaning.specs.Saying.{description_in, listed}
-use Rattle.play_meaning.specs.SoundCodes.{Branch, IsFine, IsSound, Labelled, LeadsTo, Leap, LeapsTo, OpenLoop, Opens, Straight, Turns, Ways, bare, loops_around, way_of}
+use Rattle.play_meaning.specs.SoundCodes.{IsFine, IsSound, Labelled, LeadsTo, OpenLoop, Straight, Ways, bare, loops_around, way_of}
 use Rattle.play_meaning.specs.Stands.{AreOf, Finds, GivesObject, HasOnTop, Serves, StandsBy, is_body, is_object_number, taken_by}
 use Rattle.play_meaning.specs.Values.{in_range}
 use Rattle.play_meaning.specs.Worlds.{end_with}

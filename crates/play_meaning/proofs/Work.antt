@@ -1,5 +1,5 @@
 -- No step of a tale's game goes past the most work.
-use Rattle.std.proofs.Common.{◌≡◌, ℕ, zero, suc, ◌+◌, ◌≤◌, nat_lt, Bool, true, false, List, [], ◌∷◌, refl, Ok, Err, arith, ltb-true, map, subst}
+use Rattle.std.proofs.Common.{◌≡◌, ℕ, zero, suc, ◌+◌, ◌≤◌, nat_lt, Bool, true, false, List, [], ◌∷◌, ◌++◌, refl, Ok, Err, arith, ltb-true, map, subst}
 use Rattle.std.specs.Prelude.{not, ◌||◌, ⊤, Option, None, Some, slice_get, if◌then◌else◌}
 use Rattle.play_meaning.specs.Attempts.{Attempt, next}
 use Rattle.play_meaning.specs.Turns.{most_turns}
@@ -18,7 +18,7 @@ use Rattle.play_meaning.specs.Settings.{Setting, objects_of}
 use Rattle.play_meaning.specs.Scripts.{Script, game_of, rule_body, scope_of, telling_of}
 use Rattle.play_meaning.specs.Trees.{Body, End, EndStory, Follow, If, Instead, Leave, Move, NowHeld, NowIs, NowNowhere, NowNumber, NowVariable, Phrase, Repeat, Say, Then, Try}
 use Rattle.play_meaning.specs.Truth.{of_some, truth_in}
-use Rattle.play_meaning.specs.Turns.{beginning_of, begins_book, begins_now, count_turn, ending_of, follow, in_order, look_round, opening, parts, pass, perform, scene_steps, set_and_follow, turn, unless_over}
+use Rattle.play_meaning.specs.Turns.{beginning_of, begins_book, begins_now, behind_action, completed, count_turn, ending_of, follow, in_order, look_round, name_first, opening, parts, pass, perform, perform_upon, scene_steps, set_and_follow, turn, turn_upon, unless_over, upon}
 use Rattle.play_meaning.specs.Values.{Scope, is_one, number_in, object_in}
 use Rattle.play_meaning.specs.Worlds.{World, next_turn, scene_of, set_variable}
 use Rattle.play_meaning.specs.declared.action.ActionNow.{ActionNow}
@@ -301,6 +301,22 @@ turn_of_within g b now p within =
     parts_within (perform g now ∷ pass g ∷ follow g 6 ∷ count_turn ∷ pass g ∷ [])
     (perform_within g b now, (pass_within g b, (follow_within g b 6, (count_within, (pass_within g b, tt))))) p within
 
+-- parts in front of parts that each stay within
+upon_within : (g : Game) → BodiesWithin g → (action : ℕ) (objects : List ℕ) (more : List (Progress → Attempt Progress)) → PartsWithin more
+    → PartsWithin (map (perform_upon g action) objects ++ more)
+upon_within g b action [] more held = held
+upon_within g b action (o ∷ objects) more held = (
+  (λ p within. gives_next Within Within (perform g (upon action o) (say (name_first g o) p)) (λ q. Ok (record q { text = completed q.text }))
+      (perform_within g b (upon action o) (say (name_first g o) p) within) (λ q still. still)),
+  upon_within g b action objects more held,
+)
+
+turn_upon_within : (g : Game) → BodiesWithin g → (action : ℕ) (objects : List ℕ) (p : Progress) → Within p → Gives Within (turn_upon g action objects p)
+unfolding turn_upon
+turn_upon_within g b action objects p within =
+    parts_within (map (perform_upon g action) objects ++ behind_action g)
+    (upon_within g b action objects (behind_action g) (pass_within g b, (follow_within g b 6, (count_within, (pass_within g b, tt))))) p within
+
 opening_within : (g : Game) → BodiesWithin g → (p : Progress) → Within p → Gives Within (opening g p)
 unfolding opening
 opening_within g b p within = parts_within (pass g ∷ follow g 7 ∷ perform g look_round ∷ []) (pass_within g b, (follow_within g b 7, (perform_within g b look_round, tt))) p within
@@ -321,6 +337,11 @@ given_ok a q given is = subst (Gives Within) is given
 
 pub turns_bounded : (script : Script) (now : ActionNow) (p q : Progress) → p.work ≤ most_work → turn (game_of script) now p ≡ Ok q → q.work ≤ most_work
 turns_bounded script now p q within is = given_ok (turn (game_of script) now p) q (turn_of_within (game_of script) (script_within script) now p within) is
+
+pub turns_upon_bounded : (script : Script) (action : ℕ) (objects : List ℕ) (p q : Progress) → p.work ≤ most_work → turn_upon (game_of script) action objects p ≡ Ok q
+    → q.work ≤ most_work
+turns_upon_bounded script action objects p q within is =
+    given_ok (turn_upon (game_of script) action objects p) q (turn_upon_within (game_of script) (script_within script) action objects p within) is
 
 pub openings_bounded : (script : Script) (p q : Progress) → p.work ≤ most_work → opening (game_of script) p ≡ Ok q → q.work ≤ most_work
 openings_bounded script p q within is = given_ok (opening (game_of script) p) q (opening_within (game_of script) (script_within script) p within) is

@@ -31,4 +31,4 @@ pub record Agree (g h : Game) : Type 0 where
   pub scenes : g.scenes ≡ h.scenes
   pub begins : (scene : ℕ) (w : World) → g.begins scene w ≡ h.begins scene w
   pub ends : (scene : ℕ) (w : World) → g.ends scene w ≡ h.ends scene w
-  pub reads : (question : Option Question) (sees : ℕ → Bool) (line : List ℕ) → g.reads question sees line ≡ h.reads question sees line
+  pub reads : (question : Option Question) (sees : ℕ → Bool) (words : List (List ℕ)) → g.reads question sees words ≡ h.reads question sees words

@@ -49,7 +49,7 @@ pub record CodedStory : Type 0 where
   pub rules : List CodedRule
   pub books : List (List ℕ)
   pub scenes : List CodedScene
-  pub reads : Option Question → (ℕ → Bool) → List ℕ → Reading
+  pub reads : Option Question → (ℕ → Bool) → List (List ℕ) → Reading
 
 abbrev pub telling_by_codes : CodedStory → Telling
 telling_by_codes k = telling_by k.codes k.setting k.descriptions

@@ -1,14 +1,15 @@
--- What a typed line means: an open question is answered first; then the first line of the grammar that fits and
--- leaves no slot without a candidate.
-use Rattle.std.specs.Prelude.{ℕ, nat_lt, Bool, true, false, ◌||◌, ◌==◌, List, [], ◌∷◌, ◌++◌, length, filter, find, map, Option, None, Some, codes, if◌then◌else◌}
+-- What a command means by its words: an open question is answered first; then the first line of the grammar that fits
+-- and leaves no slot without a candidate.
+use Rattle.std.specs.Prelude.{ℕ, nat_lt, Bool, true, false, ◌&&◌, ◌||◌, ◌==◌, List, [], ◌∷◌, ◌++◌, length, filter, find, map, Option, None, Some, codes, if◌then◌else◌}
 use Rattle.std.specs.List.{list_all, list_any}
-use Rattle.world_meaning.specs.Reading.{noun_of, words_of}
+use Rattle.world_meaning.specs.Reading.{noun_of}
 use Rattle.world_meaning.specs.Spelling.{is_spelled}
-use Rattle.world_meaning.specs.Texts.{empty_text, no_verb_text, not_seen_text, not_understood_text, said, too_long_text}
-use Rattle.play_meaning.specs.Games.{Acts, Asks, Question, Quit, Reading, Says, Undo}
+use Rattle.world_meaning.specs.Texts.{empty_text, no_verb_text, not_seen_text, not_understood_text, said}
+use Rattle.play_meaning.specs.Games.{Acts, ActsAll, Asks, Question, Quit, Reading, Says, Undo}
 use Rattle.play_meaning.specs.Grammar.{Direction, Grammar, Line, Something, Token, Word, are_named_alike, candidates_by, is_slot, meant_by, splits}
 use Rattle.play_meaning.specs.Saying.{named}
 use Rattle.play_meaning.specs.Settings.{Setting}
+use Rattle.play_meaning.specs.StandardActions.{dropping, taking}
 use Rattle.play_meaning.specs.Trees.{Definite}
 use Rattle.play_meaning.specs.declared.action.ActionNow.{ActionNow}
 
@@ -66,14 +67,54 @@ are_filled slots = list_all is_filled slots
 abbrev pub fillings : Grammar → (ℕ → Bool) → Line → List (List ℕ) → List (List (List ℕ))
 fillings g sees line words = map (candidates_by g sees (filter is_slot line.tokens)) (splits line.tokens words)
 
+-- ---- all
+
+-- things can be taken and dropped all at once
+abbrev pub takes_all : ℕ → Bool
+takes_all action = (action == taking) || (action == dropping)
+
+-- a slot for a thing, and no other
+abbrev pub is_one_thing : List Token → Bool
+is_one_thing [] = false
+is_one_thing (Word spelling ∷ slots) = false
+is_one_thing (Something ∷ []) = true
+is_one_thing (Something ∷ slot ∷ slots) = false
+is_one_thing (Direction ∷ slots) = false
+
+abbrev pub is_all : List ℕ → Bool
+is_all word = is_spelled word (codes "all") || is_spelled word (codes "everything")
+
+abbrev pub stands_at : Token → List ℕ → Bool
+stands_at (Word spelling) word = is_spelled word spelling
+stands_at Something word = is_all word
+stands_at Direction word = false
+
+-- the words of a line, with `all` or `everything` in the place of a slot
+abbrev pub stand_at : List Token → List (List ℕ) → Bool
+stand_at [] [] = true
+stand_at [] (word ∷ words) = false
+stand_at (token ∷ tokens) [] = false
+stand_at (token ∷ tokens) (word ∷ words) = stands_at token word && stand_at tokens words
+
+-- a line for taking or dropping a thing, said of all things, whatever goes by that word
+abbrev pub means_all : List (List ℕ) → Line → Bool
+means_all words line = takes_all line.action && is_one_thing (filter is_slot line.tokens) && stand_at line.tokens words
+
+-- ---- lines
+
 abbrev pub or_next : Grammar → ℕ → Option (List (List ℕ)) → Reading → Reading
 or_next g action None later = later
 or_next g action (Some slots) later = settle g action [] slots
 
+-- what one line makes of the words; the later ones, if it has no split that leaves no slot without a candidate
+abbrev pub line_reading : Grammar → (ℕ → Bool) → List (List ℕ) → Line → Reading → Reading
+line_reading g sees words line later =
+    if means_all words line then ActsAll line.action else or_next g line.action (find are_filled (fillings g sees line words)) later
+
 -- the first line with a split that leaves no slot without a candidate; of these the one with the shortest first slot
 unfoldable pub first_reading : Grammar → (ℕ → Bool) → List (List ℕ) → List Line → Reading → Reading
 first_reading g sees words [] otherwise = otherwise
-first_reading g sees words (line ∷ lines) otherwise = or_next g line.action (find are_filled (fillings g sees line words)) (first_reading g sees words lines otherwise)
+first_reading g sees words (line ∷ lines) otherwise = line_reading g sees words line (first_reading g sees words lines otherwise)
 
 abbrev pub begins_so : List ℕ → Token → Bool
 begins_so word (Word spelling) = is_spelled word spelling
@@ -118,12 +159,6 @@ unfoldable pub answer : Grammar → Option Question → List (List ℕ) → Read
 answer g None words otherwise = otherwise
 answer g (Some question) words otherwise = narrowed g question (meant_by g (noun_of words) question.candidates) otherwise
 
-abbrev pub is_too_long : List ℕ → Bool
-is_too_long line = nat_lt 255 (length line) || nat_lt 32 (length (words_of line))
-
--- what a line means
-unfoldable pub read : Grammar → Option Question → (ℕ → Bool) → List ℕ → Reading
-read g question sees line =
-    if length (words_of line) == 0 then Says empty_text
-    else if is_too_long line then Says too_long_text
-    else answer g question (words_of line) (command g sees (words_of line))
+-- what a command means
+unfoldable pub read : Grammar → Option Question → (ℕ → Bool) → List (List ℕ) → Reading
+read g question sees words = answer g question words (command g sees words)

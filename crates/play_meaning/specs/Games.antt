@@ -16,12 +16,14 @@ pub record Question : Type 0 where
   pub candidates : List ℕ
   pub others : List (List ℕ)
 
--- what a line means
+-- what a command means
 pub data Reading : Type 0 where
   -- nothing that can be done: this is said
   Says : List ℕ → Reading
   Asks : Question → List ℕ → Reading
   Acts : ActionNow → Reading
+  -- an action on all the things that it may be meant for
+  ActsAll : ℕ → Reading
   Undo : Reading
   Quit : Reading
 
@@ -41,5 +43,5 @@ pub record Game : Type 0 where
   pub scenes : List Bool
   pub begins : ℕ → World → Attempt Bool
   pub ends : ℕ → World → Attempt Bool
-  -- what a line means, where a question is open or none, and these objects are visible
-  pub reads : Option Question → (ℕ → Bool) → List ℕ → Reading
+  -- what a command means by its words, where a question is open or none, and these objects are visible
+  pub reads : Option Question → (ℕ → Bool) → List (List ℕ) → Reading

@@ -2,11 +2,13 @@ pub mod Acting
 pub mod ActionRows
 pub mod Admitting
 pub mod Agreement
+pub mod AllThings
 pub mod AmongCodes
 pub mod Attempts
 pub mod Changes
 pub mod CodedStories
 pub mod Codes
+pub mod CommandLines
 pub mod Commands
 pub mod Composed
 pub mod Consulting
@@ -17,6 +19,7 @@ pub mod Games
 pub mod Grammar
 pub mod Grounds
 pub mod Instructions
+pub mod LineRows
 pub mod Machines
 pub mod Meant
 pub mod Operands

@@ -1,6 +1,5 @@
 -- The trees that the words of a source mean: lists joined one by one as the language joins them.
 use Rattle.std.specs.Prelude.{ℕ, Bool, true, false, List, [], ◌∷◌, Option, None, Some, map, fold}
-use Rattle.std.specs.Option.{option_map}
 use Rattle.play_meaning.specs.Trees as tree
 use Rattle.play_meaning.specs.declared.tree.object.Adjective.{Adjective}
 use Rattle.play_meaning.specs.declared.tree.object.Description.{Description}

@@ -17,7 +17,7 @@ pub record PlainStory : Type 0 where
   pub start : World
   -- what is said of an object, in an action and a world
   pub describes : ℕ → ActionNow → World → Attempt (List ℕ)
-  pub reads : Option Question → (ℕ → Bool) → List ℕ → Reading
+  pub reads : Option Question → (ℕ → Bool) → List (List ℕ) → Reading
 
 abbrev pub plain_telling : PlainStory → Telling
 plain_telling k = record { setting = k.setting; describes = k.describes }

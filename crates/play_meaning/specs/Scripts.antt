@@ -31,7 +31,7 @@ pub record Script : Type 0 where
   -- by number: the standard rules, then the author's in the order of the source
   pub rules : List Rule
   pub scenes : List Scene
-  pub reads : Option Question → (ℕ → Bool) → List ℕ → Reading
+  pub reads : Option Question → (ℕ → Bool) → List (List ℕ) → Reading
 
 abbrev pub scope_of : ActionNow → Scope
 scope_of now = record { now = now; turning = [] }

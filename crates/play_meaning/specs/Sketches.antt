@@ -1,6 +1,6 @@
 -- A story written by hand, to compute examples on: a tale of the built-in kinds and properties and its own, with
 -- actions, commands, rules and scenes.
-use Rattle.std.specs.Prelude.{ℕ, ◌+◌, ℤ, pos, Bool, false, ◌&&◌, ◌==◌, List, [], ◌∷◌, ◌++◌, map, find, is_some, replicate, Option, None, Some, slice_get, slice_index_or}
+use Rattle.std.specs.Prelude.{ℕ, ◌+◌, ℤ, pos, Bool, ◌&&◌, ◌==◌, List, [], ◌∷◌, ◌++◌, map, find, is_some, replicate, Option, None, Some, slice_get, slice_index_or}
 use Rattle.world_meaning.specs.Declarations.{count_of_numbers}
 use Rattle.world_meaning.specs.Directions.{all_directions, direction_number}
 use Rattle.world_meaning.specs.Kinds.{built_in_parents}

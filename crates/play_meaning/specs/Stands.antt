@@ -1,5 +1,5 @@
 -- The states that a run of a sound code may come to: what its label says of a place holds of them.
-use Rattle.std.specs.Prelude.{◌≡◌, ℕ, ◌+◌, ◌<◌, ℤ, pos, negsuc, int_le, int_lt, Bool, true, false, ◌&&◌, List, [], ◌∷◌, length, Option, Some, is_some}
+use Rattle.std.specs.Prelude.{◌≡◌, ◌+◌, ◌<◌, ℤ, pos, negsuc, int_le, int_lt, Bool, true, false, ◌&&◌, List, [], ◌∷◌, length, Option, Some, is_some}
 use Rattle.play_meaning.specs.Instructions.{Eq, Instruction}
 use Rattle.play_meaning.specs.Machines.{State}
 use Rattle.play_meaning.specs.Operands.{Body, Counts, Number, NumberOrObject, Object, Sort, Truth, Use, gives, may_hold, names_what_is_there, takes}

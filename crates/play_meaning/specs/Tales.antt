@@ -1,5 +1,5 @@
 -- What a tale gives to play: what of it never changes, and the world with which it begins.
-use Rattle.std.specs.Prelude.{ℕ, ◌+◌, ◌-◌, zero, suc, ℤ, pos, Bool, false, ◌==◌, List, [], length, map, take, is_some, count_by, Option, None, Some, slice_get, slice_index_or, if◌then◌else◌}
+use Rattle.std.specs.Prelude.{ℕ, ◌+◌, ◌-◌, zero, suc, ℤ, pos, Bool, false, ◌==◌, List, length, map, take, is_some, count_by, Option, None, Some, slice_get, slice_index_or, if◌then◌else◌}
 use Rattle.std.specs.List.{list_any, range_with_len}
 use Rattle.world_meaning.specs.Declarations.{has_property, is_had}
 use Rattle.world_meaning.specs.Kinds.{is_under}

@@ -1,11 +1,11 @@
 -- A scene pass, a turn and the opening: their parts in order (*Writing with Inform*, chapters 9 and 10).
-use Rattle.std.specs.Prelude.{ℕ, ◌+◌, ◌*◌, nat_lt, Bool, true, false, not, ◌&&◌, ◌||◌, List, [], ◌∷◌, Option, None, Some, Ok, Err, if◌then◌else◌}
+use Rattle.std.specs.Prelude.{ℕ, ◌+◌, ◌*◌, ◌==◌, nat_lt, Bool, true, false, not, ◌&&◌, ◌||◌, List, [], ◌∷◌, ◌++◌, codes, map, Option, None, Some, Ok, Err, if◌then◌else◌}
 use Rattle.play_meaning.specs.Attempts.{Attempt, next}
 use Rattle.world_meaning.specs.declared.session.Abandon.TheVariants.{NumberOutOfRange}
 use Rattle.play_meaning.specs.Acting.{act, progress_of, top}
 use Rattle.play_meaning.specs.Consulting.{consult, every_turn_book, play_begins_book}
 use Rattle.play_meaning.specs.Games.{Game}
-use Rattle.play_meaning.specs.Progress.{Progress, change}
+use Rattle.play_meaning.specs.Progress.{Progress, change, say}
 use Rattle.play_meaning.specs.StandardActions.{looking}
 use Rattle.play_meaning.specs.Worlds.{next_turn, scene_of, set_scene}
 use Rattle.play_meaning.specs.declared.action.ActionNow.{ActionNow}
@@ -84,8 +84,39 @@ most_turns = 2147483647
 abbrev pub count_turn : Progress → Attempt Progress
 count_turn p = if nat_lt p.world.turns most_turns then Ok (change next_turn p) else Err NumberOutOfRange
 
+-- what of a turn follows its action
+abbrev pub behind_action : Game → List (Progress → Attempt Progress)
+behind_action g = pass g ∷ follow g every_turn_book ∷ count_turn ∷ pass g ∷ []
+
 unfoldable pub turn : Game → ActionNow → Progress → Attempt Progress
-turn g now = parts (perform g now ∷ pass g ∷ follow g every_turn_book ∷ count_turn ∷ pass g ∷ [])
+turn g now = parts (perform g now ∷ behind_action g)
+
+-- ---- an action on all of several things
+
+abbrev pub ends_in_break : List ℕ → Bool
+ends_in_break [] = false
+ends_in_break (byte ∷ []) = byte == 10
+ends_in_break (byte ∷ next ∷ more) = ends_in_break (next ∷ more)
+
+-- a text that says anything ends with a line break
+abbrev pub completed : List ℕ → List ℕ
+completed [] = []
+completed (byte ∷ bytes) = if ends_in_break (byte ∷ bytes) then byte ∷ bytes else (byte ∷ bytes) ++ 10 ∷ []
+
+abbrev pub upon : ℕ → ℕ → ActionNow
+upon action o = record { action = action; noun = Some o; second = None; silent = false }
+
+-- `ball: `
+abbrev pub name_first : Game → ℕ → List ℕ
+name_first g o = g.telling.setting.name o ++ codes ": "
+
+-- the action on one of them, behind its name, on lines of its own
+abbrev pub perform_upon : Game → ℕ → ℕ → Progress → Attempt Progress
+perform_upon g action o p = next (perform g (upon action o) (say (name_first g o) p)) (λ q. Ok (record q { text = completed q.text }))
+
+-- one turn, whose action is done on each of them
+unfoldable pub turn_upon : Game → ℕ → List ℕ → Progress → Attempt Progress
+turn_upon g action objects = parts (map (perform_upon g action) objects ++ behind_action g)
 
 unfoldable pub opening : Game → Progress → Attempt Progress
 opening g = parts (pass g ∷ follow g play_begins_book ∷ perform g look_round ∷ [])

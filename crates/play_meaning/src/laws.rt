@@ -1,5 +1,6 @@
 //! The definitions, computed on small stories written by hand: each clause is what one session shows.
 ghost use Rattle.play_meaning.specs.ActionRows.{ball_in_box, ball_in_box_not_things_shown, ball_in_box_shown, ball_looked_at, ball_looked_at_shown, ball_on_table, ball_on_table_shown, ball_out_of_range, ball_out_of_range_shown, coin_out_of_sight, coin_out_of_sight_shown, endless_following, endless_following_shown, endless_jumping, endless_jumping_abandoned_shown, endless_jumping_shown, lamp_in_bag, lamp_in_bag_shown, parted_words, parted_words_shown, question_refused_shown, score_at_its_top, score_at_its_top_shown, seventeen_deep, seventeen_deep_shown, sixteen_deep, sixteen_deep_shown, two_boxes, two_boxes_shown, two_open_boxes, two_open_boxes_shown, weighing, weighing_shown};
+ghost use Rattle.play_meaning.specs.LineRows.{asked_in_a_line_shown, ball_and_lamp, ball_and_lamp_shown, ball_wins, ball_wins_shown, much_about, much_about_shown, second_refused_shown};
 ghost use Rattle.play_meaning.specs.Rows.{ends_by, refused_in, shows, shows_by_trees, shows_to_end};
 ghost use Rattle.play_meaning.specs.RuleRows.{closed_box, closed_box_shown, got_it, got_it_and_goes_on, got_it_and_goes_on_shown, got_it_shown, graded, graded_shown, left_behind, left_behind_shown, listed_first, listed_first_shown, met_on_the_way, met_on_the_way_shown, open_box, open_box_shown, scenery_goes, scenery_goes_shown, scenery_stays, scenery_stays_shown, statue_spoken_for, statue_spoken_for_shown, three_rules, three_rules_shown, two_nouns, two_nouns_shown, unlisted, unlisted_shown};
 ghost use Rattle.play_meaning.specs.SessionRows.{empty_hall, empty_hall_shown, enough_work, enough_work_shown, one_storm, one_storm_shown, over_at_once, over_at_once_shown, past_the_top, past_the_top_shown, scoring, scoring_shown, storms, storms_shown, sums_and_choices, sums_and_choices_shown, too_much_work, too_much_work_shown, wet_jumping, wet_jumping_shown, wet_while_happening, winning, winning_shown, without_stop, without_stop_shown};
@@ -52,6 +53,15 @@ pub fn commands_are_read()
     ensures second_asked { shows two_open_boxes_shown two_open_boxes }
     ensures question_refused { refused_in (Some 0 ∷ []) question_refused_shown two_boxes }
     ensures asked { shows two_boxes_shown two_boxes }
+{}
+
+/// A line may hold several commands, and a command may be for all things.
+pub fn lines_hold_several_commands()
+    ensures all { shows ball_and_lamp_shown ball_and_lamp }
+    ensures refused { refused_in (Some 1 ∷ []) second_refused_shown ball_and_lamp }
+    ensures ended { shows_to_end ball_wins_shown [] ball_wins }
+    ensures which { shows much_about_shown much_about }
+    ensures asked { shows asked_in_a_line_shown two_boxes }
 {}
 
 /// Scenes begin and end, a story ends, and nothing follows its end.

@@ -37,14 +37,14 @@ pub use deed_laws::{
 pub use effect_laws::effects_are_what_rules_do;
 pub use fault::WorldFault;
 pub use game_laws::{
-    abandoned_lines_change_nothing, agreeing_games_are_one, decisions_end_consultations,
-    undo_brings_back_the_world,
+    abandoned_commands_change_nothing, agreeing_games_are_one, decisions_end_consultations,
+    lines_of_one_command_are_it, undo_brings_back_the_world,
 };
 pub use ground::{Ground, GroundMut};
 pub use instruction::{Asked, Instruction};
 pub use laws::{
-    actions_pass_their_stages, commands_are_read, light_shows_things, rules_decide,
-    rules_stand_in_order, scenes_and_stories_end, texts_are_said, things_are_handled,
+    actions_pass_their_stages, commands_are_read, light_shows_things, lines_hold_several_commands,
+    rules_decide, rules_stand_in_order, scenes_and_stories_end, texts_are_said, things_are_handled,
     turns_are_undone, ways_and_doors_are_gone_through, work_has_an_end,
 };
 pub use naming::Naming;

@@ -19,6 +19,10 @@ not_seen_text = said (codes "You can't see any such thing.")
 abbrev pub not_understood_text : List ℕ
 not_understood_text = said (codes "I didn't understand that sentence.")
 
+-- to a command for all things, where there are none
+abbrev pub none_of_all_text : List ℕ
+none_of_all_text = said (codes "There is nothing to do that to.")
+
 abbrev pub no_way_text : List ℕ
 no_way_text = said (codes "You can't go that way.")
 

@@ -9,6 +9,7 @@ use Rattle.play_meaning.specs.Acting.{access, act, carrying, inner_of, stages, v
 use Rattle.play_meaning.specs.Changes.{may_be_put}
 use Rattle.play_meaning.specs.CodedStories.{game_of_codes}
 use Rattle.play_meaning.specs.Codes.{body_done, description_said, test_within}
+use Rattle.play_meaning.specs.CommandLines.{commands_of}
 use Rattle.play_meaning.specs.Commands.{answer, command, first_reading, read, settle}
 use Rattle.play_meaning.specs.Consulting.{applies, ask, consult}
 use Rattle.play_meaning.specs.Doing.{do_body, do_phrase}
@@ -21,7 +22,7 @@ use Rattle.play_meaning.specs.Saying.{said_in}
 use Rattle.play_meaning.specs.Scripts.{game_of}
 use Rattle.play_meaning.specs.Seeing.{encloses, has_light, is_in_view, is_touchable, is_visible, is_visible_thing}
 use Rattle.play_meaning.specs.SessionRows.{empty_hall, one_storm, one_storm_shown, over_at_once, over_at_once_shown, storms, storms_shown, wet_jumping, wet_jumping_shown, wet_while_happening, winning, winning_shown}
-use Rattle.play_meaning.specs.Sessions.{opened}
+use Rattle.play_meaning.specs.Sessions.{commands_answer, opened}
 use Rattle.play_meaning.specs.Sketches.{grammar_of, script_of, start_in, tale_of}
 use Rattle.play_meaning.specs.StandardActions.{standard_needs}
 use Rattle.play_meaning.specs.StandardGrammar.{standard_lines}
@@ -36,5 +37,5 @@ use Rattle.play_meaning.specs.Worlds.{chain, is_true_of, number_of, set_flag, se
 use Rattle.play_meaning.proofs.laws.scenes_and_stories_end.Goals as goal
 
 pub returns : goal.returns
-unfolding direction_name short_word is_article game_of_codes coded codes_of_script description_said body_done test_within does run adjective_code body_part choice condition_part description_code loop number_part phrase_part seq strings_of_body strings_of_phrase text_part count_of_numbers built_in_parents is_under built_in_properties digits visibility access carrying stages act inner_of may_be_put settle first_reading command answer read applies ask consult do_phrase do_body splits candidates book_of spend is_about said_in game_of encloses is_in_view has_light is_visible_thing is_visible is_touchable one_storm storms wet_jumping wet_while_happening winning over_at_once empty_hall one_storm_shown storms_shown wet_jumping_shown winning_shown over_at_once_shown opened tale_of start_in grammar_of script_of standard_needs standard_lines rules_of_looking rules_of_examining rules_of_taking rules_of_dropping rules_of_putting rules_of_inserting rules_of_opening rules_of_closing rules_of_going rules_of_wearing rules_of_inventory rules_of_switching standard_rules depth_of setting_of start_of truth_in ending_of beginning_of pass turn opening object_in is_one those number_in chain is_true_of number_of set_flag set_number
+unfolding direction_name short_word is_article game_of_codes coded codes_of_script description_said body_done test_within does run adjective_code body_part choice condition_part description_code loop number_part phrase_part seq strings_of_body strings_of_phrase text_part count_of_numbers built_in_parents is_under built_in_properties digits visibility access carrying stages act inner_of may_be_put settle first_reading command answer read applies ask consult do_phrase do_body splits candidates book_of spend is_about said_in game_of encloses is_in_view has_light is_visible_thing is_visible is_touchable one_storm storms wet_jumping wet_while_happening winning over_at_once empty_hall one_storm_shown storms_shown wet_jumping_shown winning_shown over_at_once_shown commands_of commands_answer opened tale_of start_in grammar_of script_of standard_needs standard_lines rules_of_looking rules_of_examining rules_of_taking rules_of_dropping rules_of_putting rules_of_inserting rules_of_opening rules_of_closing rules_of_going rules_of_wearing rules_of_inventory rules_of_switching standard_rules depth_of setting_of start_of truth_in ending_of beginning_of pass turn opening object_in is_one those number_in chain is_true_of number_of set_flag set_number
 returns c = record { once = (refl, refl); again = (refl, refl); during = (refl, refl); happening = (refl, refl); by_story = refl; by_quit = refl; by_input = refl; won = (refl, refl); at_once = (refl, refl) }
