@@ -17,6 +17,7 @@ mod read;
 mod reading;
 mod searching;
 mod settling;
+mod typed_command;
 mod unread;
 mod words;
 
@@ -25,3 +26,4 @@ pub use laws::{one_reading, plain_lines_are_read};
 pub use question::{Objects, Question};
 pub use read::{narrow, read_command};
 pub use reading::{Reading, Said};
+pub use typed_command::Command;
