@@ -1,17 +1,19 @@
 -- Sessions of games that are played alike are one: their openings, their turns and their answers.
-use Rattle.std.proofs.Common.{◌≡◌, ◌∙◌, ap, refl, ℕ, ◌+◌, Bool, true, false, List, [], ◌∷◌, Option, None, Ok}
-use Rattle.std.specs.Prelude.{not, ◌||◌, if◌then◌else◌}
+use Rattle.std.proofs.Common.{◌≡◌, ◌∙◌, ap, refl, ℕ, ◌+◌, Bool, true, false, List, [], ◌∷◌, ◌++◌, map, Option, None, Ok}
+use Rattle.std.specs.Prelude.{not, ◌&&◌, ◌||◌, codes, if◌then◌else◌}
 use Rattle.world_meaning.specs.declared.session.Abandon.TheVariants.{Memory}
 use Rattle.world_meaning.specs.declared.session.ReplyKind.TheVariants.{Free, Kept}
 use Rattle.play_meaning.specs.Acting.{progress_of}
+use Rattle.play_meaning.specs.AllThings.{all_things}
 use Rattle.play_meaning.specs.Attempts.{next}
+use Rattle.play_meaning.specs.CommandLines.{Blank, Commands, Overlong, Parts, parts_of}
 use Rattle.play_meaning.specs.Consulting.{every_turn_book, play_begins_book}
-use Rattle.play_meaning.specs.Games.{Acts, Asks, Game, Quit, Reading, Says, Undo}
-use Rattle.play_meaning.specs.Progress.{Progress, change, fresh}
+use Rattle.play_meaning.specs.Games.{Acts, ActsAll, Asks, Game, Quit, Reading, Says, Undo}
+use Rattle.play_meaning.specs.Progress.{Progress, change, fresh, say}
 use Rattle.play_meaning.specs.Seeing.{is_visible}
-use Rattle.play_meaning.specs.Sessions.{Answer, State, abandoned, acted, answer_of, answer_to, keep, opened, played, read_answer, refuses, unless_ended}
+use Rattle.play_meaning.specs.Sessions.{Answer, State, abandoned, acted, acted_upon_all, answer_of, command_answer, commands_answer, followed as followed_by, goes_on_behind, keep, leads_on, meant, meant_among, opened, parts_answer, played, read_answer, refuses, unless_ended}
 use Rattle.play_meaning.specs.Transcripts.{exchanges, first_refusal, later_refusals, while_going}
-use Rattle.play_meaning.specs.Turns.{beginning_of, begins_book, begins_now, count_turn, ending_of, ends_book, follow, in_order, look_round, no_action, opening, parts, pass, perform, scene_steps, set_and_follow, turn}
+use Rattle.play_meaning.specs.Turns.{beginning_of, begins_book, begins_now, behind_action, completed, count_turn, ending_of, ends_book, follow, in_order, look_round, no_action, opening, parts, pass, perform, perform_upon, scene_steps, set_and_follow, turn, turn_upon, upon}
 use Rattle.play_meaning.specs.Worlds.{scene_of, set_scene}
 use Rattle.play_meaning.specs.declared.action.ActionNow.{ActionNow}
 use Rattle.play_meaning.specs.declared.scene.SceneNow.{SceneNow}
@@ -50,9 +52,24 @@ module _ (g h : Game) (alike : ArePlayedAlike g h) where
   unfolding pass
   passed p = ap (λ all. in_order all p) (steps 0 g.scenes ∙ ap (λ scenes. scene_steps h 0 scenes) alike.scenes)
 
+  behind_so : behind_action g ≡ behind_action h
+  behind_so = λ i. (λ q. passed q i) ∷ (λ q. followed every_turn_book q i) ∷ count_turn ∷ (λ q. passed q i) ∷ []
+
   turned : (now : ActionNow) (p : Progress) → turn g now p ≡ turn h now p
   unfolding turn
-  turned now p = λ i. parts ((λ q. performed now q i) ∷ (λ q. passed q i) ∷ (λ q. followed every_turn_book q i) ∷ count_turn ∷ (λ q. passed q i) ∷ []) p
+  turned now p = λ i. parts ((λ q. performed now q i) ∷ behind_so i) p
+
+  performed_upon : (action o : ℕ) (p : Progress) → perform_upon g action o p ≡ perform_upon h action o p
+  performed_upon action o p =
+      λ i. next (performed (upon action o) (say ((alike.telling i).setting.name o ++ codes ": ") p) i) (λ q. Ok (record q { text = completed q.text }))
+
+  upon_so : (action : ℕ) (objects : List ℕ) → (map (perform_upon g action) objects ++ behind_action g) ≡ (map (perform_upon h action) objects ++ behind_action h)
+  upon_so action [] = behind_so
+  upon_so action (o ∷ objects) = λ i. (λ p. performed_upon action o p i) ∷ upon_so action objects i
+
+  turned_upon : (action : ℕ) (objects : List ℕ) (p : Progress) → turn_upon g action objects p ≡ turn_upon h action objects p
+  unfolding turn_upon
+  turned_upon action objects p = ap (λ all. parts all p) (upon_so action objects)
 
   opened_so : (p : Progress) → opening g p ≡ opening h p
   unfolding opening
@@ -73,17 +90,40 @@ module _ (g h : Game) (alike : ArePlayedAlike g h) where
   done_so : (now : ActionNow) (s : State) → acted (g.needs now.action).out_of_world g now s ≡ acted (h.needs now.action).out_of_world h now s
   done_so now s = acted_so (g.needs now.action).out_of_world now s ∙ (λ i. acted (alike.needs i now.action).out_of_world h now s)
 
-  said_so : (refused : Option ℕ) (s : State) (reading : Reading) → read_answer g refused s reading ≡ read_answer h refused s reading
+  all_so : (action : ℕ) (s : State) → acted_upon_all g action s ≡ acted_upon_all h action s
+  all_so action s =
+      λ i. played Kept (keep s.world s.kept) s (turned_upon action (all_things (alike.telling i).setting s.world action) (fresh s.world) i)
+
+  said_so : (refused : Bool) (s : State) (reading : Reading) → read_answer g refused s reading ≡ read_answer h refused s reading
   said_so refused s (Says text) = refl
   said_so refused s (Asks question text) = refl
-  said_so refused s (Acts now) = λ i. if refuses refused 0 then abandoned Memory s else done_so now s i
+  said_so refused s (Acts now) = λ i. if refused then abandoned Memory s else done_so now s i
+  said_so refused s (ActsAll action) = λ i. if refused then abandoned Memory s else all_so action s i
   said_so refused s Undo = refl
   said_so refused s Quit = refl
 
+  meant_so : (s : State) (words : List (List ℕ)) → meant g s words ≡ meant h s words
+  meant_so s words =
+      λ i. meant_among (alike.telling i).setting s.world (alike.reads i s.question (is_visible (alike.telling i).setting s.world) words)
+
+  command_so : (refused : Bool) (s : State) (words : List (List ℕ)) → command_answer g refused s words ≡ command_answer h refused s words
+  command_so refused s words = said_so refused s (meant g s words) ∙ ap (read_answer h refused s) (meant_so s words)
+
+  commands_so : (refused : Option ℕ) (place : ℕ) (s : State) (words : List (List ℕ)) (more : List (List (List ℕ)))
+      → commands_answer g refused place s words more ≡ commands_answer h refused place s words more
+  unfolding commands_answer
+  commands_so refused place s words [] = command_so (refuses refused place) s words
+  commands_so refused place s words (next ∷ more) =
+      let same = command_so (refuses refused place) s words in
+      λ i. followed_by (leads_on (meant_so s words i) && goes_on_behind (same i).kind) (same i) (λ behind. commands_so refused (place + 1) behind next more i)
+
+  parts_so : (refused : Option ℕ) (s : State) (parts : Parts) → parts_answer g refused s parts ≡ parts_answer h refused s parts
+  parts_so refused s Blank = refl
+  parts_so refused s Overlong = refl
+  parts_so refused s (Commands words more) = commands_so refused 0 s words more
+
   pub one_answer : (refused : Option ℕ) (s : State) (line : List ℕ) → answer_of g refused s line ≡ answer_of h refused s line
-  one_answer refused s line =
-      ap (unless_ended s.ending s) (said_so refused s (g.reads s.question (is_visible g.telling.setting s.world) line))
-      ∙ (λ i. answer_to h refused s (alike.reads i s.question (is_visible (alike.telling i).setting s.world) line))
+  one_answer refused s line = ap (unless_ended s.ending s) (parts_so refused s (parts_of line))
 
   pub one_session : (refusals : List (Option ℕ)) (s : State) (lines : List (List ℕ)) → exchanges g refusals s lines ≡ exchanges h refusals s lines
   one_session refusals s [] = refl
