@@ -91,6 +91,13 @@ impl<'a> Stage<'a> {
         self.tests
     }
 
+    /// The story that is played.
+    pub fn story(&self) -> &'a Story
+        ensures { result.now ≡ story_of self.now }
+    {
+        self.story
+    }
+
     /// What was said.
     pub fn text(&self) -> &[u8]
         ensures { result.now ≡ (progress_of self.now).text }

@@ -7,7 +7,7 @@ use Rattle.world_meaning.specs.Texts.{prompt}
 use Rattle.play_meaning.specs.Transcripts.{behind_lines, echoed, played, while_going}
 use Rattle.play_meaning.specs.Games.{Game}
 use Rattle.story_player.specs.Runs.{AreAnswered, IsFront, Streams, has_break}
-use Rattle.story_player.specs.Typed.{IsGone, Typing, is_untyped, typed_reading}
+use Rattle.story_player.specs.Typed.{IsGone, Typing, is_untyped, typed_parts}
 use Rattle.story_player.specs.declared.fault.RunFault.{RunFault}
 use Rattle.story_player.specs.declared.fault.RunFault.TheVariants.{InputTooLong}
 
@@ -53,15 +53,15 @@ pub record BrokeTyping (fault : RunFault) (echo : Bool) (limit : ℕ) (before af
 
 -- the part of the transcript that is written for a typed line behind what was shown of it
 abbrev pub typed_part : Game → Bool → Option ℕ → State → Typing → List ℕ
-typed_part g echo refused state t = shown echo (t.kept ++ 10 ∷ []) ++ (answer_to g refused state (typed_reading g state t)).text
+typed_part g echo refused state t = shown echo (t.kept ++ 10 ∷ []) ++ (answer_to g refused state (typed_parts t)).text
 
 -- that part and the prompt behind it, where the input has ended; no byte is no line
 abbrev pub last_part : Game → Bool → Option ℕ → State → Typing → List ℕ
 last_part g echo refused state t =
-    if is_untyped t then [] else typed_part g echo refused state t ++ while_going (answer_to g refused state (typed_reading g state t)).state.ending prompt
+    if is_untyped t then [] else typed_part g echo refused state t ++ while_going (answer_to g refused state (typed_parts t)).state.ending prompt
 
 abbrev pub last_state : Game → Option ℕ → State → Typing → State
-last_state g refused state t = if is_untyped t then state else (answer_to g refused state (typed_reading g state t)).state
+last_state g refused state t = if is_untyped t then state else (answer_to g refused state (typed_parts t)).state
 
 -- A line was answered: these bytes were written, and the session is in the state behind the line.
 pub record Answered (part : Option ℕ → List ℕ) (state : Option ℕ → State) (held now : Option (List ℕ)) (to : State) : Type 0 where

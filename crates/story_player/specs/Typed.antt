@@ -1,55 +1,41 @@
 -- A line that is being typed: the bytes that are kept, and what is known of those in front of them.
-use Rattle.std.specs.Prelude.{◌≡◌, ℕ, ◌<◌, ◌==◌, Bool, true, false, not, List, [], ◌∷◌, ◌++◌, length, Option, if◌then◌else◌}
-use Rattle.std.specs.List.{list_any}
-use Rattle.play_meaning.specs.Commands.{read}
-use Rattle.play_meaning.specs.Games.{Game, Question, Reading, Says}
-use Rattle.play_meaning.specs.Seeing.{is_visible}
-use Rattle.play_meaning.specs.Sessions.{State}
-use Rattle.world_meaning.specs.Reading.{is_blank}
-use Rattle.world_meaning.specs.Texts.{empty_text, too_long_text}
-use Rattle.world_store.specs.StoryGrammars.{grammar_of}
-use Rattle.world_store.specs.StorySettings.{setting_of}
-use Rattle.world_store.specs.StoryWorlds.{StoryWorld}
-use Rattle.story_player.specs.declared.typed.Gone.{Gone}
-use Rattle.story_player.specs.declared.typed.Gone.TheVariants.{Nothing, Blanks, Words}
+use Rattle.std.specs.Prelude.{◌≡◌, ℕ, ◌<◌, ◌==◌, Bool, true, false, List, [], ◌∷◌, ◌++◌, fold, length, Option, None, Some, if◌then◌else◌}
+use Rattle.play_meaning.specs.CommandLines.{Blank, Overlong, Parts, parts_of}
+use Rattle.command_parser.specs.Scanning.{holds_command, scan_with}
+use Rattle.command_parser.specs.declared.command_scan.CommandScan.{CommandScan}
+use Rattle.command_parser.specs.declared.command_scan.CommandScan.TheVariants.{Cut}
 use Rattle.story_player.specs.declared.typed.Typed.{Typed}
-use Rattle.story_player.specs.declared.typed.Typed.TheVariants.{Whole, Overlong}
+use Rattle.story_player.specs.declared.typed.Typed.TheVariants as typed
 
 pub record Typing : Type 0 where
-  pub gone : Gone
+  pub gone : Option CommandScan
   pub kept : List ℕ
 
 -- how many bytes are kept
 abbrev pub most_kept : ℕ
 most_kept = 256
 
-abbrev pub is_word_byte : ℕ → Bool
-is_word_byte b = not (is_blank b)
+-- what is known of bytes that were let go: there were none, or over 255, and whether they hold a command
+abbrev pub IsGone : Option CommandScan → List ℕ → Type 0
+IsGone None bytes = bytes ≡ []
+IsGone (Some scan) bytes = (255 < length bytes) × (scan ≡ fold scan_with Cut bytes)
 
-abbrev pub has_word : List ℕ → Bool
-has_word bytes = list_any is_word_byte bytes
+abbrev pub scan_of : Option CommandScan → CommandScan
+scan_of None = Cut
+scan_of (Some scan) = scan
 
--- what is known of bytes that were let go: there were none, or over 255, with a word or without
-abbrev pub IsGone : Gone → List ℕ → Type 0
-IsGone Nothing bytes = bytes ≡ []
-IsGone Blanks bytes = (255 < length bytes) × (has_word bytes ≡ false)
-IsGone Words bytes = (255 < length bytes) × (has_word bytes ≡ true)
-
-abbrev pub gone_with : Gone → List ℕ → Gone
-gone_with Nothing bytes = if has_word bytes then Words else Blanks
-gone_with Blanks bytes = if has_word bytes then Words else Blanks
-gone_with Words bytes = Words
+abbrev pub gone_with : Option CommandScan → List ℕ → Option CommandScan
+gone_with gone bytes = Some (fold scan_with (scan_of gone) bytes)
 
 abbrev pub nothing_typed : Typing
-nothing_typed = record { gone = Nothing; kept = [] }
+nothing_typed = record { gone = None; kept = [] }
 
 abbrev pub is_full : Typing → Bool
 is_full t = length t.kept == most_kept
 
-abbrev pub is_nothing : Gone → Bool
-is_nothing Nothing = true
-is_nothing Blanks = false
-is_nothing Words = false
+abbrev pub is_nothing : Option CommandScan → Bool
+is_nothing None = true
+is_nothing (Some scan) = false
 
 abbrev pub is_untyped : Typing → Bool
 is_untyped t = if is_nothing t.gone then length t.kept == 0 else false
@@ -63,38 +49,28 @@ typed_with t byte =
     if is_full t then record { gone = gone_with t.gone t.kept; kept = byte ∷ [] }
     else record { gone = t.gone; kept = t.kept ++ byte ∷ [] }
 
--- a line in front of its line break: all of its bytes, or over 255 of which it is known whether a word is among them
+-- a line in front of its line break: all of its bytes, or over 255 of which it is known whether they hold a command
 pub data Told : Type 0 where
   Line : List ℕ → Told
   Long : Bool → Told
 
-abbrev pub gone_told : Gone → List ℕ → Told
-gone_told Nothing kept = Line kept
-gone_told Blanks kept = Long (has_word kept)
-gone_told Words kept = Long true
+abbrev pub gone_told : Option CommandScan → List ℕ → Told
+gone_told None kept = Line kept
+gone_told (Some scan) kept = Long (holds_command (fold scan_with scan kept))
 
 -- what is known of a line behind its last byte
 abbrev pub told_of : Typing → Told
 told_of t = gone_told t.gone t.kept
 
 abbrev pub told : Typed → Told
-told (Whole bytes) = Line bytes.now
-told (Overlong has_word) = Long has_word
+told (typed.Whole bytes) = Line bytes.now
+told (typed.Overlong has_command) = Long has_command
 
--- ---- what is read in it
+-- what the line is made of
+abbrev pub parts_told : Told → Parts
+parts_told (Line line) = parts_of line
+parts_told (Long true) = Overlong
+parts_told (Long false) = Blank
 
--- what a world's story reads in it, whether a question is open or none
-abbrev pub read_in : StoryWorld → Option Question → Told → Reading
-read_in w question (Line line) = read (grammar_of w.tables) question (is_visible (setting_of w.tables) w.world) line
-read_in w question (Long has_word) = if has_word then Says too_long_text else Says empty_text
-
--- what a game reads in a line
-abbrev pub line_reading : Game → State → List ℕ → Reading
-line_reading g s line = g.reads s.question (is_visible g.telling.setting s.world) line
-
-abbrev pub told_reading : Game → State → Told → Reading
-told_reading g s (Line line) = line_reading g s line
-told_reading g s (Long has_word) = if has_word then Says too_long_text else Says empty_text
-
-abbrev pub typed_reading : Game → State → Typing → Reading
-typed_reading g s t = told_reading g s (told_of t)
+abbrev pub typed_parts : Typing → Parts
+typed_parts t = parts_told (told_of t)

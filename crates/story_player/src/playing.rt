@@ -8,7 +8,7 @@ ghost use Rattle.story_player.specs.Breaks.{Blames};
 ghost use Rattle.story_player.specs.Runs.{BrokeOff, Played, most_input, streams};
 ghost use Rattle.story_player.specs.Sessions.{game_of, state_of, story_of};
 ghost use Rattle.story_player.specs.Steps.{Answered, AnsweredLast, BrokeAnswer, BrokeLast, BrokeTyping, IsTyping, PlayedLast, PlayedLine, ReadsByte, WroteFront, shown, typed_part};
-ghost use Rattle.story_player.specs.Typed.{flushed, nothing_typed, typed_reading, typed_with};
+ghost use Rattle.story_player.specs.Typed.{flushed, nothing_typed, typed_parts, typed_with};
 ghost use Rattle.story_player.specs.Watches.{watched_failed, watched_inner};
 
 use crate::fault::RunFault;
@@ -182,11 +182,11 @@ fn answer<W: Write>(
     ensures story { story_of session.new ≡ story_of session.old }
     ensures answered { OnOk result (Answered
         (λ refused. typed_part (game_of session.old) echo refused (state_of session.old) line.now)
-        (λ refused. (answer_to (game_of session.old) refused (state_of session.old) (typed_reading (game_of session.old) (state_of session.old) line.now)).state)
+        (λ refused. (answer_to (game_of session.old) refused (state_of session.old) (typed_parts line.now)).state)
         (W.contents (watched_inner writer.old)) (W.contents (watched_inner writer.new)) (state_of session.new)) }
     ensures front { OnErr result (BrokeAnswer
         (λ refused. typed_part (game_of session.old) echo refused (state_of session.old) line.now)
-        (λ refused. (answer_to (game_of session.old) refused (state_of session.old) (typed_reading (game_of session.old) (state_of session.old) line.now)).state)
+        (λ refused. (answer_to (game_of session.old) refused (state_of session.old) (typed_parts line.now)).state)
         (W.contents (watched_inner writer.old)) (W.contents (watched_inner writer.new)) (state_of session.new)) }
 {
     let reply = session.typed(line.typed());

@@ -1,34 +1,24 @@
 //! The line that is being typed: its bytes so far, of which only a part is kept where it is long.
 use arrayvec::ArrayVec;
+use command_parser::CommandScan;
 use std::marker::Model;
 
 /// The bytes that are kept: a line that is no longer is kept whole.
 const MOST_KEPT: usize = 256;
-
-/// What is known of the bytes in front of those that are kept.
-#[derive(Clone, Copy, Debug, Drop, PartialEq, Eq)]
-pub enum Gone {
-    /// There are none.
-    Nothing,
-    /// Over 255 bytes, all of them blanks.
-    Blanks,
-    /// Over 255 bytes, with a word among them.
-    Words,
-}
 
 /// A line as it was typed, in front of its line break.
 #[derive(Clone, Copy, Debug)]
 pub enum Typed<'a> {
     /// All of its bytes.
     Whole(&'a [u8]),
-    /// A line of over 255 bytes, of which it is known whether a word is in it.
-    Overlong { has_word: bool },
+    /// A line of over 255 bytes, of which it is known whether it holds a command.
+    Overlong { has_command: bool },
 }
 
-/// A line that is being typed.
+/// A line that is being typed. Bytes that are let go are scanned for a command; there are over 255 of them, if any.
 #[derive(Drop)]
 pub struct TypedLine {
-    gone: Gone,
+    gone: Option<CommandScan>,
     kept: ArrayVec<u8, MOST_KEPT>,
 }
 
@@ -42,20 +32,7 @@ impl Model for TypedLine {
 
 ghost use Rattle.std.specs.Prelude.{◌≡◌, ◌<◌, ◌++◌, ◌∷◌, [], false, length};
 ghost use Rattle.std.specs.Str.Lines.{strip_carriage_return};
-ghost use Rattle.story_player.specs.Typed.{gone_with, has_word, is_full, is_untyped, is_word_byte, most_kept, nothing_typed, told, told_of};
-
-/// Whether the byte is no blank.
-fn is_word_byte(byte: &u8) -> bool
-    ensures { result ≡ is_word_byte byte.now }
-{
-    *byte != b' ' && *byte != b'\t'
-}
-
-fn has_word(bytes: &[u8]) -> bool
-    ensures { result ≡ has_word bytes.now }
-{
-    bytes.iter().any(is_word_byte)
-}
+ghost use Rattle.story_player.specs.Typed.{gone_with, is_full, is_untyped, most_kept, nothing_typed, scan_of, told, told_of};
 
 impl TypedLine {
     /// No byte so far.
@@ -63,7 +40,7 @@ impl TypedLine {
         ensures { result ≡ nothing_typed }
     {
         TypedLine {
-            gone: Gone::Nothing,
+            gone: None,
             kept: ArrayVec::new(),
         }
     }
@@ -72,7 +49,7 @@ impl TypedLine {
     pub fn is_empty(&self) -> bool
         ensures { result ≡ is_untyped self.now }
     {
-        self.gone == Gone::Nothing && self.kept.is_empty()
+        self.gone.is_none() && self.kept.is_empty()
     }
 
     /// Whether bytes must be let go before the next is kept.
@@ -98,17 +75,21 @@ impl TypedLine {
         self.kept.as_slice()
     }
 
+    /// What is known of the bytes that were let go.
+    fn scan(&self) -> CommandScan
+        ensures { result ≡ scan_of self.now.gone }
+    {
+        match self.gone {
+            None => CommandScan::new(),
+            Some(scan) => scan,
+        }
+    }
+
     /// Lets go of the bytes that are kept.
     pub fn let_go(&mut self)
         ensures { self.new ≡ record { gone = gone_with self.old.gone self.old.kept; kept = [] } }
     {
-        if self.gone != Gone::Words {
-            self.gone = if has_word(self.kept.as_slice()) {
-                Gone::Words
-            } else {
-                Gone::Blanks
-            };
-        }
+        self.gone = Some(self.scan().over(self.kept.as_slice()));
         self.kept.clear();
     }
 
@@ -126,11 +107,10 @@ impl TypedLine {
         ensures { told result ≡ told_of self.now }
     {
         match self.gone {
-            Gone::Nothing => Typed::Whole(self.kept.as_slice()),
-            Gone::Blanks => Typed::Overlong {
-                has_word: has_word(self.kept.as_slice()),
+            None => Typed::Whole(self.kept.as_slice()),
+            Some(scan) => Typed::Overlong {
+                has_command: scan.over(self.kept.as_slice()).has_command(),
             },
-            Gone::Words => Typed::Overlong { has_word: true },
         }
     }
 }

@@ -7,7 +7,6 @@ use Rattle.story_player.specs.Sessions.{state_of, game_of}
 use Rattle.story_player.specs.Steps.{Answered, BrokeAnswer}
 use Rattle.story_player.specs.Watches.{watched_inner}
 use Rattle.story_player.proofs.PlayedLines.{cut_at_prompt, cut_in_answer, cut_in_last, cut_in_line, played_last, played_line}
-use Rattle.story_player.proofs.Readings.{reads_so}
 use Rattle.story_player.proofs.Tellings.{part_told, state_told}
 use Rattle.story_player.proofs.Writes.{consumes-nothing}
 use Rattle.story_player.proofs.playing.play_line.Goals as goal
@@ -51,7 +50,7 @@ returns-in_err-answer-in-Break-clause-cut g c =
     let told = c.in_err-answer-in-Break.ensures in
     let broke = subst (λ t. BrokeAnswer (part_told game c.args.echo from t) (state_told game from t) b now to) c.drop_return.ensures told.front in
     rw (p.1, p.2, told.broke.0)
-    (cut_in_answer game (reads_so c.args.session.now.story.value) c.args.echo c.args.left.now c.type_line.new.left unread rest held a b now from to line.gone line.kept c.requires.going prompted (c.in_ok-end.ensures.whole (ap (λ e. Ok e) c.in-Break.is)) broke)
+    (cut_in_answer game c.args.echo c.args.left.now c.type_line.new.left unread rest held a b now from to line.gone line.kept c.requires.going prompted (c.in_ok-end.ensures.whole (ap (λ e. Ok e) c.in-Break.is)) broke)
 
 pub returns-in_err-answer_last-in-Input-clause-cut : goal.returns-in_err-answer_last-in-Input-clause-cut
 returns-in_err-answer_last-in-Input-clause-cut g c =
@@ -66,7 +65,7 @@ returns-in_err-answer_last-in-Input-clause-cut g c =
     let prompted = subst (λ e. Appends held a (while_going e prompt)) c.requires.going c.in_ok-prompt.ensures.wrote in
     let told = c.in_err-answer_last-in-Input.ensures in
     rw (p.1, p.2, told.broke.0)
-    (cut_in_last (game_of c.args.session.now) (reads_so c.args.session.now.story.value) c.args.echo c.args.left.now c.type_line.new.left unread rest held a b now (state_of c.args.session.now) (state_of c.answer_last.new.session) line.gone line.kept c.requires.going prompted (c.in_ok-end.ensures.last (ap (λ e. Ok e) c.in-Input.is)) (c.in_ok-end.ensures.ends (ap (λ e. Ok e) c.in-Input.is)) told.front)
+    (cut_in_last (game_of c.args.session.now) c.args.echo c.args.left.now c.type_line.new.left unread rest held a b now (state_of c.args.session.now) (state_of c.answer_last.new.session) line.gone line.kept c.requires.going prompted (c.in_ok-end.ensures.last (ap (λ e. Ok e) c.in-Input.is)) (c.in_ok-end.ensures.ends (ap (λ e. Ok e) c.in-Input.is)) told.front)
 
 pub returns-in_ok-answer-in-Break-clause-whole : goal.returns-in_ok-answer-in-Break-clause-whole
 returns-in_ok-answer-in-Break-clause-whole g c = λ ends.
@@ -82,7 +81,7 @@ returns-in_ok-answer-in-Break-clause-whole g c = λ ends.
     let line = c.type_line.new.line in
     let prompted = subst (λ e. Appends held a (while_going e prompt)) c.requires.going c.in_ok-prompt.ensures.wrote in
     let told = subst (λ t. Answered (part_told game c.args.echo from t) (state_told game from t) b now to) c.drop_return.ensures c.in_ok-answer-in-Break.ensures.answered in
-    played_line game (reads_so c.args.session.now.story.value) c.args.echo c.args.left.now c.type_line.new.left unread rest held a b now from to line.gone line.kept prompted (c.in_ok-end.ensures.whole ends) told
+    played_line game c.args.echo c.args.left.now c.type_line.new.left unread rest held a b now from to line.gone line.kept prompted (c.in_ok-end.ensures.whole ends) told
 
 pub returns-in_ok-answer_last-in-Input-clause-last : goal.returns-in_ok-answer_last-in-Input-clause-last
 returns-in_ok-answer_last-in-Input-clause-last g c = λ ends.
@@ -94,4 +93,4 @@ returns-in_ok-answer_last-in-Input-clause-last g c = λ ends.
     let now = g.W.Write.contents (watched_inner c.answer_last.new.writer) in
     let line = c.type_line.new.line in
     let prompted = subst (λ e. Appends held a (while_going e prompt)) c.requires.going c.in_ok-prompt.ensures.wrote in
-    played_last (game_of c.args.session.now) (reads_so c.args.session.now.story.value) c.args.echo c.args.left.now c.type_line.new.left unread rest held a b now (state_of c.args.session.now) (state_of c.answer_last.new.session) line.gone line.kept c.requires.going prompted (c.in_ok-end.ensures.last ends) (c.in_ok-end.ensures.ends ends) c.in_ok-answer_last-in-Input.ensures.answered
+    played_last (game_of c.args.session.now) c.args.echo c.args.left.now c.type_line.new.left unread rest held a b now (state_of c.args.session.now) (state_of c.answer_last.new.session) line.gone line.kept c.requires.going prompted (c.in_ok-end.ensures.last ends) (c.in_ok-end.ensures.ends ends) c.in_ok-answer_last-in-Input.ensures.answered
