@@ -1,5 +1,11 @@
+pub mod Answering
+pub mod Completing
 pub mod Fronts
+pub mod GivenCommands
+pub mod Keepings
+pub mod LetGo
 pub mod LineLemmas
+pub mod Parts
 pub mod PlayedLines
 pub mod Readings
 pub mod RunLemmas
@@ -7,7 +13,3 @@ pub mod Tellings
 pub mod Transcripts
 pub mod TypedLines
 pub mod Writes
-pub mod Completing
-pub mod Parts
-pub mod Keepings
-pub mod Answering

@@ -1,5 +1,5 @@
 -- What the parts of a turn come to, one behind the other, is what the turn comes to.
-use Rattle.std.proofs.Common.{◌≡◌, ◌∙◌, ap, refl, List, [], ◌∷◌, Ok, Err}
+use Rattle.std.proofs.Common.{◌≡◌, ◌∙◌, ap, refl, List, [], ◌∷◌, ◌++◌, Ok, Err}
 use Rattle.world_meaning.specs.declared.session.Abandon.{Abandon}
 use Rattle.play_meaning.specs.Acting.{progress_of as left_at}
 use Rattle.play_meaning.specs.Attempts.{Attempt, next}
@@ -60,3 +60,24 @@ pub breaks_behind : (a : Part) (more : List Part) (p q : Progress) (reason : Aba
 breaks_behind a more p q reason first rest = ap (λ attempt. next attempt (parts more)) first ∙ rest
 
 pub ruleset behind_rules = (comes_behind, first_breaks, breaks_behind)
+
+-- ---- several parts, and several more
+
+parts-append : (some more : List Part) (p : Progress) → parts (some ++ more) p ≡ next (parts some p) (parts more)
+parts-append [] more p = refl
+parts-append (a ∷ some) more p = by_first (unless_over p.world.ended a p)
+  where
+    by_first : (first : Attempt Progress) → next first (parts (some ++ more)) ≡ next (next first (parts some)) (parts more)
+    by_first (Ok q) = parts-append some more q
+    by_first (Err reason) = refl
+
+pub come_behind : (some more : List Part) (p q r : Progress) → parts some p ≡ Ok q → parts more q ≡ Ok r → parts (some ++ more) p ≡ Ok r
+come_behind some more p q r first rest = parts-append some more p ∙ ap (λ attempt. next attempt (parts more)) first ∙ rest
+
+pub some_break : (some more : List Part) (p : Progress) (reason : Abandon) → parts some p ≡ Err reason → parts (some ++ more) p ≡ Err reason
+some_break some more p reason first = parts-append some more p ∙ ap (λ attempt. next attempt (parts more)) first
+
+pub more_break : (some more : List Part) (p q : Progress) (reason : Abandon) → parts some p ≡ Ok q → parts more q ≡ Err reason → parts (some ++ more) p ≡ Err reason
+more_break some more p q reason first rest = parts-append some more p ∙ ap (λ attempt. next attempt (parts more)) first ∙ rest
+
+pub ruleset all_rules = (come_behind, some_break, more_break)

@@ -18,7 +18,7 @@ use Rattle.story_player.specs.declared.fault.RunFault.TheVariants.{Write}
 use Rattle.command_parser.specs.declared.command_scan.CommandScan.{CommandScan}
 use Rattle.story_player.proofs.Fronts.{front-append, front-behind, front_first}
 use Rattle.story_player.proofs.LineLemmas.{lines-last, lines-line}
-use Rattle.story_player.proofs.Readings.{parts_typed}
+use Rattle.story_player.proofs.LetGo.{parts_typed}
 use Rattle.story_player.proofs.Tellings.{part_last, part_told, state_last, state_told}
 use Rattle.story_player.proofs.Transcripts.{behind-line, exchanges-line, played-line, played-none}
 use Rattle.story_player.proofs.TypedLines.{shown_nothing, strip_behind}

@@ -15,7 +15,7 @@ use Rattle.story_player.specs.Typed.{Typing, flushed, gone_with, is_full, typed_
 use Rattle.story_player.specs.declared.fault.RunFault.TheVariants.{Read, Write, InputTooLong}
 use Rattle.story_player.proofs.Fronts.{front-append, front-behind, front_first, front_nothing, front_self, front_trans}
 use Rattle.story_player.proofs.LineLemmas.{break-append, lines-last, lines-line, strip-front}
-use Rattle.story_player.proofs.Readings.{gone-more}
+use Rattle.story_player.proofs.LetGo.{gone-more}
 use Rattle.story_player.proofs.Tellings.{shown-append}
 use Rattle.story_player.proofs.Transcripts.{front_shown, prompt_first}
 use Rattle.story_player.proofs.Writes.{appends-more, consumes-more}

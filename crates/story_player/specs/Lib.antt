@@ -1,8 +1,10 @@
 pub mod Begun
 pub mod Breaks
 pub mod FaultTexts
+pub mod Given
 pub mod KeptWorlds
-pub mod ReplyTexts
+pub mod LineTexts
+pub mod Meant
 pub mod Runs
 pub mod Sessions
 pub mod Spoken

@@ -1,5 +1,5 @@
 -- What contracts see of a session: its story's game, and its state.
-use Rattle.std.specs.Prelude.{ℕ, Bool, true, false, Option, None, Some, if◌then◌else◌}
+use Rattle.std.specs.Prelude.{Bool, true, false}
 use Rattle.play_meaning.specs.Games.{Game}
 use Rattle.play_meaning.specs.Sessions.{Answer, State}
 use Rattle.world_meaning.specs.declared.session.Abandon.{Abandon}
@@ -39,7 +39,3 @@ is_refusal Free = false
 is_refusal (Abandoned reason) = is_memory reason
 is_refusal Ended = false
 is_refusal Over = false
-
--- where an answer of this kind tells that memory was refused: in the line's one command
-abbrev pub refusal_of : ReplyKind → Option ℕ
-refusal_of kind = if is_refusal kind then Some 0 else None

@@ -1,5 +1,5 @@
 -- What a turn and the opening come to, and what is told of them.
-use Rattle.std.specs.Prelude.{◌≡◌, ℕ, Bool, true, false, not, List, [], ◌∷◌, ◌++◌, Option, None, Some, Ok}
+use Rattle.std.specs.Prelude.{◌≡◌, ℕ, Bool, true, false, not, List, [], ◌∷◌, ◌++◌, Option, None, Some, Ok, if◌then◌else◌}
 use Rattle.world_meaning.specs.Texts.{closing_text}
 use Rattle.world_meaning.specs.declared.session.Ending.{Ending}
 use Rattle.world_meaning.specs.declared.session.Ending.TheVariants.{Story}
@@ -7,21 +7,25 @@ use Rattle.world_meaning.specs.declared.session.ReplyKind.{ReplyKind}
 use Rattle.world_meaning.specs.declared.session.ReplyKind.TheVariants.{Ended, Free, Kept}
 use Rattle.play_meaning.specs.Attempts.{Attempt}
 use Rattle.play_meaning.specs.Games.{Game}
-use Rattle.play_meaning.specs.Progress.{Progress}
-use Rattle.play_meaning.specs.Sessions.{Answer, State, completed, ends_in_break, keep}
-use Rattle.play_meaning.specs.Turns.{perform, turn}
+use Rattle.play_meaning.specs.Progress.{Progress, fresh}
+use Rattle.play_meaning.specs.Sessions.{Answer, State, abandoned, keep, parted_by_break, played}
+use Rattle.play_meaning.specs.Turns.{completed, ends_in_break, opening, perform, turn, turn_upon}
 use Rattle.play_meaning.specs.Worlds.{World}
-use Rattle.play_meaning.specs.declared.action.ActionNow.{ActionNow}
+use Rattle.world_meaning.specs.declared.session.Abandon.TheVariants.{Memory}
+use Rattle.story_player.specs.declared.deed.Deed.{Deed}
+use Rattle.story_player.specs.declared.deed.Deed.TheVariants as deed
 
 -- play has come to this world, with this said
 pub record ComesTo (attempt : Attempt Progress) (w : World) (text : List ℕ) : Type 0 where
   pub work : ℕ
   pub comes : attempt ≡ Ok (record { world = w; text = text; work = work })
 
--- an action by itself, where it is out of world, and else a turn
-abbrev pub done_in : Bool → Game → ActionNow → Progress → Attempt Progress
-done_in true g now p = perform g now p
-done_in false g now p = turn g now p
+-- what is done on a world: the opening, an action by itself, a turn of one action, or a turn of an action on several things
+abbrev pub done_by : Deed → Game → Progress → Attempt Progress
+done_by deed.Opening g p = opening g p
+done_by (deed.Alone now) g p = perform g now p
+done_by (deed.Turn now) g p = turn g now p
+done_by (deed.TurnUpon action objects) g p = turn_upon g action objects.now p
 
 -- ---- what is told
 
@@ -43,20 +47,36 @@ abbrev pub ending_told : Option (List ℕ) → Option Ending
 ending_told None = None
 ending_told (Some ending) = Some Story
 
--- what is answered where an action has come to this world, and this is told of it
+-- what is answered where play has come to this world, and this is told of it: a turn is kept
 abbrev pub kept_by : Bool → State → List World
-kept_by true s = s.kept
-kept_by false s = keep s.world s.kept
+kept_by true s = keep s.world s.kept
+kept_by false s = s.kept
 
 abbrev pub kind_by : Bool → ReplyKind
-kind_by true = Free
-kind_by false = Kept
+kind_by true = Kept
+kind_by false = Free
+
+abbrev pub is_turn : Deed → Bool
+is_turn deed.Opening = false
+is_turn (deed.Alone now) = false
+is_turn (deed.Turn now) = true
+is_turn (deed.TurnUpon action objects) = true
 
 abbrev pub taken_up : Bool → State → World → List ℕ → Answer
-taken_up apart s w text = record { text = text; kind = kind_told (kind_by apart) w.ended; state = record s { world = w; kept = kept_by apart s; question = None; ending = ending_told w.ended } }
+taken_up is_kept s w text = record { text = text; kind = kind_told (kind_by is_kept) w.ended; state = record s { world = w; kept = kept_by is_kept s; question = None; ending = ending_told w.ended } }
+
+-- what is answered to a deed; memory may have been refused
+abbrev pub deed_answer : Deed → Game → Bool → State → Answer
+deed_answer d g refused s = if refused then abandoned Memory s else played (kind_by (is_turn d)) (kept_by (is_turn d) s) s (done_by d g (fresh s.world))
 
 -- play has come to this world, and this is told of it
 pub record IsToldOf (attempt : Attempt Progress) (w : World) (text : List ℕ) : Type 0 where
   pub said : List ℕ
   pub comes : ComesTo attempt w said
   pub told : text ≡ told_text said w.ended
+
+-- and behind what was said before
+pub record IsToldBehind (attempt : Attempt Progress) (w : World) (before after : List ℕ) : Type 0 where
+  pub text : List ℕ
+  pub is : IsToldOf attempt w text
+  pub behind : after ≡ parted_by_break before text

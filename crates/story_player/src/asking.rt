@@ -1,11 +1,13 @@
 //! The question that is asked where a phrase of a command may mean several things (*Writing with Inform*, chapter 17).
-ghost use Rattle.std.specs.Prelude.{◌≡◌, ◌++◌, Err, IfErr, IfOk, OnErr, OnOk};
+ghost use Rattle.std.specs.Prelude.{◌≡◌, ◌<◌, ◌+◌, ◌++◌, Err, IfErr, IfOk, OnErr, OnOk};
 ghost use Rattle.play_meaning.specs.Commands.{asking_text, offered, offered_on};
 ghost use Rattle.play_meaning.specs.Saying.{named};
+ghost use Rattle.play_meaning.specs.Sessions.{parted_by_break};
 ghost use Rattle.play_meaning.specs.declared.naming.Naming.TheVariants.{Definite};
 ghost use Rattle.world_meaning.specs.declared.session.Abandon.TheVariants.{Memory};
 ghost use Rattle.world_store.specs.StorySettings.{setting_of};
 
+use crate::line_text::LineText;
 use crate::telling::add;
 use play_meaning::Naming;
 use std::alloc::Global;
@@ -54,7 +56,7 @@ fn add_offered(world: &World, text: &mut Vec<u8>, objects: &[ObjNo]) -> Result<(
 }
 
 /// `Which do you mean, the x, the y or the z?`, of these objects.
-pub(crate) fn asking_text(
+fn asking_text(
     alloc: Global,
     world: &World,
     objects: &[ObjNo],
@@ -67,4 +69,21 @@ pub(crate) fn asking_text(
     add_offered(world, &mut text, objects)?;
     add(&mut text, b"?\n")?;
     Ok(TextBytes::new(text))
+}
+
+/// Asks which of these objects is meant. Where memory is refused nothing is said.
+pub(crate) fn ask(
+    alloc: Global,
+    world: &World,
+    objects: &[ObjNo],
+    text: &mut LineText,
+) -> Result<(), Abandon>
+    requires room { 0 < text.old.left }
+    ensures said { OnOk result (text.new.said ≡ parted_by_break text.old.said (asking_text (setting_of world.now.tables) objects.now)) }
+    ensures left { OnOk result (text.new.left + 1 ≡ text.old.left) }
+    ensures refused { IfErr result (λ reason. reason ≡ Memory) }
+    ensures same { OnErr result (text.new ≡ text.old) }
+{
+    let asked = asking_text(alloc, world, objects)?;
+    Ok(text.add_made(asked.as_slice())?)
 }

@@ -1,13 +1,18 @@
 //! The player of a story: it reads typed lines, changes the world, takes turns back and prints the transcript.
 #![tactic(auto)]
 
+mod all_things;
 mod asking;
+mod commands;
+mod deed;
 mod fault;
 mod in_play;
+mod line_text;
 mod playing;
 mod reading;
 mod reply;
 mod session;
+mod several;
 mod telling;
 mod texts;
 mod trial;

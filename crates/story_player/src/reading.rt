@@ -1,21 +1,26 @@
-//! What a line means as it was typed, and what is said to one that does nothing.
-ghost use Rattle.std.specs.Prelude.{◌≡◌, IfOk, OnErr, true};
+//! What a command means, and what is said to one that does nothing.
+ghost use Rattle.std.specs.Prelude.{◌≡◌, ◌≤◌, IfOk, OnErr, length, true};
 ghost use Rattle.std.specs.Option.{option_map};
+ghost use Rattle.command_parser.specs.Cutting.{told_parts};
 ghost use Rattle.command_parser.specs.Readings.{said_text, told as told_of};
 ghost use Rattle.command_parser.specs.Settling.{is_asking};
-ghost use Rattle.story_player.specs.Typed.{Line, read_in, told};
+ghost use Rattle.story_player.specs.Given.{HasFew};
+ghost use Rattle.story_player.specs.LineTexts.{longest_fixed};
+ghost use Rattle.story_player.specs.Meant.{read_in};
+ghost use Rattle.story_player.specs.Typed.{parts_told, told};
 ghost use Rattle.world_store.specs.StoryGrammars.{grammar_of};
 
 use crate::in_play::InPlay;
 use crate::texts;
 use crate::typed::Typed;
-use command_parser::{Question, Reading, Said, narrow, read_command};
+use command_parser::{Command, Parts, Question, Reading, Said, narrow, read_command, split};
 use std::alloc::{AllocError, Global};
 use world_store::World;
 
-/// What is said to a line that does nothing.
+/// What is said to a command that does nothing.
 pub(crate) fn said_text(said: Said) -> &'static [u8]
-    ensures { result.now ≡ said_text said }
+    ensures text { result.now ≡ said_text said }
+    ensures short { length result.now ≤ longest_fixed }
 {
     match said {
         Said::Empty => texts::EMPTY,
@@ -23,39 +28,35 @@ pub(crate) fn said_text(said: Said) -> &'static [u8]
         Said::NoVerb => texts::NO_VERB,
         Said::NotSeen => texts::NOT_SEEN,
         Said::NotUnderstood => texts::NOT_UNDERSTOOD,
+        Said::NoneOfAll => texts::NONE_OF_ALL,
     }
 }
 
-/// What a whole line means in a world, whether a question is open or none. Only a question takes memory.
-fn read_line(
+/// What a line is made of as it was typed.
+pub(crate) fn parts(typed: Typed<'_>) -> Parts<'_>
+    ensures parts { told_parts result.entry ≡ parts_told (told typed.entry) }
+    ensures few { HasFew result.entry }
+{
+    match typed {
+        Typed::Whole(line) => split(line),
+        Typed::Overlong { has_command: true } => Parts::Overlong,
+        Typed::Overlong { has_command: false } => Parts::Blank,
+    }
+}
+
+/// What a command means in a world, whether a question is open or none. Only a question takes memory.
+pub(crate) fn read(
     alloc: Global,
     world: &World,
     question: Option<&Question>,
-    line: &[u8],
+    command: &Command<'_>,
 ) -> Result<Reading, AllocError>
-    ensures read { IfOk result (λ reading. told_of (grammar_of world.now.tables) reading ≡ read_in world.now (option_map (λ q. q.now) question.entry) (Line line.now)) }
-    ensures asks { OnErr result (is_asking (read_in world.now (option_map (λ q. q.now) question.entry) (Line line.now)) ≡ true) }
+    ensures read { IfOk result (λ reading. told_of (grammar_of world.now.tables) reading ≡ read_in world.now (option_map (λ q. q.now) question.entry) command.now) }
+    ensures asks { OnErr result (is_asking (read_in world.now (option_map (λ q. q.now) question.entry) command.now) ≡ true) }
 {
     let play = InPlay { world };
     match question {
-        None => Ok(read_command(alloc, line, &play)?),
-        Some(question) => Ok(narrow(alloc, line, question, &play)?),
-    }
-}
-
-/// What a line means as it was typed. Only a question takes memory.
-pub(crate) fn read_typed(
-    alloc: Global,
-    world: &World,
-    question: Option<&Question>,
-    typed: Typed<'_>,
-) -> Result<Reading, AllocError>
-    ensures read { IfOk result (λ reading. told_of (grammar_of world.now.tables) reading ≡ read_in world.now (option_map (λ q. q.now) question.entry) (told typed.entry)) }
-    ensures asks { OnErr result (is_asking (read_in world.now (option_map (λ q. q.now) question.entry) (told typed.entry)) ≡ true) }
-{
-    match typed {
-        Typed::Whole(line) => Ok(read_line(alloc, world, question, line)?),
-        Typed::Overlong { has_word: true } => Ok(Reading::Says(Said::TooLong)),
-        Typed::Overlong { has_word: false } => Ok(Reading::Says(Said::Empty)),
+        None => Ok(read_command(alloc, command, &play)?),
+        Some(question) => Ok(narrow(alloc, command, question, &play)?),
     }
 }

@@ -10,6 +10,8 @@ pub const NOT_SEEN: &[u8] = b"You can't see any such thing.\n";
 
 pub const NOT_UNDERSTOOD: &[u8] = b"I didn't understand that sentence.\n";
 
+pub const NONE_OF_ALL: &[u8] = b"There is nothing to do that to.\n";
+
 pub const UNDONE: &[u8] = b"Previous turn undone.\n";
 
 pub const NOTHING_TO_UNDO: &[u8] = b"You can't undo any further.\n";

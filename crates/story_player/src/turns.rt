@@ -6,7 +6,6 @@ ghost use Rattle.action_stages.specs.Answering.{Answers};
 ghost use Rattle.action_stages.specs.Returning.{IsThere};
 ghost use Rattle.action_stages.specs.Stages.{back_of, progress_of, story_of, tables_of};
 ghost use Rattle.world_store.specs.StoryPlay.{game_in_play};
-ghost use Rattle.story_player.specs.Turns.{done_in};
 
 use action_stages::{Stage, count_turn, follow, perform};
 use play_meaning::standard_actions::LOOKING;
@@ -38,7 +37,7 @@ fn look_round() -> ActionNow
 
 /// Performs an action.
 #[tactic(auto, using(crate::proofs::Parts::performed_so, crate::proofs::Parts::performed_not))]
-fn act(alloc: Global, stage: &mut Stage<'_>, now: ActionNow) -> Result<(), Abandon>
+pub(crate) fn act(alloc: Global, stage: &mut Stage<'_>, now: ActionNow) -> Result<(), Abandon>
     requires told { tables_of stage.old ≡ story_of stage.old }
     requires there { IsThere (back_of stage.old) }
     ensures answer { Answers result (λ done. progress_of stage.new) (perform (game_in_play (story_of stage.old)) now (progress_of stage.old)) }
@@ -129,7 +128,7 @@ fn behind_pass(alloc: Global, stage: &mut Stage<'_>) -> Result<(), Abandon>
 
 /// The parts of a turn behind its action: a scene pass, and those behind it.
 #[tactic(auto, using(crate::proofs::Parts::behind_rules))]
-fn behind_action(alloc: Global, stage: &mut Stage<'_>) -> Result<(), Abandon>
+pub(crate) fn behind_action(alloc: Global, stage: &mut Stage<'_>) -> Result<(), Abandon>
     requires told { tables_of stage.old ≡ story_of stage.old }
     requires there { IsThere (back_of stage.old) }
     ensures answer { Answers result (λ done. progress_of stage.new)
@@ -145,7 +144,7 @@ fn behind_action(alloc: Global, stage: &mut Stage<'_>) -> Result<(), Abandon>
 
 /// A turn: the action, a scene pass, the every turn rules, the count, a scene pass (*Writing with Inform*, chapters 9 and 10).
 #[tactic(auto, using(crate::proofs::Parts::behind_rules), unfolding(play_meaning::specs::Turns::turn))]
-fn turn(alloc: Global, stage: &mut Stage<'_>, now: ActionNow) -> Result<(), Abandon>
+pub(crate) fn turn(alloc: Global, stage: &mut Stage<'_>, now: ActionNow) -> Result<(), Abandon>
     requires told { tables_of stage.old ≡ story_of stage.old }
     requires there { IsThere (back_of stage.old) }
     ensures answer { Answers result (λ done. progress_of stage.new) (turn (game_in_play (story_of stage.old)) now (progress_of stage.old)) }
@@ -187,25 +186,4 @@ pub(crate) fn opening(alloc: Global, stage: &mut Stage<'_>) -> Result<(), Abando
     pass_unless_over(alloc, stage)?;
     begin_play(alloc, stage)?;
     Ok(())
-}
-
-/// Does an action: one out of world by itself, another in a turn.
-pub(crate) fn done(
-    alloc: Global,
-    stage: &mut Stage<'_>,
-    now: ActionNow,
-    apart: bool,
-) -> Result<(), Abandon>
-    requires told { tables_of stage.old ≡ story_of stage.old }
-    requires there { IsThere (back_of stage.old) }
-    ensures answer { Answers result (λ done. progress_of stage.new) (done_in apart (game_in_play (story_of stage.old)) now (progress_of stage.old)) }
-    ensures story { story_of stage.new ≡ story_of stage.old }
-    ensures tables { tables_of stage.new ≡ story_of stage.old }
-    ensures back { back_of stage.new ≡ back_of stage.old }
-{
-    if apart {
-        Ok(act(alloc, stage, now)?)
-    } else {
-        Ok(turn(alloc, stage, now)?)
-    }
 }
