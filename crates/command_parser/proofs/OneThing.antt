@@ -1,5 +1,5 @@
 -- A line's slots, found one behind the other.
-use Rattle.std.proofs.Common.{◌≡◌, Bool, true, false, List, [], ◌∷◌, refl, ap, sym, ◌∙◌}
+use Rattle.std.proofs.Common.{◌≡◌, Bool, true, false, List, [], ◌∷◌, refl, sym, ◌∙◌}
 use Rattle.std.specs.Prelude.{filter}
 use Rattle.play_meaning.specs.Commands.{is_one_thing}
 use Rattle.play_meaning.specs.Grammar.{Direction, Something, Token, Word, is_slot}

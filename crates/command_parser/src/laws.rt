@@ -16,11 +16,11 @@ pub fn plain_lines_are_read()
     ensures q { (g : Grammar) (sees : ℕ → Bool) → read g None sees (codes "q" ∷ []) ≡ Quit }
 {}
 
-/// A command of two words or more that says the first line of taking or dropping a thing of all things is tried with all of
-/// them, whatever goes by `all` or `everything`, and whatever the player sees.
+/// Where nothing is asked, a command that says the first line of the grammar, one of taking or dropping a thing, of all things
+/// is tried with all of them, whatever goes by `all` or `everything` and whatever the player sees.
 pub fn all_is_read()
-    ensures { (g : Grammar) (sees : ℕ → Bool) (verb word : List ℕ) (words : List (List ℕ)) (line : Line) (lines : List Line) → g.lines ≡ line ∷ lines
-        → means_all (verb ∷ word ∷ words) line ≡ true → read g None sees (verb ∷ word ∷ words) ≡ ActsAll line.action }
+    ensures { (g : Grammar) (sees : ℕ → Bool) (words : List (List ℕ)) (line : Line) (lines : List Line) → g.lines ≡ line ∷ lines → means_all words line ≡ true
+        → read g None sees words ≡ ActsAll line.action }
 {}
 
 /// What is told of a reading tells the reading, whatever the grammar: so a command has one.

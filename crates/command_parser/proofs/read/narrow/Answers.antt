@@ -1,4 +1,4 @@
-use Rattle.std.proofs.Common.{◌≡◌, ℕ, List, Some, ap, sym, ◌∙◌}
+use Rattle.std.proofs.Common.{ℕ, List, Some, ap, sym, ◌∙◌}
 use Rattle.play_meaning.specs.Commands.{answer}
 use Rattle.command_parser.specs.Commanding.{command_by}
 use Rattle.command_parser.specs.Settling.{is_asking}
