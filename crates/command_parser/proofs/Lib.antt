@@ -2,6 +2,7 @@ pub mod Apart
 pub mod Filters
 pub mod LineWords
 pub mod Meanings
+pub mod OneThing
 pub mod Places
 pub mod PlainLines
 pub mod Refusals

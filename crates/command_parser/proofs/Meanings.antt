@@ -1,15 +1,14 @@
--- What the code computes is what a line means.
+-- What the code computes is what a command means.
 use Rattle.std.proofs.Common.{◌≡◌, ℕ, Bool, true, false, List, [], ◌∷◌, length, refl, ap, sym, ◌∙◌, arith, inl, inr}
 use Rattle.std.specs.Prelude.{Option, None, Some, ◌&&◌, ◌||◌, ◌==◌, codes, filter, if◌then◌else◌}
 use Rattle.std.specs.List.{list_any}
 use Rattle.std.specs.Option.{option_map}
 use Rattle.std.proofs.lemmas.Bool.{ne_eqb, cases_Bool}
-use Rattle.world_meaning.specs.Reading.{words_of}
-use Rattle.world_meaning.specs.Texts.{empty_text, not_seen_text, not_understood_text, too_long_text}
-use Rattle.play_meaning.specs.Commands.{answer, command, first_reading, has_split, is_alone, is_too_long, misread, or_next, read, settle, unread}
-use Rattle.play_meaning.specs.Games.{Question, Quit, Reading, Says, Undo}
+use Rattle.world_meaning.specs.Texts.{empty_text, not_seen_text, not_understood_text}
+use Rattle.play_meaning.specs.Commands.{answer, command, first_reading, has_split, is_alone, means_all, misread, or_next, read, settle, unread}
+use Rattle.play_meaning.specs.Games.{ActsAll, Question, Quit, Reading, Says, Undo}
 use Rattle.play_meaning.specs.Grammar.{Grammar, Line, splits}
-use Rattle.command_parser.specs.Commanding.{command_by, line_begins, lines_read, read_by, read_or, unread_by, unread_text}
+use Rattle.command_parser.specs.Commanding.{command_by, line_begins, lines_read, read_or, unread_by, unread_text}
 use Rattle.command_parser.specs.Searching.{first_filled, fits, or_later}
 use Rattle.command_parser.proofs.Splits.{first_filling, fits_is, has, has_is}
 
@@ -20,12 +19,18 @@ read_next : (g : Grammar) (action : ℕ) (found : Option (List (List ℕ))) (mor
 read_next g action None more later otherwise same = same
 read_next g action (Some slots) more later otherwise same = refl
 
+-- of a line that is said of all things, or isn't
+read_line : (all : Bool) (g : Grammar) (action : ℕ) (found : Option (List (List ℕ))) (more : Option Reading) (later otherwise : Reading) → later ≡ read_or more otherwise
+    → (if all then ActsAll action else or_next g action found later) ≡ read_or (or_later (if all then Some (ActsAll action) else option_map (settle g action []) found) more) otherwise
+read_line true g action found more later otherwise same = refl
+read_line false g action found more later otherwise same = read_next g action found more later otherwise same
+
 lines_are_read : (g : Grammar) (sees : ℕ → Bool) (words : List (List ℕ)) (lines : List Line) (otherwise : Reading) → first_reading g sees words lines otherwise ≡ read_or (lines_read g sees words lines) otherwise
 unfolding first_reading
 lines_are_read g sees words [] otherwise = refl
 lines_are_read g sees words (line ∷ lines) otherwise =
-    ap (λ found. or_next g line.action found (first_reading g sees words lines otherwise)) (first_filling g sees line words)
-    ∙ read_next g line.action (first_filled g sees line.tokens words) (lines_read g sees words lines) (first_reading g sees words lines otherwise) otherwise (lines_are_read g sees words lines otherwise)
+    ap (λ found. if means_all words line then ActsAll line.action else or_next g line.action found (first_reading g sees words lines otherwise)) (first_filling g sees line words)
+    ∙ read_line (means_all words line) g line.action (first_filled g sees line.tokens words) (lines_read g sees words lines) (first_reading g sees words lines otherwise) otherwise (lines_are_read g sees words lines otherwise)
 
 -- ---- what is said where none is read
 
@@ -60,7 +65,7 @@ unread_is g word words =
     ∙ ap (λ known. unread_by known (list_any (has_split (word ∷ words)) (filter (line_begins word) g.lines))) (has_passing (line_begins word) g.lines)
     ∙ ap (unread_by (list_any (line_begins word) g.lines)) (any_passing (line_begins word) (word ∷ words) g.lines))
 
--- ---- a command, and a line
+-- ---- a command
 
 some_words : (none : Bool) → none ≡ false → (last : Reading)
     → (if none then Says empty_text else last) ≡ last
@@ -75,11 +80,11 @@ command_is g sees (word ∷ words) =
     (lines_are_read g sees (word ∷ words) g.lines (unread g word words) ∙ ap (read_or (lines_read g sees (word ∷ words) g.lines)) (unread_is g word words))
     ∙ sym (some_words (length (word ∷ words) == 0) (ne_eqb (length (word ∷ words)) 0 (λ none. omega (arith, none))) _)
 
-pub no_question : (g : Grammar) (words : List (List ℕ)) (otherwise : Reading) → otherwise ≡ answer g None words otherwise
-unfolding answer
-no_question g words otherwise = refl
-
-pub read_is : (g : Grammar) (question : Option Question) (sees : ℕ → Bool) (line : List ℕ) → read g question sees line ≡ read_by g question sees line
+pub read_is : (g : Grammar) (question : Option Question) (sees : ℕ → Bool) (words : List (List ℕ)) → read g question sees words ≡ answer g question words (command_by g sees words)
 unfolding read
-read_is g question sees line =
-    ap (λ (meant : Reading). if length (words_of line) == 0 then Says empty_text else if is_too_long line then Says too_long_text else answer g question (words_of line) meant) (command_is g sees (words_of line))
+read_is g question sees words = ap (answer g question words) (command_is g sees words)
+
+-- where no question is open
+pub command_read : (g : Grammar) (sees : ℕ → Bool) (words : List (List ℕ)) → read g None sees words ≡ command_by g sees words
+unfolding read answer
+command_read g sees words = command_is g sees words

@@ -2,17 +2,20 @@
 use Rattle.std.specs.Prelude.{ℕ, Bool, true, false, ◌&&◌, ◌||◌, ◌==◌, List, [], ◌∷◌, Option, None, Some, codes, length, if◌then◌else◌}
 use Rattle.std.specs.List.{list_any}
 use Rattle.std.specs.Option.{option_map}
-use Rattle.world_meaning.specs.Reading.{words_of}
-use Rattle.world_meaning.specs.Texts.{empty_text, no_verb_text, not_seen_text, not_understood_text, too_long_text}
-use Rattle.play_meaning.specs.Commands.{answer, begins_with, is_alone, is_too_long, settle}
-use Rattle.play_meaning.specs.Games.{Question, Quit, Reading, Says, Undo}
+use Rattle.world_meaning.specs.Texts.{empty_text, no_verb_text, not_seen_text, not_understood_text}
+use Rattle.play_meaning.specs.Commands.{begins_with, is_alone, means_all, settle}
+use Rattle.play_meaning.specs.Games.{ActsAll, Quit, Reading, Says, Undo}
 use Rattle.play_meaning.specs.Grammar.{Grammar, Line}
 use Rattle.command_parser.specs.Searching.{first_filled, fits, or_later}
 use Rattle.command_parser.specs.Settling.{is_asking}
 
+-- what a line is read as, if its slots can be filled
+abbrev pub filled_read : Grammar → (ℕ → Bool) → List (List ℕ) → Line → Option Reading
+filled_read g sees words line = option_map (settle g line.action []) (first_filled g sees line.tokens words)
+
 -- what a line is read as, if it is
 abbrev pub line_read : Grammar → (ℕ → Bool) → List (List ℕ) → Line → Option Reading
-line_read g sees words line = option_map (settle g line.action []) (first_filled g sees line.tokens words)
+line_read g sees words line = if means_all words line then Some (ActsAll line.action) else filled_read g sees words line
 
 -- the first that is
 abbrev pub lines_read : Grammar → (ℕ → Bool) → List (List ℕ) → List Line → Option Reading
@@ -54,9 +57,3 @@ command_by g sees words =
     else if is_alone words (codes "undo") then Undo
     else if is_alone words (codes "quit") || is_alone words (codes "q") then Quit
     else read_or (lines_read g sees words g.lines) (Says (unread_text g words))
-
-abbrev pub read_by : Grammar → Option Question → (ℕ → Bool) → List ℕ → Reading
-read_by g question sees line =
-    if length (words_of line) == 0 then Says empty_text
-    else if is_too_long line then Says too_long_text
-    else answer g question (words_of line) (command_by g sees (words_of line))

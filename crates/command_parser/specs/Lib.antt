@@ -1,3 +1,4 @@
+pub mod Alls
 pub mod Commanding
 pub mod Fillings
 pub mod Readings

@@ -1,7 +1,7 @@
 -- What the candidates of slots, one behind the other, come to: an action, or a question, whose lists come later.
 use Rattle.std.specs.Prelude.{ℕ, Bool, true, false, List, [], ◌∷◌, ◌++◌, Option, None, Some}
 use Rattle.play_meaning.specs.Commands.{asks_for, settle}
-use Rattle.play_meaning.specs.Games.{Acts as ActsSo, Asks as AsksSo, Quit as QuitSo, Reading, Says, Undo as UndoSo}
+use Rattle.play_meaning.specs.Games.{Acts as ActsSo, ActsAll as ActsAllSo, Asks as AsksSo, Quit as QuitSo, Reading, Says, Undo as UndoSo}
 use Rattle.play_meaning.specs.Grammar.{Grammar}
 use Rattle.play_meaning.specs.declared.action.ActionNow.{ActionNow}
 use Rattle.world_meaning.specs.Texts.{not_seen_text}
@@ -57,6 +57,7 @@ abbrev pub is_asking : Reading → Bool
 is_asking (Says text) = false
 is_asking (AsksSo question text) = true
 is_asking (ActsSo now) = false
+is_asking (ActsAllSo action) = false
 is_asking UndoSo = false
 is_asking QuitSo = false
 

@@ -1,4 +1,4 @@
-//! What the words of a line mean while a question is open: its candidates that go by them, else a new command.
+//! What the words of a command mean while a question is open: its candidates that go by them, else a new command.
 ghost use Rattle.std.specs.Prelude.{◌≡◌, ◌∷◌, IfOk, OnErr, filter, find, map, Some, true};
 ghost use Rattle.std.specs.List.{list_all};
 ghost use Rattle.play_meaning.specs.Commands.{answer, settle};
@@ -8,7 +8,7 @@ ghost use Rattle.command_parser.specs.Readings.{told};
 ghost use Rattle.command_parser.specs.Settling.{is_asking, outcome_of, settled_by};
 
 use crate::candidates::{are_named_alike, filling_by, is_meant};
-use crate::command::command;
+use crate::command::meaning;
 use crate::filling::{Filling, Outcome};
 use crate::listing::add_if;
 use crate::searching::with_noun;
@@ -172,7 +172,7 @@ pub(crate) fn answer<C: Commands>(
     let noun = noun_of(words);
     let filling = narrowed_filling(commands, noun, question.candidates());
     if is_empty(filling) {
-        return Ok(command(alloc, commands, words)?);
+        return Ok(meaning(alloc, commands, words)?);
     }
     Ok(narrowed(alloc, commands, question, noun, filling)?)
 }

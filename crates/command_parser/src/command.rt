@@ -44,7 +44,7 @@ fn line_command<C: Commands>(
 }
 
 /// What the words of a command mean: `undo`, `quit` and `q` alone, else what a line makes of them. Only a question takes memory.
-pub(crate) fn command<C: Commands>(
+pub(crate) fn meaning<C: Commands>(
     alloc: Global,
     commands: &C,
     words: &[&[u8]],

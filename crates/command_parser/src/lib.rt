@@ -2,6 +2,7 @@
 //! A command is read without memory, except for the question that is asked where a phrase of it may mean several things.
 #![tactic(auto)]
 
+mod all;
 mod answer;
 mod candidates;
 mod command;
@@ -22,7 +23,7 @@ mod unread;
 mod words;
 
 pub use commands::Commands;
-pub use laws::{one_reading, plain_lines_are_read};
+pub use laws::{all_is_read, one_reading, plain_lines_are_read};
 pub use question::{Objects, Question};
 pub use read::{narrow, read_command};
 pub use reading::{Reading, Said};

@@ -1,13 +1,15 @@
-//! What the lines of a grammar make of a command's words: the first is read that leaves no slot without a candidate.
+//! What the lines of a grammar make of a command's words: the first is read that is said of all things, or leaves no slot
+//! without a candidate.
 ghost use Rattle.std.specs.Prelude.{◌≡◌, [], Some, IfOk, OnErr, map, true};
 ghost use Rattle.std.specs.Option.{option_map};
 ghost use Rattle.play_meaning.specs.Commands.{done_to};
-ghost use Rattle.command_parser.specs.Commanding.{asks_if, line_read, lines_read};
+ghost use Rattle.command_parser.specs.Commanding.{asks_if, filled_read, line_read, lines_read};
 ghost use Rattle.command_parser.specs.Readings.{told};
 ghost use Rattle.command_parser.specs.Searching.{first_filled};
 ghost use Rattle.command_parser.specs.Settling.{outcome_of};
 ghost use Rattle.command_parser.specs.Tokens.{line_at};
 
+use crate::all::means_all;
 use crate::filling::Outcome;
 use crate::listing::slots;
 use crate::searching::search;
@@ -15,7 +17,7 @@ use crate::settling::{done_to, settle};
 use crate::{Commands, Reading, Said};
 use std::alloc::{AllocError, Global};
 
-/// What a line is read as, if it is, its slots' candidates listed.
+/// What a line is read as, if its slots can be filled, their candidates listed.
 fn listed_reading<C: Commands>(
     alloc: Global,
     commands: &C,
@@ -23,7 +25,7 @@ fn listed_reading<C: Commands>(
     words: &[&[u8]],
 ) -> Result<Option<Reading>, AllocError>
     ensures { IfOk result (λ reading. option_map (told (C.grammar commands.now)) reading
-        ≡ line_read (C.grammar commands.now) (C.sees commands.now) (map (λ word. word.now) words.now) (line_at (C.grammar commands.now) line)) }
+        ≡ filled_read (C.grammar commands.now) (C.sees commands.now) (map (λ word. word.now) words.now) (line_at (C.grammar commands.now) line)) }
 {
     match slots(alloc, commands, line, 0, words)? {
         None => Ok(None),
@@ -46,8 +48,8 @@ fn outcome_reading<C: Commands>(
     requires comes_to { option_map (outcome_of (C.grammar commands.now) (done_to (line_at (C.grammar commands.now) line).action []))
         (first_filled (C.grammar commands.now) (C.sees commands.now) (line_at (C.grammar commands.now) line).tokens (map (λ word. word.now) words.now)) ≡ Some outcome }
     ensures read { IfOk result (λ reading. option_map (told (C.grammar commands.now)) reading
-        ≡ line_read (C.grammar commands.now) (C.sees commands.now) (map (λ word. word.now) words.now) (line_at (C.grammar commands.now) line)) }
-    ensures asks { OnErr result (asks_if (line_read (C.grammar commands.now) (C.sees commands.now) (map (λ word. word.now) words.now) (line_at (C.grammar commands.now) line)) ≡ true) }
+        ≡ filled_read (C.grammar commands.now) (C.sees commands.now) (map (λ word. word.now) words.now) (line_at (C.grammar commands.now) line)) }
+    ensures asks { OnErr result (asks_if (filled_read (C.grammar commands.now) (C.sees commands.now) (map (λ word. word.now) words.now) (line_at (C.grammar commands.now) line)) ≡ true) }
 {
     match outcome {
         Outcome::Acts(now) => Ok(Some(Reading::Acts(now))),
@@ -56,7 +58,26 @@ fn outcome_reading<C: Commands>(
     }
 }
 
-/// What a line is read as, if it is. Only a question takes memory.
+/// What a line is read as, if its slots can be filled. Only a question takes memory.
+fn filled_reading<C: Commands>(
+    alloc: Global,
+    commands: &C,
+    line: u16,
+    words: &[&[u8]],
+) -> Result<Option<Reading>, AllocError>
+    ensures read { IfOk result (λ reading. option_map (told (C.grammar commands.now)) reading
+        ≡ filled_read (C.grammar commands.now) (C.sees commands.now) (map (λ word. word.now) words.now) (line_at (C.grammar commands.now) line)) }
+    ensures asks { OnErr result (asks_if (filled_read (C.grammar commands.now) (C.sees commands.now) (map (λ word. word.now) words.now) (line_at (C.grammar commands.now) line)) ≡ true) }
+{
+    let begun = done_to(commands.action(line), &[]);
+    match search(commands, &begun, line, 0, words) {
+        None => Ok(None),
+        Some(outcome) => Ok(outcome_reading(alloc, commands, line, words, outcome)?),
+    }
+}
+
+/// What a line is read as, if it is: said of all things, whatever goes by the word for these, else by the candidates of its
+/// slots. Only a question takes memory.
 fn line_reading<C: Commands>(
     alloc: Global,
     commands: &C,
@@ -67,11 +88,10 @@ fn line_reading<C: Commands>(
         ≡ line_read (C.grammar commands.now) (C.sees commands.now) (map (λ word. word.now) words.now) (line_at (C.grammar commands.now) line)) }
     ensures asks { OnErr result (asks_if (line_read (C.grammar commands.now) (C.sees commands.now) (map (λ word. word.now) words.now) (line_at (C.grammar commands.now) line)) ≡ true) }
 {
-    let begun = done_to(commands.action(line), &[]);
-    match search(commands, &begun, line, 0, words) {
-        None => Ok(None),
-        Some(outcome) => Ok(outcome_reading(alloc, commands, line, words, outcome)?),
+    if means_all(commands, line, words) {
+        return Ok(Some(Reading::ActsAll(commands.action(line))));
     }
+    Ok(filled_reading(alloc, commands, line, words)?)
 }
 
 /// What the first line that is read is read as. Only a question takes memory.

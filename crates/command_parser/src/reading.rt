@@ -1,8 +1,8 @@
-//! What a typed line means.
+//! What a command means.
 use crate::Question;
-use play_meaning::ActionNow;
+use play_meaning::{ActNo, ActionNow};
 
-/// What is said to a line that does nothing.
+/// What is said to a line or a command that does nothing.
 #[derive(Clone, Copy, Debug, PartialEq, Eq)]
 pub enum Said {
     /// P1: `I beg your pardon?`, to a line without a word.
@@ -15,9 +15,11 @@ pub enum Said {
     NotSeen,
     /// P5: `I didn't understand that sentence.`, where no line that begins so fits.
     NotUnderstood,
+    /// P6: `There is nothing to do that to.`, where no thing is meant by `all`.
+    NoneOfAll,
 }
 
-/// What a typed line means.
+/// What a command means.
 #[derive(Debug, Drop)]
 pub enum Reading {
     /// This is said, and nothing done.
@@ -26,6 +28,8 @@ pub enum Reading {
     Asks(Question),
     /// This is tried.
     Acts(ActionNow),
+    /// This is tried with all the things that it may be meant for.
+    ActsAll(ActNo),
     /// A turn is to be taken back.
     Undo,
     /// The game is to end.

@@ -1,11 +1,12 @@
-//! What lines mean, where no question is open and where one is.
+//! What commands mean, where no question is open and where one is.
 use crate::shelf::Shelf;
-use command_parser::{Question, Reading, Said, narrow, read_command};
-use std::alloc::Global;
+use command_parser::{Parts, Question, Reading, Said, narrow, read_command, split};
+use std::alloc::{AllocError, Global};
 use std::test::Fail;
 
 /// What a reading comes to: the code of what is said; or of what is asked, 100 and how many candidates there are; or of an
-/// action 1,000 times its number, 10 times its noun and its second noun, 9 for none.
+/// action 1,000 times its number, 10 times its noun and its second noun, 9 for none; or of an action on all things 200 and its
+/// number.
 fn code(reading: &Reading) -> usize {
     match reading {
         Reading::Says(said) => match *said {
@@ -14,6 +15,7 @@ fn code(reading: &Reading) -> usize {
             Said::NoVerb => 3,
             Said::NotSeen => 4,
             Said::NotUnderstood => 5,
+            Said::NoneOfAll => 8,
         },
         Reading::Asks(question) => 100 + question.candidates().len(),
         Reading::Acts(now) => {
@@ -21,14 +23,28 @@ fn code(reading: &Reading) -> usize {
             let second = now.second.map_or(9, |object| object.get() as usize);
             now.action.get() as usize * 1000 + noun * 10 + second
         }
+        Reading::ActsAll(action) => 200 + action.get() as usize,
         Reading::Undo => 6,
         Reading::Quit => 7,
     }
 }
 
+/// The code of the first command of a line, while a question is open or none; of a line without a command, or of one that is
+/// too long, that of what is said to it.
+fn line_code(alloc: Global, line: &[u8], question: Option<&Question>) -> Result<usize, AllocError> {
+    match split(line) {
+        Parts::Blank => Ok(code(&Reading::Says(Said::Empty))),
+        Parts::Overlong => Ok(code(&Reading::Says(Said::TooLong))),
+        Parts::Commands(command, _) => match question {
+            None => Ok(code(&read_command(alloc, &command, &Shelf)?)),
+            Some(question) => Ok(code(&narrow(alloc, &command, question, &Shelf)?)),
+        },
+    }
+}
+
 #[test]
 fn commands_are_read(rt: HostRuntime) -> Result<(), Fail> {
-    let rows: [(&[u8], usize); 20] = [
+    let rows: [(&[u8], usize); 28] = [
         (b"", 1),
         (b" \t ", 1),
         (b"undo", 6),
@@ -48,21 +64,31 @@ fn commands_are_read(rt: HostRuntime) -> Result<(), Fail> {
         (b"north", 9009),
         (b"the n", 9009),
         (b"take red blue", 7012),
+        (b"take all", 202),
+        (b"take everything", 202),
+        (b"TAKE ALL", 202),
+        (b"take the all", 4),
+        (b"take all box", 4),
+        (b"put all on box", 4),
+        (b"take box. take coin", 2039),
+        (b"undo then take all", 6),
         (
             b"a a a a a a a a a a a a a a a a a a a a a a a a a a a a a a a a a",
             2,
         ),
     ];
     for (line, wanted) in rows {
-        let reading = read_command(rt.alloc(), line, &Shelf)?;
-        assert_eq!(rt; code(&reading), wanted, "{wanted}");
+        assert_eq!(rt; line_code(rt.alloc(), line, None)?, wanted, "{wanted}");
     }
     Ok(())
 }
 
-/// The question that a line asks.
+/// The question that the first command of a line asks.
 fn asked(alloc: Global, line: &[u8]) -> Result<Option<Question>, Fail> {
-    match read_command(alloc, line, &Shelf)? {
+    let Parts::Commands(command, _) = split(line) else {
+        return Ok(None);
+    };
+    match read_command(alloc, &command, &Shelf)? {
         Reading::Asks(question) => Ok(Some(question)),
         _ => Ok(None),
     }
@@ -74,18 +100,23 @@ fn questions_are_answered(rt: HostRuntime) -> Result<(), Fail> {
         assert!(rt; false);
         return Ok(());
     };
-    let rows: [(&[u8], usize); 7] = [
+    let rows: [(&[u8], usize); 9] = [
         (b"red", 4013),
         (b"the blue one", 3),
         (b"Blue", 4023),
         (b"ball", 102),
         (b"box", 3),
         (b"take box", 2039),
+        (b"all", 3),
+        (b"take all", 202),
         (b"", 1),
     ];
     for (line, wanted) in rows {
-        let reading = narrow(rt.alloc(), line, &question, &Shelf)?;
-        assert_eq!(rt; code(&reading), wanted, "{wanted}");
+        assert_eq!(rt;
+            line_code(rt.alloc(), line, Some(&question))?,
+            wanted,
+            "{wanted}"
+        );
     }
     Ok(())
 }
