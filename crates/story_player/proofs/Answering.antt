@@ -35,61 +35,60 @@ played_to kind kept s attempt w text told =
     ap (played kind kept s) told.comes.comes ∙ closed_is kind kept (record { world = w; text = told.said; work = told.comes.work }) w.ended
     ∙ ap (λ bytes. record { text = bytes; kind = kind_told kind w.ended; state = record { world = w; kept = kept; question = None; ending = ending_told w.ended } }) (sym told.told)
 
--- ---- an action
+-- ---- something that was done
 
-acted_is : (apart : Bool) (g : Game) (now : ActionNow) (s : State) → acted apart g now s ≡ played (kind_by apart) (kept_by apart s) s (done_in apart g now (fresh s.world))
-acted_is true g now s = refl
-acted_is false g now s = refl
-
-no_refusal : (apart : Bool) (e : Option (List ℕ)) → refusal_of (kind_told (kind_by apart) e) ≡ None
+no_refusal : (is_kept : Bool) (e : Option (List ℕ)) → is_refusal (kind_told (kind_by is_kept) e) ≡ false
 no_refusal true None = refl
 no_refusal true (Some ending) = refl
 no_refusal false None = refl
 no_refusal false (Some ending) = refl
 
-pub act_told : (g : Game) (reply : Spoken) (to s : State) (now : ActionNow) (apart : Bool) (w : World) (text : List ℕ) → apart ≡ (g.needs now.action).out_of_world
-    → IsToldOf (done_in apart g now (fresh s.world)) w text → answer_with reply to ≡ taken_up apart s w text → answer_with reply to ≡ read_answer g (refusal_of reply.kind) s (Acts now)
-act_told g reply to s now apart w text is told taken =
-    let kind : reply.kind ≡ kind_told (kind_by apart) w.ended = ap (λ (a : Answer). a.kind) taken in
-    let none : refusal_of reply.kind ≡ None = ap refusal_of kind ∙ no_refusal apart w.ended in
-    taken ∙ sym (played_to (kind_by apart) (kept_by apart s) s (done_in apart g now (fresh s.world)) w text told) ∙ sym (acted_is apart g now s)
-    ∙ ap (λ b. acted b g now s) is ∙ ap (λ refused. read_answer g refused s (Acts now)) (sym none)
+-- it has come to this world, and was taken up, the world before it being kept or not
+pub deed_told : (d : Deed) (g : Game) (s to : State) (is_kept : Bool) (kind : ReplyKind) (w : World) (before after : List ℕ)
+    → is_kept ≡ is_turn d → IsToldBehind (done_by d g (fresh s.world)) w before after → kind ≡ kind_told (kind_by is_kept) w.ended
+    → to ≡ record { world = w; kept = kept_by is_kept s; question = None; ending = ending_told w.ended }
+    → so_far after kind to ≡ said_behind before (deed_answer d g (is_refusal kind) s)
+deed_told d g s to is_kept kind w before after is told kind_is state =
+    let answer : Bool → Answer = λ kept. played (kind_by kept) (kept_by kept s) s (done_by d g (fresh s.world)) in
+    (λ i. so_far (told.behind i) (kind_is i) (state i))
+    ∙ ap (said_behind before) (sym (played_to (kind_by is_kept) (kept_by is_kept s) s (done_by d g (fresh s.world)) w told.text told.is))
+    ∙ ap (λ kept. said_behind before (answer kept)) is
+    ∙ ap (λ refused. said_behind before (deed_answer d g refused s)) (sym (ap is_refusal kind_is ∙ no_refusal is_kept w.ended))
 
--- an action by itself was taken up
-pub taken_apart : (reply : Spoken) (to from s : State) (apart : Bool) (text : List ℕ) → apart ≡ true → reply ≡ record { text = text; kind = kind_told Free from.world.ended }
-    → to ≡ record from { question = None; ending = ending_told from.world.ended } → from.kept ≡ s.kept → answer_with reply to ≡ taken_up apart s from.world text
-taken_apart reply to from s apart text is told state kept =
-    subst (λ (apart : Bool). answer_with reply to ≡ taken_up apart s from.world text) (sym is)
-    ((λ i. answer_with (told i) (state i))
-    ∙ (λ i. record { text = text; kind = kind_told Free from.world.ended; state = record { world = from.world; kept = kept i; question = None; ending = ending_told from.world.ended } }))
+broke_answer : (d : Deed) (g : Game) (s : State) (reason : Abandon) → Breaks (done_by d g (fresh s.world)) reason
+    → abandoned reason s ≡ deed_answer d g (is_refusal (Abandoned reason)) s
+broke_answer d g s Memory broke = refl
+broke_answer d g s NestedTooDeep broke = ap (played (kind_by (is_turn d)) (kept_by (is_turn d) s) s) (sym (broke (λ is. absurd cc)))
+broke_answer d g s TooMuchWork broke = ap (played (kind_by (is_turn d)) (kept_by (is_turn d) s) s) (sym (broke (λ is. absurd cc)))
+broke_answer d g s NumberOutOfRange broke = ap (played (kind_by (is_turn d)) (kept_by (is_turn d) s) s) (sym (broke (λ is. absurd cc)))
 
--- a turn was, the world before it being kept
-pub taken_turn : (reply : Spoken) (to from s : State) (apart : Bool) (text : List ℕ) → apart ≡ false → reply ≡ record { text = text; kind = kind_told Kept from.world.ended }
-    → to ≡ record from { question = None; ending = ending_told from.world.ended } → from.kept ≡ keep s.world s.kept → answer_with reply to ≡ taken_up apart s from.world text
-taken_turn reply to from s apart text is told state kept =
-    subst (λ (apart : Bool). answer_with reply to ≡ taken_up apart s from.world text) (sym is)
-    ((λ i. answer_with (told i) (state i))
-    ∙ (λ i. record { text = text; kind = kind_told Kept from.world.ended; state = record { world = from.world; kept = kept i; question = None; ending = ending_told from.world.ended } }))
+-- it was abandoned, in a state that is as it was
+pub deed_broke : (d : Deed) (g : Game) (s here to : State) (reason : Abandon) (kind : ReplyKind) (before after : List ℕ)
+    → here ≡ s → Breaks (done_by d g (fresh s.world)) reason → so_far after kind to ≡ said_behind before (abandoned reason here)
+    → so_far after kind to ≡ said_behind before (deed_answer d g (is_refusal kind) s)
+deed_broke d g s here to reason kind before after same broke answer =
+    let whole : so_far after kind to ≡ said_behind before (abandoned reason s) = answer ∙ ap (λ (s : State). said_behind before (abandoned reason s)) same in
+    whole ∙ ap (said_behind before) (broke_answer d g s reason broke)
+    ∙ ap (λ kind. said_behind before (deed_answer d g (is_refusal kind) s)) (sym (ap (λ (a : Answer). a.kind) whole))
 
-abandoned_so : (g : Game) (s : State) (now : ActionNow) (reason : Abandon) → done_in (g.needs now.action).out_of_world g now (fresh s.world) ≡ Err reason
-    → abandoned reason s ≡ acted (g.needs now.action).out_of_world g now s
-abandoned_so g s now reason is =
-    let apart = (g.needs now.action).out_of_world in
-    sym (acted_is apart g now s ∙ ap (played (kind_by apart) (kept_by apart s) s) is)
+-- ---- what a reading gives
 
-broke_answer : (g : Game) (s : State) (now : ActionNow) (reason : Abandon) → Breaks (done_in (g.needs now.action).out_of_world g now (fresh s.world)) reason
-    → abandoned reason s ≡ read_answer g (refusal_of (Abandoned reason)) s (Acts now)
-broke_answer g s now Memory broke = refl
-broke_answer g s now NestedTooDeep broke = abandoned_so g s now NestedTooDeep (broke (λ is. absurd cc))
-broke_answer g s now TooMuchWork broke = abandoned_so g s now TooMuchWork (broke (λ is. absurd cc))
-broke_answer g s now NumberOutOfRange broke = abandoned_so g s now NumberOutOfRange (broke (λ is. absurd cc))
+-- an action by itself, or in a turn
+pub acts_alone : (g : Game) (s to : State) (now : ActionNow) (before after : List ℕ) (given : Given) → (g.needs now.action).out_of_world ≡ true
+    → so_far after given.kind to ≡ said_behind before (deed_answer (deed.Alone now) g (is_refusal given.kind) s) → given.goes_on ≡ goes_on_behind given.kind
+    → IsGiven g (Acts now) s to before after given
+acts_alone g s to now before after given apart answer on = record {
+  answer = answer ∙ ap (λ out. said_behind before (if is_refusal given.kind then abandoned Memory s else acted out g now s)) (sym apart);
+  goes_on = on;
+}
 
-pub act_broke : (g : Game) (reply : Spoken) (s : State) (now : ActionNow) (apart : Bool) (reason : Abandon) → apart ≡ (g.needs now.action).out_of_world
-    → reply ≡ record { text = abandon_text reason; kind = Abandoned reason } → Breaks (done_in apart g now (fresh s.world)) reason
-    → answer_with reply (record s { question = None }) ≡ read_answer g (refusal_of reply.kind) s (Acts now)
-act_broke g reply s now apart reason is told broke =
-    subst (λ (r : Spoken). answer_with r (record s { question = None }) ≡ read_answer g (refusal_of r.kind) s (Acts now)) (sym told)
-    (broke_answer g s now reason (λ known. ap (λ b. done_in b g now (fresh s.world)) (sym is) ∙ broke known))
+pub acts_in_turn : (g : Game) (s to : State) (now : ActionNow) (before after : List ℕ) (given : Given) → (g.needs now.action).out_of_world ≡ false
+    → so_far after given.kind to ≡ said_behind before (deed_answer (deed.Turn now) g (is_refusal given.kind) s) → given.goes_on ≡ goes_on_behind given.kind
+    → IsGiven g (Acts now) s to before after given
+acts_in_turn g s to now before after given within answer on = record {
+  answer = answer ∙ ap (λ out. said_behind before (if is_refusal given.kind then abandoned Memory s else acted out g now s)) (sym within);
+  goes_on = on;
+}
 
 -- ---- the beginning
 
