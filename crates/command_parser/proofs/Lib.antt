@@ -1,10 +1,12 @@
 pub mod Apart
+pub mod Cuts
 pub mod Filters
 pub mod LineWords
 pub mod Meanings
 pub mod Places
 pub mod PlainLines
 pub mod Refusals
+pub mod Scanning
 pub mod Settled
 pub mod SlotSteps
 pub mod Splits

@@ -5,7 +5,10 @@
 mod answer;
 mod candidates;
 mod command;
+mod command_scan;
 mod commands;
+mod cutting;
+mod cutting_laws;
 mod filling;
 mod fitting;
 mod laws;
@@ -21,7 +24,10 @@ mod typed_command;
 mod unread;
 mod words;
 
+pub use command_scan::CommandScan;
 pub use commands::Commands;
+pub use cutting::{Parts, Pieces, split};
+pub use cutting_laws::{scans_tell_commands, trial};
 pub use laws::{one_reading, plain_lines_are_read};
 pub use question::{Objects, Question};
 pub use read::{narrow, read_command};
