@@ -1,5 +1,5 @@
 -- A line is cut into commands from left to right.
-use Rattle.std.proofs.Common.{◌≡◌, ℕ, zero, suc, subst, ◌+◌, ◌<◌, ◌≤◌, Bool, true, false, cond, List, [], ◌∷◌, ◌++◌, length, take, drop, get_or, length-append, refl, ap, sym, ◌∙◌, arith, inl, inr, append_assoc, append-nil, one-add}
+use Rattle.std.proofs.Common.{◌≡◌, ℕ, zero, suc, subst, ◌+◌, ◌<◌, ◌≤◌, Bool, true, false, cond, List, [], ◌∷◌, ◌++◌, length, take, drop, get_or, ◌-◌, take_all, length-append, refl, ap, sym, ◌∙◌, arith, inl, inr, append_assoc, append-nil, one-add}
 use Rattle.std.specs.Prelude.{◌||◌, not, filter, flat_map, if◌then◌else◌}
 use Rattle.std.specs.List.{onto_first, slice_split, position_or_len}
 use Rattle.std.proofs.lemmas.Bool.{cases_Bool, ne_eqb, or_from, or_left, or_right, or_parts}
@@ -262,12 +262,12 @@ marked_there : (words : List (List ℕ)) (rest : List ℕ) → 1 ≤ length rest
 marked_there words [] some isnt = absurd (omega (arith, some))
 marked_there words (b ∷ bytes) some isnt = marked words b bytes isnt
 
-length_zero : (words : List (List ℕ)) → length words ≡ 0 → words ≡ []
-length_zero [] none = refl
-length_zero (word ∷ words) none = absurd (omega (arith, none))
+no_words : (words : List (List ℕ)) → has_words words ≡ false → words ≡ []
+no_words [] none = refl
+no_words (word ∷ words) none = absurd cc
 
-ended_some : (words : List (List ℕ)) (commands : List (List (List ℕ))) → (length words ≡ 0 → ⊥) → ended words commands ≡ words ∷ commands
-ended_some [] commands some = absurd (some refl)
+ended_some : (words : List (List ℕ)) (commands : List (List (List ℕ))) → has_words words ≡ true → ended words commands ≡ words ∷ commands
+ended_some [] commands some = absurd cc
 ended_some (word ∷ words) commands some = refl
 
 -- what a loop over the marks of a line knows
@@ -279,12 +279,33 @@ pub record Stands (words : List (List ℕ)) (rest line : List ℕ) : Type 0 wher
 pub stands_first : (line : List ℕ) → length (words_of line) ≤ 32 → Stands [] line line
 stands_first line few = record { same = from_none line; few = few; room = omega (arith, few, fewer_in_front line) }
 
-pub stands_blank : (words : List (List ℕ)) (b : ℕ) (rest line : List ℕ) → is_blank b ≡ true → Stands words (b ∷ rest) line → Stands words rest line
+stands_blank : (words : List (List ℕ)) (b : ℕ) (rest line : List ℕ) → is_blank b ≡ true → Stands words (b ∷ rest) line → Stands words rest line
 stands_blank words b rest line blank h = record {
   same = sym (from_blank words b rest blank) ∙ h.same;
   few = subst (λ ws. length ws ≤ 32) (words_of-blank b rest blank) h.few;
   room = subst (λ ws. length words + length ws ≤ 32) (blank_piece b rest blank) h.room;
 }
+
+pub stands_behind : (words : List (List ℕ)) (rest line : List ℕ) → 1 ≤ length rest → is_blank (get_or rest 0 0) ≡ true → Stands words rest line → Stands words (take (length rest - 1) (drop 1 rest)) line
+stands_behind words [] line some blank h = absurd (omega (arith, some))
+stands_behind words (b ∷ rest) line some blank h = subst (λ after. Stands words after line) (sym (take_all (length (b ∷ rest) - 1) rest (omega arith))) (stands_blank words b rest line blank h)
+
+at_end : (words : List (List ℕ)) (rest line : List ℕ) → length rest < 1 → Stands words rest line → commands_of line ≡ ended words []
+at_end words [] line none h = sym h.same ∙ from_end words
+at_end words (b ∷ rest) line none h = absurd (omega (arith, none))
+
+pub no_command : (words : List (List ℕ)) (rest line : List ℕ) → length rest < 1 → has_words words ≡ false → Stands words rest line → commands_of line ≡ []
+no_command words rest line none without h = at_end words rest line none h ∙ ap (λ ws. ended ws []) (no_words words without)
+
+nothing_left : (rest : List ℕ) → length rest < 1 → commands_of rest ≡ []
+unfolding commands_of
+nothing_left [] none = refl
+nothing_left (b ∷ rest) none = absurd (omega (arith, none))
+
+pub last_command : (words : List (List ℕ)) (rest line : List ℕ) → length rest < 1 → has_words words ≡ true → Stands words rest line
+    → (commands_of line ≡ words ∷ commands_of rest) × (length (words_of rest) ≤ 32)
+last_command words rest line none some h =
+    (at_end words rest line none h ∙ ended_some words [] some ∙ ap (λ commands. words ∷ commands) (sym (nothing_left rest none)), h.few)
 
 module _ (words : List (List ℕ)) (rest line mark behind : List ℕ) (n : ℕ) (some : 1 ≤ length rest) (isnt : is_blank (get_or rest 0 0) ≡ false) (place : n ≡ mark_len rest) (front : mark ≡ take n rest) (back : behind ≡ drop n rest) (h : Stands words rest line) where
   here_marked : Marked words rest mark behind
@@ -310,14 +331,14 @@ module _ (words : List (List ℕ)) (rest line mark behind : List ℕ) (n : ℕ) 
   cut_so : is_cut mark ≡ true → commands_of line ≡ ended words (commands_of behind)
   cut_so is = sym h.same ∙ here_marked.cuts is
 
-  pub stands_cut : is_cut mark ≡ true → length words ≡ 0 → Stands words behind line
+  pub stands_cut : is_cut mark ≡ true → has_words words ≡ false → Stands words behind line
   stands_cut is none =
-      let empty = length_zero words none in
+      let empty = no_words words none in
       record {
         same = rw empty (from_none behind ∙ sym (cut_so is ∙ ap (λ ws. ended ws (commands_of behind)) empty));
         few = few_behind;
-        room = omega (arith, none, few_behind, fewer_in_front behind);
+        room = rw empty (omega (arith, few_behind, fewer_in_front behind));
       }
 
-  pub command_cut : is_cut mark ≡ true → (length words ≡ 0 → ⊥) → (commands_of line ≡ words ∷ commands_of behind) × (length (words_of behind) ≤ 32)
+  pub command_cut : is_cut mark ≡ true → has_words words ≡ true → (commands_of line ≡ words ∷ commands_of behind) × (length (words_of behind) ≤ 32)
   command_cut is some_words = (cut_so is ∙ ended_some words (commands_of behind) some_words, few_behind)

@@ -6,7 +6,7 @@ use Rattle.std.specs.Char.{to_ascii_lowercase}
 use Rattle.std.proofs.lemmas.Bool.{cases_Bool, or_cases, or_parts}
 use Rattle.world_meaning.specs.Reading.{is_blank}
 use Rattle.world_meaning.specs.Spelling.{is_spelled}
-use Rattle.play_meaning.specs.CommandLines.{commands_of, has_words, is_full_stop, is_then}
+use Rattle.play_meaning.specs.CommandLines.{Blank, Overlong, commands_of, has_words, is_full_stop, is_then, is_too_long, parted, parts_of}
 use Rattle.command_parser.specs.Cutting.{commands_from, ended, ends_word, onto_words}
 use Rattle.command_parser.specs.Scanning.{holds_command, is_letter, is_there, scan_ended, scan_spelled, scan_with}
 use Rattle.command_parser.specs.declared.command_scan.CommandScan.{CommandScan}
@@ -127,3 +127,20 @@ scan_from scan (b ∷ bytes) = scan_from (scan_with scan b) bytes ∙ sym (one_m
 
 pub scan_tells : (bytes : List ℕ) → holds_command (fold scan_with Cut bytes) ≡ is_there (commands_of bytes)
 scan_tells bytes = scan_from Cut bytes
+
+-- ---- the parts of a line
+
+parted_blank : (long : Bool) (commands : List (List (List ℕ))) → is_there commands ≡ false → Blank ≡ parted long commands
+parted_blank long [] none = refl
+parted_blank long (command ∷ commands) none = absurd cc
+
+pub blank_so : (line : List ℕ) → is_there (commands_of line) ≡ false → Blank ≡ parts_of line
+blank_so line none = parted_blank (is_too_long line) (commands_of line) none
+
+parted_overlong : (long : Bool) (commands : List (List (List ℕ))) → long ≡ true → is_there commands ≡ true → Overlong ≡ parted long commands
+parted_overlong true [] long some = absurd cc
+parted_overlong true (command ∷ commands) long some = refl
+parted_overlong false commands long some = absurd cc
+
+pub overlong_so : (line : List ℕ) → is_too_long line ≡ true → is_there (commands_of line) ≡ true → Overlong ≡ parts_of line
+overlong_so line long some = parted_overlong (is_too_long line) (commands_of line) long some

@@ -3,8 +3,9 @@ ghost use Rattle.std.specs.Prelude.{◌≡◌, ◌<◌, ◌≤◌, [], ◌∷◌
 ghost use Rattle.std.specs.List.{position_or_len};
 ghost use Rattle.std.specs.Iterator.{YieldsFirst, item_count};
 ghost use Rattle.world_meaning.specs.Reading.{is_blank, words_of};
-ghost use Rattle.play_meaning.specs.CommandLines.{commands_of, is_full_stop, is_then, is_too_long, parts_of};
+ghost use Rattle.play_meaning.specs.CommandLines.{commands_of, has_words, is_too_long, parts_of};
 ghost use Rattle.command_parser.specs.Cutting.{ends_word, is_cut, mark_len, told_parts};
+ghost use Rattle.command_parser.specs.Scanning.{is_there};
 
 use crate::command_scan::ends_word;
 use crate::typed_command::MOST_WORDS;
@@ -86,6 +87,16 @@ fn is_cut(mark: &[u8]) -> bool
     }
 }
 
+/// Whether a command has a word.
+fn has_words(command: &Command<'_>) -> bool
+    ensures { result ≡ has_words command.now }
+{
+    match command.words() {
+        [] => false,
+        _ => true,
+    }
+}
+
 /// The first command, and the line behind it.
 fn first_command<'a>(line: &'a [u8]) -> Option<(Command<'a>, &'a [u8])>
     requires { length (words_of line.now) ≤ MOST_WORDS }
@@ -100,17 +111,20 @@ fn first_command<'a>(line: &'a [u8]) -> Option<(Command<'a>, &'a [u8])>
         } else {
             let (mark, behind) = rest.split_at(mark_len(rest));
             rest = behind;
-            if !is_cut(mark) {
+            if is_cut(mark) {
+                if has_words(&command) {
+                    return Some((command, rest));
+                }
+            } else {
                 command.push(mark);
-            } else if !command.words().is_empty() {
-                return Some((command, rest));
             }
         }
     }
-    if command.words().is_empty() {
-        return None;
+    if has_words(&command) {
+        Some((command, rest))
+    } else {
+        None
     }
-    Some((command, rest))
 }
 
 impl<'a> Iterator for Pieces<'a> {
@@ -152,15 +166,24 @@ fn is_too_long(line: &[u8]) -> bool
     line.len() > 255 || word_count(line) > MOST_WORDS
 }
 
+/// Whether a line has a command.
+#[tactic(auto, using(crate::proofs::Scanning::scan_tells))]
+fn has_command(line: &[u8]) -> bool
+    ensures { result ≡ is_there (commands_of line.now) }
+{
+    CommandScan::new().over(line).has_command()
+}
+
 /// What a line is made of. It takes no memory.
+#[tactic(auto, using(crate::proofs::Scanning::blank_so, crate::proofs::Scanning::overlong_so))]
 pub fn split(line: &[u8]) -> Parts<'_>
     ensures { told_parts result ≡ parts_of line.now }
 {
-    if !CommandScan::new().over(line).has_command() {
-        return Parts::Blank;
-    }
     if is_too_long(line) {
-        return Parts::Overlong;
+        if has_command(line) {
+            return Parts::Overlong;
+        }
+        return Parts::Blank;
     }
     match first_command(line) {
         None => Parts::Blank,

@@ -27,7 +27,7 @@ mod words;
 pub use command_scan::CommandScan;
 pub use commands::Commands;
 pub use cutting::{Parts, Pieces, split};
-pub use cutting_laws::{scans_tell_commands, trial};
+pub use cutting_laws::{lines_are_cut, scans_tell_commands};
 pub use laws::{one_reading, plain_lines_are_read};
 pub use question::{Objects, Question};
 pub use read::{narrow, read_command};
