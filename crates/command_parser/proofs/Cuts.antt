@@ -1,8 +1,8 @@
 -- A line is cut into commands from left to right.
-use Rattle.std.proofs.Common.{◌≡◌, ℕ, zero, suc, subst, ◌+◌, ◌<◌, ◌≤◌, Bool, true, false, cond, List, [], ◌∷◌, ◌++◌, length, take, drop, get_or, ◌-◌, take_all, length-append, refl, ap, sym, ◌∙◌, arith, inl, inr, append_assoc, append-nil, one-add}
+use Rattle.std.proofs.Common.{◌≡◌, ℕ, zero, suc, ◌+◌, ◌-◌, ◌<◌, ◌≤◌, Bool, true, false, List, [], ◌∷◌, ◌++◌, length, take, drop, get_or, refl, ap, sym, ◌∙◌, subst, arith, inl, inr, append_assoc, append-nil, length-append, one-add, take_all}
 use Rattle.std.specs.Prelude.{◌||◌, not, filter, flat_map, if◌then◌else◌}
 use Rattle.std.specs.List.{onto_first, slice_split, position_or_len}
-use Rattle.std.proofs.lemmas.Bool.{cases_Bool, ne_eqb, or_from, or_left, or_right, or_parts}
+use Rattle.std.proofs.lemmas.Bool.{cases_Bool, ne_eqb, or_left, or_right}
 use Rattle.std.proofs.lemmas.Grind.{common_steps}
 use Rattle.world_meaning.specs.Reading.{is_blank, is_word, words_of}
 use Rattle.play_meaning.specs.CommandLines.{commands_of, has_words, is_full_stop, is_then, parted_at_then}
@@ -176,8 +176,8 @@ begun_is [] = record { new = refl; more = refl }
 begun_is (b ∷ bytes) = elim (cases_Bool (is_blank b)) [
   | inl blank ↦ record { new = rw blank (begun_is bytes).new; more = rw blank (begun_is bytes).new }
   | inr isnt ↦
-    let h = begun_onto b (slice_split is_blank bytes) (begun true bytes) (begun_is bytes).more in
-    record { new = rw isnt h.0; more = rw isnt h.1 }
+      let h = begun_onto b (slice_split is_blank bytes) (begun true bytes) (begun_is bytes).more in
+      record { new = rw isnt h.0; more = rw isnt h.1 }
 ]
 
 pub words_begun : (bytes : List ℕ) → length (words_of bytes) ≡ begun false bytes

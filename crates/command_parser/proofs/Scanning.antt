@@ -1,13 +1,13 @@
 -- Bytes that are read one by one tell whether there is a command.
-use Rattle.std.proofs.Common.{◌≡◌, ℕ, ◌+◌, ◌<◌, Bool, true, false, List, [], ◌∷◌, ◌++◌, take, drop, fold, refl, ap, sym, ◌∙◌, arith, inl, inr}
-use Rattle.std.specs.Prelude.{◌||◌, ◌&&◌, ◌==◌, filter, flat_map, if◌then◌else◌, codes}
-use Rattle.std.specs.List.{position_or_len, slice_split}
+use Rattle.std.proofs.Common.{◌≡◌, ℕ, ◌+◌, Bool, true, false, List, [], ◌∷◌, ◌++◌, take, drop, fold, refl, ap, sym, ◌∙◌, inl, inr}
+use Rattle.std.specs.Prelude.{◌&&◌, ◌==◌, filter, if◌then◌else◌, codes}
+use Rattle.std.specs.List.{position_or_len}
 use Rattle.std.specs.Char.{to_ascii_lowercase}
 use Rattle.std.proofs.lemmas.Bool.{cases_Bool, or_cases, or_parts}
 use Rattle.world_meaning.specs.Reading.{is_blank}
 use Rattle.world_meaning.specs.Spelling.{is_spelled}
 use Rattle.play_meaning.specs.CommandLines.{Blank, Overlong, commands_of, has_words, is_full_stop, is_then, is_too_long, parted, parts_of}
-use Rattle.command_parser.specs.Cutting.{commands_from, ended, ends_word, onto_words}
+use Rattle.command_parser.specs.Cutting.{commands_from, ends_word, onto_words}
 use Rattle.command_parser.specs.Scanning.{holds_command, is_letter, is_there, scan_ended, scan_spelled, scan_with}
 use Rattle.command_parser.specs.declared.command_scan.CommandScan.{CommandScan}
 use Rattle.command_parser.specs.declared.command_scan.CommandScan.TheVariants.{Command, Cut, T, Th, The, Then}
@@ -50,7 +50,7 @@ word_there b bytes more isnt =
     ∙ elim (cases_Bool (is_then (word_of (b ∷ bytes)))) [
       | inl cuts ↦ ap is_there (from_then [] (b ∷ bytes) here cuts) ∙ sym (ap (λ (is : Bool). if is then is_there (commands_of (behind_of (b ∷ bytes))) else true) cuts)
       | inr goes_on ↦ ap is_there (from_more [] (b ∷ bytes) here goes_on) ∙ from_there (word_of (b ∷ bytes)) [] (behind_of (b ∷ bytes))
-        ∙ sym (ap (λ (is : Bool). if is then is_there (commands_of (behind_of (b ∷ bytes))) else true) goes_on)
+          ∙ sym (ap (λ (is : Bool). if is then is_there (commands_of (behind_of (b ∷ bytes))) else true) goes_on)
     ]
 
 -- one letter more
@@ -108,8 +108,8 @@ one_more : (scan : CommandScan) (b : ℕ) (bytes : List ℕ) → holds_behind sc
 one_more scan b bytes = elim (cases_Bool (ends_word b)) [
   | inl ends ↦ behind_end scan b bytes ends ∙ sym (ap (λ (is : Bool). holds_behind (if is then scan_ended scan else scan_spelled scan b) bytes) ends)
   | inr goes_on ↦
-    let parts = or_parts (is_blank b) (is_full_stop b) goes_on in
-    behind_letter b bytes parts.1 parts.0 scan ∙ sym (ap (λ (is : Bool). holds_behind (if is then scan_ended scan else scan_spelled scan b) bytes) goes_on)
+      let parts = or_parts (is_blank b) (is_full_stop b) goes_on in
+      behind_letter b bytes parts.1 parts.0 scan ∙ sym (ap (λ (is : Bool). holds_behind (if is then scan_ended scan else scan_spelled scan b) bytes) goes_on)
 ]
 
 no_more : (scan : CommandScan) → holds_command scan ≡ holds_behind scan []

@@ -1,5 +1,5 @@
 -- A line is cut into commands from left to right.
-use Rattle.std.specs.Prelude.{ℕ, Bool, true, false, ◌||◌, ◌==◌, List, [], ◌∷◌, ◌++◌, filter, flat_map, if◌then◌else◌}
+use Rattle.std.specs.Prelude.{ℕ, Bool, false, ◌||◌, List, [], ◌∷◌, ◌++◌, filter, flat_map, if◌then◌else◌}
 use Rattle.std.specs.List.{slice_split, position_or_len}
 use Rattle.world_meaning.specs.Reading.{is_blank}
 use Rattle.play_meaning.specs.CommandLines.{Parts as Told, Blank as BlankSo, Overlong as OverlongSo, Commands as CommandsSo, has_words, is_full_stop, is_then, parted_at_then}
