@@ -11,7 +11,7 @@ use Rattle.command_parser.proofs.LineWords.{words_of-blank, words_of-word}
 
 -- ---- pieces
 
-pub pieces_are : (bytes : List ℕ) → slice_split is_full_stop bytes ≡ first_piece bytes ∷ other_pieces bytes
+pieces_are : (bytes : List ℕ) → slice_split is_full_stop bytes ≡ first_piece bytes ∷ other_pieces bytes
 pieces_are [] = refl
 pieces_are (b ∷ bytes) = elim (cases_Bool (is_full_stop b)) [
   | inl is ↦ rw is refl
@@ -22,7 +22,7 @@ pieces_are (b ∷ bytes) = elim (cases_Bool (is_full_stop b)) [
 abbrev of_pieces : List (List ℕ) → List (List (List ℕ))
 of_pieces pieces = filter has_words (flat_map parted_at_then pieces)
 
-pub commands_are : (bytes : List ℕ) → commands_of bytes ≡ filter has_words (parted_at_then (first_piece bytes) ++ flat_map parted_at_then (other_pieces bytes))
+commands_are : (bytes : List ℕ) → commands_of bytes ≡ filter has_words (parted_at_then (first_piece bytes) ++ flat_map parted_at_then (other_pieces bytes))
 unfolding commands_of
 commands_are bytes = ap of_pieces (pieces_are bytes)
 
@@ -54,7 +54,7 @@ stop_no_blank b blank = elim (cases_Bool (is_full_stop b)) [
   | inr isnt ↦ isnt
 ]
 
-pub blank_piece : (b : ℕ) (bytes : List ℕ) → is_blank b ≡ true → words_of (first_piece (b ∷ bytes)) ≡ words_of (first_piece bytes)
+blank_piece : (b : ℕ) (bytes : List ℕ) → is_blank b ≡ true → words_of (first_piece (b ∷ bytes)) ≡ words_of (first_piece bytes)
 blank_piece b bytes blank = rw (stop_no_blank b blank) (words_of-blank b (first_piece bytes) blank)
 
 pub from_blank : (words : List (List ℕ)) (b : ℕ) (bytes : List ℕ) → is_blank b ≡ true → commands_from words (b ∷ bytes) ≡ commands_from words bytes
@@ -105,7 +105,7 @@ front_word (b ∷ bytes) = elim (cases_Bool (is_full_stop b)) [
 ]
 
 -- the words of a piece that begins with a word
-pub piece_words : (bytes : List ℕ) → 0 < position_or_len ends_word bytes
+piece_words : (bytes : List ℕ) → 0 < position_or_len ends_word bytes
     → words_of (first_piece bytes) ≡ take (position_or_len ends_word bytes) bytes ∷ words_of (first_piece (drop (position_or_len ends_word bytes) bytes))
 piece_words bytes here =
     let h = front_word bytes in
@@ -201,7 +201,7 @@ begun_behind n [] = grind (arith, common_steps)
 begun_behind zero (b ∷ bytes) = omega arith
 begun_behind (suc n) (b ∷ bytes) = omega (arith, begun_behind n bytes, one_behind b bytes)
 
-pub fewer_behind : (n : ℕ) (bytes : List ℕ) → length (words_of (drop n bytes)) ≤ length (words_of bytes)
+fewer_behind : (n : ℕ) (bytes : List ℕ) → length (words_of (drop n bytes)) ≤ length (words_of bytes)
 fewer_behind n bytes = omega (arith, begun_behind n bytes, words_begun bytes, words_begun (drop n bytes))
 
 begun_in_front : (in_word : Bool) (bytes : List ℕ) → begun in_word (first_piece bytes) ≤ begun in_word bytes
@@ -218,7 +218,7 @@ begun_in_front in_word (b ∷ bytes) = elim (cases_Bool (is_full_stop b)) [
     one_in_front true within = within
     one_in_front false within = omega (arith, within)
 
-pub fewer_in_front : (bytes : List ℕ) → length (words_of (first_piece bytes)) ≤ length (words_of bytes)
+fewer_in_front : (bytes : List ℕ) → length (words_of (first_piece bytes)) ≤ length (words_of bytes)
 fewer_in_front bytes = omega (arith, begun_in_front false bytes, words_begun bytes, words_begun (first_piece bytes))
 
 -- ---- marks
@@ -322,11 +322,6 @@ module _ (words : List (List ℕ)) (rest line mark behind : List ℕ) (n : ℕ) 
         few = few_behind;
         room = omega (arith, h.room, counts, length-append words (mark ∷ []));
       }
-
-  pub room_for_word : is_cut mark ≡ false → length words < 32
-  room_for_word goes_on =
-      let counts : length (words_of (first_piece rest)) ≡ suc (length (words_of (first_piece behind))) = ap length (here_marked.counts goes_on) in
-      omega (arith, h.room, counts)
 
   cut_so : is_cut mark ≡ true → commands_of line ≡ ended words (commands_of behind)
   cut_so is = sym h.same ∙ here_marked.cuts is

@@ -14,18 +14,18 @@ use Rattle.command_parser.specs.declared.command_scan.CommandScan.TheVariants.{C
 use Rattle.command_parser.proofs.Cuts.{begins_word, drop_one, from_blank, from_more, from_none, from_stop, from_then, take_one}
 
 -- the bytes of the word in front, and those behind it
-abbrev pub word_of : List ℕ → List ℕ
+abbrev word_of : List ℕ → List ℕ
 word_of bytes = take (position_or_len ends_word bytes) bytes
 
-abbrev pub behind_of : List ℕ → List ℕ
+abbrev behind_of : List ℕ → List ℕ
 behind_of bytes = drop (position_or_len ends_word bytes) bytes
 
 -- whether there is a command, where the word in front goes on with these letters if it is `then`
-abbrev pub goes_on_with : List ℕ → List ℕ → Bool
+abbrev goes_on_with : List ℕ → List ℕ → Bool
 goes_on_with letters bytes = if is_spelled (word_of bytes) letters then is_there (commands_of (behind_of bytes)) else true
 
 -- whether there is a command, by what is known so far and the bytes that are left
-abbrev pub holds_behind : CommandScan → List ℕ → Bool
+abbrev holds_behind : CommandScan → List ℕ → Bool
 holds_behind Cut bytes = is_there (commands_of bytes)
 holds_behind T bytes = goes_on_with (codes "hen") bytes
 holds_behind Th bytes = goes_on_with (codes "en") bytes
@@ -121,7 +121,7 @@ no_more The = refl
 no_more Then = refl
 no_more Command = refl
 
-pub scan_from : (scan : CommandScan) (bytes : List ℕ) → holds_command (fold scan_with scan bytes) ≡ holds_behind scan bytes
+scan_from : (scan : CommandScan) (bytes : List ℕ) → holds_command (fold scan_with scan bytes) ≡ holds_behind scan bytes
 scan_from scan [] = no_more scan
 scan_from scan (b ∷ bytes) = scan_from (scan_with scan b) bytes ∙ sym (one_more scan b bytes)
 
