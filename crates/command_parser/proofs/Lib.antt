@@ -1,4 +1,5 @@
 pub mod Apart
+pub mod Cuts
 pub mod Filters
 pub mod LineWords
 pub mod Meanings
@@ -6,7 +7,9 @@ pub mod OneThing
 pub mod Places
 pub mod PlainLines
 pub mod Refusals
+pub mod Scanning
 pub mod Settled
 pub mod SlotSteps
 pub mod Splits
 pub mod Unfit
+pub mod Counts
