@@ -1,5 +1,5 @@
 -- How many commands a line has at the most: one for each word, and words are parted by a byte at least.
-use Rattle.std.proofs.Common.{◌≡◌, ℕ, suc, ◌+◌, ◌*◌, ◌≤◌, Bool, true, false, List, [], ◌∷◌, ◌++◌, length, refl, ap, sym, ◌∙◌, arith, inl, inr, length-append, ltb-false}
+use Rattle.std.proofs.Common.{◌≡◌, ℕ, suc, ◌+◌, ◌*◌, ◌≤◌, Bool, true, false, List, [], ◌∷◌, ◌++◌, length, refl, ap, ◌∙◌, arith, inl, inr, length-append, ltb-false}
 use Rattle.std.specs.Prelude.{◌||◌, nat_lt, filter, flat_map, if◌then◌else◌}
 use Rattle.std.specs.List.{onto_first, slice_split}
 use Rattle.std.proofs.lemmas.Bool.{cases_Bool, or_parts, or_right}
@@ -79,7 +79,10 @@ few_in_pieces [] = omega arith
 few_in_pieces (piece ∷ pieces) =
     let parts = parted_at_then piece in
     omega (
-      arith, few_in_pieces pieces, few_parted (words_of piece), words_begun piece,
+      arith,
+      few_in_pieces pieces,
+      few_parted (words_of piece),
+      words_begun piece,
       ap length (filtered-append parts (flat_map parted_at_then pieces)),
       length-append (filter has_words parts) (filter has_words (flat_map parted_at_then pieces)),
     )

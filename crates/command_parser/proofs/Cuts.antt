@@ -11,7 +11,7 @@ use Rattle.command_parser.proofs.LineWords.{words_of-blank, words_of-word}
 
 -- ---- pieces
 
-pieces_are : (bytes : List ℕ) → slice_split is_full_stop bytes ≡ first_piece bytes ∷ other_pieces bytes
+pub pieces_are : (bytes : List ℕ) → slice_split is_full_stop bytes ≡ first_piece bytes ∷ other_pieces bytes
 pieces_are [] = refl
 pieces_are (b ∷ bytes) = elim (cases_Bool (is_full_stop b)) [
   | inl is ↦ rw is refl
