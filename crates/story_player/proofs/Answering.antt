@@ -19,7 +19,7 @@ use Rattle.action_stages.specs.Answering.{Breaks}
 use Rattle.world_store.specs.StoryPlay.{coded_story, game_in_play}
 use Rattle.story_player.specs.Begun.{IsBegun}
 use Rattle.story_player.specs.Given.{IsGiven, said_behind, so_far}
-use Rattle.story_player.specs.Sessions.{is_refusal}
+use Rattle.story_player.specs.Refusals.{is_refusal}
 use Rattle.story_player.specs.Turns.{IsToldBehind, IsToldOf, deed_answer, done_by, ending_told, is_turn, kept_by, kind_by, kind_told, told_text}
 use Rattle.story_player.specs.declared.commands.Given.{Given}
 use Rattle.story_player.specs.declared.deed.Deed.{Deed}

@@ -2,7 +2,7 @@
 use Rattle.std.proofs.Common.{◌≡◌, ◌∙◌, ap, sym, refl, ℕ, suc, ◌-◌, Bool, true, false, List, [], ◌∷◌, length, arith}
 use Rattle.std.specs.Prelude.{not, ◌==◌, slice_index_or}
 use Rattle.std.proofs.lemmas.Bool.{not-false}
-use Rattle.play_meaning.specs.Sessions.{completed, ends_in_break}
+use Rattle.play_meaning.specs.Turns.{completed, ends_in_break}
 use Rattle.world_meaning.specs.Texts.{said}
 use Rattle.story_player.specs.Turns.{lacks_break}
 

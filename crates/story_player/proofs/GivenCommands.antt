@@ -14,7 +14,7 @@ use Rattle.world_meaning.specs.declared.session.Abandon.TheVariants.{Memory}
 use Rattle.world_meaning.specs.declared.session.ReplyKind.{ReplyKind}
 use Rattle.world_meaning.specs.declared.session.ReplyKind.TheVariants.{Abandoned, Ended, Free, Kept, Over}
 use Rattle.story_player.specs.Given.{AreGiven, IsFrom, IsGiven, said_behind, so_far}
-use Rattle.story_player.specs.Sessions.{is_refusal}
+use Rattle.story_player.specs.Refusals.{is_refusal}
 use Rattle.story_player.specs.declared.commands.Given.{Given}
 
 -- ---- texts

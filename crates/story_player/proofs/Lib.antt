@@ -9,6 +9,7 @@ pub mod Parts
 pub mod PlayedLines
 pub mod Readings
 pub mod RunLemmas
+pub mod EachThing
 pub mod Tellings
 pub mod Transcripts
 pub mod TypedLines

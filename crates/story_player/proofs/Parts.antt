@@ -1,10 +1,11 @@
 -- What the parts of a turn come to, one behind the other, is what the turn comes to.
-use Rattle.std.proofs.Common.{◌≡◌, ◌∙◌, ap, refl, List, [], ◌∷◌, ◌++◌, Ok, Err}
+use Rattle.std.proofs.Common.{◌≡◌, ◌∙◌, ap, refl, ℕ, List, [], ◌∷◌, ◌++◌, map, Ok, Err}
 use Rattle.world_meaning.specs.declared.session.Abandon.{Abandon}
 use Rattle.play_meaning.specs.Acting.{progress_of as left_at}
 use Rattle.play_meaning.specs.Attempts.{Attempt, next}
 use Rattle.play_meaning.specs.Progress.{Asked, Progress}
-use Rattle.play_meaning.specs.Turns.{parts, unless_over}
+use Rattle.play_meaning.specs.Games.{Game}
+use Rattle.play_meaning.specs.Turns.{behind_action, parts, perform_upon, turn_upon, unless_over}
 use Rattle.play_meaning.specs.declared.outcome.Outcome.{Outcome}
 use Rattle.action_stages.specs.Performing.{Performed, ended_so, performed}
 
@@ -65,19 +66,26 @@ pub ruleset behind_rules = (comes_behind, first_breaks, breaks_behind)
 
 parts-append : (some more : List Part) (p : Progress) → parts (some ++ more) p ≡ next (parts some p) (parts more)
 parts-append [] more p = refl
-parts-append (a ∷ some) more p = by_first (unless_over p.world.ended a p)
+parts-append (a ∷ some) more p = by_first (unless_over p.world.ended a p) (λ q. parts-append some more q)
   where
-    by_first : (first : Attempt Progress) → next first (parts (some ++ more)) ≡ next (next first (parts some)) (parts more)
-    by_first (Ok q) = parts-append some more q
-    by_first (Err reason) = refl
+    by_first : (first : Attempt Progress) → ((q : Progress) → parts (some ++ more) q ≡ next (parts some q) (parts more))
+        → next first (parts (some ++ more)) ≡ next (next first (parts some)) (parts more)
+    by_first (Ok q) behind = behind q
+    by_first (Err reason) behind = refl
 
-pub come_behind : (some more : List Part) (p q r : Progress) → parts some p ≡ Ok q → parts more q ≡ Ok r → parts (some ++ more) p ≡ Ok r
-come_behind some more p q r first rest = parts-append some more p ∙ ap (λ attempt. next attempt (parts more)) first ∙ rest
+-- ---- a turn of an action on several things
 
-pub some_break : (some more : List Part) (p : Progress) (reason : Abandon) → parts some p ≡ Err reason → parts (some ++ more) p ≡ Err reason
-some_break some more p reason first = parts-append some more p ∙ ap (λ attempt. next attempt (parts more)) first
+module _ (g : Game) (action : ℕ) (objects : List ℕ) (p : Progress) where
+  pub turned_upon : (q r : Progress) → parts (map (perform_upon g action) objects) p ≡ Ok q → parts (behind_action g) q ≡ Ok r → turn_upon g action objects p ≡ Ok r
+  unfolding turn_upon
+  turned_upon q r first rest = parts-append (map (perform_upon g action) objects) (behind_action g) p ∙ ap (λ attempt. next attempt (parts (behind_action g))) first ∙ rest
 
-pub more_break : (some more : List Part) (p q : Progress) (reason : Abandon) → parts some p ≡ Ok q → parts more q ≡ Err reason → parts (some ++ more) p ≡ Err reason
-more_break some more p q reason first rest = parts-append some more p ∙ ap (λ attempt. next attempt (parts more)) first ∙ rest
+  pub each_breaks : (reason : Abandon) → parts (map (perform_upon g action) objects) p ≡ Err reason → turn_upon g action objects p ≡ Err reason
+  unfolding turn_upon
+  each_breaks reason first = parts-append (map (perform_upon g action) objects) (behind_action g) p ∙ ap (λ attempt. next attempt (parts (behind_action g))) first
 
-pub ruleset all_rules = (come_behind, some_break, more_break)
+  pub rest_breaks : (q : Progress) (reason : Abandon) → parts (map (perform_upon g action) objects) p ≡ Ok q → parts (behind_action g) q ≡ Err reason → turn_upon g action objects p ≡ Err reason
+  unfolding turn_upon
+  rest_breaks q reason first rest = parts-append (map (perform_upon g action) objects) (behind_action g) p ∙ ap (λ attempt. next attempt (parts (behind_action g))) first ∙ rest
+
+pub ruleset all_rules = (turned_upon, each_breaks, rest_breaks)

@@ -4,7 +4,7 @@ use Rattle.play_meaning.specs.CommandLines.{Parts}
 use Rattle.play_meaning.specs.Games.{Game, Reading}
 use Rattle.play_meaning.specs.Sessions.{Answer, State, answer_to, commands_answer, goes_on_behind, leads_on, parted_by_break, read_answer}
 use Rattle.world_meaning.specs.declared.session.ReplyKind.{ReplyKind}
-use Rattle.story_player.specs.Sessions.{answer_with, is_refusal}
+use Rattle.story_player.specs.Refusals.{answer_with, is_refusal}
 use Rattle.story_player.specs.Spoken.{Spoken}
 use Rattle.story_player.specs.declared.commands.Given.{Given}
 

@@ -5,6 +5,7 @@ pub mod Given
 pub mod KeptWorlds
 pub mod LineTexts
 pub mod Meant
+pub mod Refusals
 pub mod Runs
 pub mod Sessions
 pub mod Spoken

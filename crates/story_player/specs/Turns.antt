@@ -25,7 +25,7 @@ abbrev pub done_by : Deed → Game → Progress → Attempt Progress
 done_by deed.Opening g p = opening g p
 done_by (deed.Alone now) g p = perform g now p
 done_by (deed.Turn now) g p = turn g now p
-done_by (deed.TurnUpon action objects) g p = turn_upon g action objects.now p
+done_by (deed.TurnUpon action objects) g p = turn_upon g action objects p
 
 -- ---- what is told
 

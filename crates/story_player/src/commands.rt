@@ -24,7 +24,7 @@ use crate::telling::abandon_text;
 use crate::texts;
 use crate::trial::tried;
 use action_stages::needs_of;
-use command_parser::{Command, Parts, Pieces, Question, Reading, Said};
+use command_parser::{Command, Objects, Parts, Pieces, Question, Reading, Said};
 use play_meaning::{ActNo, ActionNow};
 use world_meaning::{Abandon, Ending, ReplyKind};
 use world_store::World;
@@ -46,6 +46,19 @@ fn kind_of(world: &World, kind: ReplyKind) -> ReplyKind
     }
 }
 
+impl Given {
+    /// The rest of the line is dropped.
+    fn last(kind: ReplyKind) -> Given
+        ensures kind { result.kind ≡ kind }
+        ensures goes_on { result.goes_on ≡ false }
+    {
+        Given {
+            kind,
+            goes_on: false,
+        }
+    }
+}
+
 /// Whether the commands behind one of which this became are done.
 fn goes_on_behind(kind: ReplyKind) -> bool
     ensures { result ≡ goes_on_behind kind }
@@ -57,14 +70,15 @@ fn goes_on_behind(kind: ReplyKind) -> bool
 }
 
 impl Session {
-    ghost use Rattle.story_player.specs.Sessions.{game_of, is_refusal, state_of, story_of};
+    ghost use Rattle.story_player.specs.Refusals.{is_refusal};
+    ghost use Rattle.story_player.specs.Sessions.{game_of, state_of, story_of};
 
     /// What comes of something that is done on the world: where it is abandoned nothing is told, and the world is as it was.
-    fn trial(&mut self, deed: Deed<'_>, text: &mut LineText) -> Result<(), Abandon>
+    fn trial(&mut self, deed: &Deed, text: &mut LineText) -> Result<(), Abandon>
         requires room { 0 < text.old.left }
         ensures told { MatchResult result
-            (λ done. IsToldBehind (done_by deed.entry (game_of self.old) (fresh (state_of self.old).world)) (state_of self.new).world text.old.said text.new.said)
-            (Breaks (done_by deed.entry (game_of self.old) (fresh (state_of self.old).world))) }
+            (λ done. IsToldBehind (done_by deed.now (game_of self.old) (fresh (state_of self.old).world)) (state_of self.new).world text.old.said text.new.said)
+            (Breaks (done_by deed.now (game_of self.old) (fresh (state_of self.old).world))) }
         ensures room { OnOk result (text.new.left + 1 ≡ text.old.left) }
         ensures same { OnErr result (text.new ≡ text.old) }
         ensures behind { OnOk result (HasGoneOn self.old.world self.new.world) }
@@ -117,19 +131,16 @@ impl Session {
     {
         self.question = None;
         text.add_fixed(abandon_text(reason));
-        Given {
-            kind: ReplyKind::Abandoned(reason),
-            goes_on: false,
-        }
+        Given::last(ReplyKind::Abandoned(reason))
     }
 
     /// Does something on the world: a turn, of which the world before it is kept, or an action by itself. Where it is abandoned the
     /// world is as it was.
-    fn act_out(&mut self, deed: Deed<'_>, text: &mut LineText) -> Given
+    fn act_out(&mut self, deed: &Deed, text: &mut LineText) -> Given
         requires going { (state_of self.old).ending ≡ None }
         requires room { 0 < text.old.left }
         ensures answer { so_far text.new.said result.kind (state_of self.new)
-            ≡ said_behind text.old.said (deed_answer deed.entry (game_of self.old) (is_refusal result.kind) (state_of self.old)) }
+            ≡ said_behind text.old.said (deed_answer deed.now (game_of self.old) (is_refusal result.kind) (state_of self.old)) }
         ensures goes_on { result.goes_on ≡ goes_on_behind result.kind }
         ensures room { text.new.left + 1 ≡ text.old.left }
         ensures game { game_of self.new ≡ game_of self.old }
@@ -159,9 +170,9 @@ impl Session {
         ensures story { story_of self.new ≡ story_of self.old }
     {
         if needs_of(self.story.as_ref(), now.action).out_of_world {
-            self.act_out(Deed::Alone(now), text)
+            self.act_out(&Deed::Alone(now), text)
         } else {
-            self.act_out(Deed::Turn(now), text)
+            self.act_out(&Deed::Turn(now), text)
         }
     }
 
@@ -180,7 +191,7 @@ impl Session {
         if things.is_empty() {
             return self.say(Said::NoneOfAll, text);
         }
-        self.act_out(Deed::TurnUpon(action, things.as_slice()), text)
+        self.act_out(&Deed::TurnUpon(action, Objects::new(things)), text)
     }
 
     /// Takes the last kept turn back, if there is one.
@@ -218,10 +229,7 @@ impl Session {
         self.question = None;
         self.ending = Some(Ending::Quit);
         text.add_fixed(b"");
-        Given {
-            kind: ReplyKind::Ended,
-            goes_on: false,
-        }
+        Given::last(ReplyKind::Ended)
     }
 
     /// Says what a command that does nothing means.
@@ -234,10 +242,7 @@ impl Session {
     {
         self.question = None;
         text.add_fixed(said_text(said));
-        Given {
-            kind: ReplyKind::Free,
-            goes_on: false,
-        }
+        Given::last(ReplyKind::Free)
     }
 
     /// Asks which of the candidates of a question is meant.
@@ -251,10 +256,7 @@ impl Session {
         match ask(self.alloc, self.here(), question.candidates(), text) {
             Ok(()) => {
                 self.question = Some(question);
-                Given {
-                    kind: ReplyKind::Free,
-                    goes_on: false,
-                }
+                Given::last(ReplyKind::Free)
             }
             Err(reason) => self.abandon(reason, text),
         }

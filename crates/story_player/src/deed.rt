@@ -9,13 +9,14 @@ ghost use Rattle.story_player.specs.Turns.{done_by, is_turn};
 use crate::several::turn_upon;
 use crate::turns::{act, opening, turn};
 use action_stages::Stage;
+use command_parser::Objects;
 use play_meaning::{ActNo, ActionNow};
 use std::alloc::Global;
-use world_meaning::{Abandon, ObjNo};
+use world_meaning::Abandon;
 
 /// What is done.
-#[derive(Clone, Copy)]
-pub(crate) enum Deed<'a> {
+#[derive(Drop)]
+pub(crate) enum Deed {
     /// The opening of the story.
     Opening,
     /// An action out of world, by itself.
@@ -23,13 +24,13 @@ pub(crate) enum Deed<'a> {
     /// An action, in a turn.
     Turn(ActionNow),
     /// An action on each of several things, in one turn.
-    TurnUpon(ActNo, &'a [ObjNo]),
+    TurnUpon(ActNo, Objects),
 }
 
-impl Deed<'_> {
+impl Deed {
     /// Whether it is a turn, the world before which is kept.
-    pub(crate) fn is_turn(self) -> bool
-        ensures { result ≡ is_turn self.entry }
+    pub(crate) fn is_turn(&self) -> bool
+        ensures { result ≡ is_turn self.now }
     {
         match self {
             Deed::Opening | Deed::Alone(_) => false,
@@ -42,19 +43,19 @@ impl Deed<'_> {
 pub(crate) fn done(
     alloc: Global,
     stage: &mut Stage<'_>,
-    deed: Deed<'_>,
+    deed: &Deed,
 ) -> Result<(), Abandon>
     requires told { tables_of stage.old ≡ story_of stage.old }
     requires there { IsThere (back_of stage.old) }
-    ensures answer { Answers result (λ done. progress_of stage.new) (done_by deed.entry (game_in_play (story_of stage.old)) (progress_of stage.old)) }
+    ensures answer { Answers result (λ done. progress_of stage.new) (done_by deed.now (game_in_play (story_of stage.old)) (progress_of stage.old)) }
     ensures story { story_of stage.new ≡ story_of stage.old }
     ensures tables { tables_of stage.new ≡ story_of stage.old }
     ensures back { back_of stage.new ≡ back_of stage.old }
 {
     match deed {
         Deed::Opening => Ok(opening(alloc, stage)?),
-        Deed::Alone(now) => Ok(act(alloc, stage, now)?),
-        Deed::Turn(now) => Ok(turn(alloc, stage, now)?),
-        Deed::TurnUpon(action, objects) => Ok(turn_upon(alloc, stage, action, objects)?),
+        Deed::Alone(now) => Ok(act(alloc, stage, *now)?),
+        Deed::Turn(now) => Ok(turn(alloc, stage, *now)?),
+        Deed::TurnUpon(action, objects) => Ok(turn_upon(alloc, stage, *action, objects.as_slice())?),
     }
 }

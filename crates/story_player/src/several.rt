@@ -29,10 +29,11 @@ fn upon(action: ActNo, object: ObjNo) -> ActionNow
 
 /// Says the name of an object, as what is done to it is told of.
 fn say_name_first(alloc: Global, stage: &mut Stage<'_>, object: ObjNo) -> Result<(), Abandon>
+    requires told { tables_of stage.old ≡ story_of stage.old }
     ensures said { OnOk result (progress_of stage.new ≡ say (name_first (game_in_play (story_of stage.old)) object) (progress_of stage.old)) }
     ensures refused { OnErr result (result ≡ Err Memory) }
     ensures story { story_of stage.new ≡ story_of stage.old }
-    ensures tables { tables_of stage.new ≡ tables_of stage.old }
+    ensures tables { tables_of stage.new ≡ story_of stage.old }
     ensures back { back_of stage.new ≡ back_of stage.old }
 {
     say(alloc, stage, stage.story().name(object))?;
@@ -42,10 +43,11 @@ fn say_name_first(alloc: Global, stage: &mut Stage<'_>, object: ObjNo) -> Result
 
 /// Ends the line of what is said.
 fn end_line(alloc: Global, stage: &mut Stage<'_>) -> Result<(), Abandon>
+    requires told { tables_of stage.old ≡ story_of stage.old }
     ensures said { OnOk result (progress_of stage.new ≡ record (progress_of stage.old) { text = completed (progress_of stage.old).text }) }
     ensures refused { OnErr result (result ≡ Err Memory) }
     ensures story { story_of stage.new ≡ story_of stage.old }
-    ensures tables { tables_of stage.new ≡ tables_of stage.old }
+    ensures tables { tables_of stage.new ≡ story_of stage.old }
     ensures back { back_of stage.new ≡ back_of stage.old }
 {
     if lacks_break(stage.text()) {
@@ -117,7 +119,7 @@ fn act_upon_each(
 }
 
 /// A turn of an action on several things: the action on each, and what follows an action, once.
-#[tactic(auto, using(crate::proofs::Parts::all_rules), unfolding(play_meaning::specs::Turns::turn_upon))]
+#[tactic(auto, using(crate::proofs::Parts::all_rules))]
 pub(crate) fn turn_upon(
     alloc: Global,
     stage: &mut Stage<'_>,

@@ -66,7 +66,7 @@ pub(crate) fn tried(
     index: &Index,
     hosts: &HostTable,
     world: World,
-    deed: Deed<'_>,
+    deed: &Deed,
     text: &mut LineText,
 ) -> (World, Result<(), Abandon>)
     requires whole { rule_count hosts.now ≡ 61 }
@@ -74,8 +74,8 @@ pub(crate) fn tried(
     requires index { index.now ≡ story.now }
     requires room { 0 < text.old.left }
     ensures told { MatchResult result.1
-        (λ done. IsToldBehind (done_by deed.entry (game_in_play story.now) (fresh world.world)) result.0.world text.old.said text.new.said)
-        (Breaks (done_by deed.entry (game_in_play story.now) (fresh world.world))) }
+        (λ done. IsToldBehind (done_by deed.now (game_in_play story.now) (fresh world.world)) result.0.world text.old.said text.new.said)
+        (Breaks (done_by deed.now (game_in_play story.now) (fresh world.world))) }
     ensures room { OnOk result.1 (text.new.left + 1 ≡ text.old.left) }
     ensures same { OnErr result.1 (text.new ≡ text.old) }
     ensures story { result.0.tables ≡ story.now }
@@ -106,7 +106,7 @@ pub(crate) fn opened(
         return Err(StartFault::Memory);
     };
     let mut text = LineText::new(alloc);
-    let (world, told) = tried(alloc, story.as_ref(), index, hosts, world, Deed::Opening, &mut text);
+    let (world, told) = tried(alloc, story.as_ref(), index, hosts, world, &Deed::Opening, &mut text);
     match told {
         Ok(()) => Ok(Told { world, text }),
         Err(Abandon::Memory) => Err(StartFault::Memory),

@@ -5,7 +5,7 @@ use Rattle.story_player.specs.KeptWorlds.{kept_in, world_in}
 use Rattle.story_player.specs.Sessions.{game_of, state_of}
 use Rattle.story_player.proofs.Answering.{act_told, taken_apart, taken_turn}
 use Rattle.story_player.proofs.Keepings.{IsHome, are_there, home_of, home_pushed, kept_put, kept_same}
-use Rattle.story_player.proofs.commands.Session.act_out.Goals as goal
+use Rattle.story_player.proofs.session.Session.act_out.Goals as goal
 
 pub returns-then-apart-clause-answer : goal.returns-then-apart-clause-answer
 returns-then-apart-clause-answer g c =

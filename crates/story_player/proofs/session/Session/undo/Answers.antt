@@ -6,7 +6,7 @@ use Rattle.world_store.specs.StoryWorlds.{StoryWorld}
 use Rattle.story_player.specs.KeptWorlds.{kept_in}
 use Rattle.story_player.specs.Sessions.{state_of}
 use Rattle.story_player.proofs.Keepings.{IsHome, are_there, home_of, home_undone, is_of, kept_undone, mark_within}
-use Rattle.story_player.proofs.commands.Session.undo.Goals as goal
+use Rattle.story_player.proofs.session.Session.undo.Goals as goal
 
 pub revert-requires : goal.revert-requires
 revert-requires g c =

@@ -1,6 +1,6 @@
 use Rattle.std.proofs.Common.{◌≡◌, ◌∙◌, refl, Some}
 use Rattle.story_player.proofs.Keepings.{are_there, gone_behind, has_gone_on, home_of, home_on, is_of}
-use Rattle.story_player.proofs.commands.Session.trial.Goals as goal
+use Rattle.story_player.proofs.session.Session.trial.Goals as goal
 
 pub invariant_of-self : goal.invariant_of-self
 invariant_of-self g c =
