@@ -1,4 +1,4 @@
--- What a session answers where an action, or the opening, came to its end or was abandoned.
+-- What a session answers where what was done came to its end, or was abandoned.
 use Rattle.std.proofs.Common.{◌≡◌, ◌≢◌, ◌∙◌, ap, sym, refl, subst, ℕ, Bool, true, false, List, [], Option, None, Some, Err}
 use Rattle.world_meaning.specs.declared.session.Abandon.{Abandon}
 use Rattle.world_meaning.specs.declared.session.Abandon.TheVariants.{Memory, NestedTooDeep, NumberOutOfRange, TooMuchWork}
@@ -8,7 +8,7 @@ use Rattle.play_meaning.specs.Attempts.{Attempt}
 use Rattle.play_meaning.specs.CodedStories.{game_of_codes}
 use Rattle.play_meaning.specs.Games.{Acts, Game}
 use Rattle.play_meaning.specs.Progress.{Progress, fresh}
-use Rattle.play_meaning.specs.Sessions.{Answer, State, abandon_text, abandoned, acted, closed, keep, opened, played, read_answer}
+use Rattle.play_meaning.specs.Sessions.{Answer, State, abandon_text, abandoned, acted, closed, goes_on_behind, opened, parted_by_break, played}
 use Rattle.play_meaning.specs.Turns.{opening}
 use Rattle.play_meaning.specs.Worlds.{World}
 use Rattle.play_meaning.specs.declared.action.ActionNow.{ActionNow}
@@ -18,9 +18,12 @@ use Rattle.world_store.specs.StoryWorlds.{StoryWorld}
 use Rattle.action_stages.specs.Answering.{Breaks}
 use Rattle.world_store.specs.StoryPlay.{coded_story, game_in_play}
 use Rattle.story_player.specs.Begun.{IsBegun}
-use Rattle.story_player.specs.Sessions.{answer_with, refusal_of}
-use Rattle.story_player.specs.Spoken.{Spoken}
-use Rattle.story_player.specs.Turns.{IsToldOf, done_in, ending_told, kept_by, kind_by, kind_told, taken_up, told_text}
+use Rattle.story_player.specs.Given.{IsGiven, said_behind, so_far}
+use Rattle.story_player.specs.Sessions.{is_refusal}
+use Rattle.story_player.specs.Turns.{IsToldBehind, IsToldOf, deed_answer, done_by, ending_told, is_turn, kept_by, kind_by, kind_told, told_text}
+use Rattle.story_player.specs.declared.commands.Given.{Given}
+use Rattle.story_player.specs.declared.deed.Deed.{Deed}
+use Rattle.story_player.specs.declared.deed.Deed.TheVariants as deed
 
 -- ---- where play has come to an end
 

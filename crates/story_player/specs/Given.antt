@@ -1,12 +1,9 @@
 -- What a session gives to the commands of a line, one behind the other.
-use Rattle.std.specs.Prelude.{◌≡◌, ℕ, ◌≤◌, ◌<◌, ◌&&◌, List, Option, None, Some, is_some, length}
+use Rattle.std.specs.Prelude.{◌≡◌, ℕ, ◌≤◌, ◌&&◌, List, Option, None, Some, is_some}
 use Rattle.play_meaning.specs.CommandLines.{Parts}
 use Rattle.play_meaning.specs.Games.{Game, Reading}
 use Rattle.play_meaning.specs.Sessions.{Answer, State, answer_to, commands_answer, goes_on_behind, leads_on, parted_by_break, read_answer}
 use Rattle.world_meaning.specs.declared.session.ReplyKind.{ReplyKind}
-use Rattle.command_parser.specs.declared.cutting.Parts.{Parts as Cut}
-use Rattle.command_parser.specs.declared.cutting.Parts.TheVariants as cut
-use Rattle.story_player.specs.LineTexts.{most_commands}
 use Rattle.story_player.specs.Sessions.{answer_with, is_refusal}
 use Rattle.story_player.specs.Spoken.{Spoken}
 use Rattle.story_player.specs.declared.commands.Given.{Given}
@@ -47,9 +44,3 @@ pub record IsLineGiven (g : Game) (parts : Parts) (from to : State) (before afte
   pub refused : Option ℕ
   pub told : is_some refused ≡ is_refusal kind
   pub answer : so_far after kind to ≡ said_behind before (answer_to g refused from parts)
-
--- no more commands than a line may have
-abbrev pub HasFew : Cut → Type 0
-HasFew cut.Blank = Unit {0}
-HasFew cut.Overlong = Unit {0}
-HasFew (cut.Commands first more) = length more < most_commands

@@ -5,12 +5,12 @@ ghost use Rattle.play_meaning.specs.Games.{Acts, ActsAll, Asks, Quit, Reading as
 ghost use Rattle.play_meaning.specs.Progress.{fresh};
 ghost use Rattle.play_meaning.specs.Sessions.{abandoned, goes_on_behind, meant, meant_among};
 ghost use Rattle.action_stages.specs.Answering.{Breaks};
-ghost use Rattle.command_parser.specs.Cutting.{told_parts};
+ghost use Rattle.command_parser.specs.Cutting.{command_count, told_parts};
 ghost use Rattle.command_parser.specs.Readings.{said_text, told as told_of};
-ghost use Rattle.story_player.specs.Given.{AreGiven, HasFew, IsGiven, IsLineGiven, said_behind, so_far};
+ghost use Rattle.story_player.specs.Given.{AreGiven, IsGiven, IsLineGiven, said_behind, so_far};
 ghost use Rattle.story_player.specs.KeptWorlds.{HasGoneOn};
 ghost use Rattle.story_player.specs.LineTexts.{most_commands};
-ghost use Rattle.story_player.specs.Turns.{IsToldBehind, deed_answer, done_by, ending_told, kind_by, kind_told};
+ghost use Rattle.story_player.specs.Turns.{IsToldBehind, deed_answer, done_by, ending_told, kind_told};
 ghost use Rattle.world_store.specs.StoryGrammars.{grammar_of};
 ghost use Rattle.world_store.specs.StorySettings.{setting_of};
 
@@ -53,17 +53,6 @@ fn goes_on_behind(kind: ReplyKind) -> bool
     match kind {
         ReplyKind::Kept | ReplyKind::Free => true,
         ReplyKind::Abandoned(_) | ReplyKind::Ended | ReplyKind::Over => false,
-    }
-}
-
-/// The kind of what is done, where the story goes on.
-fn kind_by(is_kept: bool) -> ReplyKind
-    ensures { result ≡ kind_by is_kept }
-{
-    if is_kept {
-        ReplyKind::Kept
-    } else {
-        ReplyKind::Free
     }
 }
 
@@ -152,8 +141,9 @@ impl Session {
             Ok(()) => {
                 if is_kept {
                     self.kept.push_front(mark);
+                    return self.take_up(ReplyKind::Kept);
                 }
-                self.take_up(kind_by(is_kept))
+                self.take_up(ReplyKind::Free)
             }
             Err(reason) => self.abandon(reason, text),
         }
@@ -308,7 +298,7 @@ impl Session {
     fn commands(&mut self, first: Command<'_>, more: Pieces<'_>, text: &mut LineText) -> ReplyKind
         requires going { (state_of self.old).ending ≡ None }
         requires room { length more < text.old.left }
-        ensures answer { AreGiven (game_of self.old) 0 first.entry more.entry (state_of self.old) (state_of self.new) text.old.said text.new.said result }
+        ensures answer { AreGiven (game_of self.old) 0 first more (state_of self.old) (state_of self.new) text.old.said text.new.said result }
         ensures game { game_of self.new ≡ game_of self.old }
         ensures story { story_of self.new ≡ story_of self.old }
     {
@@ -329,8 +319,8 @@ impl Session {
     /// Answers the parts of a line.
     pub(crate) fn answer_parts(&mut self, parts: Parts<'_>, text: &mut LineText) -> ReplyKind
         requires room { most_commands ≤ text.old.left }
-        requires few { HasFew parts.entry }
-        ensures answer { IsLineGiven (game_of self.old) (told_parts parts.entry) (state_of self.old) (state_of self.new) text.old.said text.new.said result }
+        requires few { command_count parts ≤ most_commands }
+        ensures answer { IsLineGiven (game_of self.old) (told_parts parts) (state_of self.old) (state_of self.new) text.old.said text.new.said result }
         ensures game { game_of self.new ≡ game_of self.old }
         ensures story { story_of self.new ≡ story_of self.old }
     {

@@ -1,11 +1,10 @@
 //! What a command means, and what is said to one that does nothing.
 ghost use Rattle.std.specs.Prelude.{◌≡◌, ◌≤◌, IfOk, OnErr, length, true};
 ghost use Rattle.std.specs.Option.{option_map};
-ghost use Rattle.command_parser.specs.Cutting.{told_parts};
+ghost use Rattle.command_parser.specs.Cutting.{command_count, told_parts};
 ghost use Rattle.command_parser.specs.Readings.{said_text, told as told_of};
 ghost use Rattle.command_parser.specs.Settling.{is_asking};
-ghost use Rattle.story_player.specs.Given.{HasFew};
-ghost use Rattle.story_player.specs.LineTexts.{longest_fixed};
+ghost use Rattle.story_player.specs.LineTexts.{longest_fixed, most_commands};
 ghost use Rattle.story_player.specs.Meant.{read_in};
 ghost use Rattle.story_player.specs.Typed.{parts_told, told};
 ghost use Rattle.world_store.specs.StoryGrammars.{grammar_of};
@@ -34,8 +33,8 @@ pub(crate) fn said_text(said: Said) -> &'static [u8]
 
 /// What a line is made of as it was typed.
 pub(crate) fn parts(typed: Typed<'_>) -> Parts<'_>
-    ensures parts { told_parts result.entry ≡ parts_told (told typed.entry) }
-    ensures few { HasFew result.entry }
+    ensures parts { told_parts result ≡ parts_told (told typed.entry) }
+    ensures few { command_count result ≤ most_commands }
 {
     match typed {
         Typed::Whole(line) => split(line),
