@@ -1,7 +1,8 @@
 #!/usr/bin/env bash
 # Sources of the greatest length that are hard on a reader: each is answered within a second, and those of few
 # sentences, phrases, pieces of texts and words of rules and commands with at most 40 bytes of memory for each of theirs. And stories whose rules
-# and codes are hard on a loader: each plays or is refused within a second, as the first part of its name says.
+# and codes are hard on a loader: each plays or is refused within a second, as the first part of its name says. And lines of as many
+# commands as there may be, and of commands for as many things: each is played within a second.
 # Use: tests/hostile.sh PROGRAM
 set -u
 program=$(realpath "$1")
@@ -126,6 +127,15 @@ def save_sentences(name, unit):
     """Saves as many of these sentences as there is room for."""
     open(name + ".i7", "w").write(ball + unit * ((longest - len(ball)) // len(unit)))
 things = "".join(f"x{n} is in the Hall.\n" for n in range(986))
+everything = [f"x{n}" for n in range(986)]
+opening = "Hall\nYou can see " + ", ".join(everything[:-1]) + f" and {everything[-1]} here.\n"
+# a line of 128 looks; each of 986 things taken and dropped; and 51 commands of which all but eight have nothing to do
+typed = ["l." * 127 + "l", "take all. drop all", "undo." * 51]
+said = ["\n".join([opening] * 128), "\n".join("".join(f"{thing}: {done}.\n" for thing in everything) for done in ["Taken", "Dropped"]),
+        "\n".join(["Previous turn undone.\n"] * 8 + ["You can't undo any further.\n"] * 43)]
+open("many_commands.source", "w").write(hall + things)
+open("many_commands.typed", "w").write("".join(line + "\n" for line in typed))
+open("many_commands.want", "w").write("\n>".join([opening, *said, ""]))
 text = '"' + "a " * 30000 + '"'
 open("understand_words_among_things.i7", "w").write(hall + things + f"Understand {text} or {text} or {text} or {text[:-40000]}\" as x985.\n")
 save_sentences("understand_sentences", 'Understand "a" as ball.\n')
@@ -301,5 +311,13 @@ for story in *.story; do
     echo "hostile: $story: status $status, $(head -c 100 err)"
   fi
 done
+"$program" compile many_commands.source many_commands || exit 1
+timeout 1 "$program" play many_commands <many_commands.typed >out 2>err
+if [ $? = 0 ] && [ ! -s err ] && cmp -s out many_commands.want; then
+  passed=$((passed + 1))
+else
+  failed=$((failed + 1))
+  echo "hostile: many commands: $(head -c 100 err)"
+fi
 echo "hostile: $passed passed, $failed failed"
 [ $failed = 0 ]

@@ -1,7 +1,7 @@
 #!/usr/bin/env bash
-# Plays seven rows, each as a source and as a compiled story, with each allocation of the run refused in turn. Each
+# Plays eight rows, each as a source and as a compiled story, with each allocation of the run refused in turn. Each
 # run must end in one of two ways: with status 4, the one line `i7story: out of memory` and no transcript; or
-# with status 0 and the transcript in which at most one reply is that of the abandoned turn.
+# with status 0 and the transcript in which at most one command is told as abandoned, and the rest of its line is dropped.
 # Use: tests/refused_memory.sh PROGRAM
 set -u
 program=$(realpath "$1")
@@ -77,6 +77,66 @@ def weighing(refused):
     return text + "\n>"
 
 
+def handling(refused):
+    """The transcript of the row of lines of several commands, where memory is refused to a command of a line, both by place; or
+    None where what is refused there asks for no memory, or isn't reached."""
+    walls = "A long and bare hall, with a row of high windows on either side and a door that was walled up long ago.\n"
+    things, carried, kept, told = ["ball", "lamp"], [], [], False
+
+    def seen():
+        lying = [f"a {thing}" for thing in things if thing not in carried]
+        return "Hall\n" + walls + (f"You can see {' and '.join(lying)} here.\n" if lying else "")
+
+    def done(verb, noun):
+        """What a turn says; it may change what is carried."""
+        if verb == "look":
+            return seen()
+        if verb == "i":
+            held = " and ".join(f"a {thing}" for thing in things if thing in carried)
+            return f"You are carrying {held or 'nothing'}.\n"
+        meant = [noun] if noun != "all" else [thing for thing in things if (thing in carried) == (verb == "drop")]
+        said = ""
+        for thing in meant:
+            said += f"{thing}: " if noun == "all" else ""
+            if verb == "take" and thing in carried:
+                said += "You already have that.\n"
+            elif verb == "drop" and thing not in carried:
+                said += "You don't have that.\n"
+            else:
+                (carried.append if verb == "take" else carried.remove)(thing)
+                said += "Taken.\n" if verb == "take" else "Dropped.\n"
+        return said
+
+    text = seen()
+    for line, typed in enumerate(commands):
+        texts = []
+        for place, command in enumerate(typed.replace(" then ", ". ").split(". ")):
+            verb, _, noun = command.partition(" ")
+            if verb == "undo":
+                texts.append("Previous turn undone.\n" if kept else "You can't undo any further.\n")
+                carried = kept.pop() if kept else carried
+                continue
+            before = list(carried)
+            said = done(verb, noun)
+            if not said:
+                texts.append("There is nothing to do that to.\n")
+                break
+            if (line, place) == refused:
+                carried, told = before, True
+                texts.append(ABANDONED)
+                break
+            kept.append(before)
+            texts.append(said)
+        text += f"\n>{typed}\n" + "\n".join(texts)
+    return text + "\n>" if told or refused is None else None
+
+
+if row.name == "all_things_on_a_line":
+    for refused in [None, *((line, place) for line in range(3) for place in range(4))]:
+        text = handling(refused)
+        if text is not None:
+            (scratch / f"may{refused}").write_text(text)
+    sys.exit()
 if row.name == "ball_is_weighed":
     for refused in [None, 0, 1, 2, 3]:
         (scratch / f"may{refused}").write_text(weighing(refused))
@@ -167,7 +227,7 @@ PY
 
 passed=0
 failed=0
-for name in two_rooms lamp_in_a_dark_room doors_between_rooms rules_and_scenes which_box_is_meant storm_comes_again ball_is_weighed; do
+for name in two_rooms lamp_in_a_dark_room doors_between_rooms rules_and_scenes which_box_is_meant storm_comes_again ball_is_weighed all_things_on_a_line; do
   row=$here/rows/$name
   "$program" compile "$row/source.i7" "$scratch/story" || exit 1
   expected || exit 1

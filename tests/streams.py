@@ -30,7 +30,7 @@ def prompts(name, words):
     """A player that waits for each prompt gets each answer before it types on."""
     player = subprocess.Popen(words, stdin=subprocess.PIPE, stdout=subprocess.PIPE, bufsize=0)
     good = reads(player.stdout, OPENING)
-    for line, answer in [(b"n\n", b"Garden\n\n>"), (b"s\n", OPENING), (b"xyzzy\n", b"I don't know that verb.\n\n>")]:
+    for line, answer in [(b"n\n", b"Garden\n\n>"), (b"s\n", OPENING), (b"n. s\n", b"Garden\n\n" + OPENING), (b"xyzzy\n", b"I don't know that verb.\n\n>")]:
         player.stdin.write(line)
         good = good and reads(player.stdout, answer)
     player.stdin.close()
@@ -57,9 +57,14 @@ def main():
             told(f"{name}: commands without end", words, 3, OPENING, b"i7story: V3 InputTooLong\n", input=b"a" * 16777217)
             told(f"{name}: as many blanks as are read", words, 0, OPENING + b"I beg your pardon?\n\n>", b"",
                  input=b" " * 16777216)
+            told(f"{name}: as many full stops as are read", words, 0, OPENING + b"I beg your pardon?\n\n>", b"",
+                 input=b"." * 16777216)
+            told(f"{name}: a command behind as many cuts as are read", words, 0, OPENING + b"That line is too long.\n\n>", b"",
+                 input=b"then " * 3355443 + b"z")
             told(f"{name}: a carriage return, and a last line without a break", words + ["--transcript"], 0,
                  OPENING + b"n\nGarden\n\n>look\nGarden\n\n>", b"", input=b"n\r\nlook")
             told(f"{name}: nothing behind a line that ends the session", words, 0, OPENING, b"", input=b"q\nx\n")
+            told(f"{name}: nothing behind a command that ends the session", words, 0, OPENING + OPENING[:-2], b"", input=b"look.q.look\nx\n")
         unreadable = [program, "run", b"\xff.i7"]
         told("a word that isn't UTF-8", unreadable, 5, b"", b"i7story: a word that isn't UTF-8\n", stdin=subprocess.DEVNULL)
     print(f"streams: {passed} passed, {failed} failed")

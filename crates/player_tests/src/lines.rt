@@ -43,6 +43,57 @@ fn free() -> &'static [(&'static [u8], &'static [u8])] {
     FREE
 }
 
+/// Lines of several commands of the two-room story; the kind is that of the last command that was done.
+const SEVERAL: &[Row] = &[
+    (
+        b"n. s. look",
+        b"Garden\n\nHall\nA bare hall.\n\nHall\nA bare hall.\n",
+        ReplyKind::Kept,
+        13,
+        4,
+    ),
+    (
+        b"n then undo",
+        b"Garden\n\nPrevious turn undone.\n",
+        ReplyKind::Free,
+        13,
+        4,
+    ),
+    (
+        b"n.THEN.xyzzy. s",
+        b"Garden\n\nI don't know that verb.\n",
+        ReplyKind::Free,
+        14,
+        5,
+    ),
+    (
+        b"e. take all. s",
+        b"You can't go that way.\n\nThere is nothing to do that to.\n",
+        ReplyKind::Free,
+        14,
+        6,
+    ),
+    (
+        b". then .",
+        b"I beg your pardon?\n",
+        ReplyKind::Free,
+        14,
+        6,
+    ),
+    (
+        b"s.q.n",
+        b"Hall\nA bare hall.\n",
+        ReplyKind::Ended,
+        13,
+        7,
+    ),
+    (b"look. look", b"", ReplyKind::Over, 13, 7),
+];
+
+fn several() -> &'static [Row] {
+    SEVERAL
+}
+
 /// Whether the session answers the line as its row says.
 fn is_answered(session: &mut Session, row: &Row) -> bool {
     let (line, text, kind, room, turns) = *row;
@@ -56,6 +107,16 @@ fn is_answered(session: &mut Session, row: &Row) -> bool {
 fn each_turn_has_its_text_its_kind_and_its_world(rt: HostRuntime) -> Result<(), Fail> {
     let mut session = two_rooms(rt.alloc())?;
     for row in turns() {
+        assert!(rt; is_answered(&mut session, row), "{}", row.4);
+    }
+    assert_eq!(rt; session.ending(), Some(Ending::Quit));
+    Ok(())
+}
+
+#[test]
+fn each_command_of_a_line_is_done(rt: HostRuntime) -> Result<(), Fail> {
+    let mut session = two_rooms(rt.alloc())?;
+    for row in several() {
         assert!(rt; is_answered(&mut session, row), "{}", row.4);
     }
     assert_eq!(rt; session.ending(), Some(Ending::Quit));
@@ -127,6 +188,9 @@ fn repeated(alloc: Global, piece: &[u8], count: u32, last: &[u8]) -> Result<Vec<
 /// What is said to a line that is too long.
 const TOO_LONG: &[u8] = b"That line is too long.\n";
 
+/// What is said to a line without a command.
+const BLANK: &[u8] = b"I beg your pardon?\n";
+
 #[test]
 fn a_line_is_read_up_to_255_bytes(rt: HostRuntime) -> Result<(), Fail> {
     let alloc = rt.alloc();
@@ -146,5 +210,25 @@ fn a_line_is_read_up_to_32_words(rt: HostRuntime) -> Result<(), Fail> {
     assert!(rt; session.line(most.as_slice()).text() != TOO_LONG);
     let more = repeated(alloc, b"n ", 32, b"n")?;
     assert!(rt; session.line(more.as_slice()).text() == TOO_LONG);
+    Ok(())
+}
+
+#[test]
+fn a_line_has_up_to_128_commands(rt: HostRuntime) -> Result<(), Fail> {
+    let alloc = rt.alloc();
+    let mut session = two_rooms(alloc)?;
+    let most = repeated(alloc, b"e.", 127, b"e")?;
+    let said = repeated(
+        alloc,
+        b"You can't go that way.\n\n",
+        127,
+        b"You can't go that way.\n",
+    )?;
+    assert!(rt; session.line(most.as_slice()).text() == said.as_slice());
+    assert_eq!(rt; session.world().turns(), 129);
+    let more = repeated(alloc, b"e.", 128, b"")?;
+    assert!(rt; session.line(more.as_slice()).text() == TOO_LONG);
+    let none = repeated(alloc, b".", 300, b"")?;
+    assert!(rt; session.line(none.as_slice()).text() == BLANK);
     Ok(())
 }
