@@ -1,5 +1,6 @@
 -- What a session answers where what was done came to its end, or was abandoned.
 use Rattle.std.proofs.Common.{◌≡◌, ◌≢◌, ◌∙◌, ap, sym, refl, subst, ℕ, Bool, true, false, List, [], Option, None, Some, Err}
+use Rattle.std.specs.Prelude.{if◌then◌else◌}
 use Rattle.world_meaning.specs.declared.session.Abandon.{Abandon}
 use Rattle.world_meaning.specs.declared.session.Abandon.TheVariants.{Memory, NestedTooDeep, NumberOutOfRange, TooMuchWork}
 use Rattle.world_meaning.specs.declared.session.ReplyKind.{ReplyKind}
@@ -104,6 +105,11 @@ IsStart t start = start ≡ record { tables = t; world = start_world t; past = [
 opened_by : (t : Tables) (start : StoryWorld) → IsStart t start → opened (game_in_play t) ≡ played Free [] (start_state (start_world t)) (opening (game_in_play t) (fresh start.world))
 unfolding opened game_of_codes coded_story
 opened_by t start is = ap (λ (v : StoryWorld). played Free [] (start_state (start_world t)) (opening (game_in_play t) (fresh v.world))) (sym is)
+
+-- what is told where nothing was said before
+pub told_first : (attempt : Attempt Progress) (w : World) (before after : List ℕ) → before ≡ [] → IsToldBehind attempt w before after → IsToldOf attempt w after
+told_first attempt w before after is told =
+    subst (λ (text : List ℕ). IsToldOf attempt w text) (sym (told.behind ∙ ap (λ (before : List ℕ). parted_by_break before told.text) is)) told.is
 
 -- where the tables that were played are the story's
 pub begun : (t u : Tables) (start now : StoryWorld) (text : List ℕ) → u ≡ t → IsStart t start → now.tables ≡ u → IsToldOf (opening (game_in_play u) (fresh start.world)) now.world text → IsBegun t now text

@@ -9,8 +9,8 @@ use Rattle.play_meaning.specs.Worlds.{World}
 use Rattle.world_meaning.specs.declared.session.Abandon.{Abandon}
 use Rattle.story_format.specs.declared.tables.Tables.{Tables}
 use Rattle.world_store.specs.StoryWorlds.{StoryWorld, reverted, worlds}
-use Rattle.action_stages.specs.Returning.{ComesBehind, front_at}
-use Rattle.action_stages.proofs.Returning.{worlds_long}
+use Rattle.action_stages.specs.Returning.{Back, ComesBehind, back_at, back_to, front_at}
+use Rattle.action_stages.proofs.Returning.{back_behind, worlds_long}
 use Rattle.story_player.specs.KeptWorlds.{HasGoneOn, are_marks, kept_in, world_at, world_in}
 
 -- ---- the world that is there
@@ -180,6 +180,12 @@ module _ (t : Tables) (before : Option StoryWorld) (marks rest : List ℕ) (mark
       (same_kept (reverted mark s) s mark rest (reverted_before s mark are.0) (omega (arith, are.0, length-take mark s.past)) are.1)
 
 -- ---- an action on a session's world
+
+-- a world that play has come to from another, where it is told of
+pub told_behind : {A : Type 0} (result : Result A Abandon) (s now : StoryWorld) (mark : ℕ) {back : Back} → OnOk result (back_at mark now ≡ back) → back ≡ back_to s
+    → OnOk result (ComesBehind s now)
+told_behind (Ok told) s now mark is since = back_behind s now mark (is ∙ since)
+told_behind (Err reason) s now mark is since = tt
 
 pub gone_behind : {A : Type 0} (result : Result A Abandon) (s now : StoryWorld) → OnOk result (ComesBehind s now) → OnErr result (now ≡ s) → ComesBehind s now
 gone_behind (Ok told) s now behind left = behind

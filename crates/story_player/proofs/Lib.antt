@@ -1,15 +1,16 @@
 pub mod Answering
 pub mod Completing
+pub mod EachThing
 pub mod Fronts
 pub mod GivenCommands
 pub mod Keepings
 pub mod LetGo
 pub mod LineLemmas
 pub mod Parts
+pub mod Passing
 pub mod PlayedLines
 pub mod Readings
 pub mod RunLemmas
-pub mod EachThing
 pub mod Tellings
 pub mod Transcripts
 pub mod TypedLines

@@ -1,5 +1,5 @@
 //! The things that are meant where all are to be taken or dropped.
-ghost use Rattle.std.specs.Prelude.{◌≡◌, IfOk, OnErr, filter, take, true};
+ghost use Rattle.std.specs.Prelude.{◌≡◌, [], ◌∷◌, ◌++◌, IfOk, OnErr, OnOk, if◌then◌else◌, true};
 ghost use Rattle.std.specs.List.{list_all};
 ghost use Rattle.play_meaning.specs.AllThings.{all_things, at_hand, is_for_all, is_part, is_to_drop, is_to_take};
 ghost use Rattle.play_meaning.specs.Values.{is_so};
@@ -75,8 +75,19 @@ fn is_for_all(world: &World, action: ActNo, object: ObjNo) -> bool
     }
 }
 
+/// Adds an object, if it is one of those that are meant.
+fn add_if(things: &mut Vec<ObjNo>, is_one: bool, object: ObjNo) -> Result<(), AllocError>
+    ensures added { OnOk result (things.new.items ≡ (if is_one then things.old.items ++ object ∷ [] else things.old.items)) }
+    ensures refused { OnErr result (is_one ≡ true) }
+{
+    if is_one {
+        things.push(object)?;
+    }
+    Ok(())
+}
+
 /// The things that a command for all means, by rising number. Takes no memory where there are none.
-#[tactic(auto, unfolding(play_meaning::specs::AllThings::all_things))]
+#[tactic(auto, unfolding(play_meaning::specs::AllThings::all_things, world_store::specs::StorySettings::setting_of))]
 pub(crate) fn all_things(
     alloc: Global,
     world: &World,
@@ -86,11 +97,11 @@ pub(crate) fn all_things(
     ensures refused { OnErr result (is_there (all_things (setting_of world.now.tables) world.now.world action) ≡ true) }
 {
     let mut things = Vec::new(alloc);
-    for number in 0..world.story().object_count() as u16 {
+    let count = world.story().object_count() as u16;
+    for number in 0..count {
         let object = ObjNo::new(number);
-        if is_for_all(world, action, object) {
-            things.push(object)?;
-        }
+        let is_one = is_for_all(world, action, object);
+        add_if(&mut things, is_one, object)?;
     }
     Ok(things)
 }

@@ -1,7 +1,7 @@
 //! Play from a world, the opening or what a command does, and what is told of it.
-ghost use Rattle.std.specs.Prelude.{◌≡◌, ◌<◌, ◌+◌, IfErr, IfOk, MatchResult, OnErr, OnOk};
+ghost use Rattle.std.specs.Prelude.{◌≡◌, ◌≢◌, ◌<◌, ◌+◌, IfErr, IfOk, MatchResult, OnErr, OnOk};
 ghost use Rattle.play_meaning.specs.Progress.{fresh};
-ghost use Rattle.play_meaning.specs.Sessions.{parted_by_break};
+ghost use Rattle.play_meaning.specs.Sessions.{abandon_text, parted_by_break};
 ghost use Rattle.standard_rules.specs.HostTables.{rule_count};
 ghost use Rattle.world_meaning.specs.declared.session.Abandon.TheVariants.{Memory};
 ghost use Rattle.world_store.specs.StoryWorlds.{StoryWorld};
@@ -59,7 +59,7 @@ fn tell_of(stage: Stage<'_>, mark: Mark, text: &mut LineText) -> (World, Result<
 }
 
 /// Does something on a world, and tells of it; where it is abandoned nothing is told, and the world is as it was.
-#[tactic(auto, using(action_stages::proofs::Returning::back_behind))]
+
 pub(crate) fn tried(
     alloc: Global,
     story: &Story,
@@ -90,6 +90,20 @@ pub(crate) fn tried(
     }
 }
 
+/// Says that the opening was abandoned, unless that was for want of memory.
+fn say_unopened(reason: Abandon, text: &mut LineText) -> Result<(), StartFault>
+    requires room { 0 < text.old.left }
+    ensures known { OnOk result (reason ≢ Memory) }
+    ensures said { OnOk result (text.new.said ≡ parted_by_break text.old.said (abandon_text reason)) }
+    ensures refused { IfErr result (λ fault. fault ≡ StartFault.Memory) }
+{
+    if reason == Abandon::Memory {
+        return Err(StartFault::Memory);
+    }
+    text.add_fixed(abandon_text(reason));
+    Ok(())
+}
+
 /// A world and a text with which a story begins. An opening that is abandoned leaves the start world.
 pub(crate) fn opened(
     alloc: Global,
@@ -109,9 +123,8 @@ pub(crate) fn opened(
     let (world, told) = tried(alloc, story.as_ref(), index, hosts, world, &Deed::Opening, &mut text);
     match told {
         Ok(()) => Ok(Told { world, text }),
-        Err(Abandon::Memory) => Err(StartFault::Memory),
         Err(reason) => {
-            text.add_fixed(abandon_text(reason));
+            say_unopened(reason, &mut text)?;
             Ok(Told { world, text })
         }
     }
