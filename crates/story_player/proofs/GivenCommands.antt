@@ -1,6 +1,6 @@
 -- The commands of a line, answered one behind the other, are the line.
 use Rattle.std.proofs.Common.{◌≡◌, ◌∙◌, ap, sym, refl, subst, ℕ, ◌+◌, ◌≤◌, Bool, true, false, List, [], ◌∷◌, ◌++◌, append_assoc, arith, Ok, Err}
-use Rattle.std.specs.Prelude.{◌&&◌, ◌==◌, Option, None, Some, is_some, if◌then◌else◌}
+use Rattle.std.specs.Prelude.{not, ◌&&◌, ◌==◌, Option, None, Some, is_some, if◌then◌else◌}
 use Rattle.std.proofs.lemmas.Bool.{and_parts, ne_eqb}
 use Rattle.play_meaning.specs.AllThings.{all_things}
 use Rattle.play_meaning.specs.Attempts.{Attempt}
@@ -73,6 +73,14 @@ reading_stays g refused s (ActsAll action) going on =
     (λ on. played_stays Kept (keep s.world s.kept) s (turn_upon g action (all_things g.telling.setting s.world action) (fresh s.world)) on) on
 reading_stays g refused s Undo going on = undone_stays s.kept s going
 reading_stays g refused s Quit going on = absurd cc
+
+pub off_so : (on : Bool) → not on ≡ true → on ≡ false
+off_so true is = absurd cc
+off_so false is = refl
+
+pub on_so : (on : Bool) → not on ≡ false → on ≡ true
+on_so true is = refl
+on_so false is = absurd cc
 
 -- ---- commands one behind the other
 

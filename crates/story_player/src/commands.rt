@@ -185,13 +185,14 @@ impl Session {
         ensures game { game_of self.new ≡ game_of self.old }
         ensures story { story_of self.new ≡ story_of self.old }
     {
-        let Ok(things) = all_things(self.alloc, self.here(), action) else {
+        let Ok(things) = all_things(self.alloc, self.world(), action) else {
             return self.abandon(Abandon::Memory, text);
         };
-        if things.is_empty() {
+        let things = Objects::new(things);
+        if things.as_slice().is_empty() {
             return self.say(Said::NoneOfAll, text);
         }
-        self.act_out(&Deed::TurnUpon(action, Objects::new(things)), text)
+        self.act_out(&Deed::TurnUpon(action, things), text)
     }
 
     /// Takes the last kept turn back, if there is one.
@@ -290,17 +291,22 @@ impl Session {
         ensures game { game_of self.new ≡ game_of self.old }
         ensures story { story_of self.new ≡ story_of self.old }
     {
-        match read(self.alloc, self.here(), self.question.as_ref(), command) {
+        match read(self.alloc, self.world(), self.question.as_ref(), command) {
             Ok(reading) => self.answer(reading, text),
             Err(_) => self.abandon(Abandon::Memory, text),
         }
     }
 
     /// Answers commands, one behind the other.
-    fn commands(&mut self, first: Command<'_>, more: Pieces<'_>, text: &mut LineText) -> ReplyKind
+    fn commands<'a>(
+        &mut self,
+        first: Command<'a>,
+        more: Pieces<'a>,
+        text: &mut LineText,
+    ) -> ReplyKind
         requires going { (state_of self.old).ending ≡ None }
         requires room { length more < text.old.left }
-        ensures answer { AreGiven (game_of self.old) 0 first more (state_of self.old) (state_of self.new) text.old.said text.new.said result }
+        ensures answer { AreGiven (game_of self.old) 0 first.entry more.entry (state_of self.old) (state_of self.new) text.old.said text.new.said result }
         ensures game { game_of self.new ≡ game_of self.old }
         ensures story { story_of self.new ≡ story_of self.old }
     {
@@ -322,7 +328,7 @@ impl Session {
     pub(crate) fn answer_parts(&mut self, parts: Parts<'_>, text: &mut LineText) -> ReplyKind
         requires room { most_commands ≤ text.old.left }
         requires few { command_count parts ≤ most_commands }
-        ensures answer { IsLineGiven (game_of self.old) (told_parts parts) (state_of self.old) (state_of self.new) text.old.said text.new.said result }
+        ensures answer { IsLineGiven (game_of self.old) (told_parts parts.entry) (state_of self.old) (state_of self.new) text.old.said text.new.said result }
         ensures game { game_of self.new ≡ game_of self.old }
         ensures story { story_of self.new ≡ story_of self.old }
     {

@@ -3,7 +3,9 @@ use Rattle.std.specs.Prelude.{None}
 use Rattle.play_meaning.specs.Sessions.{undone}
 use Rattle.play_meaning.specs.Worlds.{World}
 use Rattle.world_store.specs.StoryWorlds.{StoryWorld}
+use Rattle.story_player.specs.Given.{said_behind, so_far}
 use Rattle.story_player.specs.KeptWorlds.{kept_in}
+use Rattle.world_meaning.specs.declared.session.ReplyKind.TheVariants.{Free}
 use Rattle.story_player.specs.Sessions.{state_of}
 use Rattle.story_player.proofs.Keepings.{IsHome, are_there, home_of, home_undone, is_of, kept_undone, mark_within}
 use Rattle.story_player.proofs.session.Session.undo.Goals as goal
@@ -52,9 +54,8 @@ returns-in-Some-clause-answer g c =
     let kept =
     kept_undone t session.world session.kept.items rest c.in-Some.mark c.unwrap-world.result
     (home_of t session.world session.kept.items session.there session.world_story session.marks) here (sym c.in-Some.ensures.value) (ap (λ ring. ring.items) c.in-Some.ensures.items) in
-    (λ i. record {
-      text = (c.fixed-in-Some.ensures i).text;
-      kind = (c.fixed-in-Some.ensures i).kind;
-      state = record { world = (c.revert.ensures i).world; kept = kept_in (Some (c.revert.ensures i)) rest; question = None; ending = session.ending };
-    })
-    ∙ sym (ap (λ (worlds : List World). undone worlds s) kept)
+    record {
+      answer = (λ i. so_far (c.add_fixed-in-Some.ensures.said i) Free (record { world = (c.revert.ensures i).world; kept = kept_in (Some (c.revert.ensures i)) rest; question = None; ending = session.ending }))
+          ∙ sym (ap (λ (worlds : List World). said_behind c.args.text.now.said (undone worlds s)) kept);
+      goes_on = refl;
+    }
