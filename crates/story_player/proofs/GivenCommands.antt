@@ -1,5 +1,5 @@
 -- The commands of a line, answered one behind the other, are the line.
-use Rattle.std.proofs.Common.{◌≡◌, ◌∙◌, ap, sym, refl, subst, ℕ, ◌+◌, ◌≤◌, Bool, true, false, List, [], ◌∷◌, ◌++◌, append_assoc, arith, Ok, Err}
+use Rattle.std.proofs.Common.{◌≡◌, ◌∙◌, ap, sym, refl, ℕ, ◌+◌, Bool, true, false, List, [], ◌∷◌, append_assoc, arith, Ok, Err}
 use Rattle.std.specs.Prelude.{not, ◌&&◌, ◌==◌, Option, None, Some, is_some, if◌then◌else◌}
 use Rattle.std.proofs.lemmas.Bool.{and_parts, ne_eqb}
 use Rattle.play_meaning.specs.AllThings.{all_things}
@@ -110,7 +110,6 @@ begun_commands g first more from before going = record { place = 0; going = goin
 
 module _ (g : Game) (first : List (List ℕ)) (more : List (List (List ℕ))) (from : State) (before : List ℕ) (command : List (List ℕ)) (here to : State) (said after : List ℕ)
     (given : Given) (is : IsGiven g (meant g here command) here to said after given) where
-
   -- what the command gives, refused or not
   abbrev gives : Bool → Answer
   gives refused = command_answer g refused here command
@@ -193,6 +192,6 @@ module _ (g : Game) (first : List (List ℕ)) (more : List (List (List ℕ))) (f
   ended_early (next ∷ rest) so off =
       ended (next ∷ rest) so
       (λ refused same.
-        ap (λ here_refused. followed (leads_on (meant g here command) && goes_on_behind (gives here_refused).kind) (gives here_refused) (λ behind. commands_answer g refused (so.place + 1) behind next rest)) same
-        ∙ ap (λ goes. followed goes (gives (is_refusal given.kind)) (λ behind. commands_answer g refused (so.place + 1) behind next rest))
-        (ap (λ kind. leads_on (meant g here command) && goes_on_behind kind) (sym (ap (λ (a : Answer). a.kind) is.answer)) ∙ sym is.goes_on ∙ off))
+      ap (λ here_refused. followed (leads_on (meant g here command) && goes_on_behind (gives here_refused).kind) (gives here_refused) (λ behind. commands_answer g refused (so.place + 1) behind next rest)) same
+      ∙ ap (λ goes. followed goes (gives (is_refusal given.kind)) (λ behind. commands_answer g refused (so.place + 1) behind next rest))
+      (ap (λ kind. leads_on (meant g here command) && goes_on_behind kind) (sym (ap (λ (a : Answer). a.kind) is.answer)) ∙ sym is.goes_on ∙ off))

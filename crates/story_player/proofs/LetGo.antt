@@ -1,6 +1,6 @@
 -- What is known of the bytes of a line that were let go is enough to tell what the line is made of.
 use Rattle.std.proofs.Common.{◌≡◌, ◌∙◌, ap, sym, refl, ℕ, ◌<◌, true, List, [], ◌∷◌, ◌++◌, length, arith}
-use Rattle.std.specs.Prelude.{fold, nat_lt, ◌||◌, Option, None, Some}
+use Rattle.std.specs.Prelude.{fold, Option, None, Some}
 use Rattle.std.proofs.lemmas.Bool.{lt-ltb}
 use Rattle.std.proofs.lemmas.List.{length-append}
 use Rattle.command_parser.proofs.Scanning.{scan_tells}

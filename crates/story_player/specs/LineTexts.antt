@@ -1,5 +1,5 @@
 -- What is said to a line so far, and how many more texts of the player's own there is room for.
-use Rattle.std.specs.Prelude.{ℕ, ◌+◌, ◌*◌, List}
+use Rattle.std.specs.Prelude.{ℕ, ◌*◌, List}
 
 pub record LineText : Type 0 where
   pub said : List ℕ

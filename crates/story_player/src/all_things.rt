@@ -37,10 +37,12 @@ fn is_part(place: Option<Place>) -> bool
     ensures { result ≡ is_part place }
 {
     match place {
-        Some(Place {
-            relation: Rel::Part,
-            ..
-        }) => true,
+        Some(
+            Place {
+                relation: Rel::Part,
+                ..
+            },
+        ) => true,
         _ => false,
     }
 }

@@ -56,11 +56,7 @@ fn add_offered(world: &World, text: &mut Vec<u8>, objects: &[ObjNo]) -> Result<(
 }
 
 /// `Which do you mean, the x, the y or the z?`, of these objects.
-fn asking_text(
-    alloc: Global,
-    world: &World,
-    objects: &[ObjNo],
-) -> Result<TextBytes, Abandon>
+fn asking_text(alloc: Global, world: &World, objects: &[ObjNo]) -> Result<TextBytes, Abandon>
     ensures text { IfOk result (λ text. text ≡ asking_text (setting_of world.now.tables) objects.now) }
     ensures refused { IfErr result (λ reason. reason ≡ Memory) }
 {

@@ -180,7 +180,8 @@ impl Session {
     fn act_on_all(&mut self, action: ActNo, text: &mut LineText) -> Given
         requires going { (state_of self.old).ending ≡ None }
         requires room { 0 < text.old.left }
-        ensures answer { IsGiven (game_of self.old) (meant_among (setting_of (story_of self.old)) (state_of self.old).world (ActsAll action)) (state_of self.old) (state_of self.new) text.old.said text.new.said result }
+        ensures answer { IsGiven (game_of self.old) (meant_among (setting_of (story_of self.old)) (state_of self.old).world (ActsAll action))
+            (state_of self.old) (state_of self.new) text.old.said text.new.said result }
         ensures room { text.new.left + 1 ≡ text.old.left }
         ensures game { game_of self.new ≡ game_of self.old }
         ensures story { story_of self.new ≡ story_of self.old }
@@ -249,7 +250,8 @@ impl Session {
     /// Asks which of the candidates of a question is meant.
     fn ask(&mut self, question: Question, text: &mut LineText) -> Given
         requires room { 0 < text.old.left }
-        ensures answer { IsGiven (game_of self.old) (Asks question (asking_text (setting_of (story_of self.old)) question.candidates)) (state_of self.old) (state_of self.new) text.old.said text.new.said result }
+        ensures answer { IsGiven (game_of self.old) (Asks question (asking_text (setting_of (story_of self.old)) question.candidates))
+            (state_of self.old) (state_of self.new) text.old.said text.new.said result }
         ensures room { text.new.left + 1 ≡ text.old.left }
         ensures game { game_of self.new ≡ game_of self.old }
         ensures story { story_of self.new ≡ story_of self.old }
@@ -267,7 +269,8 @@ impl Session {
     fn answer(&mut self, reading: Reading, text: &mut LineText) -> Given
         requires going { (state_of self.old).ending ≡ None }
         requires room { 0 < text.old.left }
-        ensures answer { IsGiven (game_of self.old) (meant_among (setting_of (story_of self.old)) (state_of self.old).world (told_of (grammar_of (story_of self.old)) reading)) (state_of self.old) (state_of self.new) text.old.said text.new.said result }
+        ensures answer { IsGiven (game_of self.old) (meant_among (setting_of (story_of self.old)) (state_of self.old).world (told_of (grammar_of (story_of self.old)) reading))
+            (state_of self.old) (state_of self.new) text.old.said text.new.said result }
         ensures room { text.new.left + 1 ≡ text.old.left }
         ensures game { game_of self.new ≡ game_of self.old }
         ensures story { story_of self.new ≡ story_of self.old }
@@ -286,7 +289,8 @@ impl Session {
     fn command(&mut self, command: &Command<'_>, text: &mut LineText) -> Given
         requires going { (state_of self.old).ending ≡ None }
         requires room { 0 < text.old.left }
-        ensures answer { IsGiven (game_of self.old) (meant (game_of self.old) (state_of self.old) command.now) (state_of self.old) (state_of self.new) text.old.said text.new.said result }
+        ensures answer { IsGiven (game_of self.old) (meant (game_of self.old) (state_of self.old) command.now)
+            (state_of self.old) (state_of self.new) text.old.said text.new.said result }
         ensures room { text.new.left + 1 ≡ text.old.left }
         ensures game { game_of self.new ≡ game_of self.old }
         ensures story { story_of self.new ≡ story_of self.old }

@@ -40,11 +40,7 @@ impl Deed {
 }
 
 /// Does something.
-pub(crate) fn done(
-    alloc: Global,
-    stage: &mut Stage<'_>,
-    deed: &Deed,
-) -> Result<(), Abandon>
+pub(crate) fn done(alloc: Global, stage: &mut Stage<'_>, deed: &Deed) -> Result<(), Abandon>
     requires told { tables_of stage.old ≡ story_of stage.old }
     requires there { IsThere (back_of stage.old) }
     ensures answer { Answers result (λ done. progress_of stage.new) (done_by deed.now (game_in_play (story_of stage.old)) (progress_of stage.old)) }
@@ -56,6 +52,11 @@ pub(crate) fn done(
         Deed::Opening => Ok(opening(alloc, stage)?),
         Deed::Alone(now) => Ok(act(alloc, stage, *now)?),
         Deed::Turn(now) => Ok(turn(alloc, stage, *now)?),
-        Deed::TurnUpon(action, objects) => Ok(turn_upon(alloc, stage, *action, objects.as_slice())?),
+        Deed::TurnUpon(action, objects) => Ok(turn_upon(
+            alloc,
+            stage,
+            *action,
+            objects.as_slice(),
+        )?),
     }
 }

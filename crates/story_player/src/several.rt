@@ -85,7 +85,8 @@ fn act_upon_unless_over(
 ) -> Result<(), Abandon>
     requires told { tables_of stage.old ≡ story_of stage.old }
     requires there { IsThere (back_of stage.old) }
-    ensures answer { Answers result (λ done. progress_of stage.new) (unless_over (progress_of stage.old).world.ended (perform_upon (game_in_play (story_of stage.old)) action object) (progress_of stage.old)) }
+    ensures answer { Answers result (λ done. progress_of stage.new)
+        (unless_over (progress_of stage.old).world.ended (perform_upon (game_in_play (story_of stage.old)) action object) (progress_of stage.old)) }
     ensures story { story_of stage.new ≡ story_of stage.old }
     ensures tables { tables_of stage.new ≡ story_of stage.old }
     ensures back { back_of stage.new ≡ back_of stage.old }

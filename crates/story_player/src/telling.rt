@@ -69,11 +69,7 @@ fn told_text(text: Vec<u8>, ending: Option<&[u8]>) -> Result<TextBytes, Abandon>
 }
 
 /// Tells of a text, behind which the story ended so, if it did. Where memory is refused nothing is told.
-pub(crate) fn tell(
-    said: Vec<u8>,
-    ending: Option<&[u8]>,
-    text: &mut LineText,
-) -> Result<(), Abandon>
+pub(crate) fn tell(said: Vec<u8>, ending: Option<&[u8]>, text: &mut LineText) -> Result<(), Abandon>
     requires room { 0 < text.old.left }
     ensures said { OnOk result (text.new.said ≡ parted_by_break text.old.said (told_text said.items (option_map (λ e. e.now) ending.entry))) }
     ensures left { OnOk result (text.new.left + 1 ≡ text.old.left) }

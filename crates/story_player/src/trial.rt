@@ -120,7 +120,15 @@ pub(crate) fn opened(
         return Err(StartFault::Memory);
     };
     let mut text = LineText::new(alloc);
-    let (world, told) = tried(alloc, story.as_ref(), index, hosts, world, &Deed::Opening, &mut text);
+    let (world, told) = tried(
+        alloc,
+        story.as_ref(),
+        index,
+        hosts,
+        world,
+        &Deed::Opening,
+        &mut text,
+    );
     match told {
         Ok(()) => Ok(Told { world, text }),
         Err(reason) => {

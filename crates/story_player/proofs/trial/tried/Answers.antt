@@ -1,5 +1,4 @@
-use Rattle.std.proofs.Common.{◌≡◌, ◌∙◌, ap, sym, subst, ℕ}
-use Rattle.action_stages.specs.Returning.{back_at, back_to}
+use Rattle.std.proofs.Common.{◌∙◌}
 use Rattle.story_player.proofs.Keepings.{told_behind}
 use Rattle.story_player.proofs.trial.tried.Goals as goal
 

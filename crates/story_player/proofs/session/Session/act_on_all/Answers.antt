@@ -1,4 +1,4 @@
-use Rattle.std.proofs.Common.{◌≡◌, ◌∙◌, ap, sym, length, List, ℕ}
+use Rattle.std.proofs.Common.{◌∙◌, ap, sym, length, List, ℕ}
 use Rattle.std.specs.Prelude.{◌==◌}
 use Rattle.play_meaning.specs.AllThings.{all_things}
 use Rattle.world_store.specs.StorySettings.{setting_of}

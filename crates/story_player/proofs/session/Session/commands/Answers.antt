@@ -1,4 +1,4 @@
-use Rattle.std.proofs.Common.{◌≡◌, ◌<◌, ◌∙◌, ap, subst, refl, arith, length, List, [], ◌∷◌, ℕ}
+use Rattle.std.proofs.Common.{◌∙◌, ap, subst, refl, arith, length, List, ℕ}
 use Rattle.play_meaning.specs.Sessions.{meant}
 use Rattle.story_format.specs.declared.tables.Tables.{Tables}
 use Rattle.world_store.specs.StoryPlay.{game_in_play}
