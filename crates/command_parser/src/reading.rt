@@ -2,10 +2,10 @@
 use crate::Question;
 use play_meaning::{ActNo, ActionNow};
 
-/// What is said to a line or a command that does nothing.
+/// What is said to a line without a command to be read, or to a command that does nothing.
 #[derive(Clone, Copy, Debug, PartialEq, Eq)]
 pub enum Said {
-    /// P1: `I beg your pardon?`, to a line without a word.
+    /// P1: `I beg your pardon?`, to a line without a command, however long it is.
     Empty,
     /// P2: `That line is too long.`, to more than 255 bytes or 32 words.
     TooLong,

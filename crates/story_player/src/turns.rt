@@ -1,7 +1,7 @@
 //! Turns and the opening over a stage: their parts in order, each of which is skipped once the story has ended.
 ghost use Rattle.std.specs.Prelude.{◌≡◌, [], ◌∷◌, Ok};
 ghost use Rattle.play_meaning.specs.Consulting.{every_turn_book, play_begins_book};
-ghost use Rattle.play_meaning.specs.Turns.{count_turn, follow, look_round, opening, parts, pass, perform, turn, unless_over};
+ghost use Rattle.play_meaning.specs.Turns.{behind_action, count_turn, follow, look_round, opening, parts, pass, perform, turn, unless_over};
 ghost use Rattle.action_stages.specs.Answering.{Answers};
 ghost use Rattle.action_stages.specs.Returning.{IsThere};
 ghost use Rattle.action_stages.specs.Stages.{back_of, progress_of, story_of, tables_of};
@@ -14,7 +14,7 @@ use scenes::pass;
 use std::alloc::Global;
 use world_meaning::Abandon;
 
-/// How many levels actions and rulebooks may be nested below a line's own.
+/// How many levels actions and rulebooks may be nested below a command's own.
 const LEVELS: u8 = 16;
 
 /// The rulebook of every turn.
@@ -132,7 +132,7 @@ pub(crate) fn behind_action(alloc: Global, stage: &mut Stage<'_>) -> Result<(), 
     requires told { tables_of stage.old ≡ story_of stage.old }
     requires there { IsThere (back_of stage.old) }
     ensures answer { Answers result (λ done. progress_of stage.new)
-        (parts (pass (game_in_play (story_of stage.old)) ∷ follow (game_in_play (story_of stage.old)) every_turn_book ∷ count_turn ∷ pass (game_in_play (story_of stage.old)) ∷ []) (progress_of stage.old)) }
+        (parts (behind_action (game_in_play (story_of stage.old))) (progress_of stage.old)) }
     ensures story { story_of stage.new ≡ story_of stage.old }
     ensures tables { tables_of stage.new ≡ story_of stage.old }
     ensures back { back_of stage.new ≡ back_of stage.old }
