@@ -149,7 +149,7 @@ pub fn statements_in(
 ) -> Result<Vec<NumberedSentence>, AllocError>
     ensures { IfOk result (λ statements. statements.items ≡ map (statement_in (names_of names.now)) sentences.now) }
 {
-    let mut statements = Vec::new(alloc);
+    let mut statements = Vec::with_capacity(alloc, sentences.len())?;
     let mut rest = sentences;
     while let [sentence, after @ ..] = rest {
         statements.push(statement_in(alloc, names, sentence)?)?;

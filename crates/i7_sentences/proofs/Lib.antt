@@ -16,6 +16,7 @@ pub mod Missing
 pub mod Naming
 pub mod Parting
 pub mod Sameness
+pub mod Needing
 pub mod Seams
 pub mod Speaking
 pub mod SmallRows

@@ -58,7 +58,7 @@ unmarked_absent table signs are (Word keyword) is =
       | false ↦ λ mark. refl
     ]) (are keyword)
 
-or_either : (a b c d : Bool) → (a ≡ true → c ≡ true) → (b ≡ true → d ≡ true) → (a || b) ≡ true → (c || d) ≡ true
+pub or_either : (a b c d : Bool) → (a ≡ true → c ≡ true) → (b ≡ true → d ≡ true) → (a || b) ≡ true → (c || d) ≡ true
 or_either true b c d one two is = rw (one refl) refl
 or_either false b c d one two is = rw (two is) (or-true c)
 

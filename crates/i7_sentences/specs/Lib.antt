@@ -16,6 +16,7 @@ pub mod Literals
 pub mod Lowest
 pub mod Matching
 pub mod Names
+pub mod Needed
 pub mod PhraseForms
 pub mod PhraseMarks
 pub mod Pieces

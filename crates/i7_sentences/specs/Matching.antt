@@ -126,6 +126,15 @@ ahead_of_names ahead can first later = record {
   beside = false;
 }
 
+-- the same of a side, which goes on behind no word with which it may end
+abbrev pub ahead_of_side : Ahead → Bool → Option State → Option State → Option State → Ahead
+ahead_of_side ahead can first between beside = record {
+  start = then_ahead ahead first;
+  inside = can || false;
+  between = then_ahead ahead between;
+  beside = then_ahead ahead beside;
+}
+
 abbrev pub ahead_of : Class → List Bool → List Token → Ahead
 ahead_of class behind [] = ahead_of_none (looked behind 0)
 ahead_of class behind (token ∷ tokens) = ahead_of_more class (ahead_of class behind tokens) (looked behind (length (token ∷ tokens))) token

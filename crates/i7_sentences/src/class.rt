@@ -160,7 +160,7 @@ fn alone_step(state: State, passes: bool) -> Option<State>
 
 /// The step of names and what parts them.
 #[tactic(auto, unfolding(crate::specs::Automata::names_step))]
-fn names_step(state: State, token: &Tagged<'_>) -> Option<State>
+pub fn names_step(state: State, token: &Tagged<'_>) -> Option<State>
     ensures { result ≡ names_step state token.now }
 {
     match state {
@@ -193,7 +193,7 @@ fn side_start(token: &Tagged<'_>) -> Option<State>
 
 /// The step of the words that lead from a room to one beside it.
 #[tactic(auto, unfolding(crate::specs::Automata::side_step))]
-fn side_step(state: State, token: &Tagged<'_>) -> Option<State>
+pub fn side_step(state: State, token: &Tagged<'_>) -> Option<State>
     ensures { result ≡ side_step state token.now }
 {
     match state {

@@ -33,6 +33,7 @@ mod low;
 mod matcher;
 mod name;
 mod names;
+mod needed;
 mod part;
 mod phrase_form;
 mod phrase_mark;

@@ -3,10 +3,10 @@
 ghost use Rattle.std.specs.Prelude.{◌≡◌, true, false, ◌&&◌, ◌++◌, [], length, IfNone, IfOk, IfSome, OnSome};
 ghost use Rattle.std.specs.List.{list_any};
 ghost use Rattle.i7_sentences.specs.Keywords.{is_sign};
-ghost use Rattle.i7_sentences.specs.Matching.{ahead_at, ahead_of, ahead_of_alone, ahead_of_more, ahead_of_names, ahead_of_none, ahead_of_run, columns_of, end_column, first_column, is_never, letter_column, looked, piece_column, reaches, then_ahead, word_column};
+ghost use Rattle.i7_sentences.specs.Matching.{ahead_at, ahead_of, ahead_of_alone, ahead_of_more, ahead_of_names, ahead_of_none, ahead_of_run, ahead_of_side, columns_of, end_column, first_column, is_never, letter_column, looked, piece_column, reaches, then_ahead, word_column};
 ghost use Rattle.i7_sentences.specs.WordColumns.{is_words, words_column};
 
-use crate::class::State;
+use crate::class::{State, names_step, side_step};
 use crate::column_stack::ColumnStack;
 use crate::tagged::Tagged;
 use crate::{Class, Keyword, Piece};
@@ -61,7 +61,7 @@ impl Ahead {
     }
 
     /// With one more word in front; `can` tells whether the pieces behind the letter can fit here.
-    #[tactic(auto, unfolding(crate::specs::Automata::names_step))]
+    #[tactic(auto, unfolding(crate::specs::Automata::names_step, crate::specs::Automata::side_step))]
     fn of_more(self, class: Class, can: bool, token: &Tagged<'_>) -> Ahead
         ensures { result ≡ ahead_of_more class self can token.now }
     {
@@ -74,10 +74,16 @@ impl Ahead {
             ),
             Class::Names => self.of_names(
                 can,
-                class.step(State::Start, token),
-                class.step(State::Inside, token),
+                names_step(State::Start, token),
+                names_step(State::Inside, token),
             ),
-            Class::Side | Class::Body | Class::Asked => Ahead {
+            Class::Side => self.of_side(
+                can,
+                side_step(State::Start, token),
+                side_step(State::Between, token),
+                side_step(State::Beside, token),
+            ),
+            Class::Body | Class::Asked => Ahead {
                 start: self.reaches(class, can, token, State::Start),
                 inside: self.reaches(class, can, token, State::Inside),
                 between: self.reaches(class, can, token, State::Between),
@@ -121,6 +127,24 @@ impl Ahead {
             inside: can || self.then(later),
             between: begins,
             beside: false,
+        }
+    }
+
+    /// The same of a side, which goes on behind no word with which it may end.
+    fn of_side(
+        self,
+        can: bool,
+        first: Option<State>,
+        between: Option<State>,
+        beside: Option<State>,
+    ) -> Ahead
+        ensures { result ≡ ahead_of_side self can first between beside }
+    {
+        Ahead {
+            start: self.then(first),
+            inside: can,
+            between: self.then(between),
+            beside: self.then(beside),
         }
     }
 }

@@ -203,7 +203,7 @@ pub fn phrase_reading<'a, 'b>(
 {
     let signs = signs_of(tokens);
     let mut columns = ColumnStack::new(alloc);
-    Ok(lowest_fit(alloc, &PHRASE_FORMS, &signs, tokens, &mut columns)?)
+    Ok(lowest_fit(alloc, &PHRASE_FORMS, &[], &signs, tokens, &mut columns)?)
 }
 
 /// What a phrase is by its shape, without its mark and a closing `instead`; none where no form fits.

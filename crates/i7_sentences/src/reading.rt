@@ -1,16 +1,19 @@
 //! The reading of a sentence: the lowest form that fits, with the shortest letters.
-ghost use Rattle.std.specs.Prelude.{◌≡◌, ◌≤◌, length, map, option_map, IfOk};
+ghost use Rattle.std.specs.Prelude.{◌≡◌, ◌≤◌, length, map, option_map, true, IfOk};
+ghost use Rattle.std.specs.List.{list_all};
 ghost use Rattle.i7_sentences.specs.Forms.{all_forms, are_shorter};
 ghost use Rattle.i7_sentences.specs.Matching.{best_fit, first_fit, found_as, lowest_fit, preferred};
 ghost use Rattle.i7_sentences.specs.Found.{found_in};
+ghost use Rattle.i7_sentences.specs.Needed.{are_needed, needs};
 ghost use Rattle.i7_sentences.specs.Signs.{table_of};
 
 use crate::column_stack::ColumnStack;
 use crate::form::FORMS;
 use crate::matcher::{fit, is_passed_over};
+use crate::needed::{NEEDED, first_word, is_lacking, other_words};
 use crate::signs::{Signs, signs_of};
 use crate::tagged::Tagged;
-use crate::{Form, Piece};
+use crate::{Form, Keyword, Piece};
 use std::alloc::{AllocError, Global};
 
 /// The forms at one place of memory.
@@ -132,25 +135,49 @@ fn best_fit<'a, 'b>(
     }
 }
 
-/// The best fit of the lowest of these forms that fits.
+/// The variants of a form from the first on that isn't passed over; none where a word or mark that all need isn't there.
+#[inline(always)]
+fn variants_left<'a>(
+    variants: &'a [(Form, &'static [Piece])],
+    word: Option<Keyword>,
+    signs: &Signs,
+    tokens: &[Tagged<'_>],
+) -> &'a [(Form, &'static [Piece])]
+    requires signs { signs.now ≡ table_of tokens.now }
+    requires needed { list_all (needs word) (map (λ variant. record { form = variant.0; pieces = variant.1.now }) variants.now) ≡ true }
+    ensures { best_fit (map (λ variant. record { form = variant.0; pieces = variant.1.now }) result.now) tokens.now
+        ≡ best_fit (map (λ variant. record { form = variant.0; pieces = variant.1.now }) variants.now) tokens.now }
+{
+    if is_lacking(word, signs) {
+        return &[];
+    }
+    without_unfit(variants, signs, tokens)
+}
+
+/// The best fit of the lowest of these forms that fits; of the first of them it is told what they need.
+#[tactic(auto, using(crate::proofs::Needing::first_needed, crate::proofs::Needing::others_needed))]
 pub fn lowest_fit<'a, 'b>(
     alloc: Global,
     forms: &[&[(Form, &'static [Piece])]],
+    needed: &[Option<Keyword>],
     signs: &Signs,
     tokens: &'a [Tagged<'b>],
     columns: &mut ColumnStack,
 ) -> Result<Option<Reading<'a, 'b>>, AllocError>
-    requires { signs.now ≡ table_of tokens.now }
+    requires signs { signs.now ≡ table_of tokens.now }
+    requires needed { are_needed needed.now (map (λ form. map (λ variant. record { form = variant.0; pieces = variant.1.now }) form.now) forms.now) ≡ true }
     ensures { IfOk result (λ found. option_map found_in found ≡ lowest_fit (map (λ form. map (λ variant. record { form = variant.0; pieces = variant.1.now }) form.now) forms.now) tokens.now) }
 {
+    let mut words = needed;
     let mut rest = forms;
     while let [form, after @ ..] = rest {
-        let variants = without_unfit(form, signs, tokens);
+        let variants = variants_left(form, first_word(words), signs, tokens);
         if !variants.is_empty() {
             if let Some(reading) = best_fit(alloc, variants, signs, tokens, columns)? {
                 return Ok(Some(reading));
             }
         }
+        words = other_words(words);
         rest = after;
     }
     Ok(None)
@@ -167,5 +194,5 @@ pub fn reading_of<'a, 'b>(
     ensures { IfOk result (λ found. option_map found_in found ≡ lowest_fit all_forms tokens.now) }
 {
     let signs = signs_of(tokens);
-    Ok(lowest_fit(alloc, &TABLE, &signs, tokens, columns)?)
+    Ok(lowest_fit(alloc, &TABLE, &NEEDED, &signs, tokens, columns)?)
 }

@@ -340,5 +340,5 @@ pub fn rule_reading<'a, 'b>(
     ensures { IfOk result (λ found. option_map found_in found ≡ lowest_fit rule_forms tokens.now) }
 {
     let signs = signs_of(tokens);
-    Ok(lowest_fit(alloc, &TABLE, &signs, tokens, columns)?)
+    Ok(lowest_fit(alloc, &TABLE, &[], &signs, tokens, columns)?)
 }
