@@ -4,7 +4,7 @@ ghost use Rattle.i7_kinds.specs.Doors.{door_demanded, door_told, door_twice, doo
 ghost use Rattle.i7_claims.specs.Sorts.{with_name};
 
 use crate::author_kinds::is_under;
-use i7_claims::{Claim, Fact, lower, number_in};
+use i7_claims::{Claim, Fact, lower};
 use object_words::Strings;
 use std::alloc::{AllocError, Global};
 use world_meaning::KindNo;
@@ -13,7 +13,10 @@ use world_meaning::KindNo;
 fn is_door_kind(kinds: &Strings, parents: &[Option<usize>], kind: &[u8]) -> bool
     ensures { result ≡ is_door_kind kinds.now parents.now kind.now }
 {
-    kinds.contains(kind) && is_under(parents, number_in(kinds, kind), KindNo::DOOR.get() as usize)
+    match kinds.place_of(kind) {
+        None => false,
+        Some(number) => is_under(parents, number, KindNo::DOOR.get() as usize),
+    }
 }
 
 /// Keeps the object of which a fact demands a door.

@@ -4,7 +4,7 @@ ghost use Rattle.i7_kinds.specs.Demands.{descriptions_of, second_description, se
 ghost use Rattle.i7_kinds.specs.Described.{descriptions_in};
 ghost use Rattle.i7_kinds.specs.Doors.{door_twice};
 ghost use Rattle.i7_kinds.specs.KindClaims.{kind_cycle};
-ghost use Rattle.i7_kinds.specs.Knowns.{off_path};
+ghost use Rattle.i7_kinds.specs.Knowns.{off_path as off_path_of};
 ghost use Rattle.i7_claims.specs.NameScans.{book_twice, name_twice};
 ghost use Rattle.i7_kinds.specs.Places.{holder_cycle, second_place};
 ghost use Rattle.i7_claims.specs.Scans.{earlier};
@@ -19,7 +19,7 @@ use crate::author_kinds::{kind_cycle, kind_too_many, unknown_kind};
 use crate::descriptions::Descriptions;
 use crate::doors::door_twice;
 use crate::kinds::wrong_kind;
-use crate::knowns::{Known, off_path};
+use crate::knowns::Known;
 use crate::places::{holder_cycle, second_place};
 use crate::scope::Scope;
 use crate::suits::unsuited;
@@ -85,20 +85,19 @@ fn cycle(alloc: Global, scope: &Scope<'_>, claims: &[Claim]) -> Result<Option<u3
     Ok(earlier(kind, holder))
 }
 
-/// The lowest line of what the kinds don't allow.
+/// The lowest line of what the kinds don't allow, of which one off the path of the earlier demands is known.
 fn wrong(
-    alloc: Global,
     scope: &Scope<'_>,
     knowns: &[Known],
+    off_path: Option<u32>,
     claims: &[Claim],
     statements: &[NumberedSentence],
-) -> Result<Option<u32>, AllocError>
-    ensures { IfOk result (λ line. line ≡ earlier (off_path scope.now claims.now) (earlier (unsuited scope.now knowns.now claims.now) (wrong_kind scope.now.parents knowns.now statements.now))) }
+) -> Option<u32>
+    ensures { result ≡ earlier off_path (earlier (unsuited scope.now knowns.now claims.now) (wrong_kind scope.now.parents knowns.now statements.now)) }
 {
-    let off = off_path(alloc, scope, claims)?;
     let unsuited = unsuited(scope, knowns, claims);
     let wrong = wrong_kind(scope.parents(), knowns, statements);
-    Ok(earlier(off, earlier(unsuited, wrong)))
+    earlier(off_path, earlier(unsuited, wrong))
 }
 
 /// The lowest line of what is a second place, or tells the rooms of a door again.
@@ -120,10 +119,12 @@ pub fn faults_of(
     alloc: Global,
     scope: &Scope<'_>,
     knowns: &[Known],
+    off_path: Option<u32>,
     claims: &[Claim],
     descriptions: &Descriptions<'_>,
     ways: &Ways<'_>,
 ) -> Result<Faults, AllocError>
+    requires off { off_path ≡ off_path_of scope.now claims.now }
     requires described { descriptions_in descriptions.now ≡ descriptions_of scope.now.parents knowns.now (stated ways.now) }
     ensures { IfOk result (λ faults. faults ≡ faults_of scope.now knowns.now claims.now (stated ways.now)) }
 {
@@ -131,7 +132,7 @@ pub fn faults_of(
         twice: twice(alloc, scope, claims, descriptions)?,
         unknown: unknown_kind(scope.kinds(), claims),
         cycle: cycle(alloc, scope, claims)?,
-        wrong: wrong(alloc, scope, knowns, claims, ways.statements())?,
+        wrong: wrong(scope, knowns, off_path, claims, ways.statements()),
         second: second(alloc, scope, claims, ways)?,
         too_many: earlier(kind_too_many(claims), name_too_many(alloc, claims)?),
     })

@@ -1,6 +1,8 @@
 //! The kinds of objects: the deepest kind that is demanded of each.
-ghost use Rattle.std.specs.Prelude.{◌≡◌, IfOk, length, slice_set};
-ghost use Rattle.world_meaning.specs.Kinds.{direction_kind, person_kind};
+ghost use Rattle.std.specs.Prelude.{◌≡◌, ◌&&◌, IfOk, length, not, slice_set};
+ghost use Rattle.i7_claims.specs.Numbers.{has_name};
+ghost use Rattle.i7_claims.specs.declared.claim.Fact.TheVariants.{Demands};
+ghost use Rattle.world_meaning.specs.Kinds.{direction_kind, person_kind, room_kind};
 ghost use Rattle.i7_kinds.specs.Knowns.{deepen, deepened, first_knowns, is_of, is_off, is_parted, is_parted_at, kind_by, kind_of, known_as, known_at, knowns_of, off_path, thing_or_container, unknown, with_demand, with_holder, with_kind, with_known, with_room};
 
 use crate::author_kinds::is_under;
@@ -91,39 +93,38 @@ fn deepen(parents: &[Option<usize>], demanded: Demanded, kind: usize) -> Demande
     }
 }
 
-fn deepened(scope: &Scope<'_>, knowns: &[Known], object: &[u8], kind: usize) -> Demanded
-    ensures { result ≡ deepened scope.now knowns.now object.now kind }
-{
-    let known = known_at(knowns, scope.object(object));
-    deepen(scope.parents(), known.demanded, kind)
-}
-
-fn add_demand(scope: &Scope<'_>, knowns: &mut [Known], object: &[u8], kind: usize)
-    ensures { knowns.new ≡ with_demand scope.now knowns.old object.now kind }
+/// Demands a kind of an object, and tells whether that lies off the path of the earlier demands.
+fn add_demand(scope: &Scope<'_>, knowns: &mut [Known], object: &[u8], kind: usize) -> bool
+    ensures knowns { knowns.new ≡ with_demand scope.now knowns.old object.now kind }
+    ensures off { result ≡ is_parted (deepened scope.now knowns.old object.now kind) }
 {
     let number = scope.object(object);
     let known = known_at(knowns, number);
     let demanded = deepen(scope.parents(), known.demanded, kind);
     keep(knowns, number, Known { demanded, ..known });
+    matches!(demanded, Demanded::Parted)
 }
 
-/// Demands a kind; one that isn't there says nothing.
-fn add_kind(scope: &Scope<'_>, knowns: &mut [Known], demand: &Demand)
-    ensures { knowns.new ≡ with_kind scope.now knowns.old demand.now }
+/// Demands a kind, and tells whether that is off; one that isn't there says nothing.
+fn add_kind(scope: &Scope<'_>, knowns: &mut [Known], demand: &Demand) -> bool
+    ensures knowns { knowns.new ≡ with_kind scope.now knowns.old demand.now }
+    ensures off { result ≡ is_off scope.now knowns.old (Demands demand.now) }
 {
-    if scope.has_kind(demand.kind.as_slice()) {
-        let kind = scope.kind(demand.kind.as_slice());
-        add_demand(scope, knowns, demand.object.as_slice(), kind);
+    match scope.kind_named(demand.kind.as_slice()) {
+        None => false,
+        Some(kind) => add_demand(scope, knowns, demand.object.as_slice(), kind),
     }
 }
 
-/// Demands a room, unless a door is demanded.
-fn add_room(scope: &Scope<'_>, knowns: &mut [Known], object: &[u8])
-    ensures { knowns.new ≡ with_room scope.now knowns.old object.now }
+/// Demands a room, unless a door is demanded, and tells whether that is off.
+fn add_room(scope: &Scope<'_>, knowns: &mut [Known], object: &[u8]) -> bool
+    ensures knowns { knowns.new ≡ with_room scope.now knowns.old object.now }
+    ensures off { result ≡ (not (has_name scope.now.doors object.now) && is_parted (deepened scope.now knowns.old object.now room_kind)) }
 {
-    if !scope.is_door(object) {
-        add_demand(scope, knowns, object, KindNo::ROOM.get() as usize);
+    if scope.is_door(object) {
+        return false;
     }
+    add_demand(scope, knowns, object, KindNo::ROOM.get() as usize)
 }
 
 fn add_holder(scope: &Scope<'_>, knowns: &mut [Known], placing: &Placing)
@@ -137,76 +138,43 @@ fn add_holder(scope: &Scope<'_>, knowns: &mut [Known], placing: &Placing)
     }
 }
 
-fn add_fact(scope: &Scope<'_>, knowns: &mut [Known], fact: &Fact)
-    ensures { knowns.new ≡ with_known scope.now knowns.old fact.now }
+/// Adds what a fact tells of an object, and tells whether it demands what lies off the path of the earlier demands.
+fn add_fact(scope: &Scope<'_>, knowns: &mut [Known], fact: &Fact) -> bool
+    ensures knowns { knowns.new ≡ with_known scope.now knowns.old fact.now }
+    ensures off { result ≡ is_off scope.now knowns.old fact.now }
 {
     match fact {
         Fact::Demands(demand) => add_kind(scope, knowns, demand),
         Fact::RoomUnlessDoor(object) => add_room(scope, knowns, object.as_slice()),
-        Fact::Placed(placing) => add_holder(scope, knowns, placing),
-        _ => {}
-    }
-}
-
-/// What is known of each object by the claims.
-pub fn knowns_of(
-    alloc: Global,
-    scope: &Scope<'_>,
-    claims: &[Claim],
-) -> Result<Vec<Known>, AllocError>
-    ensures { IfOk result (λ knowns. knowns.items ≡ knowns_of scope.now claims.now) }
-{
-    let mut knowns = first_knowns(alloc, scope.count())?;
-    let mut rest = claims;
-    while let [claim, after @ ..] = rest {
-        add_fact(scope, knowns.as_mut_slice(), &claim.fact);
-        rest = after;
-    }
-    Ok(knowns)
-}
-
-/// Whether one demand more lies off the path of the earlier ones.
-fn parts(scope: &Scope<'_>, knowns: &[Known], object: &[u8], kind: usize) -> bool
-    ensures { result ≡ is_parted (deepened scope.now knowns.now object.now kind) }
-{
-    matches!(deepened(scope, knowns, object, kind), Demanded::Parted)
-}
-
-fn is_off(scope: &Scope<'_>, knowns: &[Known], fact: &Fact) -> bool
-    ensures { result ≡ is_off scope.now knowns.now fact.now }
-{
-    match fact {
-        Fact::Demands(demand) => {
-            let kind = demand.kind.as_slice();
-            let object = demand.object.as_slice();
-            scope.has_kind(kind) && parts(scope, knowns, object, scope.kind(kind))
-        }
-        Fact::RoomUnlessDoor(object) => {
-            let object = object.as_slice();
-            !scope.is_door(object) && parts(scope, knowns, object, KindNo::ROOM.get() as usize)
+        Fact::Placed(placing) => {
+            add_holder(scope, knowns, placing);
+            false
         }
         _ => false,
     }
 }
 
-/// The lowest line of a demand that lies off the path of the earlier ones.
-pub fn off_path(
-    alloc: Global,
-    scope: &Scope<'_>,
-    claims: &[Claim],
-) -> Result<Option<u32>, AllocError>
-    ensures { IfOk result (λ found. found ≡ off_path scope.now claims.now) }
+/// What is known of each object, and the lowest line of a demand that lies off the path of the earlier ones.
+#[derive(Drop)]
+pub struct AllKnown {
+    pub knowns: Vec<Known>,
+    pub off_path: Option<u32>,
+}
+
+/// What the claims tell of each object.
+pub fn known_by(alloc: Global, scope: &Scope<'_>, claims: &[Claim]) -> Result<AllKnown, AllocError>
+    ensures knowns { IfOk result (λ known. known.knowns.items ≡ knowns_of scope.now claims.now) }
+    ensures off { IfOk result (λ known. known.off_path ≡ off_path scope.now claims.now) }
 {
     let mut knowns = first_knowns(alloc, scope.count())?;
-    let mut found = None;
+    let mut off_path = None;
     let mut rest = claims;
     while let [claim, after @ ..] = rest {
-        let shows = is_off(scope, knowns.as_slice(), &claim.fact);
-        found = lower(shows, claim.line, found);
-        add_fact(scope, knowns.as_mut_slice(), &claim.fact);
+        let is_off = add_fact(scope, knowns.as_mut_slice(), &claim.fact);
+        off_path = lower(is_off, claim.line, off_path);
         rest = after;
     }
-    Ok(found)
+    Ok(AllKnown { knowns, off_path })
 }
 
 /// A thing, or a container where something is in it.

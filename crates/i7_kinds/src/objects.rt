@@ -178,7 +178,7 @@ fn objects_from(
     requires few_flags { length makings.now.flags.now ≤ 100 }
     ensures { IfOk result (λ objects. objects.items ≡ objects_of (made_of makings.now) 0 entries.now) }
 {
-    let mut objects = Vec::new(alloc);
+    let mut objects = Vec::with_capacity(alloc, entries.len())?;
     let mut number = 0;
     let mut rest = entries;
     while let [entry, after @ ..] = rest {

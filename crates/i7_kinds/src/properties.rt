@@ -128,14 +128,10 @@ fn properties_from(
     let mut truths = rows;
     let mut rest = makings.flags;
     while let [flag, after @ ..] = rest {
-        let is_true = begins(
-            makings,
-            object,
-            kind,
-            property as usize,
-            first_truth(truths),
-        );
-        if is_true && is_had(makings.parents, kind, flag) {
+        let true_of = first_truth(truths);
+        if is_had(makings.parents, kind, flag)
+            && begins(makings, object, kind, property as usize, true_of)
+        {
             found.push(property)?;
         }
         property += 1;

@@ -30,7 +30,7 @@ impl<'a> Model for Scope<'a> {
 }
 
 impl<'a> Scope<'a> {
-    ghost use Rattle.std.specs.Prelude.{length};
+    ghost use Rattle.std.specs.Prelude.{IfSome, is_some, length};
     ghost use Rattle.world_meaning.specs.Kinds.{is_under};
     ghost use Rattle.i7_kinds.specs.Knowns.{scope_of_names};
     ghost use Rattle.i7_claims.specs.Numbers.{has_name, number_in};
@@ -100,11 +100,12 @@ impl<'a> Scope<'a> {
         number_in(self.kinds, key)
     }
 
-    /// Whether there is a kind of this name.
-    pub fn has_kind(&self, key: &[u8]) -> bool
-        ensures { result ≡ has_name self.now.kinds key.now }
+    /// The number of the kind of this name, if there is one.
+    pub fn kind_named(&self, key: &[u8]) -> Option<usize>
+        ensures there { is_some result ≡ has_name self.now.kinds key.now }
+        ensures number { IfSome result (λ kind. kind ≡ number_in self.now.kinds key.now) }
     {
-        self.kinds.contains(key)
+        self.kinds.place_of(key)
     }
 
     /// How many objects there are.

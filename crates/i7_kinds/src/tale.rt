@@ -5,7 +5,7 @@ ghost use Rattle.i7_kinds.specs.Bounds.{AreSmallKnowns, AreSmallPlaces, AreWithi
 ghost use Rattle.i7_kinds.specs.Demands.{descriptions_of};
 ghost use Rattle.i7_kinds.specs.Described.{descriptions_in};
 ghost use Rattle.i7_kinds.specs.KindClaims.{AreSmallKinds, declared_by, kind_names, parents_of};
-ghost use Rattle.i7_kinds.specs.Knowns.{knowns_of};
+ghost use Rattle.i7_kinds.specs.Knowns.{knowns_of, off_path as off_path_of};
 ghost use Rattle.i7_kinds.specs.Places.{places_by};
 ghost use Rattle.i7_kinds.specs.StatedWays.{stated};
 ghost use Rattle.i7_kinds.specs.Suits.{first_room, with_player};
@@ -20,7 +20,7 @@ use crate::descriptions::Descriptions;
 use crate::doors::doors_of;
 use crate::faults::{Faults, faults_of};
 use crate::grants::givens_of;
-use crate::knowns::{Known, knowns_of};
+use crate::knowns::{Known, known_by};
 use crate::limits::{MOST_BYTES, longer_name, name_too_long, object_too_many, text_too_long};
 use crate::making::{kinds_of, places_in};
 use crate::objects::{Makings, objects_of};
@@ -107,15 +107,17 @@ fn refusal_of(
     alloc: Global,
     scope: &Scope<'_>,
     knowns: &[Known],
+    off_path: Option<u32>,
     claims: &[Claim],
     mentions: &[Mention<'_>],
     descriptions: &Descriptions<'_>,
     ways: &Ways<'_>,
 ) -> Result<Option<Fault>, AllocError>
+    requires off { off_path ≡ off_path_of scope.now claims.now }
     requires described { descriptions_in descriptions.now ≡ descriptions_of scope.now.parents knowns.now (stated ways.now) }
     ensures { IfOk result (λ refusal. refusal ≡ refusal_of scope.now knowns.now claims.now (stated ways.now) (mentions_of mentions.now)) }
 {
-    let faults = faults_of(alloc, scope, knowns, claims, descriptions, ways)?;
+    let faults = faults_of(alloc, scope, knowns, off_path, claims, descriptions, ways)?;
     let room = first_room(scope.parents(), knowns);
     match frame_refusal(faults, mentions, room) {
         Some(fault) => Ok(Some(fault)),
@@ -190,11 +192,22 @@ fn judged(
     requires scope { scope.now ≡ scope_of claims.now scope.now.objects }
     ensures { IfOk result (λ said. said ≡ judged scope.now claims.now statements.now (mentions_of mentions.now)) }
 {
-    let knowns = knowns_of(alloc, scope, claims)?;
-    let descriptions = Descriptions::new(alloc, scope.parents(), knowns.as_slice(), statements)?;
+    let all = known_by(alloc, scope, claims)?;
+    let known = all.knowns.as_slice();
+    let descriptions = Descriptions::new(alloc, scope.parents(), known, statements)?;
     let ways = Ways::new(alloc, statements)?;
-    let known = knowns.as_slice();
-    if let Some(fault) = refusal_of(alloc, scope, known, claims, mentions, &descriptions, &ways)? {
+    let off = all.off_path;
+    let refused = refusal_of(
+        alloc,
+        scope,
+        known,
+        off,
+        claims,
+        mentions,
+        &descriptions,
+        &ways,
+    )?;
+    if let Some(fault) = refused {
         return Ok(Err(fault));
     }
     let declared = declared_by(alloc, scope.kinds(), claims)?;

@@ -58,12 +58,9 @@ fn told_of_object(scope: &Scope<'_>, having: &Having) -> Told
 fn told_of_kind(scope: &Scope<'_>, usual: &Usual) -> Option<Told>
     ensures { result ≡ told_by Kinds scope.now (Usually usual.now) }
 {
-    let name = usual.kind.as_slice();
-    if !scope.has_kind(name) {
-        return None;
-    }
+    let kind = scope.kind_named(usual.kind.as_slice())?;
     let property = scope.property(usual.property.as_slice());
-    Some(told_as(scope.kind(name), property, usual.value))
+    Some(told_as(kind, property, usual.value))
 }
 
 fn told_of_variable(scope: &Scope<'_>, start: &Start) -> Told
