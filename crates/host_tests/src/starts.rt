@@ -75,7 +75,8 @@ fn a_command_whose_stored_rule_refuses_memory_drops_the_rest(rt: HostRuntime) ->
     let hosts = table_refusing(alloc, 53)?;
     let commands = b"look. jump. look\nundo. undo. jump. undo\nz then jump\n";
     let play = play_bytes(alloc, source, hosts, commands, true)?;
-    let transcript = b"Hall\n\n>look. jump. look\nHall\n\n[The turn was abandoned: out of memory.]\n\
+    let transcript =
+        b"Hall\n\n>look. jump. look\nHall\n\n[The turn was abandoned: out of memory.]\n\
         \n>undo. undo. jump. undo\nPrevious turn undone.\n\nYou can't undo any further.\n\n[The turn was abandoned: out of memory.]\n\
         \n>z then jump\nTime passes.\n\n[The turn was abandoned: out of memory.]\n\n>";
     assert_eq!(rt; play.transcript.as_slice(), transcript.as_slice());

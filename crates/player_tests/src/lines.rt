@@ -73,20 +73,8 @@ const SEVERAL: &[Row] = &[
         14,
         6,
     ),
-    (
-        b". then .",
-        b"I beg your pardon?\n",
-        ReplyKind::Free,
-        14,
-        6,
-    ),
-    (
-        b"s.q.n",
-        b"Hall\nA bare hall.\n",
-        ReplyKind::Ended,
-        13,
-        7,
-    ),
+    (b". then .", b"I beg your pardon?\n", ReplyKind::Free, 14, 6),
+    (b"s.q.n", b"Hall\nA bare hall.\n", ReplyKind::Ended, 13, 7),
     (b"look. look", b"", ReplyKind::Over, 13, 7),
 ];
 
