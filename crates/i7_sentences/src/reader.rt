@@ -130,7 +130,7 @@ fn heard_parts(alloc: Global, parts: &[Part<'_>]) -> Result<HeardParts, AllocErr
     ensures reserved { IfOk result (λ heard. heard.reserved ≡ lowest reserved_in (pieces_of parts.now)) }
 {
     let mut columns = ColumnStack::new(alloc);
-    let mut sentences = Vec::with_capacity(alloc, parts.len())?;
+    let mut sentences = Vec::new(alloc);
     let mut bad_literal = None;
     let mut unread = None;
     let mut reserved = None;
