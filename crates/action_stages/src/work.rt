@@ -1,4 +1,4 @@
-//! The work of a line or of the opening.
+//! The work of a command or of the opening.
 ghost use Rattle.std.specs.Prelude.{◌≡◌, ◌≤◌, ◌<◌, ◌+◌, MatchResult};
 ghost use Rattle.play_meaning.specs.Progress.{most_work};
 ghost use Rattle.world_meaning.specs.declared.session.Abandon.TheVariants.{TooMuchWork};
@@ -6,7 +6,7 @@ ghost use Rattle.world_meaning.specs.declared.session.Abandon.TheVariants.{TooMu
 use std::marker::Model;
 use world_meaning::Abandon;
 
-/// The most work of a line or of the opening.
+/// The most work of a command or of the opening.
 const MOST_WORK: u32 = 10_000;
 
 /// Work that was done, in units: the body of a rule that begins is one, and so is a turn of a repeat. There are ten thousand

@@ -112,6 +112,6 @@ inner_of g (suc left) = record {
   follows = λ book now p. progress_of (consult g (inner_of g left) book now p);
 }
 
--- a line's action has sixteen levels below it
+-- a command's action has sixteen levels below it
 abbrev pub top : Game → Inner
 top g = inner_of g 16

@@ -41,7 +41,7 @@ leaves flow p = Ok (record { progress = p; flow = flow })
 abbrev pub undecided : Progress → Asked
 undecided p = record { progress = p; decision = None }
 
--- the most work of a line or of the opening
+-- the most work of a command or of the opening
 abbrev pub most_work : ℕ
 most_work = 10000
 

@@ -26,7 +26,7 @@ pub record State : Type 0 where
   pub question : Option Question
   pub ending : Option Ending
 
--- what is said to a line, what became of it, and the state behind it
+-- what is said to a command, or to a line of commands, what became of it, and the state behind it
 pub record Answer : Type 0 where
   pub text : List ℕ
   pub kind : ReplyKind
@@ -36,7 +36,7 @@ pub record Answer : Type 0 where
 abbrev pub keep : World → List World → List World
 keep w kept = take 8 (w ∷ kept)
 
--- the line cost no turn; the question that it asks is open now, and no other
+-- it cost no turn; the question that it asks is open now, and no other
 abbrev pub free : List ℕ → Option Question → State → Answer
 free text question s = record { text = text; kind = Free; state = record s { question = question } }
 

@@ -119,7 +119,7 @@ pub fn things_are_handled()
     ensures switched { shows many_things_switched_shown many_things }
 {}
 
-/// A line may do 10,000 units of work, and not one more.
+/// A command may do 10,000 units of work, and not one more.
 pub fn work_has_an_end()
     ensures enough { shows_by_trees enough_work_shown enough_work }
     ensures one_more { shows_by_trees too_much_work_shown too_much_work }

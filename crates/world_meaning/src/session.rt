@@ -1,4 +1,4 @@
-//! How a session answers: what became of a line, why a turn is abandoned, how a session ends.
+//! How a session answers: what became of a command, why a turn is abandoned, how a session ends.
 use thiserror::Error;
 
 /// How a session ended.
@@ -25,16 +25,16 @@ pub enum Abandon {
     NumberOutOfRange,
 }
 
-/// What became of a line.
+/// What became of a command, and of a line by the last of its commands that was done.
 #[derive(Clone, Copy, Debug, PartialEq, Eq)]
 pub enum ReplyKind {
     /// A turn was played.
     Kept,
-    /// The line cost no turn.
+    /// The command cost no turn.
     Free,
     /// The turn was abandoned.
     Abandoned(Abandon),
-    /// The session ended in the line.
+    /// The session ended in the command.
     Ended,
     /// The session was over before the line.
     Over,
