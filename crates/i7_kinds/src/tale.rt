@@ -194,32 +194,16 @@ fn judged(
 {
     let all = known_by(alloc, scope, claims)?;
     let known = all.knowns.as_slice();
-    let descriptions = Descriptions::new(alloc, scope.parents(), known, statements)?;
+    let texts = Descriptions::new(alloc, scope.parents(), known, statements)?;
     let ways = Ways::new(alloc, statements)?;
     let off = all.off_path;
-    let refused = refusal_of(
-        alloc,
-        scope,
-        known,
-        off,
-        claims,
-        mentions,
-        &descriptions,
-        &ways,
-    )?;
+    let refused = refusal_of(alloc, scope, known, off, claims, mentions, &texts, &ways)?;
     if let Some(fault) = refused {
         return Ok(Err(fault));
     }
     let declared = declared_by(alloc, scope.kinds(), claims)?;
     let objects = objects_meant(
-        alloc,
-        scope,
-        known,
-        claims,
-        mentions,
-        &descriptions,
-        &ways,
-        &declared,
+        alloc, scope, known, claims, mentions, &texts, &ways, &declared,
     )?;
     Ok(Ok(Tale { declared, objects }))
 }
