@@ -10,12 +10,11 @@ from 0 on."""
 import json
 import pathlib
 import re
-import struct
 import subprocess
 import sys
 import tempfile
 
-from plain_codes import BODY, COUNTS, DESCRIBING, TEST
+from plain_codes import BODY, DESCRIBING, TEST, packed_counts
 
 crates = pathlib.Path(sys.argv[1]).resolve().parents[2]
 wanted_sort = sys.argv[2] if len(sys.argv) > 2 else ""
@@ -24,7 +23,7 @@ MARK = re.compile(r"\{(\d+)([*>])([^{}]*)\}")
 # What there is beside a code whose soundness is asked.
 SIZES = {
     "objects": 3, "kinds": 2, "flags": 2, "numbers": 2, "variables": 1, "scenes": 1, "strings": 2, "codes": 3, "actions": 4,
-    "books": 2, "own": 0,
+    "books": 2, "own": 0, "values": [2, 1],
 }
 
 
@@ -68,9 +67,8 @@ def packed(code):
     """A code as `code_calls` reads it."""
     role, digits = code.split(":")
     use = {"b": BODY, "d": DESCRIBING}.get(role, TEST)
-    counts = b"".join(struct.pack(">H", SIZES[name]) for name in COUNTS)
     said = bytes.fromhex(digits)
-    return bytes([use, int(role[1:] or 0)]) + counts + len(said).to_bytes(3, "big") + said
+    return bytes([use, int(role[1:] or 0)]) + packed_counts(SIZES) + len(said).to_bytes(3, "big") + said
 
 
 def soundness(rows):

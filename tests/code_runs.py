@@ -30,7 +30,7 @@ STRINGS = ["One. ", "Two! ", "three", " "]
 # What the source has, its nine objects behind the player and the directions, and what every story has.
 SIZES = {
     "objects": 13 + 9, "kinds": 100, "flags": 11 + 1, "numbers": 1, "variables": 2, "scenes": 0, "strings": len(STRINGS),
-    "codes": DEEPEST + 2, "actions": 16, "books": 8,
+    "codes": DEEPEST + 2, "actions": 16, "books": 8, "values": [],
 }
 
 

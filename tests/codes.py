@@ -10,7 +10,7 @@ import subprocess
 import sys
 import tempfile
 
-from plain_codes import BODY, COUNTS, JUMP, ROWS, TEST, Maker, changed, is_sound
+from plain_codes import BODY, COUNTS, JUMP, ROWS, TEST, Maker, changed, is_sound, packed_counts
 
 program = pathlib.Path(sys.argv[1]).resolve().parents[2] / "code_calls/out/code_calls"
 HOW_MANY = 100_000
@@ -21,6 +21,7 @@ def drawn(chance):
     role = chance.randrange(3)
     around = chance.choice([0, 0, 0, 1, 2, 7, 8, 9]) if role == TEST else 0
     sizes = {name: chance.choice([1, 2, 3, 300]) for name in COUNTS}
+    sizes["values"] = chance.choice([[], [1], [2, 1], [3, 100, 2]])
     sizes["own"] = chance.choice([0, 0, 1])
     sizes["codes"] = sizes["own"] + chance.choice([2, 3, 400])
     shape = chance.randrange(4)
@@ -33,12 +34,11 @@ def long(chance):
     length = chance.choice([4_095, 4_096, 4_097, 30_000, 65_535, 65_536])
     goal = chance.choice([3, 4, 4_095, 4_096, length - 1, length, length + 1])
     code = struct.pack(">BH", JUMP, min(goal, 65_535)) + bytes([0x38]) * (length - 3)
-    return code, BODY, 0, {name: 1 for name in COUNTS}
+    return code, BODY, 0, {**{name: 1 for name in COUNTS}, "values": []}
 
 
 def packed(code, role, around, sizes):
-    counts = b"".join(struct.pack(">H", sizes[name]) for name in COUNTS)
-    return bytes([role, around]) + counts + len(code).to_bytes(3, "big") + code
+    return bytes([role, around]) + packed_counts(sizes) + len(code).to_bytes(3, "big") + code
 
 
 chance = random.Random(20261123)

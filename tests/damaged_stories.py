@@ -14,7 +14,7 @@ import sys
 import tempfile
 
 from plain_stories import SOMETHING, Fault, opening_and_look
-from written_stories import crowded, furnished, ruled, unnumbered, written
+from written_stories import crowded, furnished, ruled, unnumbered, valued, written
 
 program = pathlib.Path(sys.argv[1]).resolve()
 calls = program.parents[2] / "story_calls/out/story_calls"
@@ -54,11 +54,12 @@ def cut_or_flipped(name, story):
 
 def damaged(story):
     yield from cut_or_flipped("two rooms", story)
-    furniture, rules = furnished(story), ruled(story)
+    furniture, rules, values = furnished(story), ruled(story), valued(story)
     yield "furnished", furniture
     yield from changed("furnished", furniture, 6000)
     yield "ruled", rules
     yield from changed("ruled", rules, 3000)
+    yield from changed("valued", values, 3000)
     yield "crowded", crowded(story)
     chance = random.Random(7)
     for turn in range(3000):
@@ -81,6 +82,7 @@ def damaged_more(story, others):
         yield f"a grammar of {name}", written(dict(unnumbered(story), grammar=lines))
     furniture, rules = furnished(story), ruled(story)
     yield from cut_or_flipped("ruled", rules)
+    yield from cut_or_flipped("valued", valued(story))
     for name, other in others:
         yield from cut_or_flipped(name, other)
     chance = random.Random(9)

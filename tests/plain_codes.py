@@ -5,17 +5,17 @@ import struct
 TEST, DESCRIBING, BODY = 0, 1, 2
 
 # Each instruction: its arguments, what it takes (the last pushed last) and what it gives. N, T, O: a number, a truth, an object.
-# Arguments of two bytes: a test C, a string S, a rulebook B, a place P; of four: a number i; the others of one.
+# A kind of value is q, one of its values w. Arguments of two bytes: a test C, a string S, a rulebook B, a place P; of four: a number i; the others of one.
 ROWS = {
     0x01: ("i", "", "i"), 0x02: ("v", "", "N"), 0x03: ("n", "O", "N"), 0x04: ("", "", "N"), 0x05: ("", "NN", "N"),
     0x06: ("", "NN", "N"), 0x07: ("", "NN", "N"), 0x08: ("", "=", "T"), 0x09: ("", "NN", "T"), 0x0A: ("", "NN", "T"),
     0x0B: ("", "T", "T"), 0x0C: ("", "TT", "T"), 0x0D: ("", "TT", "T"), 0x0E: ("", "", "O"), 0x0F: ("", "", "O"),
     0x10: ("", "", "O"), 0x11: ("l", "", "O"), 0x12: ("fd", "O", "T"), 0x13: ("k", "O", "T"), 0x14: ("r", "OO", "T"),
     0x15: ("r", "O", "O"), 0x16: ("", "OO", "T"), 0x17: ("", "O", "T"), 0x18: ("", "O", "T"), 0x19: ("", "", "T"),
-    0x1A: ("s", "", "T"), 0x1B: ("", "O", "T"), 0x1C: ("", "OO", "O"), 0x1D: ("", "OO", "O"), 0x20: ("oC", "", "N"),
+    0x1A: ("s", "", "T"), 0x1B: ("", "O", "T"), 0x1C: ("", "OO", "O"), 0x1D: ("", "OO", "O"), 0x1E: ("qw", "O", "T"), 0x20: ("oC", "", "N"),
     0x21: ("moC", "", ""), 0x22: ("S", "", ""), 0x23: ("m", "O", ""), 0x24: ("", "N", ""), 0x25: ("", "O", ""),
     0x26: ("fb", "O", ""), 0x27: ("n", "ON", ""), 0x28: ("v", "N", ""), 0x29: ("r", "OO", ""), 0x2A: ("", "OO", ""),
-    0x2B: ("", "O", ""), 0x30: ("ba", "OO", ""), 0x31: ("B", "", ""), 0x32: ("P", "T", ""), 0x33: ("P", "", ""),
+    0x2B: ("", "O", ""), 0x2C: ("q", "O", ""), 0x2D: ("qw", "O", ""), 0x30: ("ba", "OO", ""), 0x31: ("B", "", ""), 0x32: ("P", "T", ""), 0x33: ("P", "", ""),
     0x34: ("o", "", ""), 0x35: ("xCP", "", ""), 0x36: ("S", "", ""), 0x37: ("", "", ""), 0x38: ("", "", ""),
     0x39: ("", "", ""), 0x3A: ("", "", ""), 0x3B: ("", "T", ""),
 }
@@ -24,7 +24,13 @@ ENDS = range(0x37, 0x3C)
 # The greatest value of an argument that means the same in each story.
 LAST = {"r": 4, "d": 3, "b": 1, "m": 4}
 COUNTED = {"v": "variables", "n": "numbers", "f": "flags", "k": "kinds", "s": "scenes", "a": "actions", "S": "strings", "B": "books"}
+# How many there are of what arguments name; beside these `values` has how many values each kind of value has.
 COUNTS = ["objects", "kinds", "flags", "numbers", "variables", "scenes", "strings", "codes", "actions", "books", "own"]
+
+
+def packed_counts(sizes):
+    """The counts as `code_calls` reads them."""
+    return b"".join(struct.pack(">H", sizes[name]) for name in COUNTS) + bytes([len(sizes["values"]), *sizes["values"]])
 
 
 def width(argument):
@@ -96,10 +102,14 @@ def take(stack, wanted):
         demand(stack and sort in stack.pop())
 
 
-def is_named(argument, value, sizes, depth):
+def is_named(argument, arguments, sizes, depth):
+    value = arguments[argument]
     if argument in COUNTED:
         return value < sizes[COUNTED[argument]]
+    values = sizes["values"]
     return {
+        "q": value < len(values),
+        "w": arguments.get("q", 0) < len(values) and value < values[arguments.get("q", 0)],
         "C": sizes["own"] < value < sizes["codes"],
         "l": value < depth,
         "o": value == depth and depth <= 8,
@@ -111,7 +121,7 @@ def allowed(role, byte):
     if role == TEST:
         return byte <= 0x20 or byte == ANSWER
     if role == DESCRIBING:
-        return byte <= 0x24 or byte in (IF_ZERO, JUMP, 0x37)
+        return byte <= 0x24 or byte in (0x2C, IF_ZERO, JUMP, 0x37)
     return byte != ANSWER
 
 
@@ -124,7 +134,7 @@ def check(code, role, around, sizes):
         before[place] = len(stack)
         demand(allowed(role, byte))
         depth = around + len(inside(loops, place))
-        demand(all(is_named(argument, value, sizes, depth) for argument, value in arguments.items()))
+        demand(all(is_named(argument, arguments, sizes, depth) for argument in arguments))
         _, wanted, given = ROWS[byte]
         take(stack, wanted)
         if given == "i":
@@ -195,6 +205,8 @@ class Maker:
             "C": self.chance.randint(self.sizes["own"] + 1, max(self.sizes["own"] + 1, self.sizes["codes"] - 1)),
             "l": self.chance.randrange(max(1, depth)),
             "o": depth,
+            "q": self.chance.randrange(max(1, len(self.sizes["values"]))),
+            "w": self.chance.choice([0, 0, 1]),
         }.get(letter, self.chance.randrange(LAST[letter] + 1) if letter in LAST else self.chance.randrange(max(1, count)))
         return value.to_bytes(width(letter), "big", signed=letter == "i")
 

@@ -2,7 +2,7 @@
 import plain_codes
 from plain_stories import (
     BUILT_IN_BOOKS, CARRIED, CONTAINER, DONE, DOOR, EVERY_TURN, FLAGS, KINDS, LIGHT, NONE16, NONE8, OUT_OF_WORLD, ROOM, SAY, SEEN,
-    SOMETHING, SUPPORTER, THING, Said, lines_told, name_words, tables)
+    SOMETHING, SUPPORTER, THING, Said, lines_told, name_words, tables, values_had)
 
 
 def u(width, n):
@@ -42,6 +42,12 @@ def rules_written(t):
             + table(u(1, recurs) + u(2, begins) + u(2, ends) for recurs, begins, ends in t["scenes"]))
 
 
+def values_written(t, named):
+    """The bytes of tables 14 and 15, where names of values have numbers by this."""
+    return (table([listed(2, [named(name) for name in names]) + listed(1, given) for names, given in t["values"]])
+            + table(listed(1, owned) for owned in t["owned"]))
+
+
 def written(t):
     """The bytes of tables whose strings stand as themselves, in lines of the grammar and codes too; they are numbered as they are
     named."""
@@ -67,10 +73,11 @@ def written(t):
     rules = rules_written(dict(t, grammar=[line(*told) for told in t["grammar"]]))
     codes = table(u(2, len(code)) + code for code in [b"".join(coded(part) for part in parts) for parts in t["codes"]])
     ways = table(b"".join(u(2, room) + u(2, door) for room, door in ways) for ways in t["ways"])
-    return (b"I7ST" + u(2, 1) + table(u(2, len(text)) + text for text in strings)
+    values = values_written(t, named) if t["values"] else b""
+    return (b"I7ST" + u(2, 2 if values else 1) + table(u(2, len(text)) + text for text in strings)
             + table(u(1, above) for above in t["kinds"]) + table(listed(1, given) for given in t["flags"])
             + table(listed(1, given) for given in t["numbers"]) + table(u(4, v) for v in t["variables"])
-            + objects + ways + rules + codes)
+            + objects + ways + rules + codes + values)
 
 
 def parted(t, code):
@@ -88,7 +95,8 @@ def unnumbered(data):
     t = tables(data)
     codes = [parted(t, code) for code in t["codes"]]
     objects = [dict(o, name=t["strings"][o["name"]], words=[t["strings"][w] for w in o["words"]]) for o in t["objects"]]
-    return dict(t, objects=objects, grammar=lines_told(t), codes=codes)
+    values = [([t["strings"][name] for name in names], given) for names, given in t["values"]]
+    return dict(t, objects=objects, grammar=lines_told(t), codes=codes, values=values)
 
 
 def furnished(story):
@@ -170,6 +178,16 @@ def ruled(story):
         [bytes.fromhex("11 00 13 01 3b")],
         [bytes.fromhex("11 00 12 03 01 3b")],
     ]
+    return written(t)
+
+
+def valued(story):
+    """A furnished story with two kinds of value, the one of things, the other of rooms and containers; the Hall's description asks
+    for a value and names it."""
+    t = unnumbered(furnished(story))
+    t["values"] = [([b"red", b"blue", b"red"], [THING]), ([b"dry", b"Silver coin"], [ROOM, CONTAINER])]
+    t["owned"] = [[(number + q) % len(t["values"][q][0]) for q in values_had(t, o["kind"])] for number, o in enumerate(t["objects"])]
+    t["codes"][0] = [bytes.fromhex("10 1e 01 00 32 000d 22"), Said(b"Dry "), bytes.fromhex("33 0010 22"), Said(b"Wet "), bytes.fromhex("10 2c 01 37")]
     return written(t)
 
 

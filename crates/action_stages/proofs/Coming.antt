@@ -139,6 +139,7 @@ module _ (f : Frame) (s : State) (Held : Progress → Type 0) where
     came code.HasDescription = asked code.HasDescription refl _
     came code.Room = asked_two code.Room refl _
     came code.Door = asked_two code.Door refl _
+    came (code.Valued kind value) = asked (code.Valued kind value) refl _
     came (code.Count k test) = attempted (code.Count k test) (passing_in f s k test) _ (λ objects. pushed (code.Count k test) refl s.operands (pos (length objects)))
     came (code.Names naming k test) = attempted (code.Names naming k test) (passing_in f s k test) _
         (λ objects. says_so (code.Names naming k test) refl s.operands (listed f.telling.setting naming objects))
@@ -153,6 +154,8 @@ module _ (f : Frame) (s : State) (Held : Progress → Type 0) where
     came (code.PutAt r) = takes_two (code.PutAt r) refl _ (λ a b. refl)
     came code.Move = takes_two code.Move refl _ (λ a b. refl)
     came code.Away = takes_one code.Away refl _ (λ a. refl)
+    came (code.ValueName kind) = one (code.ValueName kind) s.operands _ (λ o rest. says_so (code.ValueName kind) refl rest _)
+    came (code.SetValue kind value) = takes_one (code.SetValue kind value) refl _ (λ a. refl)
     came (code.Try silent action) = two (code.Try silent action) s.operands _
         (λ noun second rest. attempted_so (code.Try silent action) Held (f.inner.tries (tried_with silent action noun second) s.progress) (then_at (code.Try silent action) s rest)
         (tries (tried_with silent action noun second)) (on_with (code.Try silent action) refl rest))

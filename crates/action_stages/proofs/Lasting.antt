@@ -1,16 +1,16 @@
--- No instruction changes how many properties, variables and scenes a world tells of.
+-- No instruction changes how many properties, kinds of value, variables and scenes a world tells of.
 use Rattle.std.proofs.Common.{◌≡◌, sym, subst, refl, ℕ, ◌+◌, nat_lt, Bool, true, false, List, [], ◌∷◌, Option, Some, None, Ok, Err, ℤ}
 use Rattle.std.proofs.Math.ListN.{length-set}
-use Rattle.std.specs.Prelude.{◌+ℤ◌, ◌-ℤ◌, ◌*ℤ◌, slice_index_or, slice_set, if◌then◌else◌}
+use Rattle.std.specs.Prelude.{◌&&◌, ◌+ℤ◌, ◌-ℤ◌, ◌*ℤ◌, slice_index_or, slice_set, if◌then◌else◌}
 use Rattle.play_meaning.specs.Attempts.{Attempt}
-use Rattle.play_meaning.specs.Changes.{make_number, make_so, may_be_put, move, put, put_at, put_if, relation_to, take_away}
+use Rattle.play_meaning.specs.Changes.{make_number, make_so, make_value, may_be_put, move, put, put_at, put_if, relation_to, take_away}
 use Rattle.play_meaning.specs.Instructions.{at_place}
 use Rattle.play_meaning.specs.Machines.{Frame, State, Step, calculates, does, does_at, goes_to, is_true, next_object, object_at, of_one, of_two, passing_in, pushes, says, step, then_at, tried_with, turns_to, unless_abandoned, with_one, with_two}
 use Rattle.play_meaning.specs.Progress.{Progress, change, most_work, spend}
 use Rattle.play_meaning.specs.Saying.{description_in}
 use Rattle.play_meaning.specs.Settings.{Setting, kinds_of}
-use Rattle.play_meaning.specs.Values.{in_range}
-use Rattle.play_meaning.specs.Worlds.{World, set_flag, set_number, set_variable}
+use Rattle.play_meaning.specs.Values.{in_range, is_value}
+use Rattle.play_meaning.specs.Worlds.{World, set_flag, set_number, set_value, set_variable}
 use Rattle.play_meaning.specs.declared.action.ActionNow.{ActionNow}
 use Rattle.play_meaning.specs.declared.instruction.Instruction.{Instruction}
 use Rattle.play_meaning.specs.declared.instruction.Instruction.TheVariants as code
@@ -21,7 +21,7 @@ use Rattle.world_meaning.specs.declared.session.Abandon.TheVariants.{TooMuchWork
 use Rattle.action_stages.specs.Lasting.{IsAsLong, Lasts}
 
 pub as_long : (w : World) → IsAsLong w w
-as_long w = record { flags = refl; numbers = refl; variables = refl; scenes = refl }
+as_long w = record { flags = refl; numbers = refl; values = refl; variables = refl; scenes = refl }
 
 -- ---- changes
 
@@ -34,17 +34,24 @@ unfolding set_flag
 so_lasts s None property value w = as_long w
 so_lasts s (Some o) property value w =
     chosen w (s.has_flag o property) (set_flag property o value w)
-    (record { flags = length-set w.flags property (slice_set (slice_index_or w.flags property []) o value); numbers = refl; variables = refl; scenes = refl })
+    (record { flags = length-set w.flags property (slice_set (slice_index_or w.flags property []) o value); numbers = refl; values = refl; variables = refl; scenes = refl })
 
 number_lasts : (s : Setting) (o : Option ℕ) (property : ℕ) (value : ℤ) (w : World) → IsAsLong w (make_number s o property value w)
 unfolding set_number
 number_lasts s None property value w = as_long w
 number_lasts s (Some o) property value w =
     chosen w (s.has_number o property) (set_number property o value w)
-    (record { flags = refl; numbers = length-set w.numbers property (slice_set (slice_index_or w.numbers property []) o value); variables = refl; scenes = refl })
+    (record { flags = refl; numbers = length-set w.numbers property (slice_set (slice_index_or w.numbers property []) o value); values = refl; variables = refl; scenes = refl })
+
+value_lasts : (s : Setting) (o : Option ℕ) (kind value : ℕ) (w : World) → IsAsLong w (make_value s o kind value w)
+unfolding set_value
+value_lasts s None kind value w = as_long w
+value_lasts s (Some o) kind value w =
+    chosen w (s.has_value o kind && is_value s kind value) (set_value kind o value w)
+    (record { flags = refl; numbers = refl; values = length-set w.values kind (slice_set (slice_index_or w.values kind []) o value); variables = refl; scenes = refl })
 
 put_at_lasts : (s : Setting) (o : ℕ) (to : Place) (w : World) → IsAsLong w (put_at s o to w)
-put_at_lasts s o to w = chosen w (may_be_put s w o to) _ (record { flags = refl; numbers = refl; variables = refl; scenes = refl })
+put_at_lasts s o to w = chosen w (may_be_put s w o to) _ (record { flags = refl; numbers = refl; values = refl; variables = refl; scenes = refl })
 
 put_lasts : (s : Setting) (o : Option ℕ) (relation : Rel) (holder : Option ℕ) (w : World) → IsAsLong w (put s o relation holder w)
 put_lasts s None relation holder w = as_long w
@@ -53,7 +60,7 @@ put_lasts s (Some o) relation (Some holder) w = put_at_lasts s o (record { relat
 
 away_lasts : (s : Setting) (o : Option ℕ) (w : World) → IsAsLong w (take_away s o w)
 away_lasts s None w = as_long w
-away_lasts s (Some o) w = chosen w (may_be_taken (kinds_of s) o) _ (record { flags = refl; numbers = refl; variables = refl; scenes = refl })
+away_lasts s (Some o) w = chosen w (may_be_taken (kinds_of s) o) _ (record { flags = refl; numbers = refl; values = refl; variables = refl; scenes = refl })
 
 put_if_lasts : (s : Setting) (o holder : ℕ) (relation : Option Rel) (w : World) → IsAsLong w (put_if s o holder relation w)
 put_if_lasts s o holder None w = as_long w
@@ -149,6 +156,7 @@ module _ (f : Frame) (s : State) (tries : (now : ActionNow) → f.inner.tries no
   lasts code.HasDescription = asked code.HasDescription _
   lasts code.Room = asked_two code.Room _
   lasts code.Door = asked_two code.Door _
+  lasts (code.Valued kind value) = asked (code.Valued kind value) _
   lasts (code.Count k test) = attempted (passing_in f s k test) _ (λ objects. as_long w)
   lasts (code.Names naming k test) = attempted (passing_in f s k test) _ (λ objects. as_long w)
   lasts (code.Say string) = as_long w
@@ -157,11 +165,14 @@ module _ (f : Frame) (s : State) (tries : (now : ActionNow) → f.inner.tries no
   lasts code.Description = one s.operands _ (λ o rest. attempted (description_in f.telling f.now s.progress.world (object_at o)) (says code.Description s rest) (λ text. as_long w))
   lasts (code.SetFlag p value) = takes_one (code.SetFlag p value) (λ o. make_so f.telling.setting (object_at o) p value) (λ o. so_lasts f.telling.setting (object_at o) p value w)
   lasts (code.SetProp p) = takes_two (code.SetProp p) (λ o a. make_number f.telling.setting (object_at o) p a) (λ o a. number_lasts f.telling.setting (object_at o) p a w)
-  lasts (code.SetVar v) = takes_one (code.SetVar v) (λ a. set_variable v a) (λ a. record { flags = refl; numbers = refl; variables = length-set w.variables v a; scenes = refl })
+  lasts (code.SetVar v) = takes_one (code.SetVar v) (λ a. set_variable v a) (λ a. record { flags = refl; numbers = refl; values = refl; variables = length-set w.variables v a; scenes = refl })
   lasts (code.PutAt r) = takes_two (code.PutAt r) (λ o holder. put f.telling.setting (object_at o) r (object_at holder)) (λ o holder. put_lasts f.telling.setting (object_at o) r
       (object_at holder) w)
   lasts code.Move = takes_two code.Move (λ o holder. move f.telling.setting (object_at o) (object_at holder)) (λ o holder. move_lasts f.telling.setting (object_at o) (object_at holder) w)
   lasts code.Away = takes_one code.Away (λ o. take_away f.telling.setting (object_at o)) (λ o. away_lasts f.telling.setting (object_at o) w)
+  lasts (code.ValueName kind) = one s.operands _ (λ o rest. as_long w)
+  lasts (code.SetValue kind value) = takes_one (code.SetValue kind value) (λ o. make_value f.telling.setting (object_at o) kind value) (λ o. value_lasts f.telling.setting (object_at o)
+      kind value w)
   lasts (code.Try silent action) = two s.operands _ (λ noun second rest. done_at (code.Try silent action) rest (f.inner.tries (tried_with silent action noun second) s.progress) (tries
       (tried_with silent action noun second)))
   lasts (code.Follow book) = done_at (code.Follow book) s.operands (f.inner.follows book f.now s.progress) (follows book)
@@ -169,7 +180,7 @@ module _ (f : Frame) (s : State) (tries : (now : ActionNow) → f.inner.tries no
   lasts (code.Jump place) = as_long w
   lasts (code.Begin k) = as_long w
   lasts (code.Next k test exit) = attempted (next_object f s k test) (turns_to (code.Next k test exit) s k exit) (turned k test exit)
-  lasts (code.EndStory string) = record { flags = refl; numbers = refl; variables = refl; scenes = refl }
+  lasts (code.EndStory string) = record { flags = refl; numbers = refl; values = refl; variables = refl; scenes = refl }
   lasts code.Done = as_long w
   lasts code.NoDecision = as_long w
   lasts code.Success = as_long w

@@ -20,7 +20,7 @@ use Rattle.play_meaning.specs.Settings.{Setting, objects_of}
 use Rattle.play_meaning.specs.SoundCodes.{IsSound}
 use Rattle.play_meaning.specs.Scripts.{rule_body, scope_of}
 use Rattle.play_meaning.specs.StandardRules.{standard_rules}
-use Rattle.play_meaning.specs.Trees.{Body, End, EndStory, Follow, If, Instead, Leave, Move, NowHeld, NowIs, NowNowhere, NowNumber, NowVariable, Phrase, Repeat, Say, Then, Try}
+use Rattle.play_meaning.specs.Trees.{Body, End, EndStory, Follow, If, Instead, Leave, Move, NowHeld, NowIs, NowNowhere, NowNumber, NowValued, NowVariable, Phrase, Repeat, Say, Then, Try}
 use Rattle.play_meaning.specs.Truth.{of_some, truth_in}
 use Rattle.play_meaning.specs.Values.{Scope, is_one, number_in, object_in}
 use Rattle.play_meaning.specs.Worlds.{World, set_variable}
@@ -115,6 +115,7 @@ module _ (least : ℕ) where
       phrase_held (NowNumber property o number) scope p held =
           gives_behind DoneHeld (number_in t.setting scope p.world number) (λ y. changed (make_number t.setting (object_in t.setting scope p.world o) property y) p) (λ n. held)
       phrase_held (NowVariable v number) scope p held = gives_behind DoneHeld (number_in t.setting scope p.world number) (λ y. changed (set_variable v y) p) (λ n. held)
+      phrase_held (NowValued o kind value) scope p held = held
       phrase_held (Try silent action o other) scope p held = gives_next Held DoneHeld _ _ (tries_held inner lowers _ p held) (λ q later. later)
       phrase_held (Follow book) scope p held = gives_next Held DoneHeld _ _ (follows_held inner lowers book scope.now p held) (λ q later. later)
       phrase_held (Leave flow) scope p held = held

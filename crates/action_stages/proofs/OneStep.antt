@@ -101,6 +101,10 @@ kept_again t x w v kept other fixed long =
         high = λ i below. other.numbers.high i (omega (arith, below, long.numbers, kept.numbers.many, other.numbers.many)) ∙
             count;
       };
+      values = record {
+        many = long.values ∙ kept.values.many;
+        high = λ i below. other.values.high i (omega (arith, below, long.values, kept.values.many, other.values.many)) ∙ count;
+      };
       variables = long.variables ∙ kept.variables;
       scenes = long.scenes ∙ kept.scenes;
       here = other.here;

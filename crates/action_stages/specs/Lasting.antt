@@ -3,10 +3,11 @@ use Rattle.std.specs.Prelude.{◌≡◌, length}
 use Rattle.play_meaning.specs.Machines.{Abandons, Answers, Goes, Leaves, Step, Stuck}
 use Rattle.play_meaning.specs.Worlds.{World}
 
--- as many properties of both sorts, variables and scenes
+-- as many properties of both sorts, kinds of value, variables and scenes
 pub record IsAsLong (w v : World) : Type 0 where
   pub flags : length v.flags ≡ length w.flags
   pub numbers : length v.numbers ≡ length w.numbers
+  pub values : length v.values ≡ length w.values
   pub variables : length v.variables ≡ length w.variables
   pub scenes : length v.scenes ≡ length w.scenes
 

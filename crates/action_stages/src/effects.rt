@@ -95,6 +95,11 @@ fn make(world: &mut World, change: Change) -> Result<(), WorldFault>
             value,
         } => world.set_number(object, property, value),
         Change::SetVariable { variable, value } => world.set_variable(variable, value),
+        Change::SetValue {
+            object,
+            kind,
+            value,
+        } => world.set_value(object, kind, value),
         Change::Put {
             object,
             relation,

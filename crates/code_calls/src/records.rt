@@ -1,5 +1,6 @@
 //! Codes with what they are judged by, one behind the other: a byte for the use (0 a test, 1 a description, 2 a body), one for
-//! the loops around a test, eleven counts in two bytes each, the code's length in three, and the code.
+//! the loops around a test, eleven counts in two bytes each, a byte for how many kinds of value there are and one for how many values each has, the
+//! code's length in three, and the code.
 ghost use Rattle.std.specs.Prelude.{◌<◌, ◌≤◌, ◌+◌, ◌≡◌, length, IfSome};
 
 use play_meaning::{Counts, Use};
@@ -13,6 +14,25 @@ fn word(bytes: &[u8]) -> Option<(u16, &[u8])>
         return None;
     };
     Some((u16::from_be_bytes([*high, *low]), rest))
+}
+
+/// How many values kinds of value have, as many as are told of, and what stands behind them.
+fn values(bytes: &[u8]) -> Option<([u8; 100], &[u8])>
+    ensures { IfSome result (λ r. length r.1.now < length bytes.now) }
+{
+    let [count, rest @ ..] = bytes else {
+        return None;
+    };
+    let count = usize::from(*count);
+    if rest.len() < count || count > 100 {
+        return None;
+    }
+    let (told, rest) = rest.split_at(count);
+    let mut values = [0; 100];
+    for (value, one) in values.iter_mut().zip(told) {
+        *value = *one;
+    }
+    Some((values, rest))
 }
 
 /// The counts, and what stands behind them.
@@ -30,6 +50,7 @@ fn counts(bytes: &[u8]) -> Option<(Counts, &[u8])>
     let (actions, rest) = word(rest)?;
     let (books, rest) = word(rest)?;
     let (own, rest) = word(rest)?;
+    let (values, rest) = values(rest)?;
     let counts = Counts {
         objects,
         kinds,
@@ -42,6 +63,7 @@ fn counts(bytes: &[u8]) -> Option<(Counts, &[u8])>
         actions,
         books,
         own,
+        values,
     };
     Some((counts, rest))
 }

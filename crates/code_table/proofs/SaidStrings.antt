@@ -10,7 +10,7 @@ use Rattle.play_meaning.specs.declared.instruction.Instruction.TheVariants as co
 use Rattle.play_meaning.specs.TranslatedScripts.{description_part}
 use Rattle.play_meaning.specs.Translation.{Part, adjective_code, adjectives_code, asked_of, body_part, choice, condition_part, description_code, held_code, is_there_code, kind_code, leave_part, loop, number_part, object_code, one, phrase_part, seq, strings_of_body, strings_of_phrase, strings_of_text, test_code, testing, text_part, these}
 use Rattle.play_meaning.specs.Trees as tree
-use Rattle.play_meaning.specs.Trees.{Adjective, Body, Condition, Description, NotSo, Number, Object, Phrase, Quality, Text, Touchable, Visible}
+use Rattle.play_meaning.specs.Trees.{Adjective, Body, Condition, Description, NotSo, Number, Object, Phrase, Quality, Text, Touchable, Valued, Visible}
 use Rattle.play_meaning.specs.declared.outcome.Flow.{Flow}
 use Rattle.play_meaning.specs.declared.outcome.Flow.TheVariants.{Decides, GoesOn, NoDecision}
 use Rattle.play_meaning.specs.declared.outcome.Outcome.TheVariants.{Failure, Success}
@@ -47,6 +47,7 @@ and_none a b first second = none (a ++ b) (code.And ∷ []) (none a b first seco
 adjective_none : (o : List Instruction) → strings_in o ≡ [] → (adjective : Adjective) → strings_in (adjective_code o adjective) ≡ []
 unfolding adjective_code
 adjective_none o is (Quality p side) = none o (code.Flag p (asked_of side) ∷ []) is refl
+adjective_none o is (Valued q value) = none o (code.Valued q value ∷ []) is refl
 adjective_none o is Visible = none o (code.Visible ∷ []) is refl
 adjective_none o is Touchable = none o (code.Touchable ∷ []) is refl
 adjective_none o is (NotSo adjective) =
@@ -176,6 +177,9 @@ module _ (string : List ℕ → ℕ) where
   text_names k (tree.DescriptionOf o more) =
       seq_names (these (object_code o ++ code.Description ∷ [])) (text_part string k more) [] (map string (strings_of_text more))
       (these_name (object_code o ++ code.Description ∷ []) (none (object_code o) (code.Description ∷ []) (object_none o) refl)) (text_names k more)
+  text_names k (tree.ValueName q o more) =
+      seq_names (these (object_code o ++ code.ValueName q ∷ [])) (text_part string k more) [] (map string (strings_of_text more))
+      (these_name (object_code o ++ code.ValueName q ∷ []) (none (object_code o) (code.ValueName q ∷ []) (object_none o) refl)) (text_names k more)
   text_names k (tree.IfSaid condition a b more) =
       alike (seq (choice (condition_part k condition) (text_part string k a) (text_part string k b)) (text_part string k more))
       ((map string (strings_of_text a) ++ map string (strings_of_text b)) ++ map string (strings_of_text more)) (map string (strings_of_text a ++ strings_of_text b ++ strings_of_text more))
@@ -210,6 +214,7 @@ module _ (string : List ℕ → ℕ) where
         seq_names (seq (these (object_code o)) (number_part k number)) (one (code.SetProp p)) [] []
         (seq_names (these (object_code o)) (number_part k number) [] [] (these_name (object_code o) (object_none o)) (number_names k number)) (these_name (code.SetProp p ∷ []) refl)
     phrase_names k (tree.NowVariable v number) = seq_names (number_part k number) (one (code.SetVar v)) [] [] (number_names k number) (these_name (code.SetVar v ∷ []) refl)
+    phrase_names k (tree.NowValued o q value) = these_name (object_code o ++ code.SetValue q value ∷ []) (none (object_code o) (code.SetValue q value ∷ []) (object_none o) refl)
     phrase_names k (tree.Try silent action noun second) = these_name (object_code noun ++ object_code second ++ code.Try silent action ∷ []) (held_none noun second (code.Try silent action) refl)
     phrase_names k (tree.Follow book) = these_name (code.Follow book ∷ []) refl
     phrase_names k (tree.Leave flow) = leave_names flow

@@ -1,7 +1,7 @@
 -- What fits inside so many loops names the object of no other.
 use Rattle.std.proofs.Common.{ℕ, ◌+◌, pos, List, arith}
 use Rattle.play_meaning.specs.Scoping.{BodyIsWithin, ConditionIsWithin, DescriptionIsWithin, NumberIsWithin, ObjectIsWithin, PhraseIsWithin}
-use Rattle.play_meaning.specs.Trees.{Body, Condition, CountOf, Description, End, EndStory, Figure, Follow, HasDescription, If, IfSaid, Instead, IsAtMost, IsSame, Leave, Literal, Move, NowHeld, NowIs, NowNowhere, NowNumber, NowVariable, Number, Object, Phrase, Repeat, Say, Silence, Then, Try}
+use Rattle.play_meaning.specs.Trees.{Body, Condition, CountOf, Description, End, EndStory, Figure, Follow, HasDescription, If, IfSaid, Instead, IsAtMost, IsSame, Leave, Literal, Move, NowHeld, NowIs, NowNowhere, NowNumber, NowValued, NowVariable, Number, Object, Phrase, Repeat, Say, Silence, Then, Try}
 use Rattle.play_meaning.specs.declared.operand.Counts.{Counts}
 use Rattle.play_meaning.specs.declared.operand.Use.TheVariants as role
 use Rattle.story_code.specs.Fitting.{BodyFits, ConditionFits, HeldFits, NumberFits, ObjectFits, PhraseFits, TestFits}
@@ -37,6 +37,7 @@ module _ (z : Counts) (string : List ℕ → ℕ) where
     phrase_within k (Move o holder) fits = objects_within k o holder fits
     phrase_within k (NowNumber p o number) fits = (object_within k o fits.1.0, second_within k number fits.1.1)
     phrase_within k (NowVariable v number) fits = number_within k number fits.1
+    phrase_within k (NowValued o q value) fits = object_within k o fits.1
     phrase_within k (Try silent action noun second) fits = objects_within k noun second fits.1
     phrase_within k (Follow book) fits = tt
     phrase_within k (Leave flow) fits = tt

@@ -94,6 +94,7 @@ declared_by claims = record {
   scenes = scenes_of claims (names_as sort.Scene claims);
   rulebooks = length (names_as sort.Rulebook claims);
   actions = [];
+  values = [];
 }
 
 -- ---- refusals

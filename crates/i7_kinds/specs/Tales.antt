@@ -179,6 +179,7 @@ object_as m kind o e = record {
   exits = exits_by m.parents m.statements kind o;
   properties = properties_from m o kind 0 built_in_truths m.flags;
   numbers = numbers_from m o kind (length m.flags) m.numbers;
+  values = [];
 }
 
 abbrev pub object_of : Made → ℕ → Entry → Object

@@ -154,5 +154,6 @@ pub fn declared_by(alloc: Global, names: &Strings, claims: &[Claim]) -> Result<D
         scenes: Listed::new(recurring),
         rulebooks: rulebooks.len(),
         actions: Listed::new(Vec::new(alloc)),
+        values: Listed::new(Vec::new(alloc)),
     })
 }

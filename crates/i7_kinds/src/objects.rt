@@ -147,6 +147,7 @@ fn object_as(
         exits: exits_by(makings, kind, number),
         properties: Listed::new(properties_of(alloc, makings, number, kind)?),
         numbers: Listed::new(numbers_of(alloc, makings, number, kind)?),
+        values: Listed::new(Vec::new(alloc)),
     })
 }
 

@@ -59,6 +59,7 @@ module _ (z : Counts) (s : Scope) (there : AreThere z s.meanings s.plurals) wher
 
   abbrev IsQuality : Quality → Type 0
   IsQuality (quality.Is p side) = p < z.qualities
+  IsQuality (quality.Valued q value) = Unit {0}
   IsQuality quality.Visible = Unit {0}
   IsQuality quality.Touchable = Unit {0}
 
@@ -101,6 +102,7 @@ module _ (z : Counts) (s : Scope) (there : AreThere z s.meanings s.plurals) wher
   quality_asked : (q : Quality) (denied : Bool) → IsQuality q → is_either_or_quality q ≡ true → is_quality_of z (denied_if denied (quality_meant q)) ≡ true
   quality_asked (quality.Is p side) true is either = lt-ltb p z.qualities is
   quality_asked (quality.Is p side) false is either = lt-ltb p z.qualities is
+  quality_asked (quality.Valued q value) denied is either = absurd cc
   quality_asked quality.Visible denied is either = absurd cc
   quality_asked quality.Touchable denied is either = absurd cc
 

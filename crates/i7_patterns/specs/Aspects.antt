@@ -28,6 +28,7 @@ is_something (word ∷ other ∷ words) = false
 -- an either-or property, which `visible` and `touchable` aren't
 abbrev pub is_either_or_quality : Quality → Bool
 is_either_or_quality (quality.Is property side) = true
+is_either_or_quality (quality.Valued q value) = false
 is_either_or_quality quality.Visible = false
 is_either_or_quality quality.Touchable = false
 

@@ -38,7 +38,7 @@ fn is_either_or_quality(quality: Quality) -> bool
 {
     match quality {
         Quality::Is(_, _) => true,
-        Quality::Visible | Quality::Touchable => false,
+        Quality::Valued(_, _) | Quality::Visible | Quality::Touchable => false,
     }
 }
 

@@ -16,6 +16,7 @@ piece_meant_is (piece.Figure number) more = refl
 piece_meant_is (piece.Name naming o) more = refl
 piece_meant_is (piece.Listing naming description) more = refl
 piece_meant_is (piece.DescriptionOf o) more = refl
+piece_meant_is (piece.ValueName q o) more = refl
 
 pieces_meant_are : (ps : List KeptPiece) → pieces_meant ps ≡ run_then (map piece_of ps) tree.Silence
 pieces_meant_are [] = refl

@@ -14,7 +14,7 @@ use Rattle.i7_conditions.specs.declared.found.Found.{Found}
 use Rattle.i7_conditions.specs.declared.found.Found.TheVariants.{Read, TooMany, Unread}
 use Rattle.i7_conditions.proofs.Listing.{Made, MadeOfTwo, one_found, two_found}
 use Rattle.i7_phrases.specs.Drafts.{Chosen, Draft, Else, EndIf, If, IsReadOn, IsSense, Otherwise, Outside, Over, Part, Plain, Said, Sense, Then, after, draft_of, ended, next_of, part_then, parts_then, place_of, run_then, with_end, with_found, with_if, with_otherwise, with_piece}
-use Rattle.i7_phrases.specs.Substitutions.{Bytes, DescriptionOf, Figure, Listing, Name, Piece, piece_is_over}
+use Rattle.i7_phrases.specs.Substitutions.{Bytes, DescriptionOf, Figure, Listing, Name, Piece, ValueName, piece_is_over}
 use Rattle.i7_phrases.specs.Texts.{IsText, Says, said_then, text_is_over}
 use Rattle.i7_phrases.specs.declared.draft.Draft.{Draft as Kept}
 use Rattle.i7_phrases.specs.declared.draft.Place.{Place}
@@ -39,6 +39,7 @@ over_said (Figure number) t = refl
 over_said (Name naming o) t = refl
 over_said (Listing naming description) t = refl
 over_said (DescriptionOf o) t = refl
+over_said (ValueName q o) t = refl
 
 over_ahead : (where_is : Place) (p : Piece) (a : Ahead) → ahead_is_over where_is (said_ahead p a) ≡ (piece_is_over p || ahead_is_over where_is a)
 over_ahead place.Outside p a = over_said p a.now

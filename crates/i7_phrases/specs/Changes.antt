@@ -7,7 +7,7 @@ use Rattle.play_meaning.specs.Trees as tree
 use Rattle.play_meaning.specs.declared.tree.number.Operator.{Operator}
 use Rattle.play_meaning.specs.declared.tree.object.Adjective.{Adjective}
 use Rattle.play_meaning.specs.declared.tree.object.Quality.{Quality}
-use Rattle.play_meaning.specs.declared.tree.object.Quality.TheVariants.{Is, Touchable, Visible}
+use Rattle.play_meaning.specs.declared.tree.object.Quality.TheVariants.{Is, Touchable, Valued, Visible}
 use Rattle.play_meaning.specs.declared.tree.object.Side.{Side}
 use Rattle.play_meaning.specs.declared.tree.object.Side.TheVariants.{First, Second}
 use Rattle.i7_conditions.specs.Adjectives.{adjective_named}
@@ -29,6 +29,7 @@ value_by Second denied = denied
 -- the either-or property that an adjective names, and the value that it gives it; nothing is made visible
 abbrev pub flag_in : Quality → Bool → Option (ℕ × Bool)
 flag_in (Is property side) denied = Some (property, value_by side denied)
+flag_in (Valued q value) denied = None
 flag_in Visible denied = None
 flag_in Touchable denied = None
 

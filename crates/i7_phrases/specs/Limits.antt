@@ -14,5 +14,6 @@ phrase_is_over (tree.NowNowhere o) = is_deep o
 phrase_is_over (tree.Move o holder) = is_deep o || is_deep holder
 phrase_is_over (tree.NowNumber property o n) = is_deep o || is_over n
 phrase_is_over (tree.NowVariable v n) = is_over n
+phrase_is_over (tree.NowValued o q value) = is_deep o
 phrase_is_over (tree.Try silently action noun second) = is_deep noun || is_deep second
 phrase_is_over _ = false

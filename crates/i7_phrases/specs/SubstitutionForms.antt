@@ -11,7 +11,7 @@ use Rattle.i7_conditions.specs.Scopes.{Scope}
 use Rattle.i7_conditions.specs.Words.{Word}
 use Rattle.i7_conditions.specs.declared.found.Found.{Found}
 use Rattle.i7_conditions.specs.declared.found.Found.TheVariants.{Read, TooMany, Unread}
-use Rattle.i7_phrases.specs.Substitutions.{Bytes, DescriptionOf, Figure, Listing, Name, Piece, Telling, behind_of, listing_in, telling_in}
+use Rattle.i7_phrases.specs.Substitutions.{Bytes, DescriptionOf, Figure, Listing, Name, Piece, Telling, ValueName, behind_of, listing_in, telling_in}
 
 abbrev pub figure_said : Scope → List Word → Found Piece
 figure_said s words = one Figure (number_said s words)
@@ -46,6 +46,7 @@ piece_of (kept.Figure number) = Figure (number_meant number)
 piece_of (kept.Name naming o) = Name naming (object_meant o)
 piece_of (kept.Listing naming description) = Listing naming (description_meant description)
 piece_of (kept.DescriptionOf o) = DescriptionOf (object_meant o)
+piece_of (kept.ValueName q o) = ValueName q (object_meant o)
 
 abbrev pub found_piece : Found Kept → Found Piece
 found_piece (Read piece) = Read (piece_of piece)

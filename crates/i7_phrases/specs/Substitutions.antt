@@ -23,6 +23,7 @@ pub data Piece : Type 0 where
   -- the names of the objects that a description means
   Listing : Naming → tree.Description → Piece
   DescriptionOf : tree.Object → Piece
+  ValueName : ℕ → tree.Object → Piece
 
 -- more than 9 adjectives, or more than 8 `from`s within one another
 abbrev pub piece_is_over : Piece → Bool
@@ -31,6 +32,7 @@ piece_is_over (Figure number) = is_over number
 piece_is_over (Name naming o) = is_deep o
 piece_is_over (Listing naming description) = is_long description
 piece_is_over (DescriptionOf o) = is_deep o
+piece_is_over (ValueName q o) = is_deep o
 
 -- ---- names
 

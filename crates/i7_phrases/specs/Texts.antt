@@ -12,7 +12,7 @@ use Rattle.i7_conditions.specs.Scopes.{Scope}
 use Rattle.i7_conditions.specs.Terms.{is_over}
 use Rattle.i7_conditions.specs.declared.found.Found.{Found}
 use Rattle.i7_conditions.specs.declared.found.Found.TheVariants.{Read, TooMany, Unread}
-use Rattle.i7_phrases.specs.Substitutions.{Bytes, DescriptionOf, Figure, Listing, Name, Piece, Substitutes}
+use Rattle.i7_phrases.specs.Substitutions.{Bytes, DescriptionOf, Figure, Listing, Name, Piece, Substitutes, ValueName}
 
 -- a piece, and what is said behind it
 abbrev pub said_then : Piece → tree.Text → tree.Text
@@ -21,6 +21,7 @@ said_then (Figure number) more = tree.Figure number more
 said_then (Name naming o) more = tree.Name naming o more
 said_then (Listing naming description) more = tree.Listing naming description more
 said_then (DescriptionOf o) more = tree.DescriptionOf o more
+said_then (ValueName q o) more = tree.ValueName q o more
 
 -- what a piece says that is no mark of an if
 abbrev pub Says : Scope → TextPiece → Piece → Type 0
@@ -54,6 +55,7 @@ text_is_over (tree.Figure number more) = is_over number || text_is_over more
 text_is_over (tree.Name naming o more) = is_deep o || text_is_over more
 text_is_over (tree.Listing naming description more) = is_long description || text_is_over more
 text_is_over (tree.DescriptionOf o more) = is_deep o || text_is_over more
+text_is_over (tree.ValueName q o more) = is_deep o || text_is_over more
 text_is_over (tree.IfSaid c a b more) = asks_over c || (text_is_over a || (text_is_over b || text_is_over more))
 
 abbrev pub found_text : Found Text → Found tree.Text

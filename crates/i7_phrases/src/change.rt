@@ -37,7 +37,7 @@ fn flag_of(adjective: Option<Adjective>) -> Option<(u8, bool)>
         None => None,
         Some(adjective) => match adjective.quality {
             Quality::Is(property, side) => Some((property, value_by(side, adjective.denied))),
-            Quality::Visible | Quality::Touchable => None,
+            Quality::Valued(_, _) | Quality::Visible | Quality::Touchable => None,
         },
     }
 }

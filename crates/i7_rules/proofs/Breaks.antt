@@ -18,6 +18,7 @@ broken_behind_piece (piece.Figure number) more = refl
 broken_behind_piece (piece.Name naming o) more = refl
 broken_behind_piece (piece.Listing naming description) more = refl
 broken_behind_piece (piece.DescriptionOf o) more = refl
+broken_behind_piece (piece.ValueName q o) more = refl
 
 broken_behind : (part : Said) (more : tree.Text) → with_break (said_meant part more) ≡ said_meant part (with_break more)
 broken_behind (said.Plain p) more = broken_behind_piece p more

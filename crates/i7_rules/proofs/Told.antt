@@ -37,6 +37,7 @@ breaks_are_within (tree.Figure number more) = ap (λ over. is_over number || ove
 breaks_are_within (tree.Name naming o more) = ap (λ over. is_deep o || over) (breaks_are_within more)
 breaks_are_within (tree.Listing naming description more) = ap (λ over. is_long description || over) (breaks_are_within more)
 breaks_are_within (tree.DescriptionOf o more) = ap (λ over. is_deep o || over) (breaks_are_within more)
+breaks_are_within (tree.ValueName q o more) = ap (λ over. is_deep o || over) (breaks_are_within more)
 breaks_are_within (tree.IfSaid c a b more) = ap (λ over. asks_over c || (text_is_over a || (text_is_over b || over))) (breaks_are_within more)
 
 closed_is_within : (is_sentence : Bool) (text : tree.Text) → phrase_is_over (saying is_sentence text) ≡ text_is_over text

@@ -39,6 +39,7 @@ with_break (tree.Figure number more) = tree.Figure number (with_break more)
 with_break (tree.Name naming o more) = tree.Name naming o (with_break more)
 with_break (tree.Listing naming description more) = tree.Listing naming description (with_break more)
 with_break (tree.DescriptionOf o more) = tree.DescriptionOf o (with_break more)
+with_break (tree.ValueName q o more) = tree.ValueName q o (with_break more)
 with_break (tree.IfSaid c a b more) = tree.IfSaid c a b (with_break more)
 
 abbrev pub closed : Bool → tree.Text → tree.Text

@@ -39,6 +39,7 @@ fn object(alloc: Global, kind: KindNo) -> Result<Object, AllocError> {
         },
         properties: Listed::new(Vec::new(alloc)),
         numbers: Listed::new(Vec::new(alloc)),
+        values: Listed::new(Vec::new(alloc)),
     })
 }
 

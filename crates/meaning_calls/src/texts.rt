@@ -26,6 +26,7 @@ fn piece(alloc: Global, piece: &Piece) -> Result<String, AllocError> {
             format!(in alloc; "{naming:?} list {those};")
         }
         Piece::DescriptionOf(object) => format!(in alloc; "description {object:?};"),
+        Piece::ValueName(kind, object) => format!(in alloc; "value {kind} {object:?};"),
     }
 }
 

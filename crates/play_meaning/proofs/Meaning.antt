@@ -3,20 +3,20 @@ use Rattle.std.proofs.Common.{◌≡◌, ◌∙◌, ap, sym, subst, ℕ, ◌+◌
 use Rattle.std.specs.Fmt.{signed_decimal}
 use Rattle.std.proofs.lemmas.List.{append-nil}
 use Rattle.play_meaning.specs.Attempts.{Attempt, next}
-use Rattle.play_meaning.specs.Changes.{make_number, make_so, move, put, take_away}
+use Rattle.play_meaning.specs.Changes.{make_number, make_so, make_value, move, put, take_away}
 use Rattle.play_meaning.specs.Doing.{changed, do_body, do_phrase, repeat, said_then}
 use Rattle.play_meaning.specs.Instructions as code
 use Rattle.play_meaning.specs.Instructions.{Instruction, size_of, sizes}
 use Rattle.play_meaning.specs.Machines.{Frame, Goes, does, object_at, object_number, unless_abandoned}
 use Rattle.play_meaning.specs.Progress.{Done, Progress, change, goes_on, leaves, say, then_do}
-use Rattle.play_meaning.specs.Saying.{chosen, description_in, listed, name_in, said_in, then_said}
+use Rattle.play_meaning.specs.Saying.{chosen, description_in, listed, name_in, said_in, then_said, value_name}
 use Rattle.play_meaning.specs.Scoping.{BodyIsWithin, ConditionIsWithin, DescriptionIsWithin, NumberIsWithin, PhraseIsWithin, TextIsWithin}
 use Rattle.play_meaning.specs.Settings.{objects_of}
 use Rattle.play_meaning.specs.Translation.{Part, body_part, choice, condition_part, leave_part, loop, number_part, object_code, one, phrase_part, seq, strings_of_body, strings_of_phrase, strings_of_text, test_code, testing, text_part, these}
 use Rattle.play_meaning.specs.Trees as tree
 use Rattle.play_meaning.specs.Trees.{Body, Condition, Phrase, Text}
 use Rattle.play_meaning.specs.Truth.{truth_in}
-use Rattle.play_meaning.specs.Values.{is_one, number_in, those}
+use Rattle.play_meaning.specs.Values.{is_one, number_in, those, value_at}
 use Rattle.play_meaning.specs.Worlds.{end_with, set_variable}
 use Rattle.play_meaning.specs.declared.outcome.Flow.{Flow}
 use Rattle.play_meaning.specs.declared.outcome.Flow.TheVariants.{GoesOn, NoDecision, Decides}
@@ -221,6 +221,14 @@ module _ (f : Frame) (c : List Instruction) (string : List ℕ → ℕ) where
         (value_said {A = ℕ} q (object_code o) code.Description p (λ v. object_number (object_here f turning p o) ∷ []) (Ok 0) (λ v. description_in f.telling f.now p.world (object_here f turning p o))
         (has_back c q (object_code o) (code.Description ∷ []) at) (object_gives f c turning p o q [] (has_front c q (object_code o) (code.Description ∷ []) at))
         (λ r v. ap (λ n. unless_abandoned (description_in f.telling f.now p.world n) (λ bytes. Goes (St (r + 1) [] (open_loops turning) (say bytes p)))) (object_back (object_here f turning p o))))
+    text_comes (tree.ValueName n o more) t q p within strings tests has =
+        let name = these (object_code o ++ code.ValueName n ∷ []) in
+        let at = front_of name (text_part string k more) t q has in
+        let said = λ (v : Option ℕ). value_name f.telling.setting n (value_at f.telling.setting p.world n v) in
+        text_behind name (λ p. Ok (value_name f.telling.setting n (value_at f.telling.setting p.world n (object_here f turning p o)))) more (text_comes more) t q p within.1 strings tests has
+        (value_said {A = ℕ} q (object_code o) (code.ValueName n) p (λ v. object_number (object_here f turning p o) ∷ []) (Ok 0) (λ v. Ok (said (object_here f turning p o)))
+        (has_back c q (object_code o) (code.ValueName n ∷ []) at) (object_gives f c turning p o q [] (has_front c q (object_code o) (code.ValueName n ∷ []) at))
+        (λ r v. ap (λ m. Goes (St (r + 2) [] (open_loops turning) (say (said m) p))) (object_back (object_here f turning p o))))
     text_comes (tree.IfSaid condition a b more) t q p within strings tests has =
         let either = choice (condition_part k condition) (text_part string k a) (text_part string k b) in
         let both = stand_front (strings_of_text a ++ strings_of_text b) (strings_of_text more) strings in
@@ -422,6 +430,8 @@ module _ (f : Frame) (c : List Instruction) (string : List ℕ → ℕ) where
         objects_done turning o holder q code.Move p (λ a b. Ok (change (move f.telling.setting a b) p)) has (λ s a b. refl)
     phrase_comes (tree.NowNumber n o number) turning t q p within strings tests has = property_done turning o number n t q p within.1 tests has
     phrase_comes (tree.NowVariable v number) turning t q p within strings tests has = number_done turning number v t q p within tests has
+    phrase_comes (tree.NowValued o n value) turning t q p within strings tests has =
+        object_done turning o q (code.SetValue n value) p (λ v. change (make_value f.telling.setting v n value) p) has (λ r v. refl)
     phrase_comes (tree.Try silent action noun second) turning t q p within strings tests has =
         objects_done turning noun second q (code.Try silent action) p
         (λ a b. f.inner.tries (record { action = action; noun = a; second = b; silent = silent }) p) has (λ s a b. refl)

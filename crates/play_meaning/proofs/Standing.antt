@@ -1,7 +1,7 @@
 -- Where instructions stand in a code, and runs through those that stand one behind the other.
 use Rattle.std.proofs.Common.{◌≡◌, ◌∙◌, subst, ℕ, suc, ◌+◌, ◌-◌, ◌≤◌, List, [], ◌∷◌, ◌++◌, length, append_assoc, refl, Some, arith}
 use Rattle.std.proofs.lemmas.Bool.{le-ltb, ne_eqb}
-use Rattle.play_meaning.specs.Instructions.{Add, And, Answer, AtMost, Away, Begin, Count, Dark, Description, Done, Door, Encloses, EndStory, Eq, Failure, Figure, Flag, Follow, Happens, HasDescription, Held, Holder, IfZero, Instruction, Jump, Kind, Less, Location, Loop, Move, Mul, Name, Names, Next, NoDecision, Not, Noun, Num, Or, Prop, PutAt, Room, Say, Second, SetFlag, SetProp, SetVar, Sub, Success, Touchable, Try, Turns, Var, Visible, at_place, size_of, sizes}
+use Rattle.play_meaning.specs.Instructions.{Add, And, Answer, AtMost, Away, Begin, Count, Dark, Description, Done, Door, Encloses, EndStory, Eq, Failure, Figure, Flag, Follow, Happens, HasDescription, Held, Holder, IfZero, Instruction, Jump, Kind, Less, Location, Loop, Move, Mul, Name, Names, Next, NoDecision, Not, Noun, Num, Or, Prop, PutAt, Room, Say, Second, SetFlag, SetProp, SetValue, SetVar, Sub, Success, Touchable, Try, Turns, Valued, ValueName, Var, Visible, at_place, size_of, sizes}
 
 -- every instruction takes a byte
 pub size_is : (i : Instruction) → size_of i ≡ suc (size_of i - 1)
@@ -34,6 +34,7 @@ size_is (Happens a) = refl
 size_is HasDescription = refl
 size_is Room = refl
 size_is Door = refl
+size_is (Valued a b) = refl
 size_is (Count a b) = refl
 size_is (Names a b c) = refl
 size_is (Say a) = refl
@@ -46,6 +47,8 @@ size_is (SetVar a) = refl
 size_is (PutAt a) = refl
 size_is Move = refl
 size_is Away = refl
+size_is (ValueName a) = refl
+size_is (SetValue a b) = refl
 size_is (Try a b) = refl
 size_is (Follow a) = refl
 size_is (IfZero a) = refl

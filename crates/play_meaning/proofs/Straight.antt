@@ -13,7 +13,7 @@ use Rattle.play_meaning.specs.Progress.{Progress, fresh}
 use Rattle.play_meaning.specs.Scoping.{DescriptionIsWithin, ObjectIsWithin}
 use Rattle.play_meaning.specs.Translation.{adjective_code, adjectives_code, and_code, asked_of, description_code, is_there_code, kind_code, object_code, test_code}
 use Rattle.play_meaning.specs.Trees as tree
-use Rattle.play_meaning.specs.Trees.{Adjective, Description, First, NotSo, Object, Quality, Second, Touchable, Visible}
+use Rattle.play_meaning.specs.Trees.{Adjective, Description, First, NotSo, Object, Quality, Second, Touchable, Valued, Visible}
 use Rattle.play_meaning.specs.Truth.{of_some}
 use Rattle.play_meaning.specs.Values.{Scope, beyond, is_among, is_held, is_one, is_so, object_in}
 use Rattle.play_meaning.specs.Worlds.{World, location_of}
@@ -249,6 +249,7 @@ module _ (f : Frame) (c : List Instruction) (turning : List ℕ) (p : Progress) 
       → GivesTruth (adjective_code ca adjective) (of_some v (is_so f.telling.setting p.world adjective))
   unfolding adjective_code does
   adjective_gives (Quality n side) ca v gives = quality_gives ca v n side gives
+  adjective_gives (Valued n value) ca v gives = asks_object ca (code.Valued n value) v (is_so f.telling.setting p.world (Valued n value)) gives (λ q xs o. refl)
   adjective_gives Visible ca v gives = asks_object ca code.Visible v (is_so f.telling.setting p.world Visible) gives (λ q xs o. refl)
   adjective_gives Touchable ca v gives = asks_object ca code.Touchable v (is_so f.telling.setting p.world Touchable) gives (λ q xs o. refl)
   adjective_gives (NotSo adjective) ca v gives =

@@ -292,6 +292,7 @@ module _ (z : Counts) (role : Use) (c : Labelled) where
     keeps s code.HasDescription fine many = asked s code.HasDescription _ (room s code.HasDescription 1 1 fine many refl refl (below_many (takes code.HasDescription)))
     keeps s code.Room fine many = asked_two s code.Room _ (room s code.Room 2 1 fine many refl refl (below_many (takes code.Room)))
     keeps s code.Door fine many = asked_two s code.Door _ (room s code.Door 2 1 fine many refl refl (below_many (takes code.Door)))
+    keeps s (code.Valued n value) fine many = asked s (code.Valued n value) _ (room s (code.Valued n value) 1 1 fine many refl refl (below_many (takes (code.Valued n value))))
     keeps s (code.Count k test) fine many =
         or_abandons s.place (passing_in f s k test) _ (λ objects. pushed s (code.Count k test) (pos (length objects)) (room s (code.Count k test) 0 1 fine many refl refl (below_many [])))
     keeps s (code.Names naming k test) fine many =
@@ -310,6 +311,8 @@ module _ (z : Counts) (role : Use) (c : Labelled) where
     keeps s (code.PutAt r) fine many = takes_two s (code.PutAt r) _ (room s (code.PutAt r) 2 0 fine many refl refl (below_many (takes (code.PutAt r))))
     keeps s code.Move fine many = takes_two s code.Move _ (room s code.Move 2 0 fine many refl refl (below_many (takes code.Move)))
     keeps s code.Away fine many = takes_one s code.Away _ (room s code.Away 1 0 fine many refl refl (below_many (takes code.Away)))
+    keeps s (code.ValueName n) fine many = takes_one s (code.ValueName n) _ (room s (code.ValueName n) 1 0 fine many refl refl (below_many (takes (code.ValueName n))))
+    keeps s (code.SetValue n value) fine many = takes_one s (code.SetValue n value) _ (room s (code.SetValue n value) 1 0 fine many refl refl (below_many (takes (code.SetValue n value))))
     keeps s (code.Try silent action) fine many =
         let i = code.Try silent action in
         let r = room s i 2 0 fine many refl refl (below_many (takes i)) in

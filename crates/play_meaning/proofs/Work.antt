@@ -16,7 +16,7 @@ use Rattle.play_meaning.specs.Rules.{Rule}
 use Rattle.play_meaning.specs.Saying.{Telling, chosen, said_in}
 use Rattle.play_meaning.specs.Settings.{Setting, objects_of}
 use Rattle.play_meaning.specs.Scripts.{Script, game_of, rule_body, scope_of, telling_of}
-use Rattle.play_meaning.specs.Trees.{Body, End, EndStory, Follow, If, Instead, Leave, Move, NowHeld, NowIs, NowNowhere, NowNumber, NowVariable, Phrase, Repeat, Say, Then, Try}
+use Rattle.play_meaning.specs.Trees.{Body, End, EndStory, Follow, If, Instead, Leave, Move, NowHeld, NowIs, NowNowhere, NowNumber, NowValued, NowVariable, Phrase, Repeat, Say, Then, Try}
 use Rattle.play_meaning.specs.Truth.{of_some, truth_in}
 use Rattle.play_meaning.specs.Turns.{beginning_of, begins_book, begins_now, behind_action, completed, count_turn, ending_of, follow, in_order, look_round, name_first, opening, parts, pass, perform, perform_upon, scene_steps, set_and_follow, turn, turn_upon, unless_over, upon}
 use Rattle.play_meaning.specs.Values.{Scope, is_one, number_in, object_in}
@@ -105,6 +105,7 @@ mutual
   phrase_within t inner i (Move o holder) scope p within = within
   phrase_within t inner i (NowNumber property o number) scope p within = gives_behind DoneWithin (number_in t.setting scope p.world number) (λ y. changed (make_number t.setting (object_in t.setting scope p.world o) property y) p) (λ n. within)
   phrase_within t inner i (NowVariable v number) scope p within = gives_behind DoneWithin (number_in t.setting scope p.world number) (λ y. changed (set_variable v y) p) (λ n. within)
+  phrase_within t inner i (NowValued o q value) scope p within = within
   phrase_within t inner i (Try silent action o other) scope p within = gives_next Within DoneWithin _ _ (i.tries _ p within) (λ q held. held)
   phrase_within t inner i (Follow book) scope p within = gives_next Within DoneWithin _ _ (i.follows book scope.now p within) (λ q held. held)
   phrase_within t inner i (Leave flow) scope p within = within

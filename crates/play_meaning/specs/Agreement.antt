@@ -15,6 +15,8 @@ pub record SettingsAgree (a b : Setting) : Type 0 where
   pub depth : (kind : ℕ) → a.depth kind ≡ b.depth kind
   pub has_flag : (o property : ℕ) → a.has_flag o property ≡ b.has_flag o property
   pub has_number : (o property : ℕ) → a.has_number o property ≡ b.has_number o property
+  pub has_value : (o q : ℕ) → a.has_value o q ≡ b.has_value o q
+  pub value_names : (q : ℕ) → a.value_names q ≡ b.value_names q
   pub room_beyond : (room direction : ℕ) → a.room_beyond room direction ≡ b.room_beyond room direction
   pub door_beyond : (room direction : ℕ) → a.door_beyond room direction ≡ b.door_beyond room direction
   pub has_description : (o : ℕ) → a.has_description o ≡ b.has_description o

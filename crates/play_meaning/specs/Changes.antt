@@ -6,7 +6,8 @@ use Rattle.world_meaning.specs.declared.place.Rel.{Rel}
 use Rattle.world_meaning.specs.declared.place.Rel.TheVariants.{In, On, Carried}
 use Rattle.play_meaning.specs.Seeing.{encloses}
 use Rattle.play_meaning.specs.Settings.{Setting, container_kind, kinds_of, person_kind, room_kind, supporter_kind}
-use Rattle.play_meaning.specs.Worlds.{World, set_flag, set_number, set_place}
+use Rattle.play_meaning.specs.Values.{is_value}
+use Rattle.play_meaning.specs.Worlds.{World, set_flag, set_number, set_place, set_value}
 use Rattle.play_meaning.specs.declared.fault.WorldFault.{WorldFault}
 use Rattle.play_meaning.specs.declared.fault.WorldFault.TheVariants.{Memory, Misplaced}
 
@@ -52,6 +53,11 @@ make_so s (Some o) property value w = if s.has_flag o property then set_flag pro
 abbrev pub make_number : Setting → Option ℕ → ℕ → ℤ → World → World
 make_number s None property value w = w
 make_number s (Some o) property value w = if s.has_number o property then set_number property o value w else w
+
+-- one of the values of this kind, by its number
+abbrev pub make_value : Setting → Option ℕ → ℕ → ℕ → World → World
+make_value s None q value w = w
+make_value s (Some o) q value w = if s.has_value o q && is_value s q value then set_value q o value w else w
 
 -- ---- what comes of asking for a change
 

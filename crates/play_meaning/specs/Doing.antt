@@ -2,11 +2,11 @@
 -- (*Writing with Inform*, chapters 8 and 11).
 use Rattle.std.specs.Prelude.{ℕ, Bool, true, false, List, [], ◌∷◌, ◌++◌, Ok}
 use Rattle.play_meaning.specs.Attempts.{Attempt, next}
-use Rattle.play_meaning.specs.Changes.{make_number, make_so, move, put, take_away}
+use Rattle.play_meaning.specs.Changes.{make_number, make_so, make_value, move, put, take_away}
 use Rattle.play_meaning.specs.Progress.{Done, Progress, change, goes_on, leaves, say, spend, then_do}
 use Rattle.play_meaning.specs.Saying.{Telling, chosen, said_in}
 use Rattle.play_meaning.specs.Settings.{objects_of}
-use Rattle.play_meaning.specs.Trees.{Body, End, EndStory, Follow, If, Instead, Leave, Move, NowHeld, NowIs, NowNowhere, NowNumber, NowVariable, Object, Phrase, Repeat, Say, Text, Then, Try}
+use Rattle.play_meaning.specs.Trees.{Body, End, EndStory, Follow, If, Instead, Leave, Move, NowHeld, NowIs, NowNowhere, NowNumber, NowValued, NowVariable, Object, Phrase, Repeat, Say, Text, Then, Try}
 use Rattle.play_meaning.specs.Truth.{truth_in}
 use Rattle.play_meaning.specs.Values.{Scope, is_one, number_in, object_in}
 use Rattle.play_meaning.specs.Worlds.{World, end_with, set_variable}
@@ -54,6 +54,7 @@ unfoldable mutual
   do_phrase t inner (Move o holder) scope p = changed (move t.setting (object_in t.setting scope p.world o) (object_in t.setting scope p.world holder)) p
   do_phrase t inner (NowNumber property o number) scope p = next (number_in t.setting scope p.world number) (λ n. changed (make_number t.setting (object_in t.setting scope p.world o) property n) p)
   do_phrase t inner (NowVariable v number) scope p = next (number_in t.setting scope p.world number) (λ n. changed (set_variable v n) p)
+  do_phrase t inner (NowValued o q value) scope p = changed (make_value t.setting (object_in t.setting scope p.world o) q value) p
   do_phrase t inner (Try silent action noun second) scope p = going_on (inner.tries (tried t scope p.world silent action noun second) p)
   do_phrase t inner (Follow book) scope p = going_on (inner.follows book scope.now p)
   do_phrase t inner (Leave flow) scope p = leaves flow p

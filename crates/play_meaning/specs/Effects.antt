@@ -3,7 +3,7 @@
 use Rattle.std.specs.Prelude.{◌≡◌, ℕ, ◌-◌, List, [], ◌∷◌, Option, None, Some, Ok, Err, fold, slice_get}
 use Rattle.world_meaning.specs.declared.session.Abandon.TheVariants.{NumberOutOfRange}
 use Rattle.play_meaning.specs.Attempts.{Attempt, next}
-use Rattle.play_meaning.specs.Changes.{make_number, make_so, put_at, take_away}
+use Rattle.play_meaning.specs.Changes.{make_number, make_so, make_value, put_at, take_away}
 use Rattle.play_meaning.specs.Doing.{Inner}
 use Rattle.play_meaning.specs.Progress.{Done, Progress, change, leaves, say}
 use Rattle.play_meaning.specs.Saying.{Telling}
@@ -13,7 +13,7 @@ use Rattle.play_meaning.specs.StandardRules.{standard_rules}
 use Rattle.play_meaning.specs.Worlds.{World, end_with, set_scene, set_variable}
 use Rattle.play_meaning.specs.declared.action.ActionNow.{ActionNow}
 use Rattle.play_meaning.specs.declared.change.Change.{Change}
-use Rattle.play_meaning.specs.declared.change.Change.TheVariants.{SetFlag, SetNumber, SetVariable, Put, TakeOut, SetScene, EndStory}
+use Rattle.play_meaning.specs.declared.change.Change.TheVariants.{SetFlag, SetNumber, SetValue, SetVariable, Put, TakeOut, SetScene, EndStory}
 use Rattle.play_meaning.specs.declared.outcome.Flow.TheVariants.{GoesOn, Decides}
 use Rattle.play_meaning.specs.declared.outcome.Outcome.TheVariants.{Failure, Success}
 
@@ -34,6 +34,7 @@ pub record Answer : Type 0 where
 abbrev pub made : Setting → World → Change → World
 made s w (SetFlag o property value) = make_so s (Some o) property value w
 made s w (SetNumber o property value) = make_number s (Some o) property value w
+made s w (SetValue o q value) = make_value s (Some o) q value w
 made s w (SetVariable v value) = set_variable v value w
 made s w (Put o relation holder) = put_at s o (record { relation = relation; holder = holder }) w
 made s w (TakeOut o) = take_away s (Some o) w

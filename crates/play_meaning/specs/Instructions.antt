@@ -6,7 +6,7 @@ use Rattle.play_meaning.specs.Trees.{Naming}
 pub use Rattle.play_meaning.specs.declared.instruction.Asked.{Asked}
 pub use Rattle.play_meaning.specs.declared.instruction.Asked.TheVariants.{IsFirst, IsSecond, IsNotFirst, IsNotSecond}
 pub use Rattle.play_meaning.specs.declared.instruction.Instruction.{Instruction}
-pub use Rattle.play_meaning.specs.declared.instruction.Instruction.TheVariants.{Num, Var, Prop, Turns, Add, Sub, Mul, Eq, Less, AtMost, Not, And, Or, Noun, Second, Location, Loop, Flag, Kind, Held, Holder, Encloses, Visible, Touchable, Dark, Happens, HasDescription, Room, Door, Count, Names, Say, Name, Figure, Description, SetFlag, SetProp, SetVar, PutAt, Move, Away, Try, Follow, IfZero, Jump, Begin, Next, EndStory, Done, NoDecision, Success, Failure, Answer}
+pub use Rattle.play_meaning.specs.declared.instruction.Instruction.TheVariants.{Num, Var, Prop, Turns, Add, Sub, Mul, Eq, Less, AtMost, Not, And, Or, Noun, Second, Location, Loop, Flag, Kind, Held, Holder, Encloses, Visible, Touchable, Dark, Happens, HasDescription, Room, Door, Valued, Count, Names, Say, Name, Figure, Description, SetFlag, SetProp, SetVar, PutAt, Move, Away, ValueName, SetValue, Try, Follow, IfZero, Jump, Begin, Next, EndStory, Done, NoDecision, Success, Failure, Answer}
 use Rattle.play_meaning.specs.declared.operand.Sort.{Sort}
 use Rattle.play_meaning.specs.declared.operand.Sort.TheVariants.{Number, Truth, Object}
 
@@ -21,6 +21,7 @@ pub data Argument : Type 0 where
   KindOf : ℕ → Argument
   SceneOf : ℕ → Argument
   ActionOf : ℕ → Argument
+  ValueKindOf : ℕ → Argument
   -- a loop by its number: one that is open, one that opens here, the innermost
   OpenLoopOf : ℕ → Argument
   NewLoop : ℕ → Argument
@@ -30,6 +31,7 @@ pub data Argument : Type 0 where
   Choice : Bool → Argument
   Form : Naming → Argument
   -- in two bytes
+  ValueOf : ℕ → ℕ → Argument
   TestCode : ℕ → Argument
   StringOf : ℕ → Argument
   BookOf : ℕ → Argument
@@ -38,6 +40,7 @@ pub data Argument : Type 0 where
 -- how many bytes it takes
 abbrev pub width : Argument → ℕ
 width (Integer n) = 4
+width (ValueOf q value) = 2
 width (TestCode n) = 2
 width (StringOf n) = 2
 width (BookOf n) = 2
@@ -88,6 +91,7 @@ row_of (Happens s) = row 0x1A (SceneOf s ∷ []) [] (Some Truth)
 row_of HasDescription = row 0x1B [] (Object ∷ []) (Some Truth)
 row_of Room = row 0x1C [] (Object ∷ Object ∷ []) (Some Object)
 row_of Door = row 0x1D [] (Object ∷ Object ∷ []) (Some Object)
+row_of (Valued q value) = row 0x1E (ValueOf q value ∷ []) (Object ∷ []) (Some Truth)
 row_of (Count k test) = row 0x20 (NewLoop k ∷ TestCode test ∷ []) [] (Some Number)
 row_of (Names naming k test) = row 0x21 (Form naming ∷ NewLoop k ∷ TestCode test ∷ []) [] None
 row_of (Say s) = row 0x22 (StringOf s ∷ []) [] None
@@ -100,6 +104,8 @@ row_of (SetVar v) = row 0x28 (Variable v ∷ []) (Number ∷ []) None
 row_of (PutAt r) = row 0x29 (Relation r ∷ []) (Object ∷ Object ∷ []) None
 row_of Move = row 0x2A [] (Object ∷ Object ∷ []) None
 row_of Away = row 0x2B [] (Object ∷ []) None
+row_of (ValueName q) = row 0x2C (ValueKindOf q ∷ []) (Object ∷ []) None
+row_of (SetValue q value) = row 0x2D (ValueOf q value ∷ []) (Object ∷ []) None
 row_of (Try silent action) = row 0x30 (Choice silent ∷ ActionOf action ∷ []) (Object ∷ Object ∷ []) None
 row_of (Follow book) = row 0x31 (BookOf book ∷ []) [] None
 row_of (IfZero place) = row 0x32 (Place place ∷ []) (Truth ∷ []) None

@@ -4,16 +4,16 @@ use Rattle.std.specs.Fmt.{signed_decimal}
 use Rattle.std.specs.Ordering.{int_eq}
 use Rattle.play_meaning.specs.Attempts.{Attempt, next}
 use Rattle.world_meaning.specs.declared.session.Abandon.{Abandon}
-use Rattle.play_meaning.specs.Changes.{make_number, make_so, move, put, take_away}
+use Rattle.play_meaning.specs.Changes.{make_number, make_so, make_value, move, put, take_away}
 use Rattle.play_meaning.specs.Doing.{Inner}
-use Rattle.play_meaning.specs.Instructions.{Add, And, Answer, Asked, AtMost, Away, Begin, Count, Dark, Description, Done, Door, Encloses, EndStory, Eq, Figure, Flag, Follow, Happens, HasDescription, Held, Holder, IfZero, Instruction, IsFirst, IsNotFirst, IsNotSecond, IsSecond, Jump, Kind, Less, Location, Loop, Move, Mul, Name, Names, Next, NoDecision, Not, Noun, Num, Or, Prop, PutAt, Room, Say, Second, SetFlag, SetProp, SetVar, Sub, Success, Failure, Touchable, Try, Turns, Var, Visible, at_place, size_of}
+use Rattle.play_meaning.specs.Instructions.{Add, And, Answer, Asked, AtMost, Away, Begin, Count, Dark, Description, Done, Door, Encloses, EndStory, Eq, Figure, Flag, Follow, Happens, HasDescription, Held, Holder, IfZero, Instruction, IsFirst, IsNotFirst, IsNotSecond, IsSecond, Jump, Kind, Less, Location, Loop, Move, Mul, Name, Names, Next, NoDecision, Not, Noun, Num, Or, Prop, PutAt, Room, Say, Second, SetFlag, SetProp, SetValue, SetVar, Sub, Success, Failure, Touchable, Try, Turns, Valued, ValueName, Var, Visible, at_place, size_of}
 use Rattle.play_meaning.specs.Progress.{Progress, change, say, spend}
-use Rattle.play_meaning.specs.Saying.{Telling, description_in, listed, name_in}
+use Rattle.play_meaning.specs.Saying.{Telling, description_in, listed, name_in, value_name}
 use Rattle.play_meaning.specs.Seeing.{encloses, has_light, is_touchable, is_visible}
 use Rattle.play_meaning.specs.Settings.{Setting, objects_of}
-use Rattle.play_meaning.specs.Trees.{First, NotSo, Quality, Second as SecondName}
+use Rattle.play_meaning.specs.Trees.{First, NotSo, Quality, Second as SecondName, Valued as ValuedSo}
 use Rattle.play_meaning.specs.Truth.{of_both, of_some}
-use Rattle.play_meaning.specs.Values.{beyond, in_range, is_held, is_so, number_at, relation_number}
+use Rattle.play_meaning.specs.Values.{beyond, in_range, is_held, is_so, number_at, relation_number, value_at}
 use Rattle.play_meaning.specs.Worlds.{World, end_with, location_of, place_of, scene_of, set_variable, variable_of}
 use Rattle.world_meaning.specs.declared.place.Place.{Place}
 use Rattle.world_meaning.specs.declared.place.Rel.{Rel}
@@ -210,6 +210,7 @@ does f s (Happens scene) = pushes (Happens scene) s s.operands (truth_number (sc
 does f s HasDescription = of_object HasDescription s f.telling.setting.has_description
 does f s Room = of_two Room s (λ d room. object_number (beyond f.telling.setting f.telling.setting.room_beyond (object_at d) (object_at room)))
 does f s Door = of_two Door s (λ d room. object_number (beyond f.telling.setting f.telling.setting.door_beyond (object_at d) (object_at room)))
+does f s (Valued q value) = of_object (Valued q value) s (is_so f.telling.setting s.progress.world (ValuedSo q value))
 does f s (Count k test) = unless_abandoned (passing_in f s k test) (λ objects. pushes (Count k test) s s.operands (pos (length objects)))
 does f s (Names naming k test) = unless_abandoned (passing_in f s k test) (λ objects. says (Names naming k test) s s.operands (listed f.telling.setting naming objects))
 does f s (Say string) = says (Say string) s s.operands (f.strings string)
@@ -222,6 +223,8 @@ does f s (SetVar v) = changes (SetVar v) s (λ a. set_variable v a)
 does f s (PutAt r) = changes_two (PutAt r) s (λ o holder. put f.telling.setting (object_at o) r (object_at holder))
 does f s Move = changes_two Move s (λ o holder. move f.telling.setting (object_at o) (object_at holder))
 does f s Away = changes Away s (λ o. take_away f.telling.setting (object_at o))
+does f s (ValueName q) = with_one s.operands (λ o rest. says (ValueName q) s rest (value_name f.telling.setting q (value_at f.telling.setting s.progress.world q (object_at o))))
+does f s (SetValue q value) = changes (SetValue q value) s (λ o. make_value f.telling.setting (object_at o) q value)
 does f s (Try silent action) = with_two s.operands (λ noun second rest. unless_abandoned (f.inner.tries (tried_with silent action noun second) s.progress) (then_at (Try silent action) s rest))
 does f s (Follow book) = unless_abandoned (f.inner.follows book f.now s.progress) (then_at (Follow book) s s.operands)
 does f s (IfZero place) = with_one s.operands (λ a rest. goes_to s rest (if is_true a then s.place + 3 else place))

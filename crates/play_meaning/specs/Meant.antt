@@ -50,6 +50,7 @@ side_meant side.Second = tree.Second
 
 abbrev pub quality_meant : Quality → tree.Adjective
 quality_meant (quality.Is property side) = tree.Quality property (side_meant side)
+quality_meant (quality.Valued q value) = tree.Valued q value
 quality_meant quality.Visible = tree.Visible
 quality_meant quality.Touchable = tree.Touchable
 
@@ -129,6 +130,7 @@ piece_meant (piece.Figure number) more = tree.Figure (number_meant number) more
 piece_meant (piece.Name naming o) more = tree.Name naming (object_meant o) more
 piece_meant (piece.Listing naming description) more = tree.Listing naming (description_meant description) more
 piece_meant (piece.DescriptionOf o) more = tree.DescriptionOf (object_meant o) more
+piece_meant (piece.ValueName q o) more = tree.ValueName q (object_meant o) more
 
 abbrev pub pieces_meant : List Piece → tree.Text
 pieces_meant [] = tree.Silence
@@ -155,6 +157,7 @@ simple_meant (simple.NowNowhere o) = tree.NowNowhere (object_meant o)
 simple_meant (simple.Move o holder) = tree.Move (object_meant o) (object_meant holder)
 simple_meant (simple.NowNumber property o number) = tree.NowNumber property (object_meant o) (number_meant number)
 simple_meant (simple.NowVariable v number) = tree.NowVariable v (number_meant number)
+simple_meant (simple.NowValued o q value) = tree.NowValued (object_meant o) q value
 simple_meant (simple.Try silent action noun second) = tree.Try silent action (object_meant noun) (object_meant second)
 simple_meant (simple.Follow book) = tree.Follow book
 simple_meant (simple.Leave flow) = tree.Leave flow

@@ -1,7 +1,7 @@
 -- What instructions take and give, what their arguments name, and in which codes they may stand.
-use Rattle.std.specs.Prelude.{ℕ, ◌+◌, ℤ, pos, negsuc, int_le, int_lt, nat_le, nat_lt, ◌==◌, Bool, true, false, ◌&&◌, ◌||◌, List, [], ◌∷◌, length, Option, None, Some, if◌then◌else◌}
+use Rattle.std.specs.Prelude.{ℕ, ◌+◌, ℤ, pos, negsuc, int_le, int_lt, nat_le, nat_lt, ◌==◌, Bool, true, false, ◌&&◌, ◌||◌, List, [], ◌∷◌, length, Option, None, Some, slice_index_or, if◌then◌else◌}
 use Rattle.std.specs.List.{list_all}
-use Rattle.play_meaning.specs.Instructions.{ActionOf, Argument, BookOf, Eq, FlagProperty, Innermost, Instruction, KindOf, NewLoop, Num, NumberProperty, OpenLoopOf, SceneOf, StringOf, TestCode, Variable, opcode, row_of}
+use Rattle.play_meaning.specs.Instructions.{ActionOf, Argument, BookOf, Eq, FlagProperty, Innermost, Instruction, KindOf, NewLoop, Num, NumberProperty, OpenLoopOf, SceneOf, StringOf, TestCode, ValueKindOf, ValueOf, Variable, opcode, row_of}
 pub use Rattle.play_meaning.specs.declared.operand.Counts.{Counts}
 pub use Rattle.play_meaning.specs.declared.operand.Sort.{Sort}
 pub use Rattle.play_meaning.specs.declared.operand.Sort.TheVariants.{Number, NumberOrObject, Object, Truth}
@@ -79,6 +79,8 @@ is_there z depth (FlagProperty p) = nat_lt p z.flags
 is_there z depth (KindOf kind) = nat_lt kind z.kinds
 is_there z depth (SceneOf scene) = nat_lt scene z.scenes
 is_there z depth (ActionOf action) = nat_lt action z.actions
+is_there z depth (ValueKindOf q) = nat_lt 0 (slice_index_or z.values q 0)
+is_there z depth (ValueOf q value) = nat_lt value (slice_index_or z.values q 0)
 is_there z depth (OpenLoopOf k) = nat_lt k depth
 is_there z depth (NewLoop k) = may_open depth k
 is_there z depth (Innermost k) = k + 1 == depth
@@ -99,5 +101,5 @@ is_from_to first last i = nat_le first (opcode i) && nat_le (opcode i) last
 -- a test asks, and answers; a description asks and says, and has ways forward; a body does all but answer
 unfoldable pub may_hold : Use → Instruction → Bool
 may_hold (Test loops) i = is_from_to 0x01 0x20 i || is_from_to 0x3B 0x3B i
-may_hold Describing i = is_from_to 0x01 0x24 i || is_from_to 0x32 0x33 i || is_from_to 0x37 0x37 i
+may_hold Describing i = is_from_to 0x01 0x24 i || is_from_to 0x2C 0x2C i || is_from_to 0x32 0x33 i || is_from_to 0x37 0x37 i
 may_hold Body i = is_from_to 0x01 0x3A i

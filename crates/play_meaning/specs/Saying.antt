@@ -5,9 +5,9 @@ use Rattle.world_meaning.specs.declared.article.Article.{Article}
 use Rattle.world_meaning.specs.declared.article.Article.TheVariants as article
 use Rattle.play_meaning.specs.Attempts.{Attempt, next}
 use Rattle.play_meaning.specs.Settings.{Setting}
-use Rattle.play_meaning.specs.Trees.{Bytes, CapitalDefinite, CapitalIndefinite, Definite, DescriptionOf, Figure, IfSaid, Indefinite, Listing, Name, Naming, Plain, Silence, Text}
+use Rattle.play_meaning.specs.Trees.{Bytes, CapitalDefinite, CapitalIndefinite, Definite, DescriptionOf, Figure, IfSaid, Indefinite, Listing, Name, Naming, Plain, Silence, Text, ValueName}
 use Rattle.play_meaning.specs.Truth.{truth_in}
-use Rattle.play_meaning.specs.Values.{Scope, number_in, object_in, those}
+use Rattle.play_meaning.specs.Values.{Scope, number_in, object_in, those, value_at, value_named}
 use Rattle.play_meaning.specs.Worlds.{World}
 use Rattle.play_meaning.specs.declared.action.ActionNow.{ActionNow}
 
@@ -59,6 +59,11 @@ abbrev pub description_in : Telling → ActionNow → World → Option ℕ → A
 description_in t now w None = Ok []
 description_in t now w (Some o) = if t.setting.has_description o then next (t.describes o now w) (λ text. Ok (text ++ 10 ∷ [])) else Ok []
 
+-- nothing where it has none
+abbrev pub value_name : Setting → ℕ → Option ℕ → List ℕ
+value_name s q None = nothing_text
+value_name s q (Some value) = value_named s q value
+
 abbrev pub then_said : Attempt (List ℕ) → Attempt (List ℕ) → Attempt (List ℕ)
 then_said first more = next first (λ text. next more (λ others. Ok (text ++ others)))
 
@@ -73,4 +78,5 @@ said_in t scope w (Figure number more) = then_said (next (number_in t.setting sc
 said_in t scope w (Name naming o more) = then_said (Ok (name_in t.setting naming (object_in t.setting scope w o))) (said_in t scope w more)
 said_in t scope w (Listing naming description more) = then_said (Ok (listed t.setting naming (those t.setting scope w description))) (said_in t scope w more)
 said_in t scope w (DescriptionOf o more) = then_said (description_in t scope.now w (object_in t.setting scope w o)) (said_in t scope w more)
+said_in t scope w (ValueName q o more) = then_said (Ok (value_name t.setting q (value_at t.setting w q (object_in t.setting scope w o)))) (said_in t scope w more)
 said_in t scope w (IfSaid condition a b more) = then_said (next (truth_in t.setting scope w condition) (λ x. chosen x (said_in t scope w a) (said_in t scope w b))) (said_in t scope w more)

@@ -1,6 +1,6 @@
 -- Words that name the object of no loop but those that are open, so many.
 use Rattle.std.specs.Prelude.{ℕ, ◌+◌, ◌<◌}
-use Rattle.play_meaning.specs.Trees.{And, Body, Bytes, Condition, CountOf, Description, DescriptionOf, DoorFrom, Encloses, End, Equals, Figure, Has, HasDescription, If, IfSaid, Instead, IsAtMost, IsHeld, IsHeldByOne, IsLess, IsOne, IsSame, IsSo, Listing, Minus, Move, Name, Not, NowHeld, NowIs, NowNowhere, NowNumber, NowVariable, Number, Object, Or, Phrase, Plus, PropertyOf, Repeat, RoomFrom, Say, Silence, Text, Then, Those, ThoseHeld, Times, Try, Turning}
+use Rattle.play_meaning.specs.Trees.{And, Body, Bytes, Condition, CountOf, Description, DescriptionOf, DoorFrom, Encloses, End, Equals, Figure, Has, HasDescription, If, IfSaid, Instead, IsAtMost, IsHeld, IsHeldByOne, IsLess, IsOne, IsSame, IsSo, Listing, Minus, Move, Name, Not, NowHeld, NowIs, NowNowhere, NowNumber, NowValued, NowVariable, Number, Object, Or, Phrase, Plus, PropertyOf, Repeat, RoomFrom, Say, Silence, Text, Then, Those, ThoseHeld, Times, Try, Turning, ValueName}
 
 abbrev pub ObjectIsWithin : ℕ → Object → Type 0
 ObjectIsWithin k (Turning n) = n < k
@@ -44,6 +44,7 @@ TextIsWithin k (Figure number more) = NumberIsWithin k number × TextIsWithin k 
 TextIsWithin k (Name naming o more) = ObjectIsWithin k o × TextIsWithin k more
 TextIsWithin k (Listing naming description more) = DescriptionIsWithin k description × TextIsWithin k more
 TextIsWithin k (DescriptionOf o more) = ObjectIsWithin k o × TextIsWithin k more
+TextIsWithin k (ValueName q o more) = ObjectIsWithin k o × TextIsWithin k more
 TextIsWithin k (IfSaid condition a b more) = ConditionIsWithin k condition × (TextIsWithin k a × (TextIsWithin k b × TextIsWithin k more))
 
 abbrev mutual
@@ -55,6 +56,7 @@ abbrev mutual
   PhraseIsWithin k (Move o holder) = ObjectIsWithin k o × ObjectIsWithin k holder
   PhraseIsWithin k (NowNumber p o number) = ObjectIsWithin k o × NumberIsWithin k number
   PhraseIsWithin k (NowVariable v number) = NumberIsWithin k number
+  PhraseIsWithin k (NowValued o q value) = ObjectIsWithin k o
   PhraseIsWithin k (Try silent action noun second) = ObjectIsWithin k noun × ObjectIsWithin k second
   PhraseIsWithin k (If condition a b) = ConditionIsWithin k condition × (BodyIsWithin k a × BodyIsWithin k b)
   PhraseIsWithin k (Repeat description body) = DescriptionIsWithin k description × BodyIsWithin (k + 1) body

@@ -19,6 +19,10 @@ pub record Setting : Type 0 where
   pub has_flag : ℕ → ℕ → Bool
   -- whether an object's kind has a number property
   pub has_number : ℕ → ℕ → Bool
+  -- whether an object's kind has a value of a kind of value
+  pub has_value : ℕ → ℕ → Bool
+  -- the names of the values of a kind of value, by number
+  pub value_names : ℕ → List (List ℕ)
   -- the room to which a direction, by its number, leads from a room, and the door on the way
   pub room_beyond : ℕ → ℕ → Option ℕ
   pub door_beyond : ℕ → ℕ → Option ℕ

@@ -74,6 +74,7 @@ declared_in k = record {
   scenes = map (λ scene. scene.recurs) k.scenes;
   rulebooks = 0;
   actions = k.actions;
+  values = [];
 }
 
 abbrev pub leads_from : ℕ → ℕ → Exit → Bool
@@ -93,6 +94,7 @@ object_of k o item = record {
   exits = record { ways = map (λ d. way_by (find (leads_from o (direction_number d)) k.exits)) all_directions };
   properties = item.flags;
   numbers = replicate (count_of_numbers (declared_in k).kinds (declared_in k).numbers item.kind) (pos 0);
+  values = [];
 }
 
 abbrev pub objects_from : Sketch → ℕ → List Item → List Object

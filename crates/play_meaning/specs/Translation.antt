@@ -8,7 +8,7 @@ use Rattle.play_meaning.specs.Codes.{Codes}
 use Rattle.play_meaning.specs.Instructions.{Asked, Instruction, IsFirst, IsSecond, sizes}
 use Rattle.play_meaning.specs.Instructions as code
 use Rattle.play_meaning.specs.Trees as tree
-use Rattle.play_meaning.specs.Trees.{Adjective, Body, Condition, Description, First, NotSo, Number, Object, Phrase, Quality, Second, Side, Text, Touchable, Visible}
+use Rattle.play_meaning.specs.Trees.{Adjective, Body, Condition, Description, First, NotSo, Number, Object, Phrase, Quality, Second, Side, Text, Touchable, Valued, Visible}
 use Rattle.play_meaning.specs.declared.outcome.Flow.{Flow}
 use Rattle.play_meaning.specs.declared.outcome.Flow.TheVariants.{GoesOn, NoDecision, Decides}
 use Rattle.play_meaning.specs.declared.outcome.Outcome.TheVariants.{Failure, Success}
@@ -90,6 +90,7 @@ asked_of Second = IsSecond
 -- of nothing none of them is true
 unfoldable pub adjective_code : List Instruction → Adjective → List Instruction
 adjective_code o (Quality p side) = o ++ code.Flag p (asked_of side) ∷ []
+adjective_code o (Valued q value) = o ++ code.Valued q value ∷ []
 adjective_code o Visible = o ++ code.Visible ∷ []
 adjective_code o Touchable = o ++ code.Touchable ∷ []
 adjective_code o (NotSo adjective) = and_code (is_there_code o) (adjective_code o adjective ++ code.Not ∷ [])
@@ -153,6 +154,7 @@ text_part string k (tree.Figure number more) = seq (seq (number_part k number) (
 text_part string k (tree.Name naming o more) = seq (these (object_code o ++ code.Name naming ∷ [])) (text_part string k more)
 text_part string k (tree.Listing naming description more) = seq (testing (code.Names naming k) (test_code k description)) (text_part string k more)
 text_part string k (tree.DescriptionOf o more) = seq (these (object_code o ++ code.Description ∷ [])) (text_part string k more)
+text_part string k (tree.ValueName q o more) = seq (these (object_code o ++ code.ValueName q ∷ [])) (text_part string k more)
 text_part string k (tree.IfSaid condition a b more) = seq (choice (condition_part k condition) (text_part string k a) (text_part string k b)) (text_part string k more)
 
 -- ---- phrases
@@ -172,6 +174,7 @@ unfoldable mutual
   phrase_part string k (tree.Move o holder) = these (object_code o ++ object_code holder ++ code.Move ∷ [])
   phrase_part string k (tree.NowNumber p o number) = seq (seq (these (object_code o)) (number_part k number)) (one (code.SetProp p))
   phrase_part string k (tree.NowVariable v number) = seq (number_part k number) (one (code.SetVar v))
+  phrase_part string k (tree.NowValued o q value) = these (object_code o ++ code.SetValue q value ∷ [])
   phrase_part string k (tree.Try silent action noun second) = these (object_code noun ++ object_code second ++ code.Try silent action ∷ [])
   phrase_part string k (tree.Follow book) = one (code.Follow book)
   phrase_part string k (tree.Leave flow) = leave_part flow
@@ -198,6 +201,7 @@ strings_of_text (tree.Figure number more) = strings_of_text more
 strings_of_text (tree.Name naming o more) = strings_of_text more
 strings_of_text (tree.Listing naming description more) = strings_of_text more
 strings_of_text (tree.DescriptionOf o more) = strings_of_text more
+strings_of_text (tree.ValueName q o more) = strings_of_text more
 strings_of_text (tree.IfSaid condition a b more) = strings_of_text a ++ strings_of_text b ++ strings_of_text more
 
 unfoldable mutual

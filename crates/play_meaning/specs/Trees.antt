@@ -27,6 +27,8 @@ pub data Side : Type 0 where
 -- one word of a description, perhaps behind `not`
 pub data Adjective : Type 0 where
   Quality : ℕ → Side → Adjective
+  -- a value of a kind of value, by their numbers
+  Valued : ℕ → ℕ → Adjective
   Visible : Adjective
   Touchable : Adjective
   NotSo : Adjective → Adjective
@@ -76,6 +78,8 @@ pub data Text : Type 0 where
   Name : Naming → Object → Text → Text
   Listing : Naming → Description → Text → Text
   DescriptionOf : Object → Text → Text
+  -- `[KIND OF VALUE of OBJECT]`: the name of the object's value
+  ValueName : ℕ → Object → Text → Text
   -- `[if C]..[otherwise]..[end if]`, and what follows
   IfSaid : Condition → Text → Text → Text → Text
 
@@ -90,6 +94,8 @@ mutual
     Move : Object → Object → Phrase
     NowNumber : ℕ → Object → Number → Phrase
     NowVariable : ℕ → Number → Phrase
+    -- `now the KIND OF VALUE of OBJECT is VALUE`, `now OBJECT is VALUE`
+    NowValued : Object → ℕ → ℕ → Phrase
     -- silently or not, an action's number and its nouns
     Try : Bool → ℕ → Object → Object → Phrase
     Follow : ℕ → Phrase

@@ -1,5 +1,5 @@
 -- What objects, descriptions and numbers are, in a world, an action and the open repeats.
-use Rattle.std.specs.Prelude.{ℕ, ℤ, ◌+ℤ◌, ◌-ℤ◌, ◌*ℤ◌, pos, negsuc, nat_lt, Bool, true, false, not, ◌&&◌, ◌==◌, List, length, filter, slice_get, Option, None, Some, Ok, Err, if◌then◌else◌}
+use Rattle.std.specs.Prelude.{ℕ, ℤ, ◌+ℤ◌, ◌-ℤ◌, ◌*ℤ◌, pos, negsuc, nat_lt, Bool, true, false, not, ◌&&◌, ◌==◌, List, [], length, filter, slice_get, slice_index_or, Option, None, Some, Ok, Err, if◌then◌else◌}
 use Rattle.std.specs.List.{list_all}
 use Rattle.world_meaning.specs.declared.place.Place.{Place}
 use Rattle.world_meaning.specs.declared.place.Rel.{Rel}
@@ -8,8 +8,8 @@ use Rattle.world_meaning.specs.declared.session.Abandon.TheVariants.{NumberOutOf
 use Rattle.play_meaning.specs.Attempts.{Attempt, next}
 use Rattle.play_meaning.specs.Seeing.{is_touchable, is_visible}
 use Rattle.play_meaning.specs.Settings.{Setting, direction_kind, objects_of, room_kind}
-use Rattle.play_meaning.specs.Trees.{Adjective, Description, DoorFrom, First, Literal, Location, Minus, NotSo, Noun, Nothing, Number, Object, Plus, PropertyOf, Quality, RoomFrom, Second, SecondNoun, Side, The, Those, ThoseHeld, Times, Touchable, TurnCount, Turning, Variable, Visible, CountOf}
-use Rattle.play_meaning.specs.Worlds.{World, is_true_of, location_of, number_of, place_of, variable_of}
+use Rattle.play_meaning.specs.Trees.{Adjective, Description, DoorFrom, First, Literal, Location, Minus, NotSo, Noun, Nothing, Number, Object, Plus, PropertyOf, Quality, RoomFrom, Second, SecondNoun, Side, The, Those, ThoseHeld, Times, Touchable, TurnCount, Turning, Valued, Variable, Visible, CountOf}
+use Rattle.play_meaning.specs.Worlds.{World, is_true_of, location_of, number_of, place_of, value_of, variable_of}
 use Rattle.play_meaning.specs.declared.action.ActionNow.{ActionNow}
 
 -- what words are read in: the action, and the objects of the open repeats, the outermost first
@@ -36,6 +36,19 @@ object_in s scope w (Turning n) = slice_get scope.turning n
 object_in s scope w (RoomFrom direction room) = beyond s s.room_beyond (object_in s scope w direction) (object_in s scope w room)
 object_in s scope w (DoorFrom direction room) = beyond s s.door_beyond (object_in s scope w direction) (object_in s scope w room)
 
+-- ---- values
+
+-- nothing has no value, nor has an object whose kind has none of this kind
+abbrev pub value_at : Setting → World → ℕ → Option ℕ → Option ℕ
+value_at s w q None = None
+value_at s w q (Some o) = if s.has_value o q then Some (value_of w q o) else None
+
+abbrev pub value_named : Setting → ℕ → ℕ → List ℕ
+value_named s q value = slice_index_or (s.value_names q) value []
+
+abbrev pub is_value : Setting → ℕ → ℕ → Bool
+is_value s q value = nat_lt value (length (s.value_names q))
+
 -- ---- descriptions
 
 -- a second name is true where the kind has the property and it is false
@@ -46,8 +59,13 @@ is_side value Second = not value
 abbrev pub has_quality : Setting → World → ℕ → Side → ℕ → Bool
 has_quality s w property side o = s.has_flag o property && is_side (is_true_of w property o) side
 
+-- an object that has no value of this kind has none of them
+abbrev pub has_value : Setting → World → ℕ → ℕ → ℕ → Bool
+has_value s w q value o = s.has_value o q && (value_of w q o == value)
+
 abbrev pub is_so : Setting → World → Adjective → ℕ → Bool
 is_so s w (Quality property side) o = has_quality s w property side o
+is_so s w (Valued q value) o = has_value s w q value o
 is_so s w Visible o = is_visible s w o
 is_so s w Touchable o = is_touchable s w o
 is_so s w (NotSo adjective) o = not (is_so s w adjective o)

@@ -11,6 +11,8 @@ pub record World : Type 0 where
   pub flags : List (List Bool)
   -- of each number property, the number of each object
   pub numbers : List (List ℤ)
+  -- of each kind of value, the value of each object
+  pub values : List (List ℕ)
   pub variables : List ℤ
   pub scenes : List SceneNow
   -- counted from 1
@@ -32,6 +34,10 @@ is_true_of w property o = slice_index_or (slice_index_or w.flags property []) o 
 
 unfoldable pub number_of : World → ℕ → ℕ → ℤ
 number_of w property o = slice_index_or (slice_index_or w.numbers property []) o (pos 0)
+
+-- which of the values of a kind of value an object has, where it has one
+unfoldable pub value_of : World → ℕ → ℕ → ℕ
+value_of w q o = slice_index_or (slice_index_or w.values q []) o 0
 
 abbrev pub variable_of : World → ℕ → ℤ
 variable_of w v = slice_index_or w.variables v (pos 0)
@@ -59,6 +65,9 @@ set_flag property o value w = record w { flags = slice_set w.flags property (sli
 
 unfoldable pub set_number : ℕ → ℕ → ℤ → World → World
 set_number property o value w = record w { numbers = slice_set w.numbers property (slice_set (slice_index_or w.numbers property []) o value) }
+
+unfoldable pub set_value : ℕ → ℕ → ℕ → World → World
+set_value q o value w = record w { values = slice_set w.values q (slice_set (slice_index_or w.values q []) o value) }
 
 abbrev pub set_variable : ℕ → ℤ → World → World
 set_variable v value w = record w { variables = slice_set w.variables v value }

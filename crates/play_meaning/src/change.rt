@@ -7,7 +7,7 @@ use crate::{GroundMut, SceneNow, WorldFault};
 use std::alloc::AllocError;
 use world_meaning::{ObjNo, Rel, TextBytes};
 
-/// One change of the world: a call of `GroundMut` with its arguments, properties, variables and scenes by their numbers.
+/// One change of the world: a call of `GroundMut` with its arguments, properties, variables, kinds of value and scenes by their numbers.
 #[derive(Debug, Drop)]
 pub enum Change {
     SetFlag {
@@ -23,6 +23,11 @@ pub enum Change {
     SetVariable {
         variable: u8,
         value: i32,
+    },
+    SetValue {
+        object: ObjNo,
+        kind: u8,
+        value: u8,
     },
     Put {
         object: ObjNo,
@@ -66,6 +71,11 @@ pub fn make<G: GroundMut>(ground: &mut G, change: Change) -> Result<(), AllocErr
             value,
         } => ground.set_number(object, property, value),
         Change::SetVariable { variable, value } => ground.set_variable(variable, value),
+        Change::SetValue {
+            object,
+            kind,
+            value,
+        } => ground.set_value(object, kind, value),
         Change::Put {
             object,
             relation,

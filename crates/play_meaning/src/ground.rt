@@ -2,14 +2,15 @@
 use crate::{SceneNow, WorldFault};
 use world_meaning::{Article, KindNo, ObjNo, Place, Rel, TextBytes};
 
-/// A story in play that is read: what never changes of its objects, and its world. Properties, variables and scenes go by
+/// A story in play that is read: what never changes of its objects, and its world. Properties, variables, scenes and kinds of value go by
 /// their numbers; of a number that isn't there nothing holds, and numbers are 0.
 pub trait Ground {
-    ghost use Rattle.std.specs.Prelude.{◌≡◌, ◌≤◌, [], slice_index_or};
+    ghost use Rattle.std.specs.Prelude.{◌≡◌, ◌≤◌, [], Some, slice_index_or};
     ghost use Rattle.std.specs.Option.{option_map};
     ghost use Rattle.play_meaning.specs.Grounds.{Fixed};
     ghost use Rattle.play_meaning.specs.Seeing.{encloses, has_light, is_touchable, is_visible};
     ghost use Rattle.play_meaning.specs.Turns.{most_turns};
+    ghost use Rattle.play_meaning.specs.Values.{value_at, value_named};
     ghost use Rattle.play_meaning.specs.Worlds.{World, is_true_of, number_of, place_of, scene_of, variable_of};
 
     ghost fixed: { Self → Fixed };
@@ -72,6 +73,14 @@ pub trait Ground {
     fn number(&self, object: ObjNo, property: u8) -> i32
         ensures { result ≡ number_of (world self.now) property object };
 
+    /// An object's value of a kind of value, by its number, where its kind has one.
+    fn value(&self, object: ObjNo, kind: u8) -> Option<u8>
+        ensures { result ≡ value_at (fixed self.now).setting (world self.now) kind (Some object) };
+
+    /// The name of a value of a kind of value; no bytes where there is none.
+    fn value_name(&self, kind: u8, value: u8) -> &[u8]
+        ensures { result.now ≡ value_named (fixed self.now).setting kind value };
+
     /// What a variable is.
     fn variable(&self, variable: u8) -> i32
         ensures { result ≡ variable_of (world self.now) variable };
@@ -110,9 +119,10 @@ pub trait Ground {
 /// answers `Misplaced`, exactly where the kinds, the rules of placing or the numbers don't allow the change, or `Memory`, where
 /// that for remembering was refused, and changes nothing then.
 pub trait GroundMut: Ground {
-    ghost use Rattle.std.specs.Prelude.{◌≡◌, List, Some, length, nat_lt, true};
-    ghost use Rattle.play_meaning.specs.Changes.{Allows, behind, make_number, make_so, may_be_put, put_at, remembered, take_away};
+    ghost use Rattle.std.specs.Prelude.{◌≡◌, ◌&&◌, List, Some, length, nat_lt, true};
+    ghost use Rattle.play_meaning.specs.Changes.{Allows, behind, make_number, make_so, make_value, may_be_put, put_at, remembered, take_away};
     ghost use Rattle.play_meaning.specs.Settings.{kinds_of};
+    ghost use Rattle.play_meaning.specs.Values.{is_value};
     ghost use Rattle.play_meaning.specs.Worlds.{World, end_with, set_scene, set_variable};
     ghost use Rattle.world_meaning.specs.Placing.{may_be_taken};
 
@@ -130,6 +140,13 @@ pub trait GroundMut: Ground {
     fn set_number(&mut self, object: ObjNo, property: u8, value: i32) -> Result<(), WorldFault>
         ensures answer { Allows result ((Self.fixed self.old).setting.has_number object property) }
         ensures world { Self.world self.new ≡ behind result (make_number (Self.fixed self.old).setting (Some object) property value (Self.world self.old)) (Self.world self.old) }
+        ensures past { past self.new ≡ remembered result (Self.world self.old) (past self.old) }
+        ensures fixed { Self.fixed self.new ≡ Self.fixed self.old };
+
+    /// Gives an object a value of a kind of value.
+    fn set_value(&mut self, object: ObjNo, kind: u8, value: u8) -> Result<(), WorldFault>
+        ensures answer { Allows result ((Self.fixed self.old).setting.has_value object kind && is_value (Self.fixed self.old).setting kind value) }
+        ensures world { Self.world self.new ≡ behind result (make_value (Self.fixed self.old).setting (Some object) kind value (Self.world self.old)) (Self.world self.old) }
         ensures past { past self.new ≡ remembered result (Self.world self.old) (past self.old) }
         ensures fixed { Self.fixed self.new ≡ Self.fixed self.old };
 

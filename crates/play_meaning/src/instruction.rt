@@ -12,7 +12,7 @@ pub enum Asked {
     IsNotSecond,
 }
 
-/// An instruction. Properties, variables, kinds, scenes, actions, rulebooks, strings and codes go by their numbers, open
+/// An instruction. Properties, variables, kinds, kinds of value and their values, scenes, actions, rulebooks, strings and codes go by their numbers, open
 /// loops by how many are open around them, ways by the places of the code to which they lead, counted in bytes.
 #[derive(Clone, Copy, Debug, PartialEq, Eq)]
 pub enum Instruction {
@@ -62,6 +62,8 @@ pub enum Instruction {
     Room,
     /// The door in a direction from a room.
     Door,
+    /// Whether an object's value of a kind of value is this one.
+    Valued(u8, u8),
     /// How many objects there are of which a test is true, each as the object of the loop of this number.
     Count(u8, u16),
     /// Says the names of the objects of which a test is true, each as the object of the loop of this number.
@@ -86,6 +88,10 @@ pub enum Instruction {
     Move,
     /// Takes an object away.
     Away,
+    /// Says the name of an object's value of a kind of value.
+    ValueName(u8),
+    /// Gives an object a value of a kind of value.
+    SetValue(u8, u8),
     /// Tries an action, silently or not, on two nouns.
     Try(bool, u8),
     /// Follows a rulebook.

@@ -37,6 +37,8 @@ pub struct Counts {
     pub codes: u16,
     pub actions: u16,
     pub books: u16,
+    /// How many values each kind of value has; none where there is no such kind.
+    pub values: [u8; 100],
     /// The code's own number.
     pub own: u16,
 }

@@ -39,6 +39,7 @@ pub fn counts_of(
         actions: ACTIONS,
         books: BOOKS,
         own: 0,
+        values: [0; 100],
     })
 }
 

@@ -75,6 +75,17 @@ impl Ground for Stage {
         self.world.has_number(object, property)
     }
 
+    fn value(&self, object: ObjNo, kind: u8) -> Option<u8> {
+        self.world.value(object, kind)
+    }
+
+    #[tactic(auto, unfolding(world_store::specs::StorySettings::setting_of))]
+    fn value_name(&self, kind: u8, value: u8) -> &[u8] {
+        self.world
+            .story()
+            .value_name(usize::from(kind), usize::from(value))
+    }
+
     #[tactic(auto, unfolding(world_store::specs::StorySettings::setting_of))]
     fn has_description(&self, object: ObjNo) -> bool {
         self.world.story().description_code(object).is_some()
@@ -158,6 +169,10 @@ impl GroundMut for Stage {
 
     fn set_number(&mut self, object: ObjNo, property: u8, value: i32) -> Result<(), WorldFault> {
         self.world.set_number(object, property, value)
+    }
+
+    fn set_value(&mut self, object: ObjNo, kind: u8, value: u8) -> Result<(), WorldFault> {
+        self.world.set_value(object, kind, value)
     }
 
     fn set_variable(&mut self, variable: u8, value: i32) -> Result<(), WorldFault> {

@@ -83,6 +83,7 @@ piece_first z whose string k (piece.Figure number) more = refl
 piece_first z whose string k (piece.Name naming o) more = refl
 piece_first z whose string k (piece.Listing naming description) more = refl
 piece_first z whose string k (piece.DescriptionOf o) more = refl
+piece_first z whose string k (piece.ValueName q o) more = refl
 
 pieces_tell : (z : Counts) (whose : Use) (string : List ℕ → ℕ) (k : ℕ) (pieces : List Piece)
     → text_fits z whose string k (pieces_meant pieces) ≡ list_all (piece_fits z whose string k) pieces

@@ -1,9 +1,9 @@
 -- The tests whether trees fit tell exactly that, whatever the code's own number and however many codes there are.
 use Rattle.std.proofs.Common.{◌≡◌, refl, ℕ, ◌+◌, ◌-◌, ◌&&◌, Bool, true, List, [], ◌∷◌, Option, None, Some, arith}
-use Rattle.std.specs.Prelude.{Decides, nat_lt}
+use Rattle.std.specs.Prelude.{Decides, nat_lt, slice_index_or}
 use Rattle.std.proofs.lemmas.Bool.Decides.{Decides-and, Decides-like, Decides-ltb}
 use Rattle.play_meaning.specs.Stands.{is_body}
-use Rattle.play_meaning.specs.Trees.{Adjective, And, Body, Bytes, Condition, CountOf, Description, DescriptionOf, DoorFrom, Encloses, End, EndStory, Equals, Figure, Follow, Happens, Has, HasDescription, If, IfSaid, InDarkness, Instead, IsAtMost, IsHeld, IsHeldByOne, IsLess, IsOne, IsSame, IsSo, Leave, Listing, Literal, Location, Minus, Move, Name, Not, NotSo, Nothing, Noun, NowHeld, NowIs, NowNowhere, NowNumber, NowVariable, Number, Object, Or, Phrase, Plus, PropertyOf, Quality, Repeat, RoomFrom, Say, SecondNoun, Silence, Text, The, Then, Those, ThoseHeld, Times, Touchable, Try, TurnCount, Turning, Variable, Visible}
+use Rattle.play_meaning.specs.Trees.{Adjective, And, Body, Bytes, Condition, CountOf, Description, DescriptionOf, DoorFrom, Encloses, End, EndStory, Equals, Figure, Follow, Happens, Has, HasDescription, If, IfSaid, InDarkness, Instead, IsAtMost, IsHeld, IsHeldByOne, IsLess, IsOne, IsSame, IsSo, Leave, Listing, Literal, Location, Minus, Move, Name, Not, NotSo, Nothing, Noun, NowHeld, NowIs, NowNowhere, NowNumber, NowValued, NowVariable, Number, Object, Or, Phrase, Plus, PropertyOf, Quality, Repeat, RoomFrom, Say, SecondNoun, Silence, Text, The, Then, Those, ThoseHeld, Times, Touchable, Try, TurnCount, Turning, Valued, ValueName, Variable, Visible}
 use Rattle.play_meaning.specs.declared.operand.Counts.{Counts}
 use Rattle.play_meaning.specs.declared.operand.Use.{Use}
 use Rattle.play_meaning.specs.declared.operand.Use.TheVariants as role
@@ -52,6 +52,7 @@ module _ (z : Counts) (own many : ℕ) where
 
     adjective_told : (a : Adjective) → Tells (adjective_fits z o a) (λ n. AdjectiveFits judged O n a)
     adjective_told (Quality p side) n room e = both (Decides-ltb p z.flags) (told n room e)
+    adjective_told (Valued q value) n room e = both (Decides-ltb value (slice_index_or z.values q 0)) (told n room e)
     adjective_told Visible n room e = told n room e
     adjective_told Touchable n room e = told n room e
     adjective_told (NotSo a) n room e = both (there_told n room e) (adjective_told a (n + 1) (room - 1) (less n room e))
@@ -122,6 +123,7 @@ module _ (z : Counts) (own many : ℕ) where
   text_told whose string k (Name naming o more) = both (object_told k o 0 64 refl) (text_told whose string k more)
   text_told whose string k (Listing naming d more) = both (test_told k d) (text_told whose string k more)
   text_told whose string k (DescriptionOf o more) = both (both (body_told_is whose) (object_told k o 0 64 refl)) (text_told whose string k more)
+  text_told whose string k (ValueName q o more) = both (both (Decides-ltb 0 (slice_index_or z.values q 0)) (object_told k o 0 64 refl)) (text_told whose string k more)
   text_told whose string k (IfSaid c a b more) =
       both (condition_told k c 0 64 refl) (both (both (text_told whose string k a) (text_told whose string k b)) (text_told whose string k more))
 
@@ -136,6 +138,7 @@ module _ (z : Counts) (own many : ℕ) where
     phrase_told string k (Move o holder) = objects_told k o holder 0 64 refl
     phrase_told string k (NowNumber p o number) = both (Decides-ltb p z.numbers) (both (object_told k o 0 64 refl) (number_told k number 1 63 refl))
     phrase_told string k (NowVariable v number) = both (Decides-ltb v z.variables) (number_told k number 0 64 refl)
+    phrase_told string k (NowValued o q value) = both (Decides-ltb value (slice_index_or z.values q 0)) (object_told k o 0 64 refl)
     phrase_told string k (Try silent action noun second) = both (Decides-ltb action z.actions) (objects_told k noun second 0 64 refl)
     phrase_told string k (Follow book) = Decides-ltb book z.books
     phrase_told string k (Leave flow) = always

@@ -35,6 +35,12 @@ rows_fit = record {
   sixty_five_numbers = λ fits. let few = sum_is_short 64 0 fits in omega (arith, few);
   counted_inside_eight = (omega arith, (omega arith, (omega arith, omega arith)));
   counted_inside_nine = λ fits. omega (arith, fits.1.0);
+  last_value = (omega arith, (omega arith, omega arith));
+  no_such_value = λ fits. omega (arith, fits.0);
+  now_last_value = ((omega arith, (omega arith, omega arith)), tt);
+  now_no_such_value = λ fits. omega (arith, fits.0.0);
+  value_in_description = ((omega arith, (omega arith, omega arith)), tt);
+  no_such_kind_of_value = λ fits. omega (arith, fits.0.0);
   described_in_body = ((refl, (omega arith, omega arith)), tt);
   described_in_description = λ fits. describes_no_other fits.0.0;
 }

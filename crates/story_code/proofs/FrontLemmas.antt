@@ -19,7 +19,7 @@ use Rattle.std.proofs.lemmas.Int.{of_z-to_z}
 use Rattle.std.proofs.lemmas.Bool.{and_parts}
 use Rattle.story_code.specs.Spelling.{arguments_bytes, is_integer, can_say, can_spell, choice_number, form_number, side_number}
 use Rattle.story_code.specs.Passes.{is_nil}
-use Rattle.story_code.specs.Fronts.{by_byte, by_relation, by_word, choice_of, common_in, count_in, first_related, first_with, flag_in, form_of, front, front_by, has_byte, has_relation, has_word, integer_in, name_in, names_in, next_in, plain_ones, relation_of, set_flag_in, side_of, try_in, with_byte, with_relation, with_word, word_of}
+use Rattle.story_code.specs.Fronts.{by_byte, by_pair, by_relation, by_word, choice_of, common_in, count_in, first_related, first_with, flag_in, form_of, front, front_by, has_byte, has_pair, has_relation, has_word, integer_in, name_in, names_in, next_in, plain_ones, relation_of, set_flag_in, side_of, try_in, with_byte, with_pair, with_relation, with_word, word_of}
 
 -- each is a byte
 abbrev pub Small : List ℕ → Type 0
@@ -88,7 +88,10 @@ plain_says : AllAre (λ i. Says i []) plain_ones
 plain_says = bare_ones plain_ones refl
 
 byte_says : (n : ℕ) → AllAre (λ i. Says i (n ∷ [])) (with_byte n)
-byte_says n = (says _ (n ∷ []) refl refl refl, (says _ (n ∷ []) refl refl refl, (says _ (n ∷ []) refl refl refl, (says _ (n ∷ []) refl refl refl, (says _ (n ∷ []) refl refl refl, (says _ (n ∷ []) refl refl refl, (says _ (n ∷ []) refl refl refl, (says _ (n ∷ []) refl refl refl, tt))))))))
+byte_says n = (says _ (n ∷ []) refl refl refl, (says _ (n ∷ []) refl refl refl, (says _ (n ∷ []) refl refl refl, (says _ (n ∷ []) refl refl refl, (says _ (n ∷ []) refl refl refl, (says _ (n ∷ []) refl refl refl, (says _ (n ∷ []) refl refl refl, (says _ (n ∷ []) refl refl refl, (says _ (n ∷ []) refl refl refl, tt)))))))))
+
+pair_says : (q value : ℕ) → AllAre (λ i. Says i (q ∷ value ∷ [])) (with_pair q value)
+pair_says q value = (says _ (q ∷ value ∷ []) refl refl refl, (says _ (q ∷ value ∷ []) refl refl refl, tt))
 
 relation_says : (b : ℕ) (r : Rel) → b ≡ relation_number r → AllAre (λ i. Says i (b ∷ [])) (with_relation r)
 relation_says b r e = (says _ (b ∷ []) refl here refl, (says _ (b ∷ []) refl here refl, (says _ (b ∷ []) refl here refl, tt)))
@@ -243,6 +246,11 @@ reads_byte : (b : ℕ) → Reads b (by_byte b)
 reads_byte b [] i h = let no : ⊥ = cc in absurd no
 reads_byte b (n ∷ rest) i h = read_by b i (n ∷ []) rest (found (λ j. Says j (n ∷ [])) b (with_byte n) i (byte_says n) h)
 
+reads_pair : (b : ℕ) → Reads b (by_pair b)
+reads_pair b [] i h = let no : ⊥ = cc in absurd no
+reads_pair b (q ∷ []) i h = let no : ⊥ = cc in absurd no
+reads_pair b (q ∷ value ∷ rest) i h = read_by b i (q ∷ value ∷ []) rest (found (λ j. Says j (q ∷ value ∷ [])) b (with_pair q value) i (pair_says q value) h)
+
 reads_word : (b : ℕ) → Reads b (by_word b)
 reads_word b [] i h = let no : ⊥ = cc in absurd no
 reads_word b (high ∷ []) i h = let no : ⊥ = cc in absurd no
@@ -271,7 +279,10 @@ reads_common b rest i h = elim (either (has_relation b) _ _ i h) [
     | inl p ↦ reads_word b rest i p.1
     | inr h ↦ elim (either (has_byte b) _ _ i h) [
       | inl p ↦ reads_byte b rest i p.1
-      | inr h ↦ reads_plain b rest i h
+      | inr h ↦ elim (either (has_pair b) _ _ i h) [
+        | inl p ↦ reads_pair b rest i p.1
+        | inr h ↦ reads_plain b rest i h
+      ]
     ]
   ]
 ]

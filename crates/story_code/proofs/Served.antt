@@ -58,6 +58,7 @@ given z (code.Happens scene) some = some
 given z code.HasDescription some = some
 given z code.Room some = some
 given z code.Door some = some
+given z (code.Valued q value) some = some
 given z (code.Count k test) some = some
 given z (code.Names naming k test) some = some
 given z (code.Say string) some = some
@@ -70,6 +71,8 @@ given z (code.SetVar v) some = some
 given z (code.PutAt r) some = some
 given z code.Move some = some
 given z code.Away some = some
+given z (code.ValueName q) some = some
+given z (code.SetValue q value) some = some
 given z (code.Try silent action) some = some
 given z (code.Follow book) some = some
 given z (code.IfZero place) some = some
@@ -156,6 +159,7 @@ module _ (judged : List Judged) (s : Standing) (z : Counts) (own : z.own ≡ s.c
   loops_suit nine code.HasDescription named there = tt
   loops_suit nine code.Room named there = tt
   loops_suit nine code.Door named there = tt
+  loops_suit nine (code.Valued q value) named there = tt
   loops_suit nine (code.Count k test) named there = new_loop k test named there
   loops_suit nine (code.Names naming k test) named there = new_loop k test named there
   loops_suit nine (code.Say string) named there = tt
@@ -168,6 +172,8 @@ module _ (judged : List Judged) (s : Standing) (z : Counts) (own : z.own ≡ s.c
   loops_suit nine (code.PutAt r) named there = tt
   loops_suit nine code.Move named there = tt
   loops_suit nine code.Away named there = tt
+  loops_suit nine (code.ValueName q) named there = tt
+  loops_suit nine (code.SetValue q value) named there = tt
   loops_suit nine (code.Try silent action) named there = tt
   loops_suit nine (code.Follow book) named there = tt
   loops_suit nine (code.IfZero place) named there = tt
@@ -238,7 +244,7 @@ leads_on judged s t i may f p q at step small same =
     }
 
 blank : World
-blank = record { places = []; flags = []; numbers = []; variables = []; scenes = []; turns = 1; ended = None }
+blank = record { places = []; flags = []; numbers = []; values = []; variables = []; scenes = []; turns = 1; ended = None }
 
 -- a run stands at an instruction, which is fetched
 pub fetched_by : (judged : List Judged) (s : Standing) (may : IsStanding judged s) (j : Judged) (result : Option Instruction) → AreSoundTogether judged → length s.loops ≤ 9

@@ -81,6 +81,7 @@ module _ (o : List Instruction) (is : CanSpell o) where
   pub adjective_spelled : (a : Adjective) → CanSpell (adjective_code o a)
   unfolding adjective_code
   adjective_spelled (tree.Quality p side) = spell_both o (i.Flag p (asked_of side) ∷ []) is (refl, refl)
+  adjective_spelled (tree.Valued q value) = spell_both o (i.Valued q value ∷ []) is (refl, refl)
   adjective_spelled tree.Visible = spell_both o (i.Visible ∷ []) is (refl, refl)
   adjective_spelled tree.Touchable = spell_both o (i.Touchable ∷ []) is (refl, refl)
   adjective_spelled (tree.NotSo a) =
@@ -109,6 +110,7 @@ module _ (z : Counts) (o : List Instruction) where
   plain_size : (a : Adjective) → AdjectiveIsPlain z a → sizes (adjective_code o a) ≤ sizes o + 3
   unfolding adjective_code
   plain_size (tree.Quality p side) plain = omega (arith, sizes_append o (i.Flag p (asked_of side) ∷ []))
+  plain_size (tree.Valued q value) plain = omega (arith, sizes_append o (i.Valued q value ∷ []))
   plain_size tree.Visible plain = omega (arith, sizes_append o (i.Visible ∷ []))
   plain_size tree.Touchable plain = omega (arith, sizes_append o (i.Touchable ∷ []))
   plain_size (tree.NotSo a) plain = absurd plain
@@ -116,6 +118,7 @@ module _ (z : Counts) (o : List Instruction) where
   pub adjective_size : (a : Adjective) → AdjectiveIsSayable z a → sizes (adjective_code o a) ≤ 2 * sizes o + 12 * words_of_adjective a
   unfolding adjective_code
   adjective_size (tree.Quality p side) plain = omega (arith, sizes_append o (i.Flag p (asked_of side) ∷ []))
+  adjective_size (tree.Valued q value) plain = omega (arith, sizes_append o (i.Valued q value ∷ []))
   adjective_size tree.Visible plain = omega (arith, sizes_append o (i.Visible ∷ []))
   adjective_size tree.Touchable plain = omega (arith, sizes_append o (i.Touchable ∷ []))
   adjective_size (tree.NotSo a) plain =
@@ -128,6 +131,7 @@ module _ (z : Counts) (o : List Instruction) where
     where
       some_word : (a : Adjective) → 1 ≤ words_of_adjective a
       some_word (tree.Quality p side) = omega arith
+      some_word (tree.Valued q value) = omega arith
       some_word tree.Visible = omega arith
       some_word tree.Touchable = omega arith
       some_word (tree.NotSo a) = omega arith

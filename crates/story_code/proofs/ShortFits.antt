@@ -1,6 +1,6 @@
 -- What can be said of a story fits it: few operands stand at once.
 use Rattle.std.proofs.Common.{ℕ, ◌+◌, ◌<◌, ◌≤◌, List, [], ◌∷◌, length, Option, None, Some, arith}
-use Rattle.play_meaning.specs.Trees.{Adjective, And, Body, Bytes, Condition, CountOf, Description, DescriptionOf, DoorFrom, Encloses, End, EndStory, Equals, Figure, Follow, Happens, Has, HasDescription, If, IfSaid, InDarkness, Instead, IsAtMost, IsHeld, IsHeldByOne, IsLess, IsOne, IsSame, IsSo, Leave, Listing, Literal, Location, Minus, Move, Name, Not, NotSo, Nothing, Noun, NowHeld, NowIs, NowNowhere, NowNumber, NowVariable, Number, Object, Or, Phrase, Plus, PropertyOf, Quality, Repeat, RoomFrom, Say, SecondNoun, Silence, Text, The, Then, Those, ThoseHeld, Times, Touchable, Try, TurnCount, Turning, Variable, Visible}
+use Rattle.play_meaning.specs.Trees.{Adjective, And, Body, Bytes, Condition, CountOf, Description, DescriptionOf, DoorFrom, Encloses, End, EndStory, Equals, Figure, Follow, Happens, Has, HasDescription, If, IfSaid, InDarkness, Instead, IsAtMost, IsHeld, IsHeldByOne, IsLess, IsOne, IsSame, IsSo, Leave, Listing, Literal, Location, Minus, Move, Name, Not, NotSo, Nothing, Noun, NowHeld, NowIs, NowNowhere, NowNumber, NowValued, NowVariable, Number, Object, Or, Phrase, Plus, PropertyOf, Quality, Repeat, RoomFrom, Say, SecondNoun, Silence, Text, The, Then, Those, ThoseHeld, Times, Touchable, Try, TurnCount, Turning, Valued, ValueName, Variable, Visible}
 use Rattle.play_meaning.specs.declared.operand.Counts.{Counts}
 use Rattle.play_meaning.specs.declared.operand.Use.{Use}
 use Rattle.play_meaning.specs.declared.operand.Use.TheVariants as role
@@ -49,12 +49,14 @@ module _ (z : Counts) (own codes : ℕ) where
 
     plain_fits : (a : Adjective) (n : ℕ) → AdjectiveIsPlain z a → n < 56 → AdjectiveFits judged O n a
     plain_fits (Quality p side) n is low = (is, over n low)
+    plain_fits (Valued q value) n is low = (is, over n low)
     plain_fits Visible n is low = over n low
     plain_fits Touchable n is low = over n low
     plain_fits (NotSo a) n is low = absurd is
 
     adjective_fits : (a : Adjective) (n : ℕ) → AdjectiveIsSayable z a → n < 55 → AdjectiveFits judged O n a
     adjective_fits (Quality p side) n is low = (is, over n (omega (arith, low)))
+    adjective_fits (Valued q value) n is low = (is, over n (omega (arith, low)))
     adjective_fits Visible n is low = over n (omega (arith, low))
     adjective_fits Touchable n is low = over n (omega (arith, low))
     adjective_fits (NotSo a) n is low = (there_fits n (omega (arith, low)), plain_fits a (n + 1) is (omega (arith, low)))
@@ -129,6 +131,7 @@ module _ (z : Counts) (own codes : ℕ) where
   text_fits whose string k (Name naming o more) few is = (object_fits k o 0 is.0 (omega arith), text_fits whose string k more few is.1)
   text_fits whose string k (Listing naming d more) few is = (test_fits k d few is.0, text_fits whose string k more few is.1)
   text_fits whose string k (DescriptionOf o more) few is = ((is.0.0, object_fits k o 0 is.0.1 (omega arith)), text_fits whose string k more few is.1)
+  text_fits whose string k (ValueName q o more) few is = ((is.0.0, object_fits k o 0 is.0.1 (omega arith)), text_fits whose string k more few is.1)
   text_fits whose string k (IfSaid c a b more) few is =
       (condition_fits k c few is.0, ((text_fits whose string k a few is.1.0.0, text_fits whose string k b few is.1.0.1), text_fits whose string k more few is.1.1))
 
@@ -141,6 +144,7 @@ module _ (z : Counts) (own codes : ℕ) where
     phrase_fits string k (Move o holder) few is = objects_fit k o holder 0 is (omega arith)
     phrase_fits string k (NowNumber p o number) few is = (is.0, (object_fits k o 0 is.1.0 (omega arith), number_fits k number 1 few is.1.1 (omega arith)))
     phrase_fits string k (NowVariable v number) few is = (is.0, number_fits k number 0 few is.1 (omega arith))
+    phrase_fits string k (NowValued o q value) few is = (is.0, object_fits k o 0 is.1 (omega arith))
     phrase_fits string k (Try silent action noun second) few is = (is.0, objects_fit k noun second 0 is.1 (omega arith))
     phrase_fits string k (Follow book) few is = is
     phrase_fits string k (Leave flow) few is = tt

@@ -53,6 +53,7 @@ condition_waits c = conjunctions_wait c.rest.items (conjunction_meant c.first) (
 denied_once : (z : Counts) (q : Quality) (denied : Bool) → AdjectiveIsPlain z (quality_meant q) → AdjectiveIsSayable z (denied_if denied (quality_meant q))
 denied_once z q true is = is
 denied_once z (quality.Is property side) false is = is
+denied_once z (quality.Valued q value) false is = is
 denied_once z quality.Visible false is = is
 denied_once z quality.Touchable false is = is
 

@@ -85,6 +85,10 @@ module _ (z : Counts) (counted : IsCountedInTwoBytes z) where
       said_in_front string k (these (object_code o ++ i.Description ∷ [])) (2 + words_of_object o) more
       (within (these (object_code o ++ i.Description ∷ [])) _ _ 0 _ (said_with_one z counted k o i.Description is.0.1 (refl, refl)) (omega arith) (omega arith))
       (text_said whose string k more is.1 (omega (arith, short)))
+  text_said whose string k (tree.ValueName q o more) is short =
+      said_in_front string k (these (object_code o ++ i.ValueName q ∷ [])) (2 + words_of_object o) more
+      (within (these (object_code o ++ i.ValueName q ∷ [])) _ _ 0 _ (said_with_one z counted k o (i.ValueName q) is.0.1 (refl, refl)) (omega arith) (omega arith))
+      (text_said whose string k more is.1 (omega (arith, short)))
   text_said whose string k (tree.IfSaid c a b more) is short =
       let inner = choice (condition_part k c) (text_part string k a) (text_part string k b) in
       within (seq inner (text_part string k more)) _ _ _ _
@@ -143,6 +147,8 @@ module _ (z : Counts) (counted : IsCountedInTwoBytes z) where
           within (seq (number_part k number) (one (i.SetVar v))) _ _ _ _
           (said_seq (number_part k number) (one (i.SetVar v)) _ 2 _ 0 (terms_said z counted k number is.1.1 (omega (arith, short))) (said_one (i.SetVar v) 2 (omega arith) (refl, refl)))
           (omega arith) (omega arith)
+      phrase_said k (tree.NowValued o q value) few is short =
+          within (these (object_code o ++ i.SetValue q value ∷ [])) _ _ 0 _ (said_with_one z counted k o (i.SetValue q value) is.1 (refl, refl)) (omega arith) (omega arith)
       phrase_said k (tree.Try silent action noun second) few is short =
           within (these (object_code noun ++ object_code second ++ i.Try silent action ∷ [])) _ _ 0 _ (try_said k noun second (i.Try silent action) is.1 (omega arith) (refl, refl)) (omega arith) (omega arith)
       phrase_said k (tree.Follow book) few is short =

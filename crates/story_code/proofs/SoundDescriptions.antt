@@ -1,5 +1,6 @@
 -- The codes of objects, descriptions, numbers and conditions that fit find what they need, and give one operand.
 use Rattle.std.proofs.Common.{◌≡◌, ◌∙◌, ap, sym, subst, refl, ℕ, ◌+◌, ◌<◌, ◌≤◌, ◌&&◌, ◌||◌, nat_lt, nat_le, Bool, true, false, List, [], ◌∷◌, ◌++◌, append_assoc, length, Option, None, Some, if◌then◌else◌, ℤ, pos, negsuc, arith}
+use Rattle.std.specs.Prelude.{slice_index_or}
 use Rattle.std.proofs.lemmas.Bool.{and_from, le-leb, leb-true, lt-ltb, or_left, or_right}
 use Rattle.play_meaning.specs.Instructions.{opcode, sizes}
 use Rattle.play_meaning.specs.Operands.{behind_eq, below, is_from_to, is_object, may_hold, names_what_is_there, operands_behind, serves, with_given}
@@ -35,8 +36,9 @@ pub asks : (whose : Use) (x : Instruction) → is_from_to 0x01 0x20 x ≡ true �
 unfolding may_hold
 asks (Test loops) x h = or_left (is_from_to 0x01 0x20 x) (is_from_to 0x3B 0x3B x) h
 asks Describing x h =
-    or_left (is_from_to 0x01 0x24 x || is_from_to 0x32 0x33 x) (is_from_to 0x37 0x37 x)
-    (or_left (is_from_to 0x01 0x24 x) (is_from_to 0x32 0x33 x) (up_to (opcode x) 0x20 0x24 (omega arith) h))
+    or_left (is_from_to 0x01 0x24 x || is_from_to 0x2C 0x2C x || is_from_to 0x32 0x33 x) (is_from_to 0x37 0x37 x)
+    (or_left (is_from_to 0x01 0x24 x || is_from_to 0x2C 0x2C x) (is_from_to 0x32 0x33 x)
+    (or_left (is_from_to 0x01 0x24 x) (is_from_to 0x2C 0x2C x) (up_to (opcode x) 0x20 0x24 (omega arith) h)))
 asks Body x h = up_to (opcode x) 0x20 0x3A (omega arith) h
 
 -- ---- what instructions leave
@@ -233,6 +235,8 @@ module _ (z : Counts) (own : ℕ) (whose : Use) (loops : List OpenLoop) (k : ℕ
     unfolding adjective_code seq names_what_is_there operands_behind
     adjective_gives (tree.Quality p side) n fits =
         asked_of_one Truth n o (i.Flag p _) Truth (refl, refl, refl, is_below p z.flags fits.0) refl (λ a sorts. refl) (asked n fits.1)
+    adjective_gives (tree.Valued q value) n fits =
+        asked_of_one Truth n o (i.Valued q value) Truth (refl, refl, refl, is_below value (slice_index_or z.values q 0) fits.0) refl (λ a sorts. refl) (asked n fits.1)
     adjective_gives tree.Visible n fits = asked_of_one Truth n o i.Visible Truth (refl, refl, refl, refl) refl (λ a sorts. refl) (asked n fits)
     adjective_gives tree.Touchable n fits = asked_of_one Truth n o i.Touchable Truth (refl, refl, refl, refl) refl (λ a sorts. refl) (asked n fits)
     adjective_gives (tree.NotSo a) n fits =

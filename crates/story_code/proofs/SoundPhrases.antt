@@ -1,5 +1,6 @@
 -- The codes of phrases that fit find what they need, and leave nothing.
 use Rattle.std.proofs.Common.{◌≡◌, subst, refl, ℕ, ◌+◌, ◌==◌, ◌&&◌, nat_lt, true, List, [], ◌∷◌, ◌++◌, append-nil, length, None, Some, arith}
+use Rattle.std.specs.Prelude.{slice_index_or}
 use Rattle.std.proofs.lemmas.Bool.{and_from, and_parts, eq-eqb}
 use Rattle.play_meaning.specs.Instructions.{sizes}
 use Rattle.play_meaning.specs.Operands.{below, may_hold, names_what_is_there, operands_behind, with_given}
@@ -109,6 +110,8 @@ module _ (z : Counts) (own : ℕ) (string : List ℕ → ℕ) where
         takes_one z own Body loops k deep Number (number_part k number) (i.SetVar v)
         (refl, refl, refl, refl, is_below v z.variables fits.0) (λ a. refl)
         (number_gives z own Body loops k deep number 0 fits.1)
+    phrase_does (tree.NowValued o q value) loops k deep fits =
+        with_one loops k deep o (i.SetValue q value) (refl, refl, refl, refl, is_below value (slice_index_or z.values q 0) fits.0) (λ a. refl) fits.1
     phrase_does (tree.Try silent action noun second) loops k deep fits =
         with_two loops k deep noun second (i.Try silent action)
         (refl, refl, refl, refl, is_below action z.actions fits.0) (λ a b. refl) fits.1

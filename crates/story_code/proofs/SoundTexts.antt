@@ -1,5 +1,6 @@
 -- The codes of texts that fit find what they need, and leave nothing.
 use Rattle.std.proofs.Common.{◌≡◌, ◌∙◌, ap, sym, subst, refl, ℕ, ◌+◌, true, List, [], ◌∷◌, ◌++◌, length, None, Some, arith}
+use Rattle.std.specs.Prelude.{slice_index_or}
 use Rattle.play_meaning.specs.Instructions.{sizes}
 use Rattle.play_meaning.specs.Operands.{below, may_hold, names_what_is_there, operands_behind, with_given}
 use Rattle.play_meaning.specs.SoundCodes.{loops_around, way_of}
@@ -30,17 +31,18 @@ pub record MaySay (whose : Use) : Type 0 where
   pub string : (s : ℕ) → may_hold whose (i.Say s) ≡ true
   pub figure : may_hold whose i.Figure ≡ true
   pub name : (naming : Naming) → may_hold whose (i.Name naming) ≡ true
+  pub value : (q : ℕ) → may_hold whose (i.ValueName q) ≡ true
   pub names : (naming : Naming) (k t : ℕ) → may_hold whose (i.Names naming k t) ≡ true
   pub branch : (p : ℕ) → may_hold whose (i.IfZero p) ≡ true
   pub jump : (p : ℕ) → may_hold whose (i.Jump p) ≡ true
 
 pub bodies_say : MaySay Body
 unfolding may_hold
-bodies_say = record { string = λ s. refl; figure = refl; name = λ naming. refl; names = λ naming k t. refl; branch = λ p. refl; jump = λ p. refl }
+bodies_say = record { string = λ s. refl; figure = refl; name = λ naming. refl; value = λ q. refl; names = λ naming k t. refl; branch = λ p. refl; jump = λ p. refl }
 
 pub descriptions_say : MaySay Describing
 unfolding may_hold
-descriptions_say = record { string = λ s. refl; figure = refl; name = λ naming. refl; names = λ naming k t. refl; branch = λ p. refl; jump = λ p. refl }
+descriptions_say = record { string = λ s. refl; figure = refl; name = λ naming. refl; value = λ q. refl; names = λ naming k t. refl; branch = λ p. refl; jump = λ p. refl }
 
 module _ (z : Counts) (own : ℕ) (whose : Use) (loops : List OpenLoop) (k : ℕ) (deep : loops_around whose + length loops ≡ k) where
   abbrev judged : Counts
@@ -151,6 +153,11 @@ module _ (z : Counts) (own : ℕ) (whose : Use) (loops : List OpenLoop) (k : ℕ
         does_seq (these (object_code o ++ i.Description ∷ [])) (text_part string k more)
         (takes_one Object (these (object_code o)) i.Description
         (subst (λ w. may_hold w i.Description ≡ true) (sym fits.0.0) refl, refl, refl, refl, refl) (λ a. refl) (object_gives z own whose loops k deep o 0 fits.0.1))
+        (text_does more fits.1)
+    text_does (tree.ValueName q o more) fits =
+        does_seq (these (object_code o ++ i.ValueName q ∷ [])) (text_part string k more)
+        (takes_one Object (these (object_code o)) (i.ValueName q) (say.value q, refl, refl, refl, is_below 0 (slice_index_or z.values q 0) fits.0.0) (λ a. refl)
+        (object_gives z own whose loops k deep o 0 fits.0.1))
         (text_does more fits.1)
     text_does (tree.IfSaid c a b more) fits =
         does_seq (choice (condition_part k c) (text_part string k a) (text_part string k b)) (text_part string k more)

@@ -7,7 +7,7 @@ use Rattle.std.proofs.lemmas.Bool.{and_parts}
 use Rattle.world_meaning.specs.declared.place.Rel.TheVariants.{In, On, Carried, Worn, Part}
 use Rattle.play_meaning.specs.declared.instruction.Asked.TheVariants.{IsFirst, IsNotFirst, IsNotSecond, IsSecond}
 use Rattle.play_meaning.specs.declared.instruction.Instruction.{Instruction}
-use Rattle.play_meaning.specs.declared.instruction.Instruction.TheVariants.{Add, And, Answer, AtMost, Away, Begin, Count, Dark, Description, Done, Door, Encloses, EndStory, Eq, Failure, Figure, Flag, Follow, Happens, HasDescription, Held, Holder, IfZero, Jump, Kind, Less, Location, Loop, Move, Mul, Name, Names, Next, NoDecision, Not, Noun, Num, Or, Prop, PutAt, Room, Say, Second, SetFlag, SetProp, SetVar, Sub, Success, Touchable, Try, Turns, Var, Visible}
+use Rattle.play_meaning.specs.declared.instruction.Instruction.TheVariants.{Add, And, Answer, AtMost, Away, Begin, Count, Dark, Description, Done, Door, Encloses, EndStory, Eq, Failure, Figure, Flag, Follow, Happens, HasDescription, Held, Holder, IfZero, Jump, Kind, Less, Location, Loop, Move, Mul, Name, Names, Next, NoDecision, Not, Noun, Num, Or, Prop, PutAt, Room, Say, Second, SetFlag, SetProp, SetValue, SetVar, Sub, Success, Touchable, Try, Turns, Valued, ValueName, Var, Visible}
 use Rattle.play_meaning.specs.declared.naming.Naming.TheVariants.{CapitalDefinite, CapitalIndefinite, Definite, Indefinite, Plain}
 use Rattle.story_code.specs.Spelling.{can_spell, spelled}
 use Rattle.story_code.specs.Fronts.{common_in, front, front_by}
@@ -55,7 +55,10 @@ front_spelled (Kind n) rest h = refl
 front_spelled (Happens n) rest h = refl
 front_spelled (SetProp n) rest h = refl
 front_spelled (SetVar n) rest h = refl
+front_spelled (ValueName n) rest h = refl
 front_spelled (Begin n) rest h = refl
+front_spelled (Valued q value) rest h = refl
+front_spelled (SetValue q value) rest h = refl
 front_spelled (Say n) rest h = ap (λ w. Some (Say w)) (word_back n (and_parts _ _ h).0)
 front_spelled (Follow n) rest h = ap (λ w. Some (Follow w)) (word_back n (and_parts _ _ h).0)
 front_spelled (IfZero n) rest h = ap (λ w. Some (IfZero w)) (word_back n (and_parts _ _ h).0)

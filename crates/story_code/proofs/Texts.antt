@@ -18,6 +18,7 @@ piece_first string k s (piece.Figure number) more = emitted_seq s (piece_part st
 piece_first string k s (piece.Name naming o) more = emitted_seq s (piece_part string k (piece.Name naming o)) (text_part string k more)
 piece_first string k s (piece.Listing naming description) more = emitted_seq s (piece_part string k (piece.Listing naming description)) (text_part string k more)
 piece_first string k s (piece.DescriptionOf o) more = emitted_seq s (piece_part string k (piece.DescriptionOf o)) (text_part string k more)
+piece_first string k s (piece.ValueName q o) more = emitted_seq s (piece_part string k (piece.ValueName q o)) (text_part string k more)
 
 said_first : (string : List ℕ → ℕ) (k : ℕ) (s : Emitting) (p : Said) (more : tree.Text) → emitted (emitted s (said_part string k p)) (text_part string k more) ≡ emitted s (text_part string k (said_meant p more))
 unfolding text_part

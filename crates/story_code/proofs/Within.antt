@@ -1,7 +1,7 @@
 -- What fits inside so many loops names the object of no other.
 use Rattle.std.proofs.Common.{ℕ, ◌+◌, List, [], ◌∷◌, Option, None, Some}
 use Rattle.play_meaning.specs.Scoping.{ConditionIsWithin, DescriptionIsWithin, NumberIsWithin, ObjectIsWithin, TextIsWithin}
-use Rattle.play_meaning.specs.Trees.{Adjective, And, Bytes, Condition, CountOf, Description, DescriptionOf, DoorFrom, Encloses, Equals, Figure, Happens, Has, HasDescription, IfSaid, InDarkness, IsAtMost, IsHeld, IsHeldByOne, IsLess, IsOne, IsSame, IsSo, Listing, Literal, Location, Minus, Name, Not, NotSo, Nothing, Noun, Number, Object, Or, Plus, PropertyOf, Quality, RoomFrom, SecondNoun, Silence, Text, The, Those, ThoseHeld, Times, Touchable, TurnCount, Turning, Variable, Visible}
+use Rattle.play_meaning.specs.Trees.{Adjective, And, Bytes, Condition, CountOf, Description, DescriptionOf, DoorFrom, Encloses, Equals, Figure, Happens, Has, HasDescription, IfSaid, InDarkness, IsAtMost, IsHeld, IsHeldByOne, IsLess, IsOne, IsSame, IsSo, Listing, Literal, Location, Minus, Name, Not, NotSo, Nothing, Noun, Number, Object, Or, Plus, PropertyOf, Quality, RoomFrom, SecondNoun, Silence, Text, The, Those, ThoseHeld, Times, Touchable, TurnCount, Turning, Valued, ValueName, Variable, Visible}
 use Rattle.play_meaning.specs.declared.operand.Counts.{Counts}
 use Rattle.play_meaning.specs.declared.operand.Use.{Use}
 use Rattle.story_code.specs.Fitting.{AdjectiveFits, AdjectivesFit, ConditionFits, DescriptionFits, FitsOver, NumberFits, ObjectFits, TextFits, ThoseFit}
@@ -20,6 +20,7 @@ module _ (z : Counts) (k : ℕ) where
   -- the object that is asked about fits too
   adjective_over : (o : FitsOver) (n : ℕ) (a : Adjective) → AdjectiveFits z o n a → o n
   adjective_over o n (Quality p side) fits = fits.1
+  adjective_over o n (Valued q value) fits = fits.1
   adjective_over o n Visible fits = fits
   adjective_over o n Touchable fits = fits
   adjective_over o n (NotSo a) fits = fits.0.0
@@ -75,5 +76,6 @@ module _ (z : Counts) (k : ℕ) where
   text_within whose string (Name naming o more) fits = (object_within o 0 fits.0, text_within whose string more fits.1)
   text_within whose string (Listing naming d more) fits = (description_within _ 0 d fits.0.1, text_within whose string more fits.1)
   text_within whose string (DescriptionOf o more) fits = (object_within o 0 fits.0.1, text_within whose string more fits.1)
+  text_within whose string (ValueName q o more) fits = (object_within o 0 fits.0.1, text_within whose string more fits.1)
   text_within whose string (IfSaid c a b more) fits =
       (condition_within c 0 fits.0, (text_within whose string a fits.1.0.0, (text_within whose string b fits.1.0.1, text_within whose string more fits.1.1)))

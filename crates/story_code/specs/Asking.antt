@@ -5,11 +5,11 @@ use Rattle.play_meaning.specs.Machines.{is_asked, is_true, truth_number}
 use Rattle.play_meaning.specs.Seeing.{encloses, has_light, is_touchable, is_visible}
 use Rattle.play_meaning.specs.Settings.{Setting}
 use Rattle.play_meaning.specs.Truth.{of_both, of_some}
-use Rattle.play_meaning.specs.Values.{beyond, is_held}
+use Rattle.play_meaning.specs.Values.{beyond, has_value, is_held}
 use Rattle.play_meaning.specs.Worlds.{World, location_of, scene_of, variable_of}
 use Rattle.play_meaning.specs.declared.action.ActionNow.{ActionNow}
 use Rattle.play_meaning.specs.declared.instruction.Instruction.{Instruction}
-use Rattle.play_meaning.specs.declared.instruction.Instruction.TheVariants.{Add, And, AtMost, Dark, Door, Encloses, Eq, Flag, Happens, HasDescription, Held, Kind, Less, Location, Loop, Mul, Noun, Num, Or, Room, Second, Sub, Touchable, Turns, Var, Visible}
+use Rattle.play_meaning.specs.declared.instruction.Instruction.TheVariants.{Add, And, AtMost, Dark, Door, Encloses, Eq, Flag, Happens, HasDescription, Held, Kind, Less, Location, Loop, Mul, Noun, Num, Or, Room, Second, Sub, Touchable, Turns, Valued, Var, Visible}
 
 -- a number or a truth, of no operand
 abbrev pub known : Setting → World → Instruction → ℤ
@@ -35,6 +35,7 @@ holds_of s w (Kind kind) o = s.is_of o kind
 holds_of s w Visible o = is_visible s w o
 holds_of s w Touchable o = is_touchable s w o
 holds_of s w HasDescription o = s.has_description o
+holds_of s w (Valued q value) o = has_value s w q value o
 holds_of s w i o = false
 
 -- a truth, of two numbers or truths

@@ -3,7 +3,7 @@ use Rattle.std.specs.Prelude.{ℕ, ◌+◌, nat_lt, ◌&&◌, Bool, true, false,
 use Rattle.std.specs.List.{list_all}
 use Rattle.play_meaning.specs.Instructions.{size_of, sizes}
 use Rattle.play_meaning.specs.declared.instruction.Instruction.{Instruction}
-use Rattle.play_meaning.specs.declared.instruction.Instruction.TheVariants.{Add, And, Begin, Count, Description, Figure, IfZero, Jump, Mul, Name, Names, Next, Or, Say, Sub}
+use Rattle.play_meaning.specs.declared.instruction.Instruction.TheVariants.{Add, And, Begin, Count, Description, Figure, IfZero, Jump, Mul, Name, Names, Next, Or, Say, Sub, ValueName}
 use Rattle.world_meaning.specs.declared.place.Rel.TheVariants.{Carried, Worn}
 use Rattle.play_meaning.specs.Meant.{clause_meant, condition_meant, conjunction_meant, description_meant, number_meant, object_meant, pieces_meant, term_meant}
 use Rattle.play_meaning.specs.Translation.{Emitted, Part, behind, choice, condition_part, held_code, number_part, object_code, one, seq, test_code, testing, text_part, these}
@@ -151,6 +151,7 @@ piece_part string k (piece.Figure number) = seq (number_part k (number_meant num
 piece_part string k (piece.Name naming o) = these (object_code (object_meant o) ++ Name naming ∷ [])
 piece_part string k (piece.Listing naming description) = testing (Names naming k) (test_code k (description_meant description))
 piece_part string k (piece.DescriptionOf o) = these (object_code (object_meant o) ++ Description ∷ [])
+piece_part string k (piece.ValueName q o) = these (object_code (object_meant o) ++ ValueName q ∷ [])
 
 -- a piece, or what is said by a condition
 abbrev pub said_part : (List ℕ → ℕ) → ℕ → Said → Part

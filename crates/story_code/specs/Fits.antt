@@ -1,9 +1,9 @@
 -- What tells whether trees fit, as `Fitting` says: inside so many loops `k`, with so much room for more operands.
-use Rattle.std.specs.Prelude.{ℕ, ◌+◌, ◌-◌, nat_lt, Bool, true, ◌&&◌, List, [], ◌∷◌, Option, None, Some}
+use Rattle.std.specs.Prelude.{ℕ, ◌+◌, ◌-◌, nat_lt, Bool, true, ◌&&◌, List, [], ◌∷◌, Option, None, Some, slice_index_or}
 use Rattle.std.specs.List.{list_all}
 use Rattle.play_meaning.specs.Meant.{body_meant, condition_meant, description_meant, number_meant, object_meant}
 use Rattle.play_meaning.specs.Stands.{is_body}
-use Rattle.play_meaning.specs.Trees.{Adjective, And, Body, Bytes, Condition, CountOf, Description, DescriptionOf, DoorFrom, Encloses, End, EndStory, Equals, Figure, Follow, Happens, Has, HasDescription, If, IfSaid, InDarkness, Instead, IsAtMost, IsHeld, IsHeldByOne, IsLess, IsOne, IsSame, IsSo, Leave, Listing, Minus, Move, Name, Not, NotSo, NowHeld, NowIs, NowNowhere, NowNumber, NowVariable, Number, Object, Or, Phrase, Plus, PropertyOf, Quality, Repeat, RoomFrom, Say, Silence, Text, The, Then, Those, ThoseHeld, Times, Try, Turning, Variable}
+use Rattle.play_meaning.specs.Trees.{Adjective, And, Body, Bytes, Condition, CountOf, Description, DescriptionOf, DoorFrom, Encloses, End, EndStory, Equals, Figure, Follow, Happens, Has, HasDescription, If, IfSaid, InDarkness, Instead, IsAtMost, IsHeld, IsHeldByOne, IsLess, IsOne, IsSame, IsSo, Leave, Listing, Minus, Move, Name, Not, NotSo, NowHeld, NowIs, NowNowhere, NowNumber, NowValued, NowVariable, Number, Object, Or, Phrase, Plus, PropertyOf, Quality, Repeat, RoomFrom, Say, Silence, Text, The, Then, Those, ThoseHeld, Times, Try, Turning, Valued, ValueName, Variable}
 use Rattle.play_meaning.specs.declared.operand.Counts.{Counts}
 use Rattle.play_meaning.specs.declared.operand.Use.{Use}
 use Rattle.play_meaning.specs.declared.operand.Use.TheVariants as role
@@ -14,6 +14,13 @@ use Rattle.play_meaning.specs.declared.tree.said.Said.{Said}
 use Rattle.play_meaning.specs.declared.tree.said.Said.TheVariants as said
 
 -- ---- objects and descriptions
+
+-- a kind of value is there, and one of its values
+abbrev pub value_kind_fits : Counts → ℕ → Bool
+value_kind_fits z q = nat_lt 0 (slice_index_or z.values q 0)
+
+abbrev pub value_fits : Counts → ℕ → ℕ → Bool
+value_fits z q value = nat_lt value (slice_index_or z.values q 0)
 
 abbrev pub object_fits : Counts → ℕ → Object → ℕ → Bool
 object_fits z k (The o) room = nat_lt o z.objects && nat_lt 0 room
@@ -27,6 +34,7 @@ is_there_fits o room = o room && nat_lt 0 (room - 1)
 
 abbrev pub adjective_fits : Counts → (ℕ → Bool) → Adjective → ℕ → Bool
 adjective_fits z o (Quality p side) room = nat_lt p z.flags && o room
+adjective_fits z o (Valued q value) room = value_fits z q value && o room
 adjective_fits z o (NotSo adjective) room = is_there_fits o room && adjective_fits z o adjective (room - 1)
 adjective_fits z o _ room = o room
 
@@ -90,6 +98,7 @@ text_fits z whose string k (Figure number more) = number_fits z k number 64 && t
 text_fits z whose string k (Name naming o more) = object_fits z k o 64 && text_fits z whose string k more
 text_fits z whose string k (Listing naming description more) = test_fits z k description && text_fits z whose string k more
 text_fits z whose string k (DescriptionOf o more) = (is_body whose && object_fits z k o 64) && text_fits z whose string k more
+text_fits z whose string k (ValueName q o more) = (value_kind_fits z q && object_fits z k o 64) && text_fits z whose string k more
 text_fits z whose string k (IfSaid condition a b more) = condition_fits z k condition 64 && ((text_fits z whose string k a && text_fits z whose string k b) && text_fits z whose string k more)
 
 abbrev pub piece_fits : Counts → Use → (List ℕ → ℕ) → ℕ → Piece → Bool
@@ -98,6 +107,7 @@ piece_fits z whose string k (piece.Figure number) = number_fits z k (number_mean
 piece_fits z whose string k (piece.Name naming o) = object_fits z k (object_meant o) 64
 piece_fits z whose string k (piece.Listing naming description) = test_fits z k (description_meant description)
 piece_fits z whose string k (piece.DescriptionOf o) = is_body whose && object_fits z k (object_meant o) 64
+piece_fits z whose string k (piece.ValueName q o) = value_kind_fits z q && object_fits z k (object_meant o) 64
 
 abbrev pub said_fits : Counts → Use → (List ℕ → ℕ) → ℕ → Said → Bool
 said_fits z whose string k (said.Plain piece) = piece_fits z whose string k piece
@@ -113,6 +123,7 @@ unfoldable mutual
   phrase_fits z string k (Move o holder) = objects_fit z k o holder 64
   phrase_fits z string k (NowNumber p o number) = nat_lt p z.numbers && (object_fits z k o 64 && number_fits z k number 63)
   phrase_fits z string k (NowVariable v number) = nat_lt v z.variables && number_fits z k number 64
+  phrase_fits z string k (NowValued o q value) = value_fits z q value && object_fits z k o 64
   phrase_fits z string k (Try silent action noun second) = nat_lt action z.actions && objects_fit z k noun second 64
   phrase_fits z string k (Follow book) = nat_lt book z.books
   phrase_fits z string k (Leave flow) = true

@@ -1,10 +1,10 @@
 -- Which trees fit a story: what they name is there, no more loops are open than a code can open, and no more than
 -- sixty-four operands stand at once. `k` loops are open around a tree, and `n` operands stand below its own.
-use Rattle.std.specs.Prelude.{◌≡◌, ℕ, ◌+◌, ◌<◌, List, [], ◌∷◌, Option, None, Some}
+use Rattle.std.specs.Prelude.{◌≡◌, ℕ, ◌+◌, ◌<◌, List, [], ◌∷◌, Option, None, Some, slice_index_or}
 use Rattle.play_meaning.specs.declared.operand.Counts.{Counts}
 use Rattle.play_meaning.specs.declared.operand.Use.{Use}
 use Rattle.play_meaning.specs.declared.operand.Use.TheVariants as role
-use Rattle.play_meaning.specs.Trees.{Adjective, And, Body, Bytes, Condition, CountOf, Description, DescriptionOf, DoorFrom, Encloses, End, EndStory, Equals, Figure, Follow, Has, HasDescription, Happens, If, IfSaid, InDarkness, Instead, IsAtMost, IsHeld, IsHeldByOne, IsLess, IsOne, IsSame, IsSo, Leave, Listing, Minus, Move, Name, Not, NotSo, NowHeld, NowIs, NowNowhere, NowNumber, NowVariable, Number, Object, Or, Phrase, Plus, PropertyOf, Quality, Repeat, RoomFrom, Say, Silence, Text, The, Then, Those, ThoseHeld, Times, Try, Turning, Variable}
+use Rattle.play_meaning.specs.Trees.{Adjective, And, Body, Bytes, Condition, CountOf, Description, DescriptionOf, DoorFrom, Encloses, End, EndStory, Equals, Figure, Follow, Has, HasDescription, Happens, If, IfSaid, InDarkness, Instead, IsAtMost, IsHeld, IsHeldByOne, IsLess, IsOne, IsSame, IsSo, Leave, Listing, Minus, Move, Name, Not, NotSo, NowHeld, NowIs, NowNowhere, NowNumber, NowValued, NowVariable, Number, Object, Or, Phrase, Plus, PropertyOf, Quality, Repeat, RoomFrom, Say, Silence, Text, The, Then, Those, ThoseHeld, Times, Try, Turning, Valued, ValueName, Variable}
 
 -- one more operand has room over so many
 abbrev pub HasRoom : ℕ → Type 0
@@ -13,6 +13,13 @@ HasRoom n = n < 64
 -- one more loop may be opened, though no tenth
 abbrev pub MayOpen : ℕ → Type 0
 MayOpen k = k < 9
+
+-- a kind of value is there, and one of its values, by its number
+abbrev pub ValueKindFits : Counts → ℕ → Type 0
+ValueKindFits z q = 0 < slice_index_or z.values q 0
+
+abbrev pub ValueFits : Counts → ℕ → ℕ → Type 0
+ValueFits z q value = value < slice_index_or z.values q 0
 
 -- ---- objects and descriptions
 
@@ -33,6 +40,7 @@ IsThereFits o n = o n × HasRoom (n + 1)
 
 abbrev pub AdjectiveFits : Counts → FitsOver → ℕ → Adjective → Type 0
 AdjectiveFits z o n (Quality p side) = (p < z.flags) × o n
+AdjectiveFits z o n (Valued q value) = ValueFits z q value × o n
 AdjectiveFits z o n (NotSo adjective) = IsThereFits o n × AdjectiveFits z o (n + 1) adjective
 AdjectiveFits z o n _ = o n
 
@@ -94,6 +102,7 @@ TextFits z whose string k (Figure number more) = NumberFits z k 0 number × Text
 TextFits z whose string k (Name naming o more) = ObjectFits z k 0 o × TextFits z whose string k more
 TextFits z whose string k (Listing naming description more) = TestFits z k description × TextFits z whose string k more
 TextFits z whose string k (DescriptionOf o more) = ((whose ≡ role.Body) × ObjectFits z k 0 o) × TextFits z whose string k more
+TextFits z whose string k (ValueName q o more) = (ValueKindFits z q × ObjectFits z k 0 o) × TextFits z whose string k more
 TextFits z whose string k (IfSaid condition a b more) =
     ConditionFits z k 0 condition × ((TextFits z whose string k a × TextFits z whose string k b) × TextFits z whose string k more)
 
@@ -106,6 +115,7 @@ abbrev mutual
   PhraseFits z string k (Move o holder) = HeldFits z k 0 o holder
   PhraseFits z string k (NowNumber p o number) = (p < z.numbers) × (ObjectFits z k 0 o × NumberFits z k 1 number)
   PhraseFits z string k (NowVariable v number) = (v < z.variables) × NumberFits z k 0 number
+  PhraseFits z string k (NowValued o q value) = ValueFits z q value × ObjectFits z k 0 o
   PhraseFits z string k (Try silent action noun second) = (action < z.actions) × HeldFits z k 0 noun second
   PhraseFits z string k (Follow book) = book < z.books
   PhraseFits z string k (Leave flow) = Unit {0}

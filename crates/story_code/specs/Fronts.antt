@@ -9,7 +9,7 @@ use Rattle.play_meaning.specs.Instructions.{opcode, size_of}
 use Rattle.play_meaning.specs.declared.instruction.Asked.{Asked}
 use Rattle.play_meaning.specs.declared.instruction.Asked.TheVariants.{IsFirst, IsNotFirst, IsNotSecond, IsSecond}
 use Rattle.play_meaning.specs.declared.instruction.Instruction.{Instruction}
-use Rattle.play_meaning.specs.declared.instruction.Instruction.TheVariants.{Add, And, Answer, AtMost, Away, Begin, Count, Dark, Description, Done, Door, Encloses, EndStory, Eq, Failure, Figure, Flag, Follow, Happens, HasDescription, Held, Holder, IfZero, Jump, Kind, Less, Location, Loop, Move, Mul, Name, Names, Next, NoDecision, Not, Noun, Num, Or, Prop, PutAt, Room, Say, Second, SetFlag, SetProp, SetVar, Sub, Success, Touchable, Try, Turns, Var, Visible}
+use Rattle.play_meaning.specs.declared.instruction.Instruction.TheVariants.{Add, And, Answer, AtMost, Away, Begin, Count, Dark, Description, Done, Door, Encloses, EndStory, Eq, Failure, Figure, Flag, Follow, Happens, HasDescription, Held, Holder, IfZero, Jump, Kind, Less, Location, Loop, Move, Mul, Name, Names, Next, NoDecision, Not, Noun, Num, Or, Prop, PutAt, Room, Say, Second, SetFlag, SetProp, SetValue, SetVar, Sub, Success, Touchable, Try, Turns, Valued, ValueName, Var, Visible}
 use Rattle.play_meaning.specs.declared.naming.Naming.{Naming}
 use Rattle.play_meaning.specs.declared.naming.Naming.TheVariants.{CapitalDefinite, CapitalIndefinite, Definite, Indefinite, Plain}
 
@@ -56,9 +56,12 @@ plain_ones =
     ∷ Touchable ∷ Dark ∷ HasDescription ∷ Room ∷ Door ∷ Figure ∷ Description ∷ Move ∷ Away ∷ Done ∷ NoDecision
     ∷ Success ∷ Failure ∷ Answer ∷ []
 
--- with a number of one byte, of two
+-- with a number of one byte, with two of them, with one of two bytes
 abbrev pub with_byte : ℕ → List Instruction
-with_byte n = Var n ∷ Prop n ∷ Loop n ∷ Kind n ∷ Happens n ∷ SetProp n ∷ SetVar n ∷ Begin n ∷ []
+with_byte n = Var n ∷ Prop n ∷ Loop n ∷ Kind n ∷ Happens n ∷ SetProp n ∷ SetVar n ∷ ValueName n ∷ Begin n ∷ []
+
+abbrev pub with_pair : ℕ → ℕ → List Instruction
+with_pair q value = Valued q value ∷ SetValue q value ∷ []
 
 abbrev pub with_word : ℕ → List Instruction
 with_word n = Say n ∷ Follow n ∷ IfZero n ∷ Jump n ∷ EndStory n ∷ []
@@ -72,6 +75,11 @@ word_of high low = from_be_bytes w16 (high ∷ low ∷ [])
 abbrev pub by_byte : ℕ → List ℕ → Option Instruction
 by_byte b [] = None
 by_byte b (n ∷ rest) = first_with b (with_byte n)
+
+abbrev pub by_pair : ℕ → List ℕ → Option Instruction
+by_pair b [] = None
+by_pair b (q ∷ []) = None
+by_pair b (q ∷ value ∷ rest) = first_with b (with_pair q value)
 
 abbrev pub by_word : ℕ → List ℕ → Option Instruction
 by_word b [] = None
@@ -129,7 +137,10 @@ abbrev pub has_word : ℕ → Bool
 has_word b = (b == 0x22) || (b == 0x31) || (b == 0x32) || (b == 0x33) || (b == 0x36)
 
 abbrev pub has_byte : ℕ → Bool
-has_byte b = (b == 0x02) || (b == 0x03) || (b == 0x11) || (b == 0x13) || (b == 0x1A) || (b == 0x27) || (b == 0x28) || (b == 0x34)
+has_byte b = (b == 0x02) || (b == 0x03) || (b == 0x11) || (b == 0x13) || (b == 0x1A) || (b == 0x27) || (b == 0x28) || (b == 0x2C) || (b == 0x34)
+
+abbrev pub has_pair : ℕ → Bool
+has_pair b = (b == 0x1E) || (b == 0x2D)
 
 -- an instruction without arguments, or with one of a sort that others have
 unfoldable pub common_in : ℕ → List ℕ → Option Instruction
@@ -137,6 +148,7 @@ common_in b rest =
     if has_relation b then by_relation b rest
     else if has_word b then by_word b rest
     else if has_byte b then by_byte b rest
+    else if has_pair b then by_pair b rest
     else first_with b plain_ones
 
 unfoldable pub front_by : ℕ → List ℕ → Option Instruction

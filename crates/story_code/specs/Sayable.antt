@@ -4,7 +4,8 @@ use Rattle.std.specs.Prelude.{◌≡◌, ℕ, ◌+◌, ◌<◌, ◌≤◌, max, 
 use Rattle.play_meaning.specs.declared.operand.Counts.{Counts}
 use Rattle.play_meaning.specs.declared.operand.Use.{Use}
 use Rattle.play_meaning.specs.declared.operand.Use.TheVariants as role
-use Rattle.play_meaning.specs.Trees.{Adjective, And, Body, Bytes, Condition, CountOf, Description, DescriptionOf, DoorFrom, Encloses, End, EndStory, Equals, Figure, Follow, Happens, Has, HasDescription, If, IfSaid, InDarkness, Instead, IsAtMost, IsHeld, IsHeldByOne, IsLess, IsOne, IsSame, IsSo, Leave, Listing, Literal, Minus, Move, Name, Not, NotSo, NowHeld, NowIs, NowNowhere, NowNumber, NowVariable, Number, Object, Or, Phrase, Plus, PropertyOf, Quality, Repeat, RoomFrom, Say, Silence, Text, The, Then, Those, ThoseHeld, Times, Try, TurnCount, Turning, Variable}
+use Rattle.play_meaning.specs.Trees.{Adjective, And, Body, Bytes, Condition, CountOf, Description, DescriptionOf, DoorFrom, Encloses, End, EndStory, Equals, Figure, Follow, Happens, Has, HasDescription, If, IfSaid, InDarkness, Instead, IsAtMost, IsHeld, IsHeldByOne, IsLess, IsOne, IsSame, IsSo, Leave, Listing, Literal, Minus, Move, Name, Not, NotSo, NowHeld, NowIs, NowNowhere, NowNumber, NowValued, NowVariable, Number, Object, Or, Phrase, Plus, PropertyOf, Quality, Repeat, RoomFrom, Say, Silence, Text, The, Then, Those, ThoseHeld, Times, Try, TurnCount, Turning, Valued, ValueName, Variable}
+use Rattle.story_code.specs.Fitting.{ValueFits, ValueKindFits}
 use Rattle.story_code.specs.Spelling.{is_integer}
 
 -- ---- objects and descriptions
@@ -28,6 +29,7 @@ ObjectIsSayable z k o = ObjectIsThere z k o × (froms o ≤ 8)
 -- one without a `not`
 abbrev pub AdjectiveIsPlain : Counts → Adjective → Type 0
 AdjectiveIsPlain z (Quality p side) = p < z.flags
+AdjectiveIsPlain z (Valued q value) = ValueFits z q value
 AdjectiveIsPlain z (NotSo adjective) = ⊥
 AdjectiveIsPlain z _ = Unit {0}
 
@@ -121,6 +123,7 @@ TextIsSayable z whose string k (Figure number more) = NumberIsSayable z k number
 TextIsSayable z whose string k (Name naming o more) = ObjectIsSayable z k o × TextIsSayable z whose string k more
 TextIsSayable z whose string k (Listing naming description more) = DescriptionIsSayable z k description × TextIsSayable z whose string k more
 TextIsSayable z whose string k (DescriptionOf o more) = ((whose ≡ role.Body) × ObjectIsSayable z k o) × TextIsSayable z whose string k more
+TextIsSayable z whose string k (ValueName q o more) = (ValueKindFits z q × ObjectIsSayable z k o) × TextIsSayable z whose string k more
 TextIsSayable z whose string k (IfSaid condition a b more) =
     ConditionIsSayable z k condition × ((TextIsSayable z whose string k a × TextIsSayable z whose string k b) × TextIsSayable z whose string k more)
 
@@ -134,6 +137,7 @@ abbrev mutual
   PhraseIsSayable z string k (Move o holder) = ObjectsAreSayable z k o holder
   PhraseIsSayable z string k (NowNumber p o number) = (p < z.numbers) × (ObjectIsSayable z k o × NumberIsSayable z k number)
   PhraseIsSayable z string k (NowVariable v number) = (v < z.variables) × NumberIsSayable z k number
+  PhraseIsSayable z string k (NowValued o q value) = ValueFits z q value × ObjectIsSayable z k o
   PhraseIsSayable z string k (Try silent action noun second) = (action < z.actions) × ObjectsAreSayable z k noun second
   PhraseIsSayable z string k (Follow book) = book < z.books
   PhraseIsSayable z string k (Leave flow) = Unit {0}

@@ -1,6 +1,6 @@
 -- How many words some trees are said by, and what is short in a small story.
 use Rattle.std.specs.Prelude.{◌≡◌, ℕ, suc, zero, pos, false, List, [], ◌∷◌, Some}
-use Rattle.play_meaning.specs.Trees.{Adjective, And, Body, Bytes, Condition, CountOf, End, First, If, IfSaid, InDarkness, IsOne, IsSame, IsSo, Leave, Literal, NotSo, Nothing, NowHeld, NowNowhere, NowNumber, Object, Or, Plus, PropertyOf, Quality, RoomFrom, Say, Silence, The, Then, Those, ThoseHeld, Try, Visible}
+use Rattle.play_meaning.specs.Trees.{Adjective, And, Body, Bytes, Condition, CountOf, End, First, If, IfSaid, InDarkness, IsOne, IsSame, IsSo, Leave, Literal, NotSo, Nothing, NowHeld, NowNowhere, NowNumber, NowValued, Object, Or, Plus, PropertyOf, Quality, RoomFrom, Say, Silence, The, Then, Those, ThoseHeld, Try, Valued, ValueName, Visible}
 use Rattle.play_meaning.specs.declared.outcome.Flow.TheVariants.{Decides}
 use Rattle.play_meaning.specs.declared.outcome.Outcome.TheVariants.{Failure}
 use Rattle.world_meaning.specs.declared.place.Rel.TheVariants.{On, Worn}
@@ -44,6 +44,12 @@ pub record ShortRows : Type 0 where
   pub increase : words_of_phrase (NowNumber 0 (The 0) (Plus (PropertyOf 0 (The 0)) (Literal (pos 1)))) ≡ 6
   -- `say "It is [if the ball is lit]lit[end if]."`
   pub text : words_of_phrase (Say (Bytes [] (IfSaid (IsSo (The 0) (Quality 0 First)) (Bytes [] Silence) Silence (Bytes [] Silence)))) ≡ 8
+  -- `the ball is red`
+  pub valued : words_of_condition (IsSo (The 0) (Valued 0 1)) ≡ 3
+  -- `say "It is [colour of the ball]."`
+  pub value_text : words_of_phrase (Say (Bytes [] (ValueName 0 (The 0) (Bytes [] Silence)))) ≡ 5
+  -- `now the ball is red`
+  pub now_valued : words_of_phrase (NowValued (The 0) 0 1) ≡ 4
   pub long : words_of_body (going 125) ≡ 500
   pub long_is_short : IsShortBody small (λ string. 0) (going 125)
   pub hard : words_of_condition hardest ≡ 402

@@ -1,7 +1,7 @@
 -- How many words the language says trees by, at the least: articles that may be left out, commas and colons don't count, a
 -- text counts as one word, and the words between its brackets count beside it.
 use Rattle.std.specs.Prelude.{ℕ, ◌+◌, max, List, [], ◌∷◌, Option, None, Some}
-use Rattle.play_meaning.specs.Trees.{Adjective, And, Body, Bytes, Condition, CountOf, Description, DescriptionOf, DoorFrom, Encloses, End, EndStory, Equals, Figure, Follow, Happens, Has, HasDescription, If, IfSaid, InDarkness, Instead, IsAtMost, IsHeld, IsHeldByOne, IsLess, IsOne, IsSame, IsSo, Leave, Listing, Minus, Move, Name, Not, NotSo, Nothing, NowHeld, NowIs, NowNowhere, NowNumber, NowVariable, Number, Object, Or, Phrase, Plus, PropertyOf, Repeat, RoomFrom, Say, Silence, Text, Then, Those, ThoseHeld, Times, Try, TurnCount}
+use Rattle.play_meaning.specs.Trees.{Adjective, And, Body, Bytes, Condition, CountOf, Description, DescriptionOf, DoorFrom, Encloses, End, EndStory, Equals, Figure, Follow, Happens, Has, HasDescription, If, IfSaid, InDarkness, Instead, IsAtMost, IsHeld, IsHeldByOne, IsLess, IsOne, IsSame, IsSo, Leave, Listing, Minus, Move, Name, Not, NotSo, Nothing, NowHeld, NowIs, NowNowhere, NowNumber, NowValued, NowVariable, Number, Object, Or, Phrase, Plus, PropertyOf, Repeat, RoomFrom, Say, Silence, Text, Then, Those, ThoseHeld, Times, Try, TurnCount, ValueName}
 
 -- ---- objects and descriptions
 
@@ -61,7 +61,7 @@ words_of_condition (Or a b) = words_of_condition a + 1 + words_of_condition b
 
 -- ---- texts
 
--- what is printed stands outside brackets: `[E]`, `[O]`, `[list of D]`, `[description of O]`, `[if C]` with its `[end if]`
+-- what is printed stands outside brackets: `[E]`, `[O]`, `[list of D]`, `[description of O]`, `[KIND OF VALUE of O]`, `[if C]` with its `[end if]`
 abbrev pub words_of_text : Text → ℕ
 words_of_text Silence = 0
 words_of_text (Bytes bytes more) = words_of_text more
@@ -69,6 +69,7 @@ words_of_text (Figure number more) = words_of_number number + words_of_text more
 words_of_text (Name naming o more) = words_of_object o + words_of_text more
 words_of_text (Listing naming description more) = 2 + words_of_description description + words_of_text more
 words_of_text (DescriptionOf o more) = 2 + words_of_object o + words_of_text more
+words_of_text (ValueName q o more) = 2 + words_of_object o + words_of_text more
 words_of_text (IfSaid condition a b more) = 3 + words_of_condition condition + words_of_text a + words_of_text b + words_of_text more
 
 -- ---- phrases
@@ -92,6 +93,7 @@ abbrev mutual
   words_of_phrase (Move o holder) = 2 + words_of_object o + words_of_object holder
   words_of_phrase (NowNumber p o number) = words_of_change o number
   words_of_phrase (NowVariable v number) = 1 + words_of_number number
+  words_of_phrase (NowValued o q value) = 3 + words_of_object o
   words_of_phrase (Try silent action noun second) = 2 + words_of_noun noun + words_of_noun second
   words_of_phrase (Follow book) = 3
   words_of_phrase (Leave flow) = 2

@@ -2,7 +2,7 @@
 use Rattle.std.specs.Prelude.{◌≡◌, ℕ, ℤ, pos, negsuc, nat_lt, Bool, true, false, List, [], ◌∷◌, ◌++◌}
 use Rattle.std.specs.Int.{w16, w32, cast_unsigned, to_be_bytes}
 use Rattle.std.specs.List.{list_all}
-use Rattle.play_meaning.specs.Instructions.{ActionOf, Argument, BookOf, Choice, FlagProperty, Form, Innermost, Integer, KindOf, NewLoop, NumberProperty, OpenLoopOf, Place, Relation, SceneOf, Side, StringOf, TestCode, Variable, row_of}
+use Rattle.play_meaning.specs.Instructions.{ActionOf, Argument, BookOf, Choice, FlagProperty, Form, Innermost, Integer, KindOf, NewLoop, NumberProperty, OpenLoopOf, Place, Relation, SceneOf, Side, StringOf, TestCode, ValueKindOf, ValueOf, Variable, row_of}
 use Rattle.play_meaning.specs.declared.instruction.Asked.{Asked}
 use Rattle.play_meaning.specs.declared.instruction.Asked.TheVariants.{IsFirst, IsNotFirst, IsNotSecond, IsSecond}
 use Rattle.play_meaning.specs.declared.instruction.Instruction.{Instruction}
@@ -35,6 +35,7 @@ argument_bytes (FlagProperty n) = n ∷ []
 argument_bytes (KindOf n) = n ∷ []
 argument_bytes (SceneOf n) = n ∷ []
 argument_bytes (ActionOf n) = n ∷ []
+argument_bytes (ValueKindOf n) = n ∷ []
 argument_bytes (OpenLoopOf n) = n ∷ []
 argument_bytes (NewLoop n) = n ∷ []
 argument_bytes (Innermost n) = n ∷ []
@@ -42,6 +43,7 @@ argument_bytes (Relation r) = relation_number r ∷ []
 argument_bytes (Side asked) = side_number asked ∷ []
 argument_bytes (Choice value) = choice_number value ∷ []
 argument_bytes (Form naming) = form_number naming ∷ []
+argument_bytes (ValueOf q value) = q ∷ value ∷ []
 argument_bytes (TestCode n) = to_be_bytes w16 n
 argument_bytes (StringOf n) = to_be_bytes w16 n
 argument_bytes (BookOf n) = to_be_bytes w16 n

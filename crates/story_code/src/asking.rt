@@ -5,7 +5,7 @@ ghost use Rattle.play_meaning.specs.Machines.{holder_by, is_asked, truth_number}
 ghost use Rattle.play_meaning.specs.Seeing.{encloses};
 ghost use Rattle.play_meaning.specs.Settings.{direction_kind, room_kind};
 ghost use Rattle.play_meaning.specs.Truth.{of_both, of_some};
-ghost use Rattle.play_meaning.specs.Values.{beyond, is_held, number_at, relation_number};
+ghost use Rattle.play_meaning.specs.Values.{beyond, has_value, is_held, number_at, relation_number};
 ghost use Rattle.play_meaning.specs.Worlds.{location_of};
 ghost use Rattle.story_code.specs.Asking.{beyond_in, calculated, holds_of, known, object_known, of_numbers, of_objects};
 
@@ -81,6 +81,16 @@ fn is_asked<G: Ground>(ground: &G, property: u8, asked: Asked, object: ObjNo) ->
     }
 }
 
+/// Whether an object has this value of a kind of value.
+fn has_value<G: Ground>(ground: &G, kind: u8, value: u8, object: ObjNo) -> bool
+    ensures { result ≡ has_value (G.fixed ground.now).setting (G.world ground.now) kind value object }
+{
+    match ground.value(object, kind) {
+        Some(had) => had == value,
+        None => false,
+    }
+}
+
 /// Whether an object is what an instruction asks.
 fn holds_of<G: Ground>(ground: &G, instruction: Instruction, object: ObjNo) -> bool
     ensures { result ≡ holds_of (G.fixed ground.now).setting (G.world ground.now) instruction object }
@@ -91,6 +101,7 @@ fn holds_of<G: Ground>(ground: &G, instruction: Instruction, object: ObjNo) -> b
         Instruction::Visible => ground.visible(object),
         Instruction::Touchable => ground.touchable(object),
         Instruction::HasDescription => ground.has_description(object),
+        Instruction::Valued(kind, value) => has_value(ground, kind, value, object),
         _ => false,
     }
 }

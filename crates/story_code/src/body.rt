@@ -9,7 +9,9 @@ ghost use Rattle.story_code.specs.Runs.{AreDescribedBy, AreSoundTogether, IsServ
 ghost use Rattle.story_code.specs.Steps.{CarriesOn, DoneSo, LeadsBack, StepsSo, leads_on};
 ghost use Rattle.story_code.specs.declared.step.Step.{Step};
 
-use crate::changing::{end_story, make_number, make_so, make_variable, move_to, put, take_away};
+use crate::changing::{
+    end_story, make_number, make_so, make_value, make_variable, move_to, put, take_away,
+};
 use crate::describing::description;
 use crate::fetching::fetch;
 use crate::looping::next_object;
@@ -61,6 +63,10 @@ fn change<G: GroundMut>(
         Instruction::SetVar(variable) => {
             let number = state.take();
             make_variable(ground, variable, number)?;
+        }
+        Instruction::SetValue(kind, value) => {
+            let object = object_at(state.take());
+            make_value(ground, object, kind, value)?;
         }
         Instruction::PutAt(relation) => {
             let holder = object_at(state.take());

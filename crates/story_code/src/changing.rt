@@ -1,6 +1,6 @@
 //! Changes of the world: one that is not allowed, or that is of nothing, does nothing.
 ghost use Rattle.std.specs.Prelude.{◌≡◌, ◌≢◌, [], Err, MatchResult, OnErr, OnOk, slice_index_or};
-ghost use Rattle.play_meaning.specs.Changes.{make_number, make_so, move, put, relation_to, take_away};
+ghost use Rattle.play_meaning.specs.Changes.{make_number, make_so, make_value, move, put, relation_to, take_away};
 ghost use Rattle.play_meaning.specs.Worlds.{end_with, set_variable};
 ghost use Rattle.play_meaning.specs.declared.fault.WorldFault.TheVariants.{Memory as Unremembered};
 ghost use Rattle.world_meaning.specs.declared.session.Abandon.TheVariants.{Memory};
@@ -53,6 +53,24 @@ pub fn make_number<G: GroundMut>(
     match object {
         None => Ok(()),
         Some(object) => unless_refused(ground.set_number(object, property, value)),
+    }
+}
+
+/// Gives something a value of a kind of value.
+pub fn make_value<G: GroundMut>(
+    ground: &mut G,
+    object: Option<ObjNo>,
+    kind: u8,
+    value: u8,
+) -> Result<(), Abandon>
+    ensures made { OnOk result (G.world ground.new ≡ make_value (G.fixed ground.old).setting object kind value (G.world ground.old)) }
+    ensures refused { OnErr result ((result ≡ Err Memory) × (G.world ground.new ≡ G.world ground.old) × (G.past ground.new ≡ G.past ground.old)) }
+    ensures past { LeadsBack (G.world ground.old) (G.past ground.old) (G.world ground.new) (G.past ground.new) }
+    ensures fixed { G.fixed ground.new ≡ G.fixed ground.old }
+{
+    match object {
+        None => Ok(()),
+        Some(object) => unless_refused(ground.set_value(object, kind, value)),
     }
 }
 

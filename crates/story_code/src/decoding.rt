@@ -1,6 +1,6 @@
 //! The instruction at the front of bytes.
 ghost use Rattle.std.specs.Prelude.{◌≡◌, MatchOption};
-ghost use Rattle.story_code.specs.Fronts.{by_byte, by_relation, by_word, count_in, first_with, flag_in, front, front_by, integer_in, name_in, names_in, next_in, plain_ones, set_flag_in, try_in, word_of};
+ghost use Rattle.story_code.specs.Fronts.{by_byte, by_pair, by_relation, by_word, count_in, first_with, flag_in, front, front_by, integer_in, name_in, names_in, next_in, plain_ones, set_flag_in, try_in, word_of};
 ghost use Rattle.story_code.specs.Spelling.{HasNoFront, IsFront};
 
 use crate::argument::{choice_of, form_of, relation_of, side_of};
@@ -61,7 +61,23 @@ fn numbered(byte: u8, rest: &[u8]) -> Option<Instruction>
         0x1A => Some(Instruction::Happens(*number)),
         0x27 => Some(Instruction::SetProp(*number)),
         0x28 => Some(Instruction::SetVar(*number)),
+        0x2C => Some(Instruction::ValueName(*number)),
         0x34 => Some(Instruction::Begin(*number)),
+        _ => None,
+    }
+}
+
+/// An instruction with a kind of value and one of its values.
+#[inline(always)]
+fn valued(byte: u8, rest: &[u8]) -> Option<Instruction>
+    ensures { result ≡ by_pair byte rest.now }
+{
+    let [kind, value, ..] = rest else {
+        return None;
+    };
+    match byte {
+        0x1E => Some(Instruction::Valued(*kind, *value)),
+        0x2D => Some(Instruction::SetValue(*kind, *value)),
         _ => None,
     }
 }
@@ -206,7 +222,9 @@ fn front_by(byte: u8, rest: &[u8]) -> Option<Instruction>
         0x35 => next(rest),
         0x02 | 0x03 | 0x11 => numbered(byte, rest),
         0x13 | 0x1A => numbered(byte, rest),
-        0x27 | 0x28 | 0x34 => numbered(byte, rest),
+        0x27 | 0x28 => numbered(byte, rest),
+        0x2C | 0x34 => numbered(byte, rest),
+        0x1E | 0x2D => valued(byte, rest),
         0x22 | 0x31 => worded(byte, rest),
         0x32 | 0x33 | 0x36 => worded(byte, rest),
         0x14 | 0x15 | 0x29 => related(byte, rest),

@@ -71,6 +71,7 @@ fn put_arguments(out: &mut Vec<u8>, instruction: Instruction) -> Result<(), Allo
         | Instruction::Happens(number)
         | Instruction::SetProp(number)
         | Instruction::SetVar(number)
+        | Instruction::ValueName(number)
         | Instruction::Begin(number) => out.extend_from_slice(&[number]),
         Instruction::Held(relation)
         | Instruction::Holder(relation)
@@ -80,6 +81,9 @@ fn put_arguments(out: &mut Vec<u8>, instruction: Instruction) -> Result<(), Allo
         }
         Instruction::SetFlag(property, value) => {
             out.extend_from_slice(&[property, choice_number(value)])
+        }
+        Instruction::Valued(kind, value) | Instruction::SetValue(kind, value) => {
+            out.extend_from_slice(&[kind, value])
         }
         Instruction::Name(naming) => out.extend_from_slice(&[form_number(naming)]),
         Instruction::Try(silent, action) => {

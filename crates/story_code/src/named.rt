@@ -1,5 +1,5 @@
 //! Whether what an instruction's arguments name is there.
-ghost use Rattle.std.specs.Prelude.{◌≡◌};
+ghost use Rattle.std.specs.Prelude.{◌≡◌, slice_index_or};
 ghost use Rattle.play_meaning.specs.Operands.{is_from_to, is_test, may_hold, may_open, names_what_is_there};
 
 use crate::row::opcode;
@@ -17,6 +17,16 @@ fn may_open(depth: usize, number: u8) -> bool
     ensures { result ≡ may_open depth number }
 {
     number as usize == depth && depth < 9
+}
+
+/// How many values a kind of value has; none where there is no such kind.
+pub(crate) fn value_count(counts: &Counts, kind: u8) -> u8
+    ensures { result ≡ slice_index_or counts.now.values kind 0 }
+{
+    match counts.values.get(kind as usize) {
+        Some(count) => *count,
+        None => 0,
+    }
 }
 
 /// Whether each argument names something that is there, inside so many loops.
@@ -37,6 +47,10 @@ pub fn names_what_is_there(counts: &Counts, depth: usize, instruction: Instructi
         Instruction::Kind(kind) => (kind as u16) < counts.kinds,
         Instruction::Happens(scene) => (scene as u16) < counts.scenes,
         Instruction::Try(_, action) => (action as u16) < counts.actions,
+        Instruction::ValueName(kind) => value_count(counts, kind) > 0,
+        Instruction::Valued(kind, value) | Instruction::SetValue(kind, value) => {
+            value < value_count(counts, kind)
+        }
         Instruction::Loop(number) => (number as usize) < depth,
         Instruction::Count(number, test) | Instruction::Names(_, number, test) => {
             may_open(depth, number) && is_test(counts, test)
@@ -70,6 +84,7 @@ pub fn may_hold(role: Use, instruction: Instruction) -> bool
         }
         Use::Describing => {
             is_from_to(0x01, 0x24, instruction)
+                || is_from_to(0x2C, 0x2C, instruction)
                 || is_from_to(0x32, 0x33, instruction)
                 || is_from_to(0x37, 0x37, instruction)
         }

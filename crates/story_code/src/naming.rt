@@ -1,7 +1,8 @@
 //! Names of objects as they are told: with an article or without, alone or in a list.
 ghost use Rattle.std.specs.Prelude.{◌≡◌, ◌++◌, List, ℕ, Err, OnOk, OnErr};
 ghost use Rattle.std.specs.Fmt.{signed_decimal};
-ghost use Rattle.play_meaning.specs.Saying.{article_of, joint, listed, listed_on, name_in, named};
+ghost use Rattle.play_meaning.specs.Saying.{article_of, joint, listed, listed_on, name_in, named, value_name};
+ghost use Rattle.play_meaning.specs.Values.{value_at};
 ghost use Rattle.play_meaning.specs.declared.naming.Naming.TheVariants.{CapitalDefinite, CapitalIndefinite, Definite, Indefinite};
 ghost use Rattle.world_meaning.specs.declared.session.Abandon.TheVariants.{Memory};
 
@@ -115,6 +116,32 @@ pub fn say_name<G: Ground>(
 {
     match object {
         Some(object) => say_named(ground, text, naming, object),
+        None => say(text, b"nothing"),
+    }
+}
+
+/// An object's value of a kind of value; none of nothing.
+fn value_at<G: Ground>(ground: &G, kind: u8, object: Option<ObjNo>) -> Option<u8>
+    ensures { result ≡ value_at (G.fixed ground.now).setting (G.world ground.now) kind object }
+{
+    match object {
+        Some(object) => ground.value(object, kind),
+        None => None,
+    }
+}
+
+/// Adds the name of an object's value of a kind of value, or that it is nothing.
+pub fn say_value<G: Ground>(
+    ground: &G,
+    text: &mut Vec<u8>,
+    kind: u8,
+    object: Option<ObjNo>,
+) -> Result<(), Abandon>
+    ensures said { OnOk result (text.new.items ≡ text.old.items ++ value_name (G.fixed ground.now).setting kind (value_at (G.fixed ground.now).setting (G.world ground.now) kind object)) }
+    ensures refused { OnErr result (result ≡ Err Memory) }
+{
+    match value_at(ground, kind, object) {
+        Some(value) => say(text, ground.value_name(kind, value)),
         None => say(text, b"nothing"),
     }
 }

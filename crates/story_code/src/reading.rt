@@ -75,7 +75,8 @@ fn ask_one<G: Ground>(
         | Instruction::Kind(_)
         | Instruction::Visible
         | Instruction::Touchable
-        | Instruction::HasDescription => {
+        | Instruction::HasDescription
+        | Instruction::Valued(_, _) => {
             let object = object_at(state.take());
             state.push(holds_of_some(ground, instruction, object));
         }

@@ -39,6 +39,7 @@ pub fn opcode(instruction: Instruction) -> u8
         Instruction::HasDescription => 0x1B,
         Instruction::Room => 0x1C,
         Instruction::Door => 0x1D,
+        Instruction::Valued(_, _) => 0x1E,
         Instruction::Count(_, _) => 0x20,
         Instruction::Names(_, _, _) => 0x21,
         Instruction::Say(_) => 0x22,
@@ -51,6 +52,8 @@ pub fn opcode(instruction: Instruction) -> u8
         Instruction::PutAt(_) => 0x29,
         Instruction::Move => 0x2A,
         Instruction::Away => 0x2B,
+        Instruction::ValueName(_) => 0x2C,
+        Instruction::SetValue(_, _) => 0x2D,
         Instruction::Try(_, _) => 0x30,
         Instruction::Follow(_) => 0x31,
         Instruction::IfZero(_) => 0x32,
@@ -83,10 +86,13 @@ pub fn size(instruction: Instruction) -> usize
         | Instruction::SetProp(_)
         | Instruction::SetVar(_)
         | Instruction::PutAt(_)
+        | Instruction::ValueName(_)
         | Instruction::Begin(_) => 2,
         Instruction::Flag(_, _)
+        | Instruction::Valued(_, _)
         | Instruction::Say(_)
         | Instruction::SetFlag(_, _)
+        | Instruction::SetValue(_, _)
         | Instruction::Try(_, _)
         | Instruction::Follow(_)
         | Instruction::IfZero(_)
@@ -125,10 +131,13 @@ pub fn takes(instruction: Instruction) -> &'static [Sort]
         | Instruction::Visible
         | Instruction::Touchable
         | Instruction::HasDescription
+        | Instruction::Valued(_, _)
         | Instruction::Name(_)
         | Instruction::Description
         | Instruction::SetFlag(_, _)
-        | Instruction::Away => &[Sort::Object],
+        | Instruction::Away
+        | Instruction::ValueName(_)
+        | Instruction::SetValue(_, _) => &[Sort::Object],
         Instruction::SetProp(_) => &[Sort::Number, Sort::Object],
         Instruction::Figure | Instruction::SetVar(_) => &[Sort::Number],
         _ => &[],
@@ -168,8 +177,34 @@ pub fn gives(instruction: Instruction) -> Option<Sort>
         | Instruction::Touchable
         | Instruction::Dark
         | Instruction::Happens(_)
-        | Instruction::HasDescription => Some(Sort::Truth),
-        _ => None,
+        | Instruction::HasDescription
+        | Instruction::Valued(_, _) => Some(Sort::Truth),
+        Instruction::Num(_)
+        | Instruction::Names(_, _, _)
+        | Instruction::Say(_)
+        | Instruction::Name(_)
+        | Instruction::Figure
+        | Instruction::Description
+        | Instruction::SetFlag(_, _)
+        | Instruction::SetProp(_)
+        | Instruction::SetVar(_)
+        | Instruction::PutAt(_)
+        | Instruction::Move
+        | Instruction::Away
+        | Instruction::ValueName(_)
+        | Instruction::SetValue(_, _)
+        | Instruction::Try(_, _)
+        | Instruction::Follow(_)
+        | Instruction::IfZero(_)
+        | Instruction::Jump(_)
+        | Instruction::Begin(_)
+        | Instruction::Next(_, _, _)
+        | Instruction::EndStory(_)
+        | Instruction::Done
+        | Instruction::NoDecision
+        | Instruction::Success
+        | Instruction::Failure
+        | Instruction::Answer => None,
     }
 }
 

@@ -8,7 +8,7 @@ ghost use Rattle.story_code.specs.Runs.{AreSoundTogether, CameTo, IsServed, Loop
 
 use crate::came::Came;
 use crate::listing::{Listing, say_passing};
-use crate::naming::{say, say_figure, say_name};
+use crate::naming::{say, say_figure, say_name, say_value};
 use crate::number::{is_true, object_at};
 use crate::state::RunState;
 use crate::testing::count_or_ask;
@@ -41,6 +41,10 @@ fn tell<G: Ground>(
         Instruction::Name(naming) => {
             let object = object_at(state.take());
             say_name(ground, text, naming, object)?;
+        }
+        Instruction::ValueName(kind) => {
+            let object = object_at(state.take());
+            say_value(ground, text, kind, object)?;
         }
         Instruction::Figure => {
             let number = state.take();

@@ -3,7 +3,7 @@ use Rattle.std.proofs.Common.{◌≡◌, ℕ, ℤ, suc, ◌+◌, ◌≤◌, Bool
 use Rattle.std.specs.List.{list_all}
 use Rattle.std.specs.Prelude.{count_by, fold, slice_get}
 use Rattle.std.proofs.lemmas.Bool.{eq-eqb, le-leb, cases_Bool, and_from, and_parts}
-use Rattle.world_meaning.specs.Declarations.{is_had, is_had_at, are_right_grants, are_right_kinds, are_rising, begin_with_kinds, count_of_numbers, has_properties, has_property, is_number, is_rooted, is_well_declared, suits_kind}
+use Rattle.world_meaning.specs.Declarations.{are_each_below, counts_had, is_had, is_had_at, are_right_grants, are_right_kinds, are_rising, begin_with_kinds, count_of_numbers, has_properties, has_property, is_number, is_rooted, is_well_declared, suits_kind}
 use Rattle.world_meaning.specs.declared.declared.Declared.{Declared}
 use Rattle.world_meaning.specs.declared.declared.Granted.{Granted}
 use Rattle.world_meaning.specs.Kinds.{built_in_parents}
@@ -41,7 +41,7 @@ abbrev pub numbers_with : Behind → List Granted
 numbers_with b = flags_from (kinds_with b) b.givens (length (flags_with b)) [] b.numbers
 
 abbrev pub declared_with : Behind → Declared
-declared_with b = record { kinds = kinds_with b; flags = flags_with b; numbers = numbers_with b; variables = b.starts; scenes = b.scenes; rulebooks = b.rulebooks; actions = [] }
+declared_with b = record { kinds = kinds_with b; flags = flags_with b; numbers = numbers_with b; variables = b.starts; scenes = b.scenes; rulebooks = b.rulebooks; actions = []; values = [] }
 
 abbrev pub behind_of : List Claim → Behind
 behind_of claims = record {
@@ -66,6 +66,7 @@ declared_is claims =
       scenes = scenes_of claims (names_as sort.Scene claims);
       rulebooks = length (names_as sort.Rulebook claims);
       actions = [];
+      values = [];
     }
 
 pub starts_counted : (claims : List Claim) (names : List (List ℕ)) → length (starts_of claims names) ≡ length names
@@ -92,7 +93,7 @@ declared_held b few few_properties few_numbers few_variables few_scenes few_rule
     let flags : are_right_grants n (flags_with b) ≡ true = and_from (leb (length (flags_with b)) 100) _ (le-leb _ _ (omega (arith, few_properties, flags_counted (kinds_with b) many b.givens 0 built_in_bases names))) (flags_right (kinds_with b) many b.givens 0 built_in_bases names) in
     let first = length (flags_with b) in
     let numbers : are_right_grants n (numbers_with b) ≡ true = and_from (leb (length (numbers_with b)) 100) _ (le-leb _ _ (omega (arith, few_numbers, flags_counted (kinds_with b) many b.givens first [] b.numbers))) (flags_right (kinds_with b) many b.givens first [] b.numbers) in
-    rw (kinds_right b.kinds few roots, begin_built_in (kinds_with b) many b.givens b.properties, flags, numbers, le-leb (length b.starts) 100 few_variables, ranged, le-leb (length b.scenes) 50 few_scenes) (le-leb b.rulebooks 100 few_rulebooks)
+    rw (kinds_right b.kinds few roots, begin_built_in (kinds_with b) many b.givens b.properties, flags, numbers, le-leb (length b.starts) 100 few_variables, ranged, le-leb (length b.scenes) 50 few_scenes, le-leb b.rulebooks 100 few_rulebooks) refl
 
 -- ---- what an object begins with
 
@@ -143,7 +144,7 @@ pub record IsOf (b : Behind) (m : Made) : Type 0 where
   pub usuals : AreRangedValues m.usuals
 
 object_suits : (b : Behind) (m : Made) (kind o : ℕ) (entry : Entry) → IsOf b m → suits_kind (declared_with b) (object_as m kind o entry) ≡ true
-unfolding suits_kind has_properties count_of_numbers object_as
+unfolding suits_kind has_properties count_of_numbers counts_had are_each_below object_as
 object_suits b m kind o entry same =
     let found = properties_from m o kind 0 built_in_truths m.flags in
     let has = λ (S : List (Option ℕ)) (flags : List Granted). are_rising 0 found && list_all (has_property S flags kind) found in
@@ -153,9 +154,9 @@ object_suits b m kind o entry same =
     let count = λ (S : List (Option ℕ)) (granted : List Granted). eqb (length numbers) (count_by (is_had S kind) granted) in
     let counted : count m.parents m.numbers ≡ true = eq-eqb _ _ (numbers_counted m o kind (length m.flags) m.numbers) in
     let as_many : count (kinds_with b) (numbers_with b) ≡ true = sym (λ i. count (same.parents i) (same.numbers i)) ∙ counted in
-    and_from (has (kinds_with b) (flags_with b) && count (kinds_with b) (numbers_with b)) (list_all is_number numbers)
+    rw (and_from (has (kinds_with b) (flags_with b) && count (kinds_with b) (numbers_with b)) (list_all is_number numbers)
     (and_from (has (kinds_with b) (flags_with b)) (count (kinds_with b) (numbers_with b)) there as_many)
-    (numbers_in_range m o kind (length m.flags) m.numbers same.values same.usuals)
+    (numbers_in_range m o kind (length m.flags) m.numbers same.values same.usuals)) refl
 
 pub suited_held : (b : Behind) (m : Made) (o : ℕ) (entries : List Entry) → IsOf b m → list_all (suits_kind (declared_with b)) (objects_of m o entries) ≡ true
 suited_held b m o [] same = refl

@@ -13,7 +13,7 @@ use Rattle.world_meaning.specs.declared.tale.Tale.{Tale}
 use Rattle.play_meaning.specs.Patterns.{pattern_meant, rule_meant}
 use Rattle.play_meaning.specs.declared.tree.rule.MeantRule.{MeantRule}
 use Rattle.play_meaning.specs.Rules.{Anything, Aspect, Exactly, OfKind, Rule}
-use Rattle.play_meaning.specs.Trees.{Adjective, NotSo, Quality, Touchable, Visible}
+use Rattle.play_meaning.specs.Trees.{Adjective, NotSo, Quality, Touchable, Valued, Visible}
 use Rattle.i7_actions.specs.Actions.{standard_actions}
 use Rattle.i7_conditions.specs.There.{AreThere, Counts}
 use Rattle.i7_patterns.specs.There.{AsksWhatIs, is_aspect_of, is_one_of, is_quality_of}
@@ -86,6 +86,7 @@ same_number count (Some n) = refl
 module _ (z : Named) (y : Counts) (objects : z.objects ≡ y.objects) (kinds : z.kinds ≡ y.kinds) (flags : z.flags ≡ y.qualities) where
   same_adjective : (a : Adjective) → is_property z.flags a ≡ is_quality_of y a
   same_adjective (Quality p side) = ap (λ (n : ℕ). nat_lt p n) flags
+  same_adjective (Valued q value) = refl
   same_adjective Visible = refl
   same_adjective Touchable = refl
   same_adjective (NotSo (Quality p side)) = ap (λ (n : ℕ). nat_lt p n) flags

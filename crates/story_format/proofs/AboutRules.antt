@@ -6,7 +6,7 @@ use Rattle.std.proofs.lemmas.List.{length-map}
 use Rattle.world_meaning.specs.Declarations.{is_well_declared}
 use Rattle.world_meaning.specs.declared.declared.Declared.{Declared}
 use Rattle.play_meaning.specs.Rules.{Anything, Aspect, Exactly, OfKind, Rule}
-use Rattle.play_meaning.specs.Trees.{Adjective, First, NotSo, Quality, Second, Touchable, Visible}
+use Rattle.play_meaning.specs.Trees.{Adjective, First, NotSo, Quality, Second, Touchable, Valued, Visible}
 use Rattle.play_meaning.specs.declared.operand.Counts.{Counts}
 use Rattle.story_format.specs.Carrying.{AsksSo, IsAbout, asked_by, number_if_some}
 use Rattle.story_format.specs.Holding.{Named, named_by, is_asked, is_of, is_property, is_there}
@@ -57,8 +57,10 @@ side_right flags (Quality p Second) h = rw h refl
 side_right flags (NotSo (Quality p First)) h = rw h refl
 side_right flags (NotSo (Quality p Second)) h = rw h refl
 side_right flags (NotSo (NotSo a)) h = absurd cc
+side_right flags (NotSo (Valued q value)) h = absurd cc
 side_right flags (NotSo Visible) h = absurd cc
 side_right flags (NotSo Touchable) h = absurd cc
+side_right flags (Valued q value) h = absurd cc
 side_right flags Visible h = absurd cc
 side_right flags Touchable h = absurd cc
 
@@ -108,8 +110,10 @@ side_fits flags (Quality p Second) le h = let low : p < flags = ltb-true _ _ h i
 side_fits flags (NotSo (Quality p First)) le h = let low : p < flags = ltb-true _ _ h in rw (lt-ltb p 256 (omega (arith, low, le))) refl
 side_fits flags (NotSo (Quality p Second)) le h = let low : p < flags = ltb-true _ _ h in rw (lt-ltb p 256 (omega (arith, low, le))) refl
 side_fits flags (NotSo (NotSo a)) le h = absurd cc
+side_fits flags (NotSo (Valued q value)) le h = absurd cc
 side_fits flags (NotSo Visible) le h = absurd cc
 side_fits flags (NotSo Touchable) le h = absurd cc
+side_fits flags (Valued q value) le h = absurd cc
 side_fits flags Visible le h = absurd cc
 side_fits flags Touchable le h = absurd cc
 
@@ -146,8 +150,10 @@ side_told flags (Quality p Second) h = refl
 side_told flags (NotSo (Quality p First)) h = refl
 side_told flags (NotSo (Quality p Second)) h = refl
 side_told flags (NotSo (NotSo a)) h = absurd cc
+side_told flags (NotSo (Valued q value)) h = absurd cc
 side_told flags (NotSo Visible) h = absurd cc
 side_told flags (NotSo Touchable) h = absurd cc
+side_told flags (Valued q value) h = absurd cc
 side_told flags Visible h = absurd cc
 side_told flags Touchable h = absurd cc
 

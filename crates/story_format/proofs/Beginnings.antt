@@ -1,5 +1,5 @@
 -- Where a story's objects begin: each holder is there, no chain is endless, and the player is directly in a room.
-use Rattle.std.proofs.Common.{◌≡◌, ◌∙◌, sym, ap, ℕ, zero, suc, ◌+◌, ◌<◌, ◌≤◌, Bool, true, leb, ltb, eqb, List, [], ◌∷◌, length, take, Option, Some, arith, ◌⊎◌, ⊎_elim}
+use Rattle.std.proofs.Common.{◌≡◌, ◌∙◌, sym, ap, ℕ, zero, suc, ◌+◌, ◌<◌, ◌≤◌, Bool, true, leb, ltb, eqb, List, [], ◌∷◌, length, take, Option, Some, arith, ⊎_elim}
 use Rattle.std.specs.Prelude.{codes, slice_get}
 use Rattle.std.proofs.lemmas.Bool.{eqb-true, leb-true, and_parts, or_cases}
 use Rattle.std.proofs.lemmas.List.{length-map}
@@ -15,7 +15,7 @@ use Rattle.world_meaning.specs.declared.place.Rel.{Rel}
 use Rattle.world_meaning.specs.declared.place.Rel.TheVariants.{In, On, Carried, Worn, Part}
 use Rattle.story_format.specs.Counts.{counts_of}
 use Rattle.story_format.specs.RuleChecks.{are_right_rules}
-use Rattle.story_format.specs.Checks.{are_direction_entries, are_distinct, are_in_place, are_right, are_right_objects, are_right_ways, is_named, is_player_entry, is_right_frame, stand_rightly}
+use Rattle.story_format.specs.Checks.{are_direction_entries, are_in_place, are_right, is_named, is_player_entry, is_right_frame, stand_rightly}
 use Rattle.story_format.specs.Facts.{holder_in, start_of}
 use Rattle.story_format.specs.Placed.{held_by, kinds_in, place_of, places_in, relation_of, sorts_in}
 use Rattle.story_format.specs.Spells.{IsStory}
@@ -24,14 +24,13 @@ use Rattle.story_format.specs.declared.tables.Entry.{Entry}
 use Rattle.story_format.specs.declared.tables.Tables.{Tables}
 use Rattle.story_format.proofs.RoomLemmas.{in_place, right_parts}
 use Rattle.story_format.proofs.StoryLemmas.{four, last_of_five, three}
+use Rattle.story_format.proofs.ValueLemmas.{checked_parts}
 
 frame_of : (t : Tables) → are_right t ≡ true → is_right_frame t ≡ true
-unfolding are_right
-frame_of t right = (last_of_five (is_right_frame t) (are_distinct t.strings) (are_right_objects t) (stand_rightly t) (are_right_ways t) right).0
+frame_of t right = (checked_parts t right).0
 
 stands : (t : Tables) → are_right t ≡ true → stand_rightly t ≡ true
-unfolding are_right
-stands t right = (last_of_five (is_right_frame t) (are_distinct t.strings) (are_right_objects t) (stand_rightly t) (are_right_ways t) right).3
+stands t right = (checked_parts t right).3
 
 frame_few : (t : Tables) → is_right_frame t ≡ true → length t.objects ≤ 1000
 unfolding is_right_frame

@@ -17,6 +17,8 @@ use Rattle.world_meaning.specs.declared.exits.Way.{Way}
 use Rattle.world_meaning.specs.declared.place.Place.{Place}
 use Rattle.world_meaning.specs.declared.tale.Object.{Object}
 use Rattle.world_meaning.specs.declared.tale.Tale.{Tale}
+use Rattle.world_meaning.specs.declared.declared.Declared.{Declared}
+use Rattle.world_meaning.specs.declared.declared.ValueKind.{ValueKind}
 use Rattle.object_words.specs.Mentions.{number_in}
 use Rattle.command_grammar.specs.Synonyms.{words_in as told_words, words_said}
 use Rattle.command_grammar.specs.declared.synonym.Synonym.{Synonym}
@@ -31,7 +33,7 @@ use Rattle.play_meaning.specs.Worlds.{World}
 use Rattle.play_meaning.specs.Order.{book_of}
 use Rattle.play_meaning.specs.StandardActions.{standard_needs}
 use Rattle.play_meaning.specs.StandardRules.{standard_rules}
-use Rattle.play_meaning.specs.Tales.{setting_of}
+use Rattle.play_meaning.specs.Tales.{names_in_kind, setting_of}
 use Rattle.play_meaning.specs.declared.action.ActionNow.{ActionNow}
 use Rattle.play_meaning.specs.declared.operand.Counts.{Counts}
 use Rattle.code_table.specs.Emitted.{AllFit, codes_of_origins}
@@ -41,15 +43,16 @@ use Rattle.story_format.specs.Carrying.{AsksFor, Carries, CarriesRule, CarriesSc
 use Rattle.story_format.specs.Codes.{codes_told}
 use Rattle.story_format.specs.Contents.{Contents, origins_said}
 use Rattle.story_format.specs.Facts.{description_code_in, description_code_of, exits_at, holder_in, is_room_in, lines_of, name_in, rooms_before, rules_listed, text_at, way_in, words_in}
+use Rattle.story_format.specs.InPlay.{names_in, value_names}
 use Rattle.story_format.proofs.AboutRules.{IsSmall, small_names}
 use Rattle.story_format.proofs.ActionLemmas.{actions_ask}
 use Rattle.story_format.specs.Holding.{counts_in, named_in, AreHeld, IsHeld}
 use Rattle.story_format.specs.RuleMaking.{codes_of_rules, rule_entries, rules_of, standard_entries}
-use Rattle.story_format.specs.Making.{Worded, code_count, code_number, codes_in, described_in, entries_of, entry_of, entry_strings, place_holder, story_lines, story_rules, strings_of, strings_said, tables_of, tables_with, text_in, text_of, texts_named, ways_of, worded, worded_at, worded_from, world_of}
+use Rattle.story_format.specs.Making.{Worded, code_count, code_number, codes_in, described_in, entries_of, entry_of, entry_strings, place_holder, story_lines, story_rules, names_of_values, strings_behind, strings_of, strings_said, tables_of, tables_with, text_in, text_of, texts_named, ways_of, worded, worded_at, worded_from, value_entry, values_of, world_of}
 use Rattle.story_format.specs.Placed.{is_room_entry}
 use Rattle.story_format.proofs.StoryLemmas.{all_at, few_begin, get_dropped, parts, player_parts}
 use Rattle.story_format.proofs.GrammarLemmas.{lines_back, lines_known}
-use Rattle.story_format.proofs.Known.{found_by_number, is_known, said_known}
+use Rattle.story_format.proofs.Known.{found_by_number, is_known, names_known, said_known}
 use Rattle.story_format.proofs.OrderLemmas.{at_most_one}
 use Rattle.story_format.proofs.RuleLemmas.{codes_counted_of, origins_in}
 use Rattle.story_format.proofs.SceneLemmas.{origins_in_scenes}
@@ -100,8 +103,18 @@ words_carried strings synonyms (object ∷ objects) from next (suc o) h few =
 none_before : (o : ℕ) → 0 + o ≡ o
 none_before o = omega arith
 
-words_known : (ws : List Worded) (lines : List Line) (origins : List Origin) → list_all (knows (strings_of (texts_named ws lines) origins)) ws ≡ true
-words_known ws lines origins = all_known (strings_of (texts_named ws lines) origins) ws (entry_strings_known ws lines origins)
+words_known : (ws : List Worded) (lines : List Line) (behind : List (List ℕ)) → list_all (knows (strings_of (texts_named ws lines) behind)) ws ≡ true
+words_known ws lines behind = all_known (strings_of (texts_named ws lines) behind) ws (entry_strings_known ws lines behind)
+
+-- ---- the names of values
+
+names_found : (strings : List (List ℕ)) (values : List ValueKind) (q : ℕ) → list_all (is_known strings) (names_of_values values) ≡ true → length strings < 65535
+    → names_in strings (slice_get (map (value_entry strings) values) q) ≡ names_in_kind (slice_get values q)
+names_found strings [] q h few = refl
+names_found strings (v ∷ values) zero h few = words_back strings v.names (and_parts (list_all (is_known strings) v.names) (list_all (is_known strings) (names_of_values values)) (sym (list_all-append (is_known strings) v.names (names_of_values values)) ∙ h)).0 few
+names_found strings (v ∷ values) (suc q) h few =
+    let known = is_known strings in
+    names_found strings values q (and_parts (list_all known v.names) (list_all known (names_of_values values)) (sym (list_all-append known v.names (names_of_values values)) ∙ h)).1 few
 
 -- ---- descriptions
 
@@ -176,11 +189,11 @@ strings_stand : (strings xs : List (List ℕ)) → list_all (is_known strings) x
 strings_stand strings [] h few = tt
 strings_stand strings (x ∷ xs) h few = let t = and_parts (is_known strings x) (list_all (is_known strings) xs) h in (text_back strings x t.0 few, strings_stand strings xs t.1 few)
 
-origins_stand : (named : List (List ℕ)) (origins : List Origin) → length (strings_of named origins) < 65535 → (n : ℕ) (origin : Origin) → slice_get origins n ≡ Some origin
-    → AllByRecursion (λ bytes. text_at (strings_of named origins) (number_in (strings_of named origins) bytes) ≡ bytes) (strings_of_origin origin)
-origins_stand named origins few n origin at =
-    let strings = strings_of named origins in
-    strings_stand strings (strings_of_origin origin) (origin_known strings origins n origin (said_known named origins) at) few
+origins_stand : (named : List (List ℕ)) (d : Declared) (origins : List Origin) → length (strings_of named (strings_behind d origins)) < 65535 → (n : ℕ) (origin : Origin) → slice_get origins n ≡ Some origin
+    → AllByRecursion (λ bytes. text_at (strings_of named (strings_behind d origins)) (number_in (strings_of named (strings_behind d origins)) bytes) ≡ bytes) (strings_of_origin origin)
+origins_stand named d origins few n origin at =
+    let strings = strings_of named (strings_behind d origins) in
+    strings_stand strings (strings_of_origin origin) (origin_known strings origins n origin (said_known named d origins) at) few
 
 described_at : (texts : List Text) (behind : List Origin) (n : ℕ) (text : Text) → slice_get texts n ≡ Some text → slice_get (map Describes texts ++ behind) n ≡ Some (Describes text)
 described_at texts behind n text at = get_front (map Describes texts) behind n (Describes text) (slice_get-map Describes texts n ∙ ap (option_map Describes) at)
@@ -292,14 +305,17 @@ module _ (t : Tale) (c : Contents) (held : IsHeld t) (are : AreHeld t c) where
   abbrev origins : List Origin
   origins = origins_said c
 
+  abbrev behind : List (List ℕ)
+  behind = strings_behind t.declared origins
+
   code_says : (o : ℕ) (s : Setting) (now : ActionNow) (w : World) → said_by_code told s now w (description_code_of (tables_of t c) o) ≡ says (undescribed s) now w (text_of t c.texts o)
   unfolding tables_with
   code_says o s now w =
-      let strings = strings_of named origins in
+      let strings = strings_of named behind in
       let back : objects_in ws ≡ t.objects = objects_back c.synonyms 0 t.objects in
       let le = few_objects c.synonyms t held in
       let many : length c.texts ≡ 0 + codes_in (objects_in ws) = omega (arith, are.are_of.many, ap codes_in back) in
-      described_so (counts_in t c) (codes_told (tables_of t c)) (number_in strings) c are.fit (bytes_told strings origins are.said) (origins_stand named origins are.few) s now w
+      described_so (counts_in t c) (codes_told (tables_of t c)) (number_in strings) c are.fit (bytes_told strings origins are.said) (origins_stand named t.declared origins are.few) s now w
       (description_code_of (tables_of t c) o) (text_of t c.texts o)
       (subst (λ objects. Told c.texts (description_code_in (slice_get (entries_of strings 0 ws) o)) (text_in objects c.texts o)) back (descriptions_told strings c.texts ws 0 o (omega (arith, le)) many))
 
@@ -312,14 +328,14 @@ module _ (t : Tale) (c : Contents) (held : IsHeld t) (are : AreHeld t c) where
   -- how many codes there are
   room : described_in ws + (length (origins_in c.rules) + length (origins_in_scenes c.scenes)) ≤ 65535
   room =
-      let strings = strings_of named origins in
+      let strings = strings_of named behind in
       omega (arith, first_code, length-map c.texts Describes, origins_counted c.texts c.rules c.scenes, bytes_enough strings origins, bytes_few strings origins are.said)
 
   author_so : AllZip (CarriesRule told) (rule_entries (described_in ws) c.rules) c.rules
   unfolding tables_with rules_of
   author_so =
-      let strings = strings_of named origins in
-      rules_carried (counts_in t c) (codes_told (tables_of t c)) (number_in strings) origins are.fit (bytes_told strings origins are.said) (origins_stand named origins are.few)
+      let strings = strings_of named behind in
+      rules_carried (counts_in t c) (codes_told (tables_of t c)) (number_in strings) origins are.fit (bytes_told strings origins are.said) (origins_stand named t.declared origins are.few)
       (named_in t) small c.rules (map Describes c.texts) (origins_in_scenes c.scenes) (described_in ws) are.are_of.named first_code refl (omega (arith, room))
 
   rules_so : AllZip (CarriesRule told) (tables_of t c).rules.rules (story_rules c.listings c.rules)
@@ -333,7 +349,7 @@ module _ (t : Tale) (c : Contents) (held : IsHeld t) (are : AreHeld t c) where
   scenes_so : AllZip (CarriesScene told) (tables_of t c).rules.scenes c.scenes
   unfolding tables_with rules_of
   scenes_so =
-      let strings = strings_of named origins in
+      let strings = strings_of named behind in
       let front = map Describes c.texts ++ origins_in c.rules in
       let next : described_in ws + codes_of_rules c.rules ≡ length front = omega (arith, first_code, codes_counted_of c.rules, length-append (map Describes c.texts) (origins_in c.rules)) in
       let parts : origins ≡ front ++ origins_in_scenes c.scenes = sym (append_assoc (map Describes c.texts) (origins_in c.rules) (origins_in_scenes c.scenes)) in
@@ -350,18 +366,22 @@ module _ (t : Tale) (c : Contents) (held : IsHeld t) (are : AreHeld t c) where
 
   lines_so : lines_of (tables_of t c) ≡ lines
   unfolding tables_with rules_of
-  lines_so = lines_back (strings_of named origins) are.few lines (lines_known ws lines origins)
+  lines_so = lines_back (strings_of named behind) are.few lines (lines_known ws lines behind)
+
+  value_names_so : (q : ℕ) → value_names (tables_of t c) q ≡ names_in_kind (slice_get t.declared.values q)
+  unfolding tables_with values_of
+  value_names_so q = names_found (strings_of named behind) t.declared.values q (names_known named t.declared origins) are.few
 
   pub tale_carried : Carries (tables_of t c) t c
   unfolding tables_with world_of
   tale_carried =
-      let strings = strings_of named origins in
+      let strings = strings_of named behind in
       let back : objects_in ws ≡ t.objects = objects_back c.synonyms 0 t.objects in
       let le = few_objects c.synonyms t held in
       let parents = t.declared.kinds in
       let sorts = sorts_in t in
       let exits : list_all (has_right_exits parents sorts) (objects_in ws) ≡ true = ap (list_all (has_right_exits parents sorts)) back ∙ held.made.exits in
-      let known = words_known ws lines origins in
+      let known = words_known ws lines behind in
       record {
         count = entries_counted strings 0 ws ∙ sym (length_mapped (λ (w : Worded). w.object) ws) ∙ ap length back;
         names = λ o. names_carried strings ws 0 o known are.few ∙ ap (λ (objects : List Object). told_name (slice_get objects o)) back;
@@ -375,4 +395,5 @@ module _ (t : Tale) (c : Contents) (held : IsHeld t) (are : AreHeld t c) where
         books = books_so;
         scenes_are = scenes_so;
         lines_are = lines_so;
+        value_names_are = value_names_so;
       }

@@ -20,12 +20,20 @@ named_within count next (n ∷ ns) h = omega (arith, named_within count (max nex
 
 -- ---- those of two lists
 
-module _ (count : ℕ) (a b named : List ℕ) (front : Option ℕ) (counted : front ≡ counted_on 0 named) (named_is : named ≡ a) where
-  pub front_uncounted : front ≡ None → false ≡ is_count count (counted_on 0 (a ++ b))
-  front_uncounted none = ap (is_count count) (sym (strings_stop 0 a b (ap (counted_on 0) (sym named_is) ∙ sym counted ∙ none)))
+module _ (a b named : List ℕ) (front : Option ℕ) (counted : front ≡ counted_on 0 named) (named_is : named ≡ a) where
+  pub front_uncounted : front ≡ None → None ≡ counted_on 0 (a ++ b)
+  front_uncounted none = sym (strings_stop 0 a b (ap (counted_on 0) (sym named_is) ∙ sym counted ∙ none))
 
-  pub back_counted : (next : ℕ) (o : Option ℕ) → front ≡ Some next → o ≡ counted_on next b → is_count count o ≡ is_count count (counted_on 0 (a ++ b))
-  back_counted next o some back = ap (is_count count) (back ∙ sym (strings_then 0 next a b (ap (counted_on 0) (sym named_is) ∙ sym counted ∙ some)))
+  pub back_counted : (next : ℕ) (o : Option ℕ) → front ≡ Some next → o ≡ counted_on next b → o ≡ counted_on 0 (a ++ b)
+  back_counted next o some back = back ∙ sym (strings_then 0 next a b (ap (counted_on 0) (sym named_is) ∙ sym counted ∙ some))
+
+-- as the strings of kinds of value are counted behind the others
+module _ (count : ℕ) (a b : List ℕ) (front : Option ℕ) (counted : front ≡ counted_on 0 a) where
+  pub none_behind : front ≡ None → false ≡ is_count count (counted_on 0 (a ++ b))
+  none_behind none = ap (is_count count) (sym (strings_stop 0 a b (sym counted ∙ none)))
+
+  pub all_behind : (named : List ℕ) (next : ℕ) (o : Option ℕ) → named ≡ b → front ≡ Some next → o ≡ counted_on next named → is_count count o ≡ is_count count (counted_on 0 (a ++ b))
+  all_behind named next o same some back = ap (is_count count) (back ∙ ap (counted_on next) same ∙ sym (strings_then 0 next a b (sym counted ∙ some)))
 
 pub count_is : (count : ℕ) (o : Option ℕ) → is_count count o ≡ true → o ≡ Some count
 count_is count None h = absurd cc

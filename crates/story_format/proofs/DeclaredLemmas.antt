@@ -7,7 +7,7 @@ use Rattle.std.proofs.lemmas.Bool.{eqb-true, leb-true, lt-ltb, ltb-true, cases_B
 use Rattle.std.proofs.lemmas.List.Folds.{list_all-append}
 use Rattle.std.proofs.lemmas.List.Sums.{sum_by-cons}
 use Rattle.std.proofs.lemmas.Option.{slice_get_within}
-use Rattle.world_meaning.specs.Declarations.{are_right_grants, are_right_kinds, are_rising, begin_with_kinds, begin_with_properties, count_of_numbers, has_properties, has_property, is_below, is_had, is_had_at, is_number, is_right_grant, is_rooted, is_same_kind, is_well_declared}
+use Rattle.world_meaning.specs.Declarations.{are_right_grants, are_right_kinds, are_rising, begin_with_kinds, begin_with_properties, are_each_below, are_right_value_kinds, count_of_numbers, counts_had, has_properties, has_property, is_below, is_had, is_had_at, is_number, is_right_grant, is_rooted, is_same_kind, is_well_declared}
 use Rattle.world_meaning.specs.Declarations.{suits_kind as object_suits}
 use Rattle.world_meaning.specs.Kinds.{built_in_parents, climb_on, climbs, is_under, is_under_one}
 use Rattle.world_meaning.specs.Properties.{built_in_properties}
@@ -21,7 +21,7 @@ use Rattle.story_format.specs.Layout.{kind_layout, granted_layout, variable_layo
 use Rattle.command_grammar.specs.declared.synonym.Synonym.{Synonym}
 use Rattle.story_format.specs.Making.{Worded, worded_at, worded_from, code_count, entry_of, entries_of, numbers_of, variable_of, world_of}
 use Rattle.story_format.specs.WorldChecks.{is_right_world, suits_kind}
-use Rattle.story_format.proofs.StoryLemmas.{all_weaker, three}
+use Rattle.story_format.proofs.StoryLemmas.{all_weaker, four, three}
 
 -- what is declared, part by part
 pub record Parts (d : Declared) : Type 0 where
@@ -33,6 +33,7 @@ pub record Parts (d : Declared) : Type 0 where
   pub variables : list_all is_number d.variables ≡ true
   pub scenes : length d.scenes ≤ 50
   pub rulebooks : d.rulebooks ≤ 100
+  pub values : are_right_value_kinds (length d.kinds) d.values ≡ true
 
 pub declared_parts : (d : Declared) → is_well_declared d ≡ true → Parts d
 unfolding is_well_declared
@@ -43,13 +44,14 @@ declared_parts d h =
     let numbers = are_right_grants (length d.kinds) d.numbers in
     let few = leb (length d.variables) 100 in
     let are_numbers = list_all is_number d.variables in
-    let r = and_parts (kinds && first && flags && numbers && few && are_numbers && leb (length d.scenes) 50) (leb d.rulebooks 100) h in
+    let q = and_parts (kinds && first && flags && numbers && few && are_numbers && leb (length d.scenes) 50 && leb d.rulebooks 100) (are_right_value_kinds (length d.kinds) d.values) h in
+    let r = and_parts (kinds && first && flags && numbers && few && are_numbers && leb (length d.scenes) 50) (leb d.rulebooks 100) q.0 in
     let s = and_parts (kinds && first && flags && numbers && few && are_numbers) (leb (length d.scenes) 50) r.0 in
     let a = and_parts (kinds && first && flags && numbers && few) are_numbers s.0 in
     let b = and_parts (kinds && first && flags && numbers) few a.0 in
     let c = and_parts (kinds && first && flags) numbers b.0 in
     let e = three kinds first flags c.0 in
-    record { kinds = e.0; first = e.1; flags = e.2; numbers = c.1; few = b.1; variables = a.1; scenes = leb-true _ _ s.1; rulebooks = leb-true _ _ r.1 }
+    record { kinds = e.0; first = e.1; flags = e.2; numbers = c.1; few = b.1; variables = a.1; scenes = leb-true _ _ s.1; rulebooks = leb-true _ _ r.1; values = q.1 }
 
 pub world_right : (d : Declared) → is_well_declared d ≡ true → is_right_world (world_of d) ≡ true
 unfolding is_right_world world_of
@@ -153,7 +155,7 @@ pub rising_bytes : (count : ℕ) (ns : List ℕ) → count ≤ 100 → are_risin
 rising_bytes count ns le h k =
     and_from (ltb (length ns) 256) (list_all (λ n. ltb n 256) ns) (lt-ltb _ _ (omega (arith, le, rising_short count 0 ns (omega arith) h k))) (all_weaker (is_below count) (λ n. ltb n 256) (byte_if count le) ns k)
 
-grant_fits : (kinds : ℕ) → kinds ≤ 100 → (g : Granted) → is_right_grant kinds g ≡ true → granted_layout.format.fits g ≡ true
+pub grant_fits : (kinds : ℕ) → kinds ≤ 100 → (g : Granted) → is_right_grant kinds g ≡ true → granted_layout.format.fits g ≡ true
 unfolding granted_layout
 grant_fits kinds le g h = let t = and_parts (are_rising 0 g.kinds) (list_all (is_below kinds) g.kinds) h in rising_bytes kinds g.kinds le t.0 t.1
 
@@ -200,9 +202,9 @@ world_fits d h =
 
 -- ---- objects have what their kinds have
 
-own_parts : (d : Declared) (o : Object) → object_suits d o ≡ true → (has_properties d.kinds d.flags o.kind o.properties ≡ true) × (eqb (length o.numbers) (count_of_numbers d.kinds d.numbers o.kind) ≡ true) × (list_all is_number o.numbers ≡ true)
+pub own_parts : (d : Declared) (o : Object) → object_suits d o ≡ true → (has_properties d.kinds d.flags o.kind o.properties ≡ true) × (eqb (length o.numbers) (count_of_numbers d.kinds d.numbers o.kind) ≡ true) × (list_all is_number o.numbers ≡ true) × (are_each_below (counts_had d.kinds d.values o.kind) o.values ≡ true)
 unfolding object_suits
-own_parts d o h = three (has_properties d.kinds d.flags o.kind o.properties) (eqb (length o.numbers) (count_of_numbers d.kinds d.numbers o.kind)) (list_all is_number o.numbers) h
+own_parts d o h = four (has_properties d.kinds d.flags o.kind o.properties) (eqb (length o.numbers) (count_of_numbers d.kinds d.numbers o.kind)) (list_all is_number o.numbers) (are_each_below (counts_had d.kinds d.values o.kind) o.values) h
 
 entry_suits : (d : Declared) (strings : List (List ℕ)) (next : ℕ) (w : Worded) → object_suits d w.object ≡ true → suits_kind (world_of d) (entry_of strings next w) ≡ true
 unfolding suits_kind entry_of world_of

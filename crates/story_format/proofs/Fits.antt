@@ -13,7 +13,7 @@ use Rattle.world_meaning.specs.declared.place.Rel.TheVariants as relations
 use Rattle.world_meaning.specs.declared.place.Place.{Place}
 use Rattle.world_meaning.specs.declared.exits.Exits.{Exits}
 use Rattle.world_meaning.specs.declared.exits.Way.{Way}
-use Rattle.world_meaning.specs.Declarations.{is_below}
+use Rattle.world_meaning.specs.Declarations.{is_below, suits_kind}
 use Rattle.world_meaning.specs.Kinds.{is_under}
 use Rattle.world_meaning.specs.Placing.{can_be_held, can_hold}
 use Rattle.world_meaning.specs.Sorts.{is_at, kinds_told, sorts_of, under_each}
@@ -21,7 +21,7 @@ use Rattle.world_meaning.specs.Standing.{are_well_placed, is_at_or_none, is_well
 use Rattle.world_meaning.specs.WellMade.{IsWellMade, has_right_exits, kinds_of, places_of}
 use Rattle.world_meaning.specs.declared.declared.Declared.{Declared}
 use Rattle.world_meaning.specs.declared.tale.Object.{Object}
-use Rattle.object_words.specs.Mentions.{mention, number_or_none, number_in}
+use Rattle.object_words.specs.Mentions.{mention, number_in}
 use Rattle.code_table.specs.Origins.{Origin}
 use Rattle.command_grammar.specs.Synonyms.{words_said}
 use Rattle.command_grammar.specs.declared.synonym.Synonym.{Synonym}
@@ -33,10 +33,12 @@ use Rattle.play_meaning.specs.Scripts.{Scene}
 use Rattle.object_words.proofs.StringLemmas.{length_mapped}
 use Rattle.story_format.specs.Formats.{fits_optional}
 use Rattle.story_format.specs.declared.rule_tables.Book.{Book}
-use Rattle.story_format.specs.Layout.{entry_layout, way_layout, exits_layout, tables_layout}
-use Rattle.story_format.specs.Making.{Worded, worded, worded_from, code_bytes, code_count, described_in, numbers_of, entry_strings, strings_of, strings_said, article_number, relation_number, place_relation, place_holder, code_number, entry_of, entries_of, line_entry, line_strings, texts_named, ways_of, tables_with}
+use Rattle.story_format.specs.Layout.{entry_layout, way_layout, exits_layout, first_layout, tables_layout, version_of}
+use Rattle.story_format.specs.Making.{Worded, worded, worded_from, code_bytes, code_count, described_in, numbers_of, entry_strings, strings_behind, strings_of, article_number, relation_number, place_relation, place_holder, code_number, entry_of, entries_of, line_entry, line_strings, texts_named, ways_of, tables_with, values_of}
 use Rattle.story_format.specs.Holding.{is_line_of, is_of, named_by, has_few_words, has_short_texts, is_short, is_short_or_none}
 use Rattle.story_format.proofs.StoryLemmas.{all_both, all_mapped, all_weaker, few_begin, three}
+use Rattle.story_format.proofs.Known.{all_named_small, named_small}
+use Rattle.story_format.proofs.MadeValues.{values_fit}
 use Rattle.story_format.proofs.OrderLemmas.{mention_new, mention_old}
 use Rattle.story_format.proofs.AboutRules.{small_names}
 use Rattle.story_format.proofs.DeclaredLemmas.{all_own_fit, are_bytes, declared_parts, few_kinds, fits_own, is_word, world_fits}
@@ -67,12 +69,12 @@ named_few (w ∷ ws) h =
     omega (arith, le, later, length-append w.words (flat_map entry_strings ws))
 
 -- no more than are named and said
-pub few_strings : (ws : List Worded) (lines : List Line) (origins : List Origin) → list_all has_few_words ws ≡ true
-    → length (strings_of (texts_named ws lines) origins) ≤ 33 * length ws + (length (flat_map line_strings lines) + length (strings_said origins))
+pub few_strings : (ws : List Worded) (lines : List Line) (behind : List (List ℕ)) → list_all has_few_words ws ≡ true
+    → length (strings_of (texts_named ws lines) behind) ≤ 33 * length ws + (length (flat_map line_strings lines) + length behind)
 unfolding strings_of texts_named
-few_strings ws lines origins h =
-    let all = no_longer (texts_named ws lines ++ strings_said origins) [] in
-    omega (arith, all, named_few ws h, length-append (texts_named ws lines) (strings_said origins), length-append (flat_map entry_strings ws) (flat_map line_strings lines))
+few_strings ws lines behind h =
+    let all = no_longer (texts_named ws lines ++ behind) [] in
+    omega (arith, all, named_few ws h, length-append (texts_named ws lines) behind, length-append (flat_map entry_strings ws) (flat_map line_strings lines))
 
 -- ---- each string is short
 
@@ -101,29 +103,17 @@ names_short (w ∷ ws) h k =
     and_from (is_short w.object.name) (list_all is_short (w.words ++ flat_map entry_strings ws)) u.0
     (list_all-append is_short w.words (flat_map entry_strings ws) ∙ and_from (list_all is_short w.words) (list_all is_short (flat_map entry_strings ws)) (words_short w.words v.0) (names_short ws t.1 v.1))
 
-pub strings_short : (ws : List Worded) (lines : List Line) (origins : List Origin) → list_all has_short_texts (objects_in ws) ≡ true → list_all good_words ws ≡ true → list_all is_short (flat_map line_strings lines) ≡ true → list_all is_short (strings_said origins) ≡ true
-    → list_all is_short (strings_of (texts_named ws lines) origins) ≡ true
+pub strings_short : (ws : List Worded) (lines : List Line) (behind : List (List ℕ)) → list_all has_short_texts (objects_in ws) ≡ true → list_all good_words ws ≡ true → list_all is_short (flat_map line_strings lines) ≡ true → list_all is_short behind ≡ true
+    → list_all is_short (strings_of (texts_named ws lines) behind) ≡ true
 unfolding strings_of texts_named
-strings_short ws lines origins h k lines_short short =
+strings_short ws lines behind h k lines_short short =
     let entries = flat_map entry_strings ws in
     let words = flat_map line_strings lines in
     let named = list_all-append is_short entries words ∙ and_from (list_all is_short entries) (list_all is_short words) (names_short ws h k) lines_short in
-    all_mentioned is_short (texts_named ws lines ++ strings_said origins) [] refl
-    (list_all-append is_short (texts_named ws lines) (strings_said origins) ∙ and_from (list_all is_short (texts_named ws lines)) (list_all is_short (strings_said origins)) named short)
+    all_mentioned is_short (texts_named ws lines ++ behind) [] refl
+    (list_all-append is_short (texts_named ws lines) behind ∙ and_from (list_all is_short (texts_named ws lines)) (list_all is_short behind) named short)
 
 -- ---- each entry has room
-
-number_small : (o : Option ℕ) → number_or_none o < 65536
-number_small None = omega arith
-number_small (Some place) = omega arith
-
-named_small : (strings : List (List ℕ)) (x : List ℕ) → ltb (number_in strings x) 65536 ≡ true
-unfolding number_in
-named_small strings x = lt-ltb _ _ (number_small _)
-
-all_named_small : (strings xs : List (List ℕ)) → list_all (λ n. ltb n 65536) (map (number_in strings) xs) ≡ true
-all_named_small strings [] = refl
-all_named_small strings (x ∷ xs) = and_from (ltb (number_in strings x) 65536) (list_all (λ n. ltb n 65536) (map (number_in strings) xs)) (named_small strings x) (all_named_small strings xs)
 
 article_fits : (a : Article) → ltb (article_number a) 256 ≡ true
 article_fits articles.None = refl
@@ -246,13 +236,13 @@ pub tables_fit : (d : Declared) (books : List Book) (synonyms : List Synonym) (o
     → length scenes ≡ length d.scenes → IsWellMade (record { declared = d; objects = objects }) → list_all has_few_words (worded synonyms objects) ≡ true
     → length lines ≤ 65535 → list_all (is_line_of (standard_needs ++ d.actions)) lines ≡ true
     → length d.actions ≤ 184 → length rules ≤ 1939 → AreRightBooks d books (61 + length rules) → list_all (is_of (named_by d (length objects))) rules ≡ true
-    → length (strings_of (texts_named (worded synonyms objects) lines) said) < 65535 → list_all is_short (strings_of (texts_named (worded synonyms objects) lines) said) ≡ true
-    → length (code_bytes (strings_of (texts_named (worded synonyms objects) lines) said) said) < 65536 → list_all is_short (code_bytes (strings_of (texts_named (worded synonyms objects) lines) said) said) ≡ true
-    → tables_layout.format.fits (tables_with d books (worded synonyms objects) lines rules scenes said) ≡ true
-unfolding tables_layout tables_with
+    → length (strings_of (texts_named (worded synonyms objects) lines) (strings_behind d said)) < 65535 → list_all is_short (strings_of (texts_named (worded synonyms objects) lines) (strings_behind d said)) ≡ true
+    → length (code_bytes (strings_of (texts_named (worded synonyms objects) lines) (strings_behind d said)) said) < 65536 → list_all is_short (code_bytes (strings_of (texts_named (worded synonyms objects) lines) (strings_behind d said)) said) ≡ true
+    → (tables_layout (version_of (tables_with d books (worded synonyms objects) lines rules scenes said))).format.fits (tables_with d books (worded synonyms objects) lines rules scenes said) ≡ true
+unfolding tables_layout first_layout tables_with values_of
 tables_fit d books synonyms objects lines rules scenes said same made few_words few_lines lines_of few_actions few_rules known_books named few strings_fit few_codes codes_short =
     let ws = worded synonyms objects in
-    let strings = strings_of (texts_named ws lines) said in
+    let strings = strings_of (texts_named ws lines) (strings_behind d said) in
     let line_entries = map (line_entry strings) lines in
     let back : objects_in ws ≡ objects = objects_back synonyms 0 objects in
     let count : length ws ≡ length objects = sym (length_mapped (λ (w : Worded). w.object) ws) ∙ ap length back in
@@ -271,4 +261,4 @@ tables_fit d books synonyms objects lines rules scenes said same made few_words 
     let few_needs : length needs ≤ 256 = omega (arith, few_actions, sixteen, length-append standard_needs d.actions) in
     let line_count : ltb (length line_entries) 65536 ≡ true = lt-ltb _ _ (omega (arith, few_lines, length_mapped (line_entry strings) lines)) in
     let rules_so = rule_tables_fit d line_entries books (named_by d (length objects)) rules scenes (described_in ws) same declared.scenes declared.rulebooks few_rules known_books few_actions line_count (lines_fit strings needs lines few_needs lines_of) (small_names d (length objects) few_objects few_actions made.declared) named in
-    rw (string_count, strings_fit, world_fits d made.declared, entry_count, entries, way_count, exits, rules_so, code_few, codes_short) refl
+    rw (string_count, strings_fit, world_fits d made.declared, entry_count, entries, way_count, exits, rules_so, code_few, codes_short) (values_fit d strings ws declared.kinds declared.values le (ap (list_all (suits_kind d)) back ∙ made.suited))

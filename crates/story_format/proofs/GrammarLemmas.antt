@@ -1,16 +1,14 @@
 -- The lines of a tale's grammar: their entries are right, have room in their bytes, and say what the lines say.
-use Rattle.std.proofs.Common.{◌≡◌, ℕ, zero, suc, ◌+◌, ◌<◌, ◌≤◌, Bool, true, false, cond, not, ◌&&◌, ◌||◌, ltb, leb, eqb, List, [], ◌∷◌, ◌++◌, length, map, Option, Some, None, refl, sym, ap, ◌∙◌, arith, inl, inr}
+use Rattle.std.proofs.Common.{◌≡◌, ℕ, zero, suc, ◌+◌, ◌<◌, ◌≤◌, Bool, true, false, not, ltb, leb, eqb, List, [], ◌∷◌, ◌++◌, length, map, Option, Some, None, refl, sym, ap, ◌∙◌, arith, inl, inr}
 use Rattle.std.specs.Prelude.{count_by, filter, slice_get, slice_index_or, unwrap_or}
-use Rattle.std.specs.List.{flat_map, list_all, list_any, position_or_len}
+use Rattle.std.specs.List.{flat_map, list_all}
 use Rattle.std.specs.Option.{option_map}
-use Rattle.std.specs.Str.{bytes_eq}
 use Rattle.std.proofs.lemmas.Bool.{and_from, and_parts, cases_Bool, eq-eqb, eqb-true, le-leb, leb-true, lt-ltb, ne_eqb}
-use Rattle.std.proofs.lemmas.List.{length-append, length-map, map-append}
+use Rattle.std.proofs.lemmas.List.{length-append, map-append}
 use Rattle.std.proofs.lemmas.List.Folds.{list_all-append}
 use Rattle.std.proofs.lemmas.Option.{get_or_from_slice_get, slice_get-map, unwrap_or-slice_get}
 use Rattle.world_meaning.specs.declared.needs.Needs.{Needs}
 use Rattle.command_grammar.specs.Lines.{no_line}
-use Rattle.code_table.specs.Origins.{Origin}
 use Rattle.object_words.specs.Mentions.{number_in, number_or_none}
 use Rattle.object_words.proofs.StringLemmas.{length_mapped}
 use Rattle.play_meaning.specs.Grammar.{Direction, Line, Something, Token, Word, is_slot}
@@ -20,10 +18,9 @@ use Rattle.play_meaning.specs.declared.operand.Counts.{Counts}
 use Rattle.story_format.specs.Facts.{line_in, text_at, token_in}
 use Rattle.story_format.specs.Holding.{is_line_of, is_number, is_short, nouns_needed}
 use Rattle.story_format.specs.Layout.{line_layout}
-use Rattle.story_format.specs.Making.{Worded, entry_strings, line_entry, line_strings, story_lines, strings_of, strings_said, texts_named, token_number, token_strings}
+use Rattle.story_format.specs.Making.{Worded, entry_strings, line_entry, line_strings, story_lines, strings_of, texts_named, token_number, token_strings}
 use Rattle.story_format.specs.RuleChecks.{are_right_lines, has_nouns, is_right_line, is_right_token, is_slot_number, strings_in_line}
 use Rattle.story_format.specs.RuleMaking.{action_entries, action_entry, noun_count}
-use Rattle.story_format.specs.declared.rule_tables.ActionEntry.{ActionEntry}
 use Rattle.story_format.specs.declared.rule_tables.LineEntry.{LineEntry}
 use Rattle.story_format.proofs.EntryLemmas.{counted_more, counted_same}
 use Rattle.story_format.proofs.Known.{found_by_number, is_known, named_known, passes_at}
@@ -31,12 +28,12 @@ use Rattle.story_format.proofs.OrderLemmas.{number_is_place}
 
 -- ---- the strings of lines are known
 
-pub lines_known : (ws : List Worded) (lines : List Line) (origins : List Origin) → list_all (is_known (strings_of (texts_named ws lines) origins)) (flat_map line_strings lines) ≡ true
+pub lines_known : (ws : List Worded) (lines : List Line) (behind : List (List ℕ)) → list_all (is_known (strings_of (texts_named ws lines) behind)) (flat_map line_strings lines) ≡ true
 unfolding texts_named
-lines_known ws lines origins =
-    let known = is_known (strings_of (texts_named ws lines) origins) in
+lines_known ws lines behind =
+    let known = is_known (strings_of (texts_named ws lines) behind) in
     (and_parts (list_all known (flat_map entry_strings ws)) (list_all known (flat_map line_strings lines))
-    (sym (list_all-append known (flat_map entry_strings ws) (flat_map line_strings lines)) ∙ named_known (texts_named ws lines) origins)).1
+    (sym (list_all-append known (flat_map entry_strings ws) (flat_map line_strings lines)) ∙ named_known (texts_named ws lines) behind)).1
 
 -- a known text has the number of a string
 pub within : (strings : List (List ℕ)) (text : List ℕ) → is_known strings text ≡ true → length strings < 65535 → number_in strings text < length strings

@@ -61,7 +61,7 @@ one_told w e lt =
     ap (λ b. (are_rising 0 e.properties && b) && eqb (length e.numbers) (count_told (all_had w.kinds w.numbers) e.kind)) flags
     ∙ ap (λ n. (are_rising 0 e.properties && list_all (has_property w.kinds w.flags e.kind) e.properties) && eqb (length e.numbers) n) count
 
-entry_kind : (sizes : Sizes) (e : Entry) → is_right_entry sizes e ≡ true → e.kind < sizes.kinds
+pub entry_kind : (sizes : Sizes) (e : Entry) → is_right_entry sizes e ≡ true → e.kind < sizes.kinds
 unfolding is_right_entry
 entry_kind sizes e h =
     let kind = ltb e.kind sizes.kinds in

@@ -1,14 +1,15 @@
 -- The strings of a tale hold what its objects name and say.
-use Rattle.std.proofs.Common.{◌≡◌, ℕ, suc, ◌+◌, ◌<◌, Bool, true, ltb, List, [], ◌∷◌, ◌++◌, length, Some, refl, sym, ap, ◌∙◌, arith, inl, inr}
+use Rattle.std.proofs.Common.{◌≡◌, ℕ, suc, ◌+◌, ◌<◌, Bool, true, ltb, List, [], ◌∷◌, ◌++◌, length, map, Option, Some, None, refl, sym, ap, ◌∙◌, arith, inl, inr}
 use Rattle.std.specs.Prelude.{slice_get, min, fold}
 use Rattle.std.specs.List.{list_any, list_all, position_or_len}
 use Rattle.std.specs.Str.{bytes_eq}
 use Rattle.std.proofs.lemmas.Bool.{lt-ltb, cases_Bool, and_from, and_parts, or_right}
-use Rattle.std.proofs.lemmas.List.Folds.{list_any-append}
+use Rattle.std.proofs.lemmas.List.Folds.{list_all-append, list_any-append}
 use Rattle.std.proofs.lemmas.Slice.Eq.{bytes_eq-Decides}
 use Rattle.code_table.specs.Origins.{Origin}
-use Rattle.object_words.specs.Mentions.{mention, number_in}
-use Rattle.story_format.specs.Making.{strings_of, strings_said}
+use Rattle.world_meaning.specs.declared.declared.Declared.{Declared}
+use Rattle.object_words.specs.Mentions.{mention, number_in, number_or_none}
+use Rattle.story_format.specs.Making.{names_of_values, strings_behind, strings_of, strings_said}
 
 pub text_is_itself : (text : List ℕ) → bytes_eq text text ≡ true
 text_is_itself text = (bytes_eq-Decides text text).1 refl
@@ -96,14 +97,39 @@ all_known_too p strings (x ∷ texts) known h =
     let t = and_parts (is_known strings x) (list_all (is_known strings) texts) known in
     and_from (p x) (list_all p texts) (known_too p strings x t.0 h) (all_known_too p strings texts t.1 h)
 
--- the strings of a story are those that its descriptions and rules say, too
-pub said_known : (named : List (List ℕ)) (origins : List Origin) → list_all (is_known (strings_of named origins)) (strings_said origins) ≡ true
+-- the strings of a story are those that stand behind those that are named, too
+pub behind_known : (named behind : List (List ℕ)) → list_all (is_known (strings_of named behind)) behind ≡ true
 unfolding strings_of
-said_known named origins =
-    texts_known (strings_of named origins) (strings_said origins)
-    (λ text k. fold_finds (named ++ strings_said origins) [] text (any_right (bytes_eq text) named (strings_said origins) k))
+behind_known named behind = texts_known (strings_of named behind) behind (λ text k. fold_finds (named ++ behind) [] text (any_right (bytes_eq text) named behind k))
 
 -- and those that are named
-pub named_known : (named : List (List ℕ)) (origins : List Origin) → list_all (is_known (strings_of named origins)) named ≡ true
+pub named_known : (named behind : List (List ℕ)) → list_all (is_known (strings_of named behind)) named ≡ true
 unfolding strings_of
-named_known named origins = texts_known (strings_of named origins) named (λ text k. fold_finds (named ++ strings_said origins) [] text (any_left (bytes_eq text) named (strings_said origins) k))
+named_known named behind = texts_known (strings_of named behind) named (λ text k. fold_finds (named ++ behind) [] text (any_left (bytes_eq text) named behind k))
+
+-- those that descriptions and rules say, and the names of values
+module _ (named : List (List ℕ)) (d : Declared) (origins : List Origin) where
+  behind_parts : (list_all (is_known (strings_of named (strings_behind d origins))) (strings_said origins) ≡ true) × (list_all (is_known (strings_of named (strings_behind d origins))) (names_of_values d.values) ≡ true)
+  behind_parts =
+      let known = is_known (strings_of named (strings_behind d origins)) in
+      and_parts (list_all known (strings_said origins)) (list_all known (names_of_values d.values)) (sym (list_all-append known (strings_said origins) (names_of_values d.values)) ∙ behind_known named (strings_behind d origins))
+
+  pub said_known : list_all (is_known (strings_of named (strings_behind d origins))) (strings_said origins) ≡ true
+  said_known = behind_parts.0
+
+  pub names_known : list_all (is_known (strings_of named (strings_behind d origins))) (names_of_values d.values) ≡ true
+  names_known = behind_parts.1
+
+-- ---- numbers of strings have room in their bytes
+
+number_small : (o : Option ℕ) → number_or_none o < 65536
+number_small None = omega arith
+number_small (Some place) = omega arith
+
+pub named_small : (strings : List (List ℕ)) (x : List ℕ) → ltb (number_in strings x) 65536 ≡ true
+unfolding number_in
+named_small strings x = lt-ltb _ _ (number_small _)
+
+pub all_named_small : (strings xs : List (List ℕ)) → list_all (λ n. ltb n 65536) (map (number_in strings) xs) ≡ true
+all_named_small strings [] = refl
+all_named_small strings (x ∷ xs) = and_from (ltb (number_in strings x) 65536) (list_all (λ n. ltb n 65536) (map (number_in strings) xs)) (named_small strings x) (all_named_small strings xs)

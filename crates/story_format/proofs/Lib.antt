@@ -5,6 +5,7 @@ pub mod StoryLemmas
 pub mod DeclaredLemmas
 pub mod ReadingLemmas
 pub mod FaultLemmas
+pub mod FirstStories
 pub mod Known
 pub mod OrderLemmas
 pub mod SceneLemmas
@@ -12,8 +13,11 @@ pub mod SoundLemmas
 pub mod WordFacts
 pub mod GrammarLemmas
 pub mod EntryLemmas
+pub mod CountLemmas
 pub mod KindLemmas
+pub mod ValueLemmas
 pub mod TableLemmas
+pub mod MadeValues
 pub mod Fits
 pub mod StandardRuleRows
 pub mod ListedRules

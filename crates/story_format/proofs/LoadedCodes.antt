@@ -1,7 +1,7 @@
 -- The codes of a story that was loaded: they are sound together, and describe its objects.
 use Rattle.std.proofs.Common.{◌≡◌, ◌∙◌, ap, sym, ℕ, zero, suc, ◌<◌, Bool, true, false, ◌&&◌, eqb, leb, ltb, List, length, map, inl, inr, refl, arith}
 use Rattle.std.specs.Prelude.{None, Option, Some, ◌||◌, replicate, slice_get}
-use Rattle.std.specs.List.{flat_map, list_all}
+use Rattle.std.specs.List.{list_all}
 use Rattle.std.proofs.lemmas.Bool.{ltb-true, cases_Bool, and_parts}
 use Rattle.std.proofs.lemmas.Simd.{map-map}
 use Rattle.world_meaning.proofs.Options.{get_front}

@@ -1,9 +1,10 @@
 -- The strings that are mentioned of texts and rules are those that these and scenes say.
-use Rattle.std.proofs.Common.{◌≡◌, ◌∙◌, ap, sym, refl, ℕ, List, [], ◌∷◌, ◌++◌, Option, None, Some}
+use Rattle.std.proofs.Common.{◌≡◌, ◌∙◌, ap, sym, refl, ℕ, List, [], ◌∷◌, ◌++◌, Option, None, Some, append_assoc}
 use Rattle.std.proofs.lemmas.Grind.{flat_map-append}
 use Rattle.std.proofs.lemmas.List.{append-nil}
 use Rattle.std.specs.List.{flat_map}
 use Rattle.std.specs.Prelude.{fold, map}
+use Rattle.world_meaning.specs.declared.declared.ValueKind.{ValueKind}
 use Rattle.object_words.specs.Mentions.{mention}
 use Rattle.object_words.proofs.Folds.{fold_both}
 use Rattle.play_meaning.specs.Meant.{parts_meant, piece_meant, pieces_meant, said_meant, text_meant}
@@ -23,7 +24,7 @@ use Rattle.play_meaning.specs.declared.tree.rule.MeantRule.{MeantRule}
 use Rattle.play_meaning.specs.declared.tree.scene.MeantScene.{MeantScene}
 use Rattle.play_meaning.specs.declared.tree.said.Text.{Text}
 use Rattle.code_table.specs.Origins.{Asks, Describes, origins_meant, origins_of_rule, origins_of_scene, strings_of_origin}
-use Rattle.story_format.specs.Making.{strings_said}
+use Rattle.story_format.specs.Making.{names_of_values, strings_said}
 use Rattle.story_format.specs.Mentioning.{part_strings, piece_strings, rule_strings, text_strings}
 
 piece_mentioned : (p : Piece) (more : tree.Text) → strings_of_text (piece_meant p more) ≡ piece_strings p ++ strings_of_text more
@@ -32,6 +33,7 @@ piece_mentioned (piece.Figure number) more = refl
 piece_mentioned (piece.Name naming o) more = refl
 piece_mentioned (piece.Listing naming description) more = refl
 piece_mentioned (piece.DescriptionOf o) more = refl
+piece_mentioned (piece.ValueName q o) more = refl
 
 pieces_mentioned : (ps : List Piece) → strings_of_text (pieces_meant ps) ≡ flat_map piece_strings ps
 pieces_mentioned [] = refl
@@ -66,6 +68,12 @@ rules_mentioned (rule ∷ rules) =
 pub mentioned_on : (all a b c s t u v : List (List ℕ)) → s ≡ [] → t ≡ fold mention s a → u ≡ fold mention t b → v ≡ fold mention u c → all ≡ b ++ c → v ≡ fold mention [] (a ++ all)
 mentioned_on all a b c s t u v none one two three is =
     three ∙ ap (λ x. fold mention x c) two ∙ sym (fold_both mention t b c) ∙ ap (fold mention t) (sym is) ∙ ap (λ x. fold mention x all) (one ∙ ap (λ x. fold mention x a) none) ∙ sym (fold_both mention [] a all)
+
+-- and then the names of values
+pub names_on : (named texts : List (List ℕ)) (values lent : List ValueKind) (u v : List (List ℕ)) → u ≡ fold mention [] (named ++ texts) → lent ≡ values → v ≡ fold mention u (names_of_values lent) → v ≡ fold mention [] (named ++ (texts ++ names_of_values values))
+names_on named texts values lent u v one same two =
+    let names = names_of_values values in
+    two ∙ (λ i. fold mention (one i) (names_of_values (same i))) ∙ sym (fold_both mention [] (named ++ texts) names) ∙ ap (fold mention []) (append_assoc named texts names)
 
 -- scenes say none
 asked_silent : (conditions : List Condition) → flat_map strings_of_origin (map Asks conditions) ≡ []

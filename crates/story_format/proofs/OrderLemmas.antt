@@ -5,9 +5,8 @@ use Rattle.std.specs.List.{list_any, flat_map, position_or_len}
 use Rattle.std.specs.Str.{bytes_eq}
 use Rattle.std.proofs.lemmas.Bool.{lt-ltb, ne_eqb, eq-eqb, eqb-true, le-leb, cases_Bool, and_from, and_parts}
 use Rattle.std.proofs.lemmas.List.{length-append, append-nil, map-append}
-use Rattle.code_table.specs.Origins.{Origin}
 use Rattle.object_words.specs.Mentions.{mention, first_mentions, number_in}
-use Rattle.story_format.specs.Making.{Worded, code_count, code_number, codes_in, entry_of, entry_strings, entries_of, strings_of, strings_said}
+use Rattle.story_format.specs.Making.{Worded, code_count, code_number, codes_in, entry_of, entry_strings, entries_of, strings_of}
 use Rattle.story_format.specs.Checks.{are_distinct, are_named_in_order, strings_named, codes_named, is_some_code}
 use Rattle.code_table.specs.Strings.{counted_on}
 use Rattle.story_format.specs.Soundness.{are_in_turn}
@@ -35,9 +34,9 @@ rebuilt : (strings seen : List (List ℕ)) → first_mentions seen ≡ seen → 
 rebuilt [] seen h = h
 rebuilt (x ∷ strings) seen h = rebuilt strings (mention seen x) (rebuilt_step seen x h)
 
-pub strings_distinct : (named : List (List ℕ)) (origins : List Origin) → are_distinct (strings_of named origins) ≡ true
+pub strings_distinct : (named behind : List (List ℕ)) → are_distinct (strings_of named behind) ≡ true
 unfolding are_distinct strings_of
-strings_distinct named origins = eq-eqb _ _ (ap length (rebuilt (named ++ strings_said origins) [] refl))
+strings_distinct named behind = eq-eqb _ _ (ap length (rebuilt (named ++ behind) [] refl))
 
 -- ---- strings are named in order
 
@@ -105,10 +104,9 @@ numbers_named strings next (w ∷ ws) =
     ap (λ (later : List ℕ). number_in strings w.object.name ∷ (map (number_in strings) (w.words) ++ later)) (numbers_named strings (next + code_count w.object.description) ws)
     ∙ ap (λ (later : List ℕ). number_in strings w.object.name ∷ later) (sym (map-append (number_in strings) (w.words) (flat_map entry_strings ws)))
 
-pub strings_all_named : (named : List (List ℕ)) (origins : List Origin) → length (strings_of named origins) < 65535
-    → counted_on 0 (map (number_in (strings_of named origins)) (named ++ strings_said origins)) ≡ Some (length (strings_of named origins))
+pub strings_all_named : (named behind : List (List ℕ)) → length (strings_of named behind) < 65535 → counted_on 0 (map (number_in (strings_of named behind)) (named ++ behind)) ≡ Some (length (strings_of named behind))
 unfolding strings_of
-strings_all_named named origins few = all_ordered (strings_of named origins) (named ++ strings_said origins) [] refl few
+strings_all_named named behind few = all_ordered (strings_of named behind) (named ++ behind) [] refl few
 
 -- where all are named in order, those in front are
 in_order_in_front : (ns ms : List ℕ) (count next : ℕ) → counted_on next (ns ++ ms) ≡ Some count → are_named_in_order next ns ≡ true
@@ -118,11 +116,11 @@ in_order_in_front (n ∷ ns) ms count next h =
     let t = counted_rest count next n (ns ++ ms) h in
     and_from (leb n next) (are_named_in_order (max next (n + 1)) ns) (le-leb _ _ t.0) (in_order_in_front ns ms count (max next (n + 1)) t.1)
 
-pub strings_in_order : (named : List (List ℕ)) (origins : List Origin) → length (strings_of named origins) < 65535 → are_named_in_order 0 (map (number_in (strings_of named origins)) named) ≡ true
-strings_in_order named origins few =
-    let strings = strings_of named origins in
-    let parts = map-append (number_in strings) named (strings_said origins) in
-    in_order_in_front (map (number_in strings) named) (map (number_in strings) (strings_said origins)) (length strings) 0 (sym (ap (counted_on 0) parts) ∙ strings_all_named named origins few)
+pub strings_in_order : (named behind : List (List ℕ)) → length (strings_of named behind) < 65535 → are_named_in_order 0 (map (number_in (strings_of named behind)) named) ≡ true
+strings_in_order named behind few =
+    let strings = strings_of named behind in
+    let parts = map-append (number_in strings) named behind in
+    in_order_in_front (map (number_in strings) named) (map (number_in strings) behind) (length strings) 0 (sym (ap (counted_on 0) parts) ∙ strings_all_named named behind few)
 
 -- ---- codes are named in order
 

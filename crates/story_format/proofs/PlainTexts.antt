@@ -1,9 +1,13 @@
 -- A story file says descriptions that say bytes alone, where there is no rule and nothing begins or ends a scene.
-use Rattle.std.proofs.Common.{◌≡◌, ◌∙◌, ap, sym, refl, subst, Bool, ◌++◌, ℕ, suc, ◌+◌, ◌<◌, ◌≤◌, true, List, [], ◌∷◌, length, Option, Some, None, arith}
+use Rattle.std.proofs.Common.{◌≡◌, ◌∙◌, ap, sym, refl, subst, Bool, ◌++◌, ℕ, suc, ◌+◌, ◌*◌, ◌<◌, ◌≤◌, leb, true, List, [], ◌∷◌, length, Option, Some, None, arith}
 use Rattle.std.specs.Prelude.{map}
 use Rattle.std.specs.List.{AllByRecursion, flat_map, list_all}
-use Rattle.std.proofs.lemmas.Bool.{lt-ltb, and_parts}
+use Rattle.std.proofs.lemmas.Bool.{leb-true, lt-ltb, and_from, and_parts}
+use Rattle.std.proofs.lemmas.List.Folds.{list_all-append}
 use Rattle.std.proofs.lemmas.List.{length-append, length-map}
+use Rattle.world_meaning.specs.Declarations.{is_right_value_kind}
+use Rattle.world_meaning.specs.declared.declared.ValueKind.{ValueKind}
+use Rattle.world_meaning.specs.declared.tale.Tale.{Tale}
 use Rattle.object_words.specs.Mentions.{number_in, number_or_none}
 use Rattle.play_meaning.specs.StandardGrammar.{standard_lines}
 use Rattle.play_meaning.specs.StandardRules.{plain}
@@ -15,8 +19,10 @@ use Rattle.code_table.specs.Origins.{Describes, Origin, origins_of, origins_of_s
 use Rattle.story_code.specs.Emitting.{can_say_all}
 use Rattle.story_format.specs.Codes.{counts_of, small}
 use Rattle.story_format.specs.Contents.{origins_said}
-use Rattle.story_format.specs.Holding.{PlainTextsAreHeld, counts_in, has_short_texts, idle_scene, is_short, plain_contents}
-use Rattle.story_format.specs.Making.{codes_in, strings_of, strings_said, tables_with, texts_named, worded}
+use Rattle.story_format.specs.Holding.{IsHeld, PlainTextsAreHeld, counts_in, has_short_texts, idle_scene, is_short, plain_contents}
+use Rattle.story_format.specs.Making.{codes_in, names_of_values, strings_behind, strings_of, strings_said, tables_with, texts_named, worded}
+use Rattle.story_format.proofs.DeclaredLemmas.{declared_parts}
+use Rattle.story_format.proofs.MadeValues.{value_parts}
 use Rattle.story_format.proofs.EntryLemmas.{objects_back, objects_in}
 use Rattle.story_format.proofs.Fits.{all_good_words, few_strings, strings_short}
 use Rattle.story_format.proofs.GrammarLemmas.{standard_short, standard_words, within}
@@ -90,27 +96,45 @@ all_within strings (x ∷ xs) count is known few =
     let t = and_parts (is_known strings x) (list_all (is_known strings) xs) known in
     (omega (arith, within strings x t.0 few, is), all_within strings xs count is t.1 few)
 
+-- ---- names of values
+
+names_few : (kinds : ℕ) (values : List ValueKind) → list_all (is_right_value_kind kinds) values ≡ true → length (names_of_values values) ≤ 100 * length values
+names_few kinds [] h = omega arith
+names_few kinds (q ∷ values) h =
+    let t = and_parts (is_right_value_kind kinds q) (list_all (is_right_value_kind kinds) values) h in
+    let le : length q.names ≤ 100 = leb-true _ _ (value_parts kinds q t.0).2 in
+    omega (arith, le, names_few kinds values t.1, length-append q.names (names_of_values values))
+
+few_names : (t : Tale) → IsHeld t → length (names_of_values t.declared.values) ≤ 10000
+few_names t held =
+    let d = t.declared in
+    let p = and_parts (leb (length d.values) 100) (list_all (is_right_value_kind (length d.kinds)) d.values) (declared_parts d held.made.declared).values in
+    omega (arith, leb-true _ _ p.0, names_few (length d.kinds) d.values p.1)
+
 -- ---- all of it
 
 pub plain_held : PlainTextsAreHeld
 unfolding tables_with counts_of
-plain_held t xs held few_words few_actions nouns many short =
+plain_held t xs held few_words few_actions nouns names many short =
     let ws = worded [] t.objects in
     let named = texts_named ws standard_lines in
     let texts = map plain xs in
     let none : origins_said (plain_contents t xs) ≡ Plain xs = ap (λ asked. map Describes texts ++ asked) (none_asked t.declared.scenes) in
     let origins = origins_said (plain_contents t xs) in
     let said : strings_said origins ≡ xs = ap strings_said none ∙ strings_plain xs in
-    let strings = strings_of named origins in
+    let behind = strings_behind t.declared origins in
+    let values = names_of_values t.declared.values in
+    let strings = strings_of named behind in
     let le = few_objects [] t held in
     let back : codes_in (objects_in ws) ≡ codes_in t.objects = ap codes_in (objects_back [] 0 t.objects) in
     let few_codes = codes_few ws in
     let few_bytes : length xs ≤ 1000 = omega (arith, many, back, few_codes, le) in
-    let few : length strings < 65535 = omega (arith, few_strings ws standard_lines origins few_words, standard_words, ap length said, few_bytes, le) in
-    let known : list_all (is_known strings) xs ≡ true = ap (list_all (is_known strings)) (sym said) ∙ said_known named origins in
+    let few : length strings < 65535 = omega (arith, few_strings ws standard_lines behind few_words, standard_words, ap length said, length-append (strings_said origins) values, few_names t held, few_bytes, le) in
+    let known : list_all (is_known strings) xs ≡ true = ap (list_all (is_known strings)) (sym said) ∙ said_known named t.declared origins in
     record {
       are_of = record { many = length-map xs plain ∙ many; few = omega arith; named = refl; scenes = idle_recur t.declared.scenes; few_actions = few_actions; first_nouns = nouns; few_lines = omega arith; lines = refl; small = refl; few_words = few_words };
-      short = strings_short ws standard_lines origins (ap (list_all has_short_texts) (objects_back [] 0 t.objects) ∙ held.texts) (all_good_words 0 t.objects held.texts) standard_short (ap (list_all is_short) said ∙ short);
+      short = strings_short ws standard_lines behind (ap (list_all has_short_texts) (objects_back [] 0 t.objects) ∙ held.texts) (all_good_words 0 t.objects held.texts) standard_short
+          (list_all-append is_short (strings_said origins) values ∙ and_from (list_all is_short (strings_said origins)) (list_all is_short values) (ap (list_all is_short) said ∙ short) names);
       few = few;
       fit = subst (λ os. AllFit (counts_in t (plain_contents t xs)) (number_in strings) os) (sym none) (fit_plain (number_in strings) (counts_in t (plain_contents t xs)) xs (all_within strings xs (small (length strings)) (omega (arith, few)) known few));
       said = subst (CanBeSaid (number_in strings)) (sym none) (can_be_said (number_in strings) xs (named_small strings) few_bytes);

@@ -1,10 +1,10 @@
 -- What a story's tables say of each rule is right, and its first actions are those that every story has.
-use Rattle.std.proofs.Common.{◌≡◌, ◌≤◌, ℕ, Bool, true, ◌&&◌, leb, ltb, eqb, [], length, Some}
+use Rattle.std.proofs.Common.{◌≡◌, ◌≤◌, ℕ, Bool, true, ◌&&◌, leb, ltb, [], length, Some}
 use Rattle.std.specs.Prelude.{slice_get}
 use Rattle.std.specs.List.{list_all}
 use Rattle.std.proofs.lemmas.Bool.{and_parts, leb-true}
 use Rattle.play_meaning.specs.declared.operand.Counts.{Counts}
-use Rattle.story_format.specs.Checks.{are_distinct, are_right, are_right_objects, are_right_ways, is_right_frame, stand_rightly}
+use Rattle.story_format.specs.Checks.{are_right, is_right_frame}
 use Rattle.story_format.specs.Counts.{counts_of}
 use Rattle.story_format.specs.RuleChecks.{are_right_actions, are_right_books, are_right_lines, are_right_rules, are_right_scenes, begin_with_actions, is_number_or_none, is_right_action, is_right_aspect, is_right_body, is_right_line, is_right_rule, is_right_scene}
 use Rattle.story_format.specs.RuleMaking.{action_entries}
@@ -13,11 +13,12 @@ use Rattle.story_format.specs.WorldChecks.{is_right_world}
 use Rattle.story_format.specs.declared.rule_entry.RuleEntry.{RuleEntry}
 use Rattle.story_format.specs.declared.tables.Tables.{Tables}
 use Rattle.story_format.proofs.StoryLemmas.{all_at, four, last_of_five}
+use Rattle.story_format.proofs.ValueLemmas.{checked_parts}
 
 rules_right : (t : Tables) → are_right t ≡ true → are_right_rules (counts_of t) t.rules ≡ true
-unfolding are_right is_right_frame
+unfolding is_right_frame
 rules_right t right =
-    let frame = (last_of_five (is_right_frame t) (are_distinct t.strings) (are_right_objects t) (stand_rightly t) (are_right_ways t) right).0 in
+    let frame = (checked_parts t right).0 in
     (four (is_right_world t.world) (are_right_rules (counts_of t) t.rules) (leb (length t.objects) 1000) (ltb (length t.strings) 65535) frame).1
 
 record Parts (t : Tables) : Type 0 where

@@ -1,7 +1,7 @@
 -- A story begins in one of its rooms, and its ways lead to its rooms.
 use Rattle.std.proofs.Common.{◌≡◌, ℕ, ◌-◌, Bool, true, ◌&&◌, leb, eqb, List, [], ◌∷◌, length, map, take, Option, Some, None, refl, inl, inr}
 use Rattle.std.specs.Prelude.{slice_get, codes, count_by}
-use Rattle.std.specs.List.{list_all, flat_map}
+use Rattle.std.specs.List.{list_all}
 use Rattle.std.proofs.lemmas.Bool.{cases_Bool, and_parts}
 use Rattle.world_meaning.specs.Directions.{all_directions}
 use Rattle.world_meaning.specs.Kinds.{is_under}
@@ -13,19 +13,17 @@ use Rattle.world_meaning.specs.declared.exits.Way.{Way}
 use Rattle.world_meaning.specs.declared.sorts.Sorts.{Sorts}
 use Rattle.story_format.specs.declared.tables.Entry.{Entry}
 use Rattle.story_format.specs.declared.tables.Tables.{Tables}
-use Rattle.story_format.specs.Checks.{are_distinct, have_words, is_small, has_small_words, is_named, is_player_entry, is_right_frame, are_direction_entries, are_in_place, are_named_in_order, strings_in_tables, heads_named, are_right_objects, are_right_ways, are_right, stand_rightly}
+use Rattle.story_format.specs.Checks.{have_words, is_small, has_small_words, is_named, is_player_entry, are_direction_entries, are_in_place, are_named_in_order, strings_in_tables, heads_named, are_right_objects, are_right_ways, are_right}
 use Rattle.story_format.specs.Facts.{holder_in, is_room_in, rooms_before, start_of, way_in, way_of}
 use Rattle.story_format.specs.Placed.{is_room_entry, sorts_in}
 use Rattle.story_format.specs.Sizes.{is_right_entry, sizes_of}
 use Rattle.story_format.specs.Spells.{IsStory}
 use Rattle.story_format.specs.WorldChecks.{suits_kind}
 use Rattle.story_format.proofs.StoryLemmas.{all_at, last_of_five, three}
+use Rattle.story_format.proofs.ValueLemmas.{checked_parts}
 
 pub right_parts : (t : Tables) → are_right t ≡ true → (are_right_objects t ≡ true) × (are_right_ways t ≡ true)
-unfolding are_right
-right_parts t right =
-    let p = last_of_five (is_right_frame t) (are_distinct t.strings) (are_right_objects t) (stand_rightly t) (are_right_ways t) right in
-    (p.2, p.4)
+right_parts t right = let p = checked_parts t right in (p.2, p.4)
 
 pub in_place : (t : Tables) → are_right_objects t ≡ true → are_in_place t.strings t.world.kinds (sorts_in t).rooms t.objects ≡ true
 unfolding are_right_objects

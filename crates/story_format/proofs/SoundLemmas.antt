@@ -1,5 +1,5 @@
 -- The codes of texts, rules and scenes that bytes can say are sound, and each string is named.
-use Rattle.std.proofs.Common.{◌≡◌, ℕ, suc, ◌+◌, ◌<◌, ◌≤◌, true, ◌&&◌, nat_lt, List, [], ◌∷◌, ◌++◌, length, map, refl, sym, subst, ap, ◌∙◌, arith, length-append}
+use Rattle.std.proofs.Common.{◌≡◌, ℕ, suc, ◌+◌, ◌<◌, ◌≤◌, true, ◌&&◌, nat_lt, List, [], ◌∷◌, ◌++◌, length, map, refl, sym, subst, ap, ◌∙◌, arith, append_assoc, length-append}
 use Rattle.std.specs.Prelude.{replicate}
 use Rattle.std.specs.List.{AllByRecursion, flat_map, list_all}
 use Rattle.std.proofs.lemmas.Bool.{and_parts, lt-ltb, ltb-true, and_from}
@@ -30,15 +30,17 @@ use Rattle.story_code.proofs.Exact.{spelling_size, spells_in}
 use Rattle.story_format.specs.Checks.{codes_named, strings_in_tables}
 use Rattle.story_format.specs.Codes.{code_spelled, counts_of, small}
 use Rattle.story_format.specs.Holding.{is_short}
-use Rattle.story_format.specs.Making.{Worded, code_bytes, described_in, entries_of, line_entry, strings_of, strings_said, tables_with, texts_named}
+use Rattle.story_format.specs.Making.{Worded, code_bytes, described_in, entries_of, line_entry, names_of_values, strings_behind, strings_of, strings_said, tables_with, texts_named, value_entry, values_of}
 use Rattle.story_format.specs.Soundness.{AreSound, are_in_turn, strings_read}
 use Rattle.story_format.specs.RuleChecks.{uses_in_tables}
+use Rattle.story_format.specs.ValueChecks.{strings_in_values}
 use Rattle.story_format.specs.RuleMaking.{rules_of}
 use Rattle.story_format.specs.declared.rule_tables.Book.{Book}
 use Rattle.story_format.proofs.OrderLemmas.{codes_counted, strings_all_named}
 use Rattle.story_format.proofs.RuleLemmas.{codes_in_made, heads_in_turn, origins_in, uses_in_made}
 use Rattle.story_format.proofs.SceneLemmas.{origins_in_scenes}
 use Rattle.story_format.proofs.TableLemmas.{texts_told}
+use Rattle.story_format.proofs.MadeValues.{values_named}
 
 -- ---- bytes can say each code
 
@@ -123,12 +125,12 @@ module _ (d : Declared) (books : List Book) (ws : List Worded) (lines : List Lin
   os = origins_of texts rules scenes
 
   abbrev strings : List (List ℕ)
-  strings = strings_of (texts_named ws lines) os
+  strings = strings_of (texts_named ws lines) (strings_behind d os)
 
   pub tables_sound : length strings < 65535 → length ws ≤ 1000 → length texts ≡ described_in ws
       → AllFit (counts_of (tables_with d books ws lines rules scenes os)) (number_in strings) os → CanBeSaid (number_in strings) os
       → AreSound (tables_with d books ws lines rules scenes os)
-  unfolding strings_read tables_with counts_of
+  unfolding strings_read tables_with counts_of values_of
   tables_sound few short many fit said =
       let bytes = code_bytes strings os in
       let z = counts_of (tables_with d books ws lines rules scenes os) in
@@ -144,9 +146,11 @@ module _ (d : Declared) (books : List Book) (ws : List Worded) (lines : List Lin
         table = subst (λ us. IsTableOf (record z { codes = small (length bytes) }) us bytes found.0) uses (subst (λ n. IsTableOf (record z { codes = n }) (map use_for os) bytes found.0) count found.1);
         in_turn = ap (λ codes. are_in_turn 0 (codes_named (entries_of strings 0 ws) ++ codes)) (codes_in_made d (map (line_entry strings) lines) books rules scenes (described_in ws)) ∙ heads_in_turn strings ws rules scenes short room;
         named =
-            ap (λ codes. counted_on 0 (strings_in_tables (tables_with d books ws lines rules scenes os) ++ strings_in_codes codes)) (bytes_told strings os said)
+            ap (λ codes. counted_on 0 ((strings_in_tables (tables_with d books ws lines rules scenes os) ++ strings_in_codes codes) ++ strings_in_values (map (value_entry strings) d.values))) (bytes_told strings os said)
             ∙ ap (counted_on 0) (
-            (λ i. texts_told d books ws lines rules scenes os few i ++ said_in_order (number_in strings) os i)
-            ∙ sym (map-append (number_in strings) (texts_named ws lines) (strings_said os)))
-            ∙ strings_all_named (texts_named ws lines) os few;
+            (λ i. (texts_told d books ws lines rules scenes os few i ++ said_in_order (number_in strings) os i) ++ values_named strings d.values i)
+            ∙ append_assoc (map (number_in strings) (texts_named ws lines)) (map (number_in strings) (strings_said os)) (map (number_in strings) (names_of_values d.values))
+            ∙ ap (λ rest. map (number_in strings) (texts_named ws lines) ++ rest) (sym (map-append (number_in strings) (strings_said os) (names_of_values d.values)))
+            ∙ sym (map-append (number_in strings) (texts_named ws lines) (strings_behind d os)))
+            ∙ strings_all_named (texts_named ws lines) (strings_behind d os) few;
       }

@@ -15,8 +15,9 @@ use Rattle.story_format.specs.Checks.{heads_named, strings_in_tables}
 use Rattle.story_format.specs.Codes.{AreCodesOf, code_spelled, counts_of, uses_of}
 use Rattle.story_format.specs.Formats.{IsBytes, number, text}
 use Rattle.story_format.specs.FormatLaws.{IsBytes-rest}
-use Rattle.story_format.specs.Layout.{entry_layout, exits_layout, rules_layout, tables_layout, world_layout}
-use Rattle.story_format.specs.Soundness.{AreSound, are_in_turn, is_count, strings_read}
+use Rattle.story_format.specs.Layout.{entry_layout, exits_layout, rules_layout, first_layout, tables_layout, values_layout, world_layout}
+use Rattle.story_format.specs.Soundness.{AreSound, all_strings_read, are_in_turn, is_count, strings_read}
+use Rattle.story_format.specs.ValueChecks.{strings_in_values}
 use Rattle.story_format.specs.Spells.{head}
 use Rattle.story_format.specs.declared.tables.Tables.{Tables}
 use Rattle.story_format.proofs.Counting.{count_is, is_counted}
@@ -40,9 +41,9 @@ texts_are_bytes (one ∷ texts) fits =
     (back_bytes (to_be_bytes w16 (length one)) one first, texts_are_bytes texts (back_bytes (text.put one) (flat_map text.put texts) fits))
 
 -- what stands in front of the codes
-pub codes_are_bytes : (bytes : List ℕ) (t : Tables) (rest : List ℕ) → IsBytes bytes → bytes ≡ head ++ (tables_layout.format.put t ++ rest) → AllByRecursion IsBytes t.codes
-unfolding tables_layout
-codes_are_bytes bytes t rest fits is =
+pub codes_are_bytes : (bytes : List ℕ) (version : ℕ) (t : Tables) (rest : List ℕ) → IsBytes bytes → bytes ≡ head version ++ ((tables_layout version).format.put t ++ rest) → AllByRecursion IsBytes t.codes
+unfolding tables_layout first_layout
+codes_are_bytes bytes version t rest fits is =
     let strings = (number w16).put (length t.strings) ++ flat_map text.put t.strings in
     let world = world_layout.format.put t.world in
     let objects = (number w16).put (length t.objects) ++ flat_map entry_layout.format.put t.objects in
@@ -50,8 +51,11 @@ codes_are_bytes bytes t rest fits is =
     let rules = rules_layout.format.put t.rules in
     let count = (number w16).put (length t.codes) in
     let codes = flat_map text.put t.codes in
-    let all : IsBytes (head ++ (tables_layout.format.put t ++ rest)) = subst IsBytes is fits in
-    let whole : IsBytes (strings ++ (world ++ (objects ++ (ways ++ (rules ++ (count ++ codes)))))) = front_bytes (tables_layout.format.put t) rest (back_bytes head (tables_layout.format.put t ++ rest) all) in
+    let values = (values_layout version).format.put t.values in
+    let put = (tables_layout version).format.put t in
+    let all : IsBytes (head version ++ (put ++ rest)) = subst IsBytes is fits in
+    let tables : IsBytes ((strings ++ (world ++ (objects ++ (ways ++ (rules ++ (count ++ codes)))))) ++ values) = front_bytes put rest (back_bytes (head version) (put ++ rest) all) in
+    let whole = front_bytes (strings ++ (world ++ (objects ++ (ways ++ (rules ++ (count ++ codes)))))) values tables in
     texts_are_bytes t.codes
     (back_bytes count codes (back_bytes rules (count ++ codes) (back_bytes ways (rules ++ (count ++ codes)) (back_bytes objects (ways ++ (rules ++ (count ++ codes)))
     (back_bytes world (objects ++ (ways ++ (rules ++ (count ++ codes)))) (back_bytes strings (world ++ (objects ++ (ways ++ (rules ++ (count ++ codes))))) whole))))))
@@ -62,14 +66,14 @@ pub sound_or_not : (t : Tables) → AllByRecursion IsBytes t.codes → AreSound 
 sound_or_not t fit =
     elim (cases_Bool (are_in_turn 0 (heads_named t))) [
       | inl turn ↦
-          elim (cases_Bool (is_count (length t.strings) (counted_on 0 (strings_read t)))) [
-            | inl named ↦ by turn (count_is (length t.strings) (counted_on 0 (strings_read t)) named) (table_or_none (counts_of t) (uses_of t) t.codes fit)
-            | inr unnamed ↦ inr (λ sound. is_counted (length t.strings) (counted_on 0 (strings_read t)) sound.named unnamed)
+          elim (cases_Bool (is_count (length t.strings) (counted_on 0 (all_strings_read t)))) [
+            | inl named ↦ by turn (count_is (length t.strings) (counted_on 0 (all_strings_read t)) named) (table_or_none (counts_of t) (uses_of t) t.codes fit)
+            | inr unnamed ↦ inr (λ sound. is_counted (length t.strings) (counted_on 0 (all_strings_read t)) sound.named unnamed)
           ]
       | inr out ↦ inr (λ sound. let no : true ≡ false = sym sound.in_turn ∙ out in cc)
     ]
   where
-    by : are_in_turn 0 (heads_named t) ≡ true → counted_on 0 (strings_read t) ≡ Some (length t.strings)
+    by : are_in_turn 0 (heads_named t) ≡ true → counted_on 0 (all_strings_read t) ≡ Some (length t.strings)
         → ((judged : List Judged) × IsTableOf (counts_of t) (uses_of t) t.codes judged) ⊎ ((judged : List Judged) → IsTableOf (counts_of t) (uses_of t) t.codes judged → ⊥) → AreSound t ⊎ (AreSound t → ⊥)
     by turn named (inl found) = inl (record { judged = found.0; table = found.1; in_turn = turn; named = named })
     by turn named (inr never) = inr (λ sound. never sound.judged sound.table)
@@ -81,18 +85,18 @@ none_found None_is Is None none so = so
 none_found None_is Is (Some a) none so = absurd cc
 
 module _ (t : Tables) (judged : List Judged) (z : Counts) (uses : List Use) (bytes : List (List ℕ)) (counts_are : z ≡ counts_of t) (uses_are : uses ≡ uses_of t) (bytes_are : bytes ≡ t.codes) (table : IsTableOf z uses bytes judged) (b : Bool)
-    (told : b ≡ is_count (length t.strings) (counted_on 0 (strings_in_tables t ++ strings_of (map code_told judged)))) where
+    (told : b ≡ is_count (length t.strings) (counted_on 0 ((strings_in_tables t ++ strings_of (map code_told judged)) ++ strings_in_values t.values.kinds))) where
   table_is : AreCodesOf t judged
   table_is = subst (λ x. IsTableOf x (uses_of t) t.codes judged) counts_are (subst (λ x. IsTableOf z x t.codes judged) uses_are (subst (λ x. IsTableOf z uses x judged) bytes_are table))
 
-  read : strings_in_tables t ++ strings_of (map code_told judged) ≡ strings_read t
+  read : (strings_in_tables t ++ strings_of (map code_told judged)) ++ strings_in_values t.values.kinds ≡ all_strings_read t
   unfolding strings_read
-  read = ap (λ codes. strings_in_tables t ++ strings_of codes) (sym (map-map code_spelled (λ (j : Judged). j.bytes) judged) ∙ ap (map code_spelled) table_is.bytes)
+  read = ap (λ codes. (strings_in_tables t ++ strings_of codes) ++ strings_in_values t.values.kinds) (sym (map-map code_spelled (λ (j : Judged). j.bytes) judged) ∙ ap (map code_spelled) table_is.bytes)
 
   pub unsound : b ≡ false → AreSound t → ⊥
-  unsound other sound = is_counted (length t.strings) (counted_on 0 (strings_read t)) sound.named (ap (λ ns. is_count (length t.strings) (counted_on 0 ns)) (sym read) ∙ sym told ∙ other)
+  unsound other sound = is_counted (length t.strings) (counted_on 0 (all_strings_read t)) sound.named (ap (λ ns. is_count (length t.strings) (counted_on 0 ns)) (sym read) ∙ sym told ∙ other)
 
   pub sound : b ≡ true → are_in_turn 0 (heads_named t) ≡ true → AreCodesOf t judged × AreSound t
   sound is turn =
-      let named : counted_on 0 (strings_read t) ≡ Some (length t.strings) = count_is (length t.strings) (counted_on 0 (strings_read t)) (ap (λ ns. is_count (length t.strings) (counted_on 0 ns)) (sym read) ∙ sym told ∙ is) in
+      let named : counted_on 0 (all_strings_read t) ≡ Some (length t.strings) = count_is (length t.strings) (counted_on 0 (all_strings_read t)) (ap (λ ns. is_count (length t.strings) (counted_on 0 ns)) (sym read) ∙ sym told ∙ is) in
       (table_is, record { judged = judged; table = table_is; in_turn = turn; named = named })

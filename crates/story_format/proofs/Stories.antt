@@ -10,7 +10,7 @@ use Rattle.rule_order.specs.declared.listing.ListingSentence.{ListingSentence}
 use Rattle.command_grammar.specs.declared.synonym.Synonym.{Synonym}
 use Rattle.story_format.specs.Contents.{Contents, origins_said}
 use Rattle.story_format.specs.Holding.{AreHeld, AreOf, IsHeld}
-use Rattle.story_format.specs.Making.{Worded, books_of, code_bytes, codes_in, described_in, story_lines, strings_of, tables_of, tables_with, texts_named, worded}
+use Rattle.story_format.specs.Making.{Worded, books_of, code_bytes, codes_in, described_in, story_lines, strings_behind, strings_of, tables_of, tables_with, texts_named, worded}
 use Rattle.story_format.specs.RuleMaking.{all_entries, rules_of}
 use Rattle.story_format.specs.Spells.{IsStory, are_ordered}
 use Rattle.story_format.proofs.StoryLemmas.{few_begin}
@@ -59,7 +59,7 @@ tale_is_story t c held said =
     let ws = worded c.synonyms t.objects in
     let lines = story_lines c.lines in
     let origins = origins_said c in
-    let strings = strings_of (texts_named ws lines) origins in
+    let strings = strings_of (texts_named ws lines) (strings_behind t.declared origins) in
     let of = said.are_of in
     let few = bytes_few strings origins said.said in
     let enough : described_in ws + (length (origins_in c.rules) + length (origins_in_scenes c.scenes)) ≤ length (code_bytes strings origins) =

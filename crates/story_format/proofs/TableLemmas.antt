@@ -17,6 +17,7 @@ use Rattle.world_meaning.specs.declared.direction.Direction.{Direction}
 use Rattle.world_meaning.specs.Directions.{all_directions, direction_name}
 use Rattle.world_meaning.proofs.Ends.{walks_decide}
 use Rattle.world_meaning.specs.Declarations.{is_among, is_below}
+use Rattle.world_meaning.specs.Declarations.{suits_kind as object_suits}
 use Rattle.world_meaning.specs.Sight.{is_in}
 use Rattle.world_meaning.specs.Sorts.{is_at, sorts_of}
 use Rattle.world_meaning.specs.Standing.{have_ends, lead_rightly}
@@ -37,17 +38,19 @@ use Rattle.story_format.specs.declared.row.Sizes.{Sizes}
 use Rattle.story_format.specs.declared.rule_tables.Book.{Book}
 use Rattle.story_format.specs.declared.tables.Entry.{Entry}
 use Rattle.story_format.specs.declared.tables.Tables.{Tables}
-use Rattle.story_format.specs.Making.{Worded, worded_at, worded_from, worded, code_bytes, code_count, codes_in, described_in, entry_strings, strings_of, strings_said, article_number, relation_number, place_relation, place_holder, code_number, entry_of, entries_of, line_entry, line_strings, texts_named, ways_of, tables_with, world_of}
+use Rattle.story_format.specs.Making.{Worded, worded_at, worded_from, worded, code_bytes, code_count, codes_in, described_in, entry_strings, strings_behind, strings_of, article_number, relation_number, place_relation, place_holder, code_number, entry_of, entries_of, line_entry, line_strings, texts_named, ways_of, tables_with, values_of, world_of}
 use Rattle.story_format.specs.Counts.{counts_of}
 use Rattle.story_format.specs.RuleChecks.{are_right_rules}
+use Rattle.story_format.specs.ValueChecks.{are_right_values}
 use Rattle.story_format.specs.RuleMaking.{book_count, codes_of_rules, rules_of, scene_entries}
 use Rattle.story_format.specs.Holding.{has_first_noun, is_line_of, is_of, named_by, has_few_words}
 use Rattle.story_format.specs.Sizes.{are_different, is_right_entry}
 use Rattle.story_format.specs.Placed.{is_room_entry, kinds_in, places_in}
-use Rattle.story_format.specs.Checks.{are_named_in_order, strings_in_tables, codes_named, heads_named, is_named, begin_with, has_words, have_words, is_small, is_small_at, has_small_words, is_player_entry, is_direction_entry, are_direction_entries, are_in_place, are_right_objects, are_right_ways, is_right_frame, stand_rightly, are_right}
+use Rattle.story_format.specs.Checks.{are_named_in_order, strings_in_tables, codes_named, heads_named, is_named, begin_with, has_words, have_words, is_small, is_small_at, has_small_words, is_player_entry, is_direction_entry, are_direction_entries, are_in_place, are_right_objects, are_right_ways, is_right_frame, stand_rightly, are_first_right, are_right}
 use Rattle.story_format.proofs.StoryLemmas.{all_weaker, few_begin, parts, player_parts, direction_parts}
 use Rattle.story_format.proofs.EntryLemmas.{kinds_back, objects_back, objects_in, place_there, places_back, rooms_counted, rooms_lead}
-use Rattle.story_format.proofs.Known.{text_is_itself, found_by_number, is_known, texts_known, any_left, any_right, fold_finds}
+use Rattle.story_format.proofs.Known.{text_is_itself, found_by_number, is_known, names_known as known_names, texts_known, any_left, any_right, fold_finds}
+use Rattle.story_format.proofs.MadeValues.{values_right}
 use Rattle.story_format.proofs.OrderLemmas.{at_most_one, in_turn_in_order, numbers_named, strings_distinct, strings_in_order}
 use Rattle.story_format.proofs.RuleLemmas.{AreRightBooks, codes_in_made, heads_by, heads_in_turn, origins_in, rule_tables_right}
 use Rattle.story_format.proofs.SceneLemmas.{length_scenes, origins_in_scenes}
@@ -306,11 +309,11 @@ names_known : (strings : List (List ℕ)) (ws : List Worded) → list_all (knows
 unfolding entry_strings
 names_known strings ws h = all_weaker (knows strings) (knows_name strings) (λ w k. (and_parts (is_known strings w.object.name) (list_all (is_known strings) w.words) k).0) ws h
 
-pub entry_strings_known : (ws : List Worded) (lines : List Line) (origins : List Origin) (text : List ℕ) → list_any (bytes_eq text) (flat_map entry_strings ws) ≡ true → is_known (strings_of (texts_named ws lines) origins) text ≡ true
+pub entry_strings_known : (ws : List Worded) (lines : List Line) (behind : List (List ℕ)) (text : List ℕ) → list_any (bytes_eq text) (flat_map entry_strings ws) ≡ true → is_known (strings_of (texts_named ws lines) behind) text ≡ true
 unfolding strings_of texts_named
-entry_strings_known ws lines origins text k =
+entry_strings_known ws lines behind text k =
     let entries = flat_map entry_strings ws in
-    fold_finds (texts_named ws lines ++ strings_said origins) [] text (any_left (bytes_eq text) (texts_named ws lines) (strings_said origins) (any_left (bytes_eq text) entries (flat_map line_strings lines) k))
+    fold_finds (texts_named ws lines ++ behind) [] text (any_left (bytes_eq text) (texts_named ws lines) behind (any_left (bytes_eq text) entries (flat_map line_strings lines) k))
 
 -- what holds of a well made tale's objects holds of its entries
 kinds_of_world : (d : Declared) → (world_of d).kinds ≡ d.kinds
@@ -321,7 +324,7 @@ kinds_of_world d = refl
 
 module _ (d : Declared) (books : List Book) (ws : List Worded) (lines : List Line) (rules : List Rule) (scenes : List Scene) (said : List Origin) where
   abbrev strings : List (List ℕ)
-  strings = strings_of (texts_named ws lines) said
+  strings = strings_of (texts_named ws lines) (strings_behind d said)
 
   abbrev tables : Tables
   tables = tables_with d books ws lines rules scenes said
@@ -362,19 +365,19 @@ module _ (d : Declared) (books : List Book) (ws : List Worded) (lines : List Lin
   pub texts_told : length strings < 65535 → strings_in_tables tables ≡ map (number_in strings) (texts_named ws lines)
   unfolding tables_with rules_of strings_in_tables texts_named
   texts_told few =
-      (λ i. numbers_named strings 0 ws i ++ lines_named strings lines (lines_known ws lines said) few i) ∙ sym (map-append (number_in strings) (flat_map entry_strings ws) (flat_map line_strings lines))
+      (λ i. numbers_named strings 0 ws i ++ lines_named strings lines (lines_known ws lines (strings_behind d said)) few i) ∙ sym (map-append (number_in strings) (flat_map entry_strings ws) (flat_map line_strings lines))
 
 pub tables_right : (d : Declared) (books : List Book) (synonyms : List Synonym) (objects : List Object) (lines : List Line) (rules : List Rule) (scenes : List Scene) (said : List Origin)
     → length scenes ≡ length d.scenes → IsWellMade (record { declared = d; objects = objects }) → list_all (λ synonym. is_small synonym.word) synonyms ≡ true → list_all has_few_words (worded synonyms objects) ≡ true
     → length lines ≤ 65535 → list_all (is_line_of (standard_needs ++ d.actions)) lines ≡ true
     → length d.actions ≤ 184 → list_all has_first_noun d.actions ≡ true → length rules ≤ 1939 → AreRightBooks d books (61 + length rules) → list_all (is_of (named_by d (length objects))) rules ≡ true
-    → length (strings_of (texts_named (worded synonyms objects) lines) said) < 65535 → length (code_bytes (strings_of (texts_named (worded synonyms objects) lines) said) said) < 65536
-    → described_in (worded synonyms objects) + (length (origins_in rules) + length (origins_in_scenes scenes)) ≤ length (code_bytes (strings_of (texts_named (worded synonyms objects) lines) said) said)
+    → length (strings_of (texts_named (worded synonyms objects) lines) (strings_behind d said)) < 65535 → length (code_bytes (strings_of (texts_named (worded synonyms objects) lines) (strings_behind d said)) said) < 65536
+    → described_in (worded synonyms objects) + (length (origins_in rules) + length (origins_in_scenes scenes)) ≤ length (code_bytes (strings_of (texts_named (worded synonyms objects) lines) (strings_behind d said)) said)
     → are_right (tables_with d books (worded synonyms objects) lines rules scenes said) ≡ true
-unfolding are_right is_right_frame are_right_objects stand_rightly are_right_ways tables_with are_named_in_order strings_in_tables
+unfolding are_right are_first_right is_right_frame are_right_objects stand_rightly are_right_ways are_right_values tables_with values_of are_named_in_order strings_in_tables
 tables_right d books synonyms objects lines rules scenes said same made small_synonyms few_words few_lines lines_of few_actions nouns few_rules known_books named few few_codes enough =
     let ws = worded synonyms objects in
-    let strings = strings_of (texts_named ws lines) said in
+    let strings = strings_of (texts_named ws lines) (strings_behind d said) in
     let entries = map (line_entry strings) lines in
     let back : objects_in ws ≡ objects = objects_back synonyms 0 objects in
     let count : length ws ≡ length objects = sym (length_mapped (λ (w : Worded). w.object) ws) ∙ ap length back in
@@ -385,16 +388,16 @@ tables_right d books synonyms objects lines rules scenes said same made small_sy
     let declared = declared_parts d made.declared in
     let all_codes = codes_counted d books ws lines rules scenes said few_codes in
     let built_in : 8 ≤ z.books = omega (arith, books_counted d books ws lines rules scenes said known_books.count_is declared.scenes declared.rulebooks) in
-    let lines_so = lines_right z strings d.actions lines (strings_counted d books ws lines rules scenes said few) few few_lines (lines_known ws lines said) lines_of in
+    let lines_so = lines_right z strings d.actions lines (strings_counted d books ws lines rules scenes said few) few few_lines (lines_known ws lines (strings_behind d said)) lines_of in
     let rules_so : are_right_rules z (rules_of d entries books (described_in ws) rules scenes) ≡ true =
     rule_tables_right d entries books z rules scenes (described_in ws) same declared.scenes declared.rulebooks few_rules known_books few_actions nouns lines_so (omega (arith, actions_counted d books ws lines rules scenes said few_actions)) built_in (ap (λ n. list_all (is_of n) rules) (names_counted d books ws lines rules scenes said (length objects) same known_books.count_is count few_objects (few_kinds d.kinds declared.kinds) (few_grants (length d.kinds) d.flags declared.flags) declared.scenes declared.rulebooks few_actions) ∙ named) (omega (arith, enough, all_codes)) (omega (arith, few_codes, all_codes)) in
     let order : are_named_in_order 0 (heads_named (tables_with d books ws lines rules scenes said)) ≡ true =
     heads_told d books ws lines rules scenes said (in_turn_in_order (heads_by strings ws rules scenes) 0 (heads_in_turn strings ws rules scenes (omega (arith, few_objects, count)) (omega (arith, enough, few_codes)))) in
     let texts : are_named_in_order 0 (strings_in_tables (tables_with d books ws lines rules scenes said)) ≡ true =
-    ap (are_named_in_order 0) (texts_told d books ws lines rules scenes said few) ∙ strings_in_order (texts_named ws lines) said few in
+    ap (are_named_in_order 0) (texts_told d books ws lines rules scenes said few) ∙ strings_in_order (texts_named ws lines) (strings_behind d said) few in
     let entry_count : leb (length (entries_of strings 0 ws)) 1000 ≡ true = le-leb _ _ (omega (arith, few_objects, count, entries_counted strings 0 ws)) in
     let few_strings : ltb (length strings) 65535 ≡ true = lt-ltb _ _ few in
-    let known = all_known strings ws (entry_strings_known ws lines said) in
+    let known = all_known strings ws (entry_strings_known ws lines (strings_behind d said)) in
     let kinds : kinds_in (entries_of strings 0 ws) ≡ kinds_of objects = kinds_back strings 0 ws ∙ ap kinds_of back in
     let places : places_in (entries_of strings 0 ws) ≡ places_of objects = places_back strings 0 ws ∙ ap places_of back in
     let plain = plain_from strings ws 0 (length parents) (length (code_bytes strings said)) (omega (arith, enough)) (omega (arith, few_objects, count)) (all_once strings synonyms objects 0 known few_words few) (ap (λ (os : List Object). list_all (is_below (length parents)) (kinds_of os)) back ∙ made.kinds) in
@@ -404,13 +407,14 @@ tables_right d books synonyms objects lines rules scenes said same made small_sy
     let counted : eqb (length (flat_map (ways_of parents) ws)) (count_by (is_room_entry parents) (entries_of strings 0 ws)) ≡ true = eq-eqb _ _ (rooms_counted parents strings ws 0) in
     let lead : list_all (lead_rightly sorts) (flat_map (ways_of parents) ws) ≡ true = rooms_lead parents sorts ws (ap (list_all (has_right_exits parents sorts)) back ∙ made.exits) in
     let suit = all_suit d strings synonyms objects 0 0 made.suited in
+    let values = values_right d strings ws declared.values (known_names (texts_named ws lines) d said) few (ap (list_all (object_suits d)) back ∙ made.suited) in
     let ends : have_ends (places_of objects) ≡ true = (walks_decide (places_of objects)).1 made.tree in
     rw (
       world_right d made.declared,
       rules_so,
       entry_count,
       few_strings,
-      strings_distinct (texts_named ws lines) said,
+      strings_distinct (texts_named ws lines) (strings_behind d said),
       suit,
       kinds_of_world d,
       kinds,
@@ -425,4 +429,4 @@ tables_right d books synonyms objects lines rules scenes said same made small_sy
       ends,
       counted,
       lead,
-    ) refl
+    ) values

@@ -5,7 +5,7 @@ use Rattle.std.specs.List.{flat_map, list_all}
 use Rattle.std.proofs.lemmas.Bool.{and_parts, cases_Bool, eqb-true, ltb-true}
 use Rattle.std.proofs.lemmas.List.{map-append}
 use Rattle.std.proofs.lemmas.List.Folds.{list_all-append}
-use Rattle.play_meaning.specs.Grammar.{Direction, Line, Something, Token, Word}
+use Rattle.play_meaning.specs.Grammar.{Direction, Line, Something, Word}
 use Rattle.story_format.specs.Checks.{are_distinct}
 use Rattle.story_format.specs.Facts.{line_in, text_at, token_in}
 use Rattle.story_format.specs.Making.{line_strings, token_strings}

@@ -18,18 +18,20 @@ use Rattle.story_code.proofs.Fetched.{told}
 use Rattle.story_format.specs.declared.rule_tables.RuleTables.{RuleTables}
 use Rattle.story_format.specs.declared.tables.Entry.{Entry}
 use Rattle.story_format.specs.declared.tables.Tables.{Tables}
+use Rattle.story_format.specs.declared.value_tables.ValueEntry.{ValueEntry}
 use Rattle.story_format.specs.Making.{line_strings}
 use Rattle.story_format.specs.RuleChecks.{codes_in_rules, codes_in_scenes, codes_in_tables, strings_in_line, uses_in_rules, uses_in_scenes, uses_in_tables}
-use Rattle.story_format.specs.Checks.{are_distinct, are_right, are_right_objects, are_right_ways, codes_named, is_right_frame, is_some_code, stand_rightly, strings_in_tables, strings_named}
+use Rattle.story_format.specs.Checks.{are_distinct, are_right, codes_named, is_some_code, strings_in_tables, strings_named}
 use Rattle.story_format.specs.Codes.{code_spelled, codes_told, counts_of, uses_of}
 use Rattle.story_format.specs.Facts.{description_code_in, line_in, lines_of, text_at}
-use Rattle.story_format.specs.Soundness.{AreSound, are_in_turn, strings_read}
+use Rattle.story_format.specs.Soundness.{AreSound, all_strings_read, are_in_turn, strings_read}
+use Rattle.story_format.specs.ValueChecks.{strings_in_values}
 use Rattle.story_format.specs.Spells.{IsStory}
-use Rattle.story_format.specs.Telling.{AreAlike, AreCodedAlike, AreDescribedAlike, AreToldAlike, ToldObject, told_object, told_objects, unnumbered}
+use Rattle.story_format.specs.Telling.{AreAlike, AreCodedAlike, AreDescribedAlike, AreToldAlike, ToldObject, ToldValueKind, told_object, told_objects, told_value_kind, unnumbered}
 use Rattle.story_format.proofs.Naming.{described, next_of, plain}
 use Rattle.story_format.proofs.RuleLemmas.{length_replicated, tables_counted}
 use Rattle.story_format.proofs.Turns.{turn_parted}
-use Rattle.story_format.proofs.StoryLemmas.{last_of_five}
+use Rattle.story_format.proofs.ValueLemmas.{checked_parts}
 use Rattle.story_format.proofs.Telling.{all_within, is_within, mentioned_on, same_number, same_numbers}
 use Rattle.story_format.proofs.ToldLines.{same_lines, texts_of_lines}
 use Rattle.story_format.proofs.ToldRules.{at_each, rules_again, scenes_again}
@@ -107,6 +109,14 @@ texts_of_tables t =
     map-append (text_at t.strings) (flat_map strings_named t.objects) (flat_map strings_in_line t.rules.grammar)
     ∙ (λ i. texts_of_objects t.strings t.objects i ++ texts_of_lines t.strings t.rules.grammar i)
 
+abbrev value_texts : ToldValueKind → List (List ℕ)
+value_texts v = v.names
+
+texts_of_values : (strings : List (List ℕ)) (values : List ValueEntry) → map (text_at strings) (strings_in_values values) ≡ flat_map value_texts (map (told_value_kind strings) values)
+texts_of_values strings [] = refl
+texts_of_values strings (v ∷ values) =
+    map-append (text_at strings) v.names (strings_in_values values) ∙ ap (λ (rest : List (List ℕ)). map (text_at strings) v.names ++ rest) (texts_of_values strings values)
+
 -- ---- numbers that tell the same texts are the same
 
 same_entry : (e f : Entry) → e.name ≡ f.name → e.words ≡ f.words → e.description ≡ f.description → unnumbered e ≡ unnumbered f → e ≡ f
@@ -144,6 +154,21 @@ same_entries strings (e ∷ es) (f ∷ fs) distinct h k numbers told =
     let others = same_entries strings es fs distinct a.1 b.1 descriptions tail in
     λ i. one i ∷ others i
 
+same_values : (strings : List (List ℕ)) (vs ws : List ValueEntry) → are_distinct strings ≡ true → list_all (is_within (length strings)) (strings_in_values vs) ≡ true → list_all (is_within (length strings)) (strings_in_values ws) ≡ true
+    → map (told_value_kind strings) vs ≡ map (told_value_kind strings) ws → vs ≡ ws
+same_values strings [] [] distinct h k told = refl
+same_values strings [] (w ∷ ws) distinct h k told = absurd cc
+same_values strings (v ∷ vs) [] distinct h k told = absurd cc
+same_values strings (v ∷ vs) (w ∷ ws) distinct h k told =
+    let within = is_within (length strings) in
+    let a = and_parts (list_all within v.names) (list_all within (strings_in_values vs)) (sym (list_all-append within v.names (strings_in_values vs)) ∙ h) in
+    let b = and_parts (list_all within w.names) (list_all within (strings_in_values ws)) (sym (list_all-append within w.names (strings_in_values ws)) ∙ k) in
+    let head : told_value_kind strings v ≡ told_value_kind strings w = cc in
+    let tail : map (told_value_kind strings) vs ≡ map (told_value_kind strings) ws = cc in
+    let names = same_numbers strings v.names w.names distinct a.0 b.0 (ap (λ (o : ToldValueKind). o.names) head) in
+    let others = same_values strings vs ws distinct a.1 b.1 tail in
+    λ i. record { names = names i; given = (head i).given } ∷ others i
+
 -- ---- bytes are the spelling of what they are told to be
 
 bytes_again : (judged : List Judged) → AllByRecursion (λ j. IsSoundCode j.sizes j.bytes) judged → map spelling (map code_told judged) ≡ map (λ j. j.bytes) judged
@@ -161,25 +186,21 @@ spelled_again t sound = ap (map spelling) (sym (codes_are t sound)) ∙ bytes_ag
 -- ---- all of it
 
 strings_differ : (t : Tables) → are_right t ≡ true → are_distinct t.strings ≡ true
-unfolding are_right
-strings_differ t right =
-    let p = last_of_five (is_right_frame t) (are_distinct t.strings) (are_right_objects t)
-    (stand_rightly t) (are_right_ways t) right in
-    p.1
+strings_differ t right = (checked_parts t right).1
 
-strings_again : (t : Tables) → IsStory t → first_mentions (map (text_at t.strings) (strings_read t)) ≡ t.strings
-strings_again t story = mentioned_on t.strings 0 (strings_read t) (strings_differ t story.right) story.sound.named
+strings_again : (t : Tables) → IsStory t → first_mentions (map (text_at t.strings) (all_strings_read t)) ≡ t.strings
+strings_again t story = mentioned_on t.strings 0 (all_strings_read t) (strings_differ t story.right) story.sound.named
 
 -- the strings that are named are there
-read_within : (t : Tables) → AreSound t → list_all (is_within (length t.strings)) (strings_in_tables t ++ strings_of (codes_told t).codes) ≡ true
+read_within : (t : Tables) → AreSound t → list_all (is_within (length t.strings)) ((strings_in_tables t ++ strings_of (codes_told t).codes) ++ strings_in_values t.values.kinds) ≡ true
 unfolding strings_read
-read_within t sound = all_within (length t.strings) 0 (strings_read t) sound.named
+read_within t sound = all_within (length t.strings) 0 (all_strings_read t) sound.named
 
--- whatever names it: an object, a line or a code
+-- whatever names it: an object, a line, a code or a kind of value
 abbrev All_within : Tables → ℕ → Type 0
 All_within t count =
     (list_all (is_within count) (flat_map strings_named t.objects) ≡ true) × (list_all (is_within count) (flat_map strings_in_line t.rules.grammar) ≡ true)
-    × (list_all (is_within count) (strings_of (codes_told t).codes) ≡ true)
+    × (list_all (is_within count) (strings_of (codes_told t).codes) ≡ true) × (list_all (is_within count) (strings_in_values t.values.kinds) ≡ true)
 
 within_parts : (t : Tables) → AreSound t → All_within t (length t.strings)
 unfolding strings_in_tables
@@ -188,9 +209,11 @@ within_parts t sound =
     let objects = flat_map strings_named t.objects in
     let lines = flat_map strings_in_line t.rules.grammar in
     let codes = strings_of (codes_told t).codes in
-    let both = and_parts (list_all within (strings_in_tables t)) (list_all within codes) (sym (list_all-append within (strings_in_tables t) codes) ∙ read_within t sound) in
+    let values = strings_in_values t.values.kinds in
+    let all = and_parts (list_all within (strings_in_tables t ++ codes)) (list_all within values) (sym (list_all-append within (strings_in_tables t ++ codes) values) ∙ read_within t sound) in
+    let both = and_parts (list_all within (strings_in_tables t)) (list_all within codes) (sym (list_all-append within (strings_in_tables t) codes) ∙ all.0) in
     let named = and_parts (list_all within objects) (list_all within lines) (sym (list_all-append within objects lines) ∙ both.0) in
-    (named.0, named.1, both.1)
+    (named.0, named.1, both.1, all.1)
 
 module _ (t u : Tables) (one : IsStory t) (other : IsStory u) (alike : AreToldAlike t u) where
   c : Codes
@@ -263,11 +286,15 @@ module _ (t u : Tables) (one : IsStory t) (other : IsStory u) (alike : AreToldAl
   same_strings : t.strings ≡ u.strings
   unfolding c d strings_read
   same_strings =
-      let texts : map (text_at t.strings) (strings_read t) ≡ map (text_at u.strings) (strings_read u) =
+      let before : map (text_at t.strings) (strings_read t) ≡ map (text_at u.strings) (strings_read u) =
       map-append (text_at t.strings) (strings_in_tables t) (strings_of (codes_told t).codes)
       ∙ (λ l. (texts_of_tables t ∙ (λ k. flat_map named_texts (alike.objects k) ++ flat_map line_strings (alike.lines k)) ∙ sym (texts_of_tables u)) l
       ++ all_texts_same (codes_told t) (codes_told u) (codes_told t).codes (codes_told u).codes same_told l)
       ∙ sym (map-append (text_at u.strings) (strings_in_tables u) (strings_of (codes_told u).codes)) in
+      let texts : map (text_at t.strings) (all_strings_read t) ≡ map (text_at u.strings) (all_strings_read u) =
+      map-append (text_at t.strings) (strings_read t) (strings_in_values t.values.kinds)
+      ∙ (λ l. before l ++ (texts_of_values t.strings t.values.kinds ∙ ap (flat_map value_texts) alike.value_kinds ∙ sym (texts_of_values u.strings u.values.kinds)) l)
+      ∙ sym (map-append (text_at u.strings) (strings_read u) (strings_in_values u.values.kinds)) in
       sym (strings_again t one) ∙ ap first_mentions texts ∙ strings_again u other
 
   moved : All_within u (length t.strings)
@@ -293,5 +320,13 @@ module _ (t u : Tables) (one : IsStory t) (other : IsStory u) (alike : AreToldAl
       same_entries t.strings t.objects u.objects (strings_differ t one.right) (within_parts t one.sound).0 moved.0 numbers.numbers
       (alike.objects ∙ ap (λ all. map (told_object all) u.objects) (sym same_strings))
 
+  same_value_kinds : t.values.kinds ≡ u.values.kinds
+  same_value_kinds =
+      same_values t.strings t.values.kinds u.values.kinds (strings_differ t one.right) (within_parts t one.sound).3 moved.3
+      (alike.value_kinds ∙ ap (λ all. map (told_value_kind all) u.values.kinds) (sym same_strings))
+
+  all_values : t.values ≡ u.values
+  all_values = λ i. record { kinds = same_value_kinds i; objects = alike.values i }
+
   pub told_alike : t ≡ u
-  told_alike = λ i. record { strings = same_strings i; world = alike.world i; objects = same_objects i; ways = alike.ways i; rules = all_rules i; codes = same_bytes i }
+  told_alike = λ i. record { strings = same_strings i; world = alike.world i; objects = same_objects i; ways = alike.ways i; rules = all_rules i; codes = same_bytes i; values = all_values i }

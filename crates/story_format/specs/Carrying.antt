@@ -1,7 +1,7 @@
 -- Tables that carry a tale: they say of each object's name, words and ways, and of the start, what the tale says; its
 -- description's code says its text; its actions ask for the same; its rules are about the same, and their codes answer their
 -- conditions and do their bodies; its books list them in the order in which they are asked, as sentences list them; the codes of
--- its scenes answer when they begin and end; and its grammar has the same lines.
+-- its scenes answer when they begin and end; its grammar has the same lines; and its values go by the same names.
 use Rattle.std.specs.Prelude.{◌≡◌, ℕ, zero, suc, Bool, true, false, ◌||◌, [], ◌∷◌, ◌++◌, count_by, is_some, length, map, slice_get, Option, None, Some, if◌then◌else◌, ◌==◌}
 use Rattle.std.specs.List.{AllZip}
 use Rattle.std.specs.Option.{option_map}
@@ -16,7 +16,7 @@ use Rattle.play_meaning.specs.Scripts.{Scene, says, scope_of, undescribed}
 use Rattle.play_meaning.specs.Settings.{Setting}
 use Rattle.play_meaning.specs.StandardActions.{standard_needs}
 use Rattle.play_meaning.specs.StandardRules.{standard_rules}
-use Rattle.play_meaning.specs.Tales.{setting_of}
+use Rattle.play_meaning.specs.Tales.{names_in_kind, setting_of}
 use Rattle.play_meaning.specs.Trees.{Adjective, Body, Condition, First, NotSo, Quality, Second}
 use Rattle.play_meaning.specs.Truth.{truth_in}
 use Rattle.play_meaning.specs.Worlds.{World}
@@ -39,6 +39,7 @@ use Rattle.story_format.specs.declared.tables.Tables.{Tables}
 use Rattle.story_format.specs.Codes.{codes_told}
 use Rattle.story_format.specs.Contents.{Contents}
 use Rattle.story_format.specs.Facts.{description_code_of, name_of, object_count_of, lines_of, rules_listed, start_of, way_of, words_of}
+use Rattle.story_format.specs.InPlay.{value_names}
 use Rattle.story_format.specs.Making.{story_lines, story_rules, text_of}
 
 -- ---- actions
@@ -139,3 +140,4 @@ pub record Carries (tables : Tables) (tale : Tale) (said : Contents) : Type 0 wh
   pub scenes_are : AllZip (CarriesScene (codes_told tables)) tables.rules.scenes said.scenes
   -- the author's, and behind them those that every story understands
   pub lines_are : lines_of tables ≡ story_lines said.lines
+  pub value_names_are : (q : ℕ) → value_names tables q ≡ names_in_kind (slice_get tale.declared.values q)

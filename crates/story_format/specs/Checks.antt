@@ -1,4 +1,4 @@
--- What tables 1 to 12 of a story say together, test by test, whatever the codes are.
+-- What the tables of a story say together but for the codes, test by test.
 use Rattle.std.specs.Prelude.{ℕ, ◌+◌, max, Bool, true, false, not, ◌&&◌, ◌==◌, nat_le, nat_lt, List, [], ◌∷◌, ◌++◌, length, take, slice_get, slice_index_or, Option, Some, None, codes, count_by, filter, map}
 use Rattle.std.specs.List.{list_all, flat_map}
 use Rattle.std.specs.Str.{bytes_eq}
@@ -16,6 +16,7 @@ use Rattle.story_format.specs.Counts.{counts_of}
 use Rattle.story_format.specs.Placed.{is_room_entry, places_in, sorts_in}
 use Rattle.story_format.specs.RuleChecks.{are_right_rules, codes_in_tables, strings_in_line}
 use Rattle.story_format.specs.Sizes.{is_right_entry, sizes_of}
+use Rattle.story_format.specs.ValueChecks.{are_right_values}
 use Rattle.story_format.specs.WorldChecks.{is_right_world, suits_kind}
 
 -- no string twice
@@ -122,5 +123,9 @@ unfoldable pub is_right_frame : Tables → Bool
 is_right_frame t = is_right_world t.world && are_right_rules (counts_of t) t.rules && nat_le (length t.objects) 1000 && nat_lt (length t.strings) 65535
 
 -- Tables 1 to 12 are those of a story.
+unfoldable pub are_first_right : Tables → Bool
+are_first_right t = is_right_frame t && are_distinct t.strings && are_right_objects t && stand_rightly t && are_right_ways t
+
+-- Tables 1 to 12, 14 and 15 are those of a story.
 unfoldable pub are_right : Tables → Bool
-are_right t = is_right_frame t && are_distinct t.strings && are_right_objects t && stand_rightly t && are_right_ways t
+are_right t = are_first_right t && are_right_values t

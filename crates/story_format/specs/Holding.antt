@@ -20,7 +20,7 @@ use Rattle.code_table.specs.declared.fault.TableFault.TheVariants.{LongText, Lon
 use Rattle.story_format.specs.Checks.{is_small}
 use Rattle.story_format.specs.Codes.{counts_of}
 use Rattle.story_format.specs.Contents.{Contents, origins_said}
-use Rattle.story_format.specs.Making.{Worded, codes_in, strings_with, tables_of, worded}
+use Rattle.story_format.specs.Making.{Worded, codes_in, names_of_values, strings_with, tables_of, worded}
 use Rattle.story_format.specs.RuleMaking.{book_count, noun_count}
 
 abbrev pub is_short : List ℕ → Bool
@@ -149,8 +149,8 @@ idle_scene recurs = record { recurs = recurs; begins = None; ends = None }
 abbrev pub plain_contents : Tale → List (List ℕ) → Contents
 plain_contents t bytes = record { texts = map plain bytes; rules = []; listings = []; scenes = map idle_scene t.declared.scenes; lines = []; synonyms = [] }
 
--- they are said where each is at most 65,535 bytes, and the actions may be said
+-- they are said where each is at most 65,535 bytes, as each name of a value is, and the actions may be said
 abbrev pub PlainTextsAreHeld : Type 0
 PlainTextsAreHeld =
-    (t : Tale) (bytes : List (List ℕ)) → IsHeld t → list_all has_few_words (worded [] t.objects) ≡ true → length t.declared.actions ≤ 184 → list_all has_first_noun t.declared.actions ≡ true → length bytes ≡ codes_in t.objects → list_all is_short bytes ≡ true
+    (t : Tale) (bytes : List (List ℕ)) → IsHeld t → list_all has_few_words (worded [] t.objects) ≡ true → length t.declared.actions ≤ 184 → list_all has_first_noun t.declared.actions ≡ true → list_all is_short (names_of_values t.declared.values) ≡ true → length bytes ≡ codes_in t.objects → list_all is_short bytes ≡ true
     → AreHeld t (plain_contents t bytes)

@@ -1,5 +1,5 @@
 -- What a story's tables say of its objects in play: kinds, properties and doors, by number, and what each begins with.
-use Rattle.std.specs.Prelude.{ℕ, ◌-◌, ℤ, pos, Bool, false, ◌==◌, List, map, take, count_by, slice_get, Option, Some, None, if◌then◌else◌}
+use Rattle.std.specs.Prelude.{ℕ, ◌-◌, ℤ, pos, Bool, false, ◌==◌, List, [], ◌∷◌, drop, map, take, count_by, slice_get, slice_index_or, Option, Some, None, if◌then◌else◌}
 use Rattle.std.specs.Int.{w32, cast_signed}
 use Rattle.std.specs.List.{list_any}
 use Rattle.world_meaning.specs.Declarations.{has_property, is_had}
@@ -9,9 +9,11 @@ use Rattle.world_meaning.specs.declared.article.Article.TheVariants as articles
 use Rattle.world_meaning.specs.declared.declared.Granted.{Granted}
 use Rattle.world_meaning.specs.declared.exits.Exits.{Exits}
 use Rattle.world_meaning.specs.declared.exits.Way.{Way}
-use Rattle.story_format.specs.Facts.{exits_at}
+use Rattle.story_format.specs.Facts.{exits_at, text_at}
 use Rattle.story_format.specs.declared.tables.Entry.{Entry}
 use Rattle.story_format.specs.declared.tables.Tables.{Tables}
+use Rattle.story_format.specs.declared.value_tables.ValueEntry.{ValueEntry}
+use Rattle.story_format.specs.declared.value_tables.ValueTables.{ValueTables}
 use Rattle.story_format.specs.declared.world_tables.Variable.{Variable}
 use Rattle.story_format.specs.declared.world_tables.WorldTables.{WorldTables}
 
@@ -46,6 +48,22 @@ has_flag t o property = has_in t.world.kinds t.world.flags property (slice_get t
 -- whether an object's kind has a number property
 abbrev pub has_number : Tables → ℕ → ℕ → Bool
 has_number t o property = has_in t.world.kinds t.world.numbers property (slice_get t.objects o)
+
+-- the kinds that have a value of each kind of value
+abbrev pub grants_in : ValueTables → List Granted
+grants_in values = map (λ v. v.given) values.kinds
+
+-- whether an object's kind has a value of a kind of value
+abbrev pub has_value : Tables → ℕ → ℕ → Bool
+has_value t o q = has_in t.world.kinds (grants_in t.values) q (slice_get t.objects o)
+
+abbrev pub names_in : List (List ℕ) → Option ValueEntry → List (List ℕ)
+names_in strings None = []
+names_in strings (Some v) = map (text_at strings) v.names
+
+-- the names of the values of a kind of value, by number
+abbrev pub value_names : Tables → ℕ → List (List ℕ)
+value_names t q = names_in t.strings (slice_get t.values.kinds q)
 
 -- the ways of a room, if it is one
 abbrev pub exits_of : Tables → ℕ → Option Exits
@@ -84,6 +102,26 @@ start_number w property entry =
 -- of each object, the number of a number property, 0 where its kind lacks it
 abbrev pub start_numbers : Tables → ℕ → List ℤ
 start_numbers t property = map (start_number t.world property) t.objects
+
+-- an object has a value for each kind of value that its kind has, in their order
+abbrev pub place_of_value : Tables → ℕ → Entry → ℕ
+place_of_value t q entry = count_by (is_had t.world.kinds entry.kind) (take q (grants_in t.values))
+
+-- these are its values
+unfoldable pub start_value : Tables → ℕ → Entry → List ℕ → ℕ
+start_value t q entry own = if has_property t.world.kinds (grants_in t.values) entry.kind q then slice_index_or own (place_of_value t q entry) 0 else 0
+
+abbrev pub first_own : List (List ℕ) → List ℕ
+first_own [] = []
+first_own (own ∷ others) = own
+
+abbrev pub start_values_from : Tables → ℕ → List Entry → List (List ℕ) → List ℕ
+start_values_from t q [] all = []
+start_values_from t q (entry ∷ entries) all = start_value t q entry (first_own all) ∷ start_values_from t q entries (drop 1 all)
+
+-- of each object, which value of a kind of value it has, 0 where its kind lacks it
+abbrev pub start_values : Tables → ℕ → List ℕ
+start_values t q = start_values_from t q t.objects t.values.objects
 
 abbrev pub start_variable : Variable → ℤ
 start_variable variable = cast_signed w32 variable.start

@@ -1,8 +1,8 @@
 -- The layout of a story's tables, field by field.
-use Rattle.std.proofs.Common.{◌≡◌, ℕ, Option, refl, inl, inr, ◌⊎◌}
+use Rattle.std.proofs.Common.{◌≡◌, ℕ, ◌==◌, List, [], length, Option, refl, inl, inr, ◌⊎◌, cond}
 use Rattle.world_meaning.specs.declared.exits.Way.{Way}
 use Rattle.world_meaning.specs.declared.exits.Exits.{Exits}
-use Rattle.story_format.specs.Layouts.{Layout, u8s, u16s, u32s, optionals, optional_bytes, texts, then, as_record, times, list_of, table_of}
+use Rattle.story_format.specs.Layouts.{Layout, absent, u8s, u16s, u32s, optionals, optional_bytes, texts, then, as_record, times, list_of, table_of}
 use Rattle.world_meaning.specs.declared.declared.Granted.{Granted}
 use Rattle.story_format.specs.declared.world_tables.Variable.{Variable}
 use Rattle.story_format.specs.declared.world_tables.WorldTables.{WorldTables}
@@ -21,6 +21,8 @@ use Rattle.story_format.specs.declared.rule_tables.SceneEntry.{SceneEntry}
 use Rattle.story_format.specs.declared.rule_tables.RuleTables.{RuleTables}
 use Rattle.story_format.specs.declared.tables.Entry.{Entry}
 use Rattle.story_format.specs.declared.tables.Tables.{Tables}
+use Rattle.story_format.specs.declared.value_tables.ValueEntry.{ValueEntry}
+use Rattle.story_format.specs.declared.value_tables.ValueTables.{ValueTables}
 
 -- table 2: the kind above a kind
 unfoldable pub kind_layout : Layout (Option ℕ)
@@ -151,9 +153,47 @@ rules_layout = as_record
     (λ r. (r.actions, (r.grammar, (r.rules, (r.books, r.scenes))))) (λ p. refl) (λ r. refl)
     (then (table_of action_layout) (then (table_of line_layout) (then (table_of rule_layout) (then (table_of book_layout) (table_of scene_layout)))))
 
--- the tables, 1 to 13
-unfoldable pub tables_layout : Layout Tables
-tables_layout = as_record
-    (λ p. record { strings = p.0; world = p.1.0; objects = p.1.1.0; ways = p.1.1.1.0; rules = p.1.1.1.1.0; codes = p.1.1.1.1.1 })
-    (λ t. (t.strings, (t.world, (t.objects, (t.ways, (t.rules, t.codes)))))) (λ p. refl) (λ t. refl)
-    (then (table_of texts) (then world_layout (then (table_of entry_layout) (then (table_of exits_layout) (then rules_layout (table_of texts))))))
+-- table 14: a kind of value
+unfoldable pub value_layout : Layout ValueEntry
+value_layout = as_record (λ p. record { names = p.0; given = p.1 }) (λ v. (v.names, v.given)) (λ p. refl) (λ v. refl) (then (list_of u16s) granted_layout)
+
+-- two tables as tables 14 and 15
+abbrev pub as_values : Layout (List ValueEntry) → Layout (List (List ℕ)) → Layout ValueTables
+as_values kinds objects = as_record (λ p. record { kinds = p.0; objects = p.1 }) (λ v. (v.kinds, v.objects)) (λ p. refl) (λ v. refl) (then kinds objects)
+
+-- tables 14 and 15
+unfoldable pub two_tables_layout : Layout ValueTables
+two_tables_layout = as_values (table_of value_layout) (table_of (list_of u8s))
+
+-- neither of them
+unfoldable pub no_tables_layout : Layout ValueTables
+no_tables_layout = as_values absent absent
+
+abbrev pub no_values : ValueTables
+no_values = record { kinds = []; objects = [] }
+
+-- version 1 has neither, version 2 has both
+abbrev pub values_layout : ℕ → Layout ValueTables
+values_layout version = cond (version == 1) no_tables_layout two_tables_layout
+
+-- tables 1 to 13
+abbrev pub FirstTables : Type 0
+FirstTables = List (List ℕ) × (WorldTables × (List Entry × (List Exits × (RuleTables × List (List ℕ)))))
+
+abbrev pub first_tables : Tables → FirstTables
+first_tables t = (t.strings, (t.world, (t.objects, (t.ways, (t.rules, t.codes)))))
+
+unfoldable pub first_layout : Layout FirstTables
+first_layout = then (table_of texts) (then world_layout (then (table_of entry_layout) (then (table_of exits_layout) (then rules_layout (table_of texts)))))
+
+-- with tables 14 and 15
+abbrev pub with_values : FirstTables → ValueTables → Tables
+with_values p values = record { strings = p.0; world = p.1.0; objects = p.1.1.0; ways = p.1.1.1.0; rules = p.1.1.1.1.0; codes = p.1.1.1.1.1; values = values }
+
+-- the tables of a version
+unfoldable pub tables_layout : ℕ → Layout Tables
+tables_layout version = as_record (λ p. with_values p.0 p.1) (λ t. (first_tables t, t.values)) (λ p. refl) (λ t. refl) (then first_layout (values_layout version))
+
+-- the version that a file of these tables has
+abbrev pub version_of : Tables → ℕ
+version_of t = cond (length t.values.kinds == 0) 1 2

@@ -1,7 +1,9 @@
 -- A format together with the fact that it is one, so that each layout is written once.
-use Rattle.std.proofs.Common.{◌≡◌, ℕ, List, Option, refl}
+use Rattle.std.proofs.Common.{◌≡◌, ℕ, ◌==◌, true, false, List, [], ◌∷◌, length, Option, Some, refl, sym, subst, ◌∙◌}
+use Rattle.std.proofs.Math.Dec.{eqb-suc-zero}
+use Rattle.std.proofs.lemmas.Option.{same_Some}
 use Rattle.std.specs.Int.{w16, w32}
-use Rattle.story_format.specs.Formats.{Format, IsFormat, byte, number, pair, via, optional, exactly, counted, text}
+use Rattle.story_format.specs.Formats.{Format, IsBytes, IsFormat, Takes, byte, number, pair, via, optional, exactly, counted, text}
 use Rattle.story_format.specs.FormatLaws.{byte_lawful, number16_lawful, number32_lawful, pair_lawful, via_lawful, optional_lawful, exactly_lawful, counted_lawful, text_lawful}
 
 pub record Layout (A : Type 0) : Type 0 where
@@ -42,3 +44,19 @@ list_of f = record { format = counted byte f.format; lawful = counted_lawful byt
 
 abbrev pub table_of : {A : Type 0} → Layout A → Layout (List A)
 table_of f = record { format = counted (number w16) f.format; lawful = counted_lawful (number w16) f.format number16_lawful f.lawful }
+
+-- ---- a table that isn't there
+
+-- it takes no bytes, and only an empty table fits
+abbrev pub no_table : {A : Type 0} → Format (List A)
+no_table = record { put = λ xs. []; get = λ bytes. Some ([], bytes); skip = λ bytes. Some bytes; fits = λ xs. length xs == 0 }
+
+pub no_table_takes : {A : Type 0} (bytes : List ℕ) (xs : List A) (rest : List ℕ) → IsBytes bytes → (no_table {A = A}).get bytes ≡ Some (xs, rest) → Takes bytes [] rest × ((length xs == 0) ≡ true)
+no_table_takes {A} bytes xs rest fits e = subst (λ (p : List A × List ℕ). Takes bytes [] p.1 × ((length p.0 == 0) ≡ true)) (same_Some ([], bytes) (xs, rest) e) (record { parts = refl; rest_fits = fits }, refl)
+
+pub no_table_again : {A : Type 0} (xs : List A) (rest : List ℕ) → (length xs == 0) ≡ true → (no_table {A = A}).get rest ≡ Some (xs, rest)
+no_table_again [] rest h = refl
+no_table_again (x ∷ xs) rest h = let z : false ≡ true = sym (eqb-suc-zero (length xs)) ∙ h in absurd cc
+
+abbrev pub absent : {A : Type 0} → Layout (List A)
+absent = record { format = no_table; lawful = record { takes = no_table_takes; again = no_table_again; skips = λ bytes. refl } }

@@ -14,6 +14,7 @@ pub mod RuleHeadings
 pub mod StandardRows
 pub mod RuleChecks
 pub mod WorldChecks
+pub mod ValueChecks
 pub mod Checks
 pub mod Soundness
 pub mod Facts
@@ -23,8 +24,9 @@ pub mod BookRules
 pub mod Spells
 pub mod Telling
 pub mod Placed
-pub mod Reading
+pub mod FirstVersion
 pub mod Refusals
+pub mod Reading
 pub mod Loaded
 pub mod Making
 pub mod Mentioning

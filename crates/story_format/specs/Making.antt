@@ -11,6 +11,7 @@ use Rattle.world_meaning.specs.declared.exits.Exits.{Exits}
 use Rattle.world_meaning.specs.declared.tale.Object.{Object}
 use Rattle.world_meaning.specs.declared.tale.Tale.{Tale}
 use Rattle.world_meaning.specs.declared.declared.Declared.{Declared}
+use Rattle.world_meaning.specs.declared.declared.ValueKind.{ValueKind}
 use Rattle.world_meaning.specs.Kinds.{is_under, room_kind}
 use Rattle.play_meaning.specs.Grammar.{Direction, Line, Something, Token, Word}
 use Rattle.play_meaning.specs.Order.{book_of}
@@ -31,6 +32,8 @@ use Rattle.story_format.specs.declared.rule_tables.Book.{Book}
 use Rattle.story_format.specs.declared.rule_tables.LineEntry.{LineEntry}
 use Rattle.story_format.specs.declared.tables.Entry.{Entry}
 use Rattle.story_format.specs.declared.tables.Tables.{Tables}
+use Rattle.story_format.specs.declared.value_tables.ValueEntry.{ValueEntry}
+use Rattle.story_format.specs.declared.value_tables.ValueTables.{ValueTables}
 use Rattle.story_format.specs.declared.world_tables.Variable.{Variable}
 use Rattle.story_format.specs.declared.world_tables.WorldTables.{WorldTables}
 use Rattle.object_words.specs.Mentions.{first_mentions, number_in}
@@ -84,9 +87,17 @@ line_strings line = flat_map token_strings line.tokens
 unfoldable pub texts_named : List Worded → List Line → List (List ℕ)
 texts_named ws lines = flat_map entry_strings ws ++ flat_map line_strings lines
 
--- the strings of a story: those that are named, then those that its descriptions and rules say
-unfoldable pub strings_of : List (List ℕ) → List Origin → List (List ℕ)
-strings_of named origins = first_mentions (named ++ strings_said origins)
+-- the names of all values, kind of value by kind of value
+abbrev pub names_of_values : List ValueKind → List (List ℕ)
+names_of_values values = flat_map (λ q. q.names) values
+
+-- the strings that its descriptions and rules say, then the names of values
+abbrev pub strings_behind : Declared → List Origin → List (List ℕ)
+strings_behind d origins = strings_said origins ++ names_of_values d.values
+
+-- the strings of a story: those that its objects and lines name, then those behind them
+unfoldable pub strings_of : List (List ℕ) → List (List ℕ) → List (List ℕ)
+strings_of named behind = first_mentions (named ++ behind)
 
 abbrev pub article_number : Article → ℕ
 article_number articles.None = 0
@@ -147,6 +158,20 @@ variable_of number = record { start = cast_unsigned w32 number }
 unfoldable pub world_of : Declared → WorldTables
 world_of d = record { kinds = d.kinds; flags = d.flags; numbers = d.numbers; variables = map variable_of d.variables }
 
+-- ---- kinds of value
+
+abbrev pub value_entry : List (List ℕ) → ValueKind → ValueEntry
+value_entry strings q = record { names = map (number_in strings) q.names; given = q.given }
+
+-- what objects have of these kinds of value; nothing is said where there is none
+abbrev pub object_values : List ValueKind → List Worded → List (List ℕ)
+object_values [] ws = []
+object_values (q ∷ values) ws = map (λ w. w.object.values) ws
+
+-- tables 14 and 15
+unfoldable pub values_of : List (List ℕ) → Declared → List Worded → ValueTables
+values_of strings d ws = record { kinds = map (value_entry strings) d.values; objects = object_values d.values ws }
+
 -- how many of the objects are described
 abbrev pub described_in : List Worded → ℕ
 described_in ws = codes_in (map (λ w. w.object) ws)
@@ -187,6 +212,7 @@ tables_but_codes d books ws lines rules scenes strings = record {
   ways = flat_map (ways_of d.kinds) ws;
   rules = rules_of d (map (line_entry strings) lines) books (described_in ws) rules scenes;
   codes = [];
+  values = values_of strings d ws;
 }
 
 -- the bytes of the codes of descriptions, rules and scenes, each string by its number
@@ -198,7 +224,7 @@ abbrev pub coded_tables : Declared → List Book → List Worded → List Line �
 coded_tables d books ws lines rules scenes origins strings = record (tables_but_codes d books ws lines rules scenes strings) { codes = code_bytes strings origins }
 
 unfoldable pub tables_with : Declared → List Book → List Worded → List Line → List Rule → List Scene → List Origin → Tables
-tables_with d books ws lines rules scenes origins = coded_tables d books ws lines rules scenes origins (strings_of (texts_named ws lines) origins)
+tables_with d books ws lines rules scenes origins = coded_tables d books ws lines rules scenes origins (strings_of (texts_named ws lines) (strings_behind d origins))
 
 -- the tables of a tale of which this is said
 abbrev pub tables_of : Tale → Contents → Tables
@@ -206,7 +232,7 @@ tables_of t c = tables_with t.declared (books_of t c.listings c.rules) (worded c
 
 -- its strings
 abbrev pub strings_with : Tale → Contents → List (List ℕ)
-strings_with t c = strings_of (texts_named (worded c.synonyms t.objects) (story_lines c.lines)) (origins_said c)
+strings_with t c = strings_of (texts_named (worded c.synonyms t.objects) (story_lines c.lines)) (strings_behind t.declared (origins_said c))
 
 -- its tables, but for the codes
 abbrev pub tables_uncoded : Tale → Contents → Tables

@@ -2,6 +2,7 @@
 use Rattle.std.specs.Prelude.{◌≡◌, ℕ, ◌==◌, List, [], ◌∷◌, Option, None, Some, map, if◌then◌else◌}
 use Rattle.std.specs.List.{AllZip}
 use Rattle.std.specs.Option.{option_map}
+use Rattle.world_meaning.specs.declared.declared.Granted.{Granted}
 use Rattle.play_meaning.specs.Codes.{Codes, code_of}
 use Rattle.play_meaning.specs.declared.instruction.Instruction.{Instruction}
 use Rattle.play_meaning.specs.declared.instruction.Instruction.TheVariants.{Count, EndStory, Names, Next, Say}
@@ -14,6 +15,7 @@ use Rattle.story_format.specs.declared.rule_tables.RuleTables.{RuleTables}
 use Rattle.story_format.specs.declared.rule_tables.SceneEntry.{SceneEntry}
 use Rattle.story_format.specs.declared.tables.Entry.{Entry}
 use Rattle.story_format.specs.declared.tables.Tables.{Tables}
+use Rattle.story_format.specs.declared.value_tables.ValueEntry.{ValueEntry}
 use Rattle.story_format.specs.Codes.{codes_told}
 use Rattle.story_format.specs.RuleChecks.{codes_in_tables}
 use Rattle.story_format.specs.Facts.{description_code_of, lines_of, text_at}
@@ -43,6 +45,19 @@ told_object strings e = record { name = text_at strings e.name; words = map (tex
 
 abbrev pub told_objects : Tables → List ToldObject
 told_objects t = map (told_object t.strings) t.objects
+
+-- ---- kinds of value
+
+-- A kind of value with the names of its values in the place of their numbers.
+pub record ToldValueKind : Type 0 where
+  pub names : List (List ℕ)
+  pub given : Granted
+
+abbrev pub told_value_kind : List (List ℕ) → ValueEntry → ToldValueKind
+told_value_kind strings v = record { names = map (text_at strings) v.names; given = v.given }
+
+abbrev pub told_value_kinds : Tables → List ToldValueKind
+told_value_kinds t = map (told_value_kind t.strings) t.values.kinds
 
 -- ---- codes
 
@@ -106,12 +121,14 @@ abbrev pub AreCodedAlike : Codes → Codes → List ℕ → List ℕ → Type 0
 AreCodedAlike c d ns ms = AllZip (λ n m. AreAlike c d (code_of c n) (code_of d m)) ns ms
 
 -- Two stories say the same: each object by its texts and what its code says, each line of the grammar by its words, each rule and
--- each scene by what its codes say, and all else as it is.
+-- each scene by what its codes say, each kind of value by the names of its values, and all else as it is.
 pub record AreToldAlike (t u : Tables) : Type 0 where
   pub objects : told_objects t ≡ told_objects u
   pub descriptions : (o : ℕ) → AreDescribedAlike (codes_told t) (codes_told u) (description_code_of t o) (description_code_of u o)
   pub world : t.world ≡ u.world
   pub ways : t.ways ≡ u.ways
+  pub value_kinds : told_value_kinds t ≡ told_value_kinds u
+  pub values : t.values.objects ≡ u.values.objects
   pub lines : lines_of t ≡ lines_of u
   pub rules : uncoded_rules t.rules ≡ uncoded_rules u.rules
   pub rule_codes : AreCodedAlike (codes_told t) (codes_told u) (codes_in_tables t.rules) (codes_in_tables u.rules)

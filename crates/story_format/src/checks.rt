@@ -1,10 +1,10 @@
-//! What tables 1 to 12 say together, whatever the codes are: each test is named after what it asks.
+//! What the tables say together, whatever the codes are: each test is named after what it asks.
 ghost use Rattle.std.specs.Prelude.{◌≡◌, ◌≤◌, ◌++◌, IfOk, OnOk, filter, length, map, not};
 ghost use Rattle.std.specs.List.{list_all, flat_map};
 ghost use Rattle.story_format.specs.Placed.{sorts_in};
 ghost use Rattle.story_format.specs.RuleChecks.{is_slot_number, strings_in_line};
 ghost use Rattle.story_format.specs.Sizes.{sizes_of};
-ghost use Rattle.story_format.specs.Checks.{are_distinct, is_named, begin_with, has_words, have_words, is_small_byte, is_small, is_small_at, has_small_words, is_player_entry, is_direction_entry, are_direction_entries, are_in_place, are_named_in_order, strings_in_tables, strings_named, codes_named, heads_named, are_right_objects, is_right_frame, are_right};
+ghost use Rattle.story_format.specs.Checks.{are_distinct, is_named, begin_with, has_words, have_words, is_small_byte, is_small, is_small_at, has_small_words, is_player_entry, is_direction_entry, are_direction_entries, are_in_place, are_named_in_order, strings_in_tables, strings_named, codes_named, heads_named, are_right_objects, is_right_frame, are_first_right, are_right};
 
 use crate::counts::counts_of;
 use crate::kind_tables::suit_kinds;
@@ -15,6 +15,7 @@ use crate::rule_codes::add_codes;
 use crate::rule_tables::LineEntry;
 use crate::standing::{are_right_ways, sorts_in, stand_rightly};
 use crate::tables::{Entry, Tables};
+use crate::value_checks::are_right_values;
 use crate::world_checks::is_right_world;
 use object_words::{Strings, words_for};
 use std::alloc::{AllocError, Global};
@@ -348,9 +349,9 @@ fn is_right_frame(alloc: Global, tables: &Tables) -> Result<bool, AllocError>
 }
 
 /// Whether tables 1 to 12 are those of a story.
-#[tactic(auto, unfolding(crate::specs::Checks::are_right), using(crate::proofs::KindLemmas::frame_few))]
-pub fn are_right(alloc: Global, tables: &Tables) -> Result<bool, AllocError>
-    ensures { IfOk result (λ right. right ≡ are_right tables.now) }
+#[tactic(auto, unfolding(crate::specs::Checks::are_first_right), using(crate::proofs::KindLemmas::frame_few))]
+fn are_first_right(alloc: Global, tables: &Tables) -> Result<bool, AllocError>
+    ensures { IfOk result (λ right. right ≡ are_first_right tables.now) }
 {
     if !is_right_frame(alloc, tables)? {
         return Ok(false);
@@ -362,4 +363,12 @@ pub fn are_right(alloc: Global, tables: &Tables) -> Result<bool, AllocError>
             && stand_rightly(alloc, tables, &sorts)?
             && are_right_ways(tables, &sorts),
     )
+}
+
+/// Whether tables 1 to 12, 14 and 15 are those of a story.
+#[tactic(auto, unfolding(crate::specs::Checks::are_right))]
+pub fn are_right(alloc: Global, tables: &Tables) -> Result<bool, AllocError>
+    ensures { IfOk result (λ right. right ≡ are_right tables.now) }
+{
+    Ok(are_first_right(alloc, tables)? && are_right_values(alloc, tables)?)
 }

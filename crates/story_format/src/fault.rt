@@ -13,13 +13,13 @@ use std::fmt;
 pub enum LoadFault {
     /// The bytes don't begin with `I7ST`.
     BadMagic,
-    /// The version isn't 1.
+    /// The version is neither 1 nor 2.
     BadVersion,
     /// The counts tell more than the bytes hold.
     Truncated,
     /// Bytes stand behind the last table.
     TooLong,
-    /// A table says what no story says.
+    /// A table says what no story says, or the version isn't that of the tables.
     BadTable,
     /// A code isn't sound, or isn't named exactly once, or a string that only codes name is out of order, or
     /// a string is named by none.

@@ -9,6 +9,7 @@ ghost use Rattle.story_format.specs.declared.tables.Tables.{Tables};
 ghost use Rattle.story_format.specs.Carrying.{Carries};
 ghost use Rattle.story_format.specs.Contents.{Contents};
 ghost use Rattle.story_format.specs.Facts.{start_of, way_of};
+ghost use Rattle.story_format.specs.FirstVersion.{FirstVersionStands};
 ghost use Rattle.story_format.specs.Formats.{IsBytes};
 ghost use Rattle.story_format.specs.Placed.{sorts_in};
 ghost use Rattle.story_format.specs.Holding.{AreHeld, IsHeld, NeverHeldAndNot, PlainTextsAreHeld};
@@ -42,6 +43,12 @@ pub fn one_fault()
 /// Bytes spell a story, or stand for a fault.
 pub fn spelled_or_refused()
     ensures { (bytes : List ℕ) → IsBytes bytes → ((tables : Tables) × Spells bytes tables) ⊎ ((fault : LoadFault) × (fault ≢ Memory) × IsRefused fault bytes) }
+{}
+
+/// A file of version 1 spells a story exactly as tables 1 to 13 say it by themselves, and the story has no kind of value; so who
+/// reads such files need know nothing of the others.
+pub fn first_version_stands()
+    ensures { FirstVersionStands }
 {}
 
 /// The tables of a tale that a story file holds, and of which it says this, are a story's.

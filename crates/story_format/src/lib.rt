@@ -40,6 +40,10 @@ mod story;
 mod table;
 mod tables;
 mod text;
+mod value_checks;
+mod value_facts;
+mod value_making;
+mod value_tables;
 mod world_checks;
 mod world_making;
 mod world_tables;
@@ -50,9 +54,9 @@ pub use fact_laws::stories_begin_in_order;
 pub use facts::{door_in, way_in};
 pub use fault::LoadFault;
 pub use laws::{
-    never_held_and_not, one_fault, one_spelling, one_story, plain_texts_are_held,
-    spelled_or_refused, stories_lead_to_rooms, stories_stand, story_carries_tale,
-    tales_are_stories, told_alike_are_one,
+    first_version_stands, never_held_and_not, one_fault, one_spelling, one_story,
+    plain_texts_are_held, spelled_or_refused, stories_lead_to_rooms, stories_stand,
+    story_carries_tale, tales_are_stories, told_alike_are_one,
 };
 pub use loading::load;
 pub use rule_entry::{Aspect, KindAspect, PropertySide, RuleBody, RuleEntry};

@@ -3,9 +3,9 @@
 ghost use Rattle.std.specs.Prelude.{◌≡◌, IfOk, IfErr, true};
 ghost use Rattle.std.specs.Result.{MatchResult};
 ghost use Rattle.story_format.specs.Layout.{tables_layout};
-ghost use Rattle.story_format.specs.Reading.{Gives, tables_read, whole};
+ghost use Rattle.story_format.specs.Reading.{Gives, is_right_file, tables_read, whole};
+ghost use Rattle.story_format.specs.Refusals.{IsRefused, is_version};
 ghost use Rattle.story_format.specs.Spells.{Spells};
-ghost use Rattle.story_format.specs.Refusals.{IsRefused};
 ghost use Rattle.story_format.specs.declared.fault.LoadFault.TheVariants.{Memory};
 ghost use Rattle.story_format.specs.declared.tables.Tables.{Tables};
 
@@ -13,31 +13,37 @@ use crate::book_rules::are_ordered;
 use crate::checks::are_right;
 use crate::codes::codes_of;
 use crate::fault::LoadFault;
-use crate::field::Field;
 use crate::number::number16;
 use crate::story::Story;
 use crate::tables::Tables;
-use crate::writing::{MAGIC, VERSION};
-use std::alloc::Global;
+use crate::value_tables::{FIRST_VERSION, SECOND_VERSION};
+use crate::writing::MAGIC;
+use std::alloc::{AllocError, Global};
 
-/// The tables that the bytes are; memory is taken only where the counts are in place.
-fn tables_in(alloc: Global, body: &[u8]) -> Result<Tables, LoadFault>
-    ensures { Gives result (whole (tables_layout.format.get body.now)) }
+fn is_version(version: u16) -> bool
+    ensures { result ≡ is_version version }
 {
-    match Tables::skip(body) {
+    version == FIRST_VERSION || version == SECOND_VERSION
+}
+
+/// The tables of this version that the bytes are; memory is taken only where the counts are in place.
+fn tables_in(alloc: Global, version: u16, body: &[u8]) -> Result<(u16, Tables), LoadFault>
+    ensures { Gives result (whole version ((tables_layout version).format.get body.now)) }
+{
+    match Tables::skip(version, body) {
         None => return Err(LoadFault::Truncated),
         Some([_, ..]) => return Err(LoadFault::TooLong),
         Some([]) => {}
     }
-    match Tables::read(alloc, body)? {
+    match Tables::read(alloc, version, body)? {
         None => Err(LoadFault::Truncated),
-        Some((tables, _)) => Ok(tables),
+        Some((tables, _)) => Ok((version, tables)),
     }
 }
 
-/// The tables of a story's bytes.
+/// The version of a story's bytes, and their tables.
 #[tactic(auto, unfolding(crate::specs::Reading::body_read))]
-fn tables_read(alloc: Global, bytes: &[u8]) -> Result<Tables, LoadFault>
+fn tables_read(alloc: Global, bytes: &[u8]) -> Result<(u16, Tables), LoadFault>
     ensures { Gives result (tables_read bytes.now) }
 {
     if bytes.len() < MAGIC.len() {
@@ -50,10 +56,18 @@ fn tables_read(alloc: Global, bytes: &[u8]) -> Result<Tables, LoadFault>
     let Some((version, body)) = number16(rest) else {
         return Err(LoadFault::Truncated);
     };
-    if version != VERSION {
+    if !is_version(version) {
         return Err(LoadFault::BadVersion);
     }
-    tables_in(alloc, body)
+    tables_in(alloc, version, body)
+}
+
+/// Whether the version is that of the tables, and these say what a story says.
+#[tactic(auto, unfolding(crate::specs::Reading::is_right_file))]
+fn is_right_file(alloc: Global, version: u16, tables: &Tables) -> Result<bool, AllocError>
+    ensures { IfOk result (λ right. right ≡ is_right_file version tables.now) }
+{
+    Ok(version == tables.version() && are_right(alloc, tables)?)
 }
 
 /// The story that the bytes spell. What the counts tell is told before memory is taken.
@@ -67,8 +81,8 @@ pub fn load(alloc: Global, bytes: &[u8]) -> Result<Story, LoadFault>
     // Each refusal says what stands in the bytes.
     ensures refused { IfErr result (λ fault. IsRefused fault bytes.now) }
 {
-    let tables = tables_read(alloc, bytes)?;
-    if !are_right(alloc, &tables)? {
+    let (version, tables) = tables_read(alloc, bytes)?;
+    if !is_right_file(alloc, version, &tables)? {
         return Err(LoadFault::BadTable);
     }
     match codes_of(alloc, &tables)? {

@@ -5,7 +5,7 @@ ghost use Rattle.command_grammar.specs.Lines.{line_meant};
 ghost use Rattle.object_words.specs.Mentions.{first_mentions, mention, number_in};
 ghost use Rattle.play_meaning.specs.StandardGrammar.{standard_lines};
 ghost use Rattle.story_format.specs.Contents.{contents_meant, origins_said};
-ghost use Rattle.story_format.specs.Making.{books_of, worded, article_number, relation_number, place_relation, place_holder, code_number, entry_strings, line_entry, story_lines, strings_of, strings_with, entry_of, entries_of, texts_named, ways_of, described_in, tables_but_codes, tables_uncoded};
+ghost use Rattle.story_format.specs.Making.{books_of, worded, article_number, relation_number, place_relation, place_holder, code_number, entry_strings, line_entry, story_lines, strings_behind, strings_of, strings_with, entry_of, entries_of, texts_named, ways_of, described_in, tables_but_codes, tables_uncoded};
 ghost use Rattle.story_format.specs.WordedViews.{worded_of, all_worded};
 
 use crate::contents::Contents;
@@ -18,6 +18,7 @@ use crate::rule_making::rules_of;
 use crate::rule_tables::{Book, LineEntry};
 use crate::table::Table;
 use crate::tables::{Entry, Tables};
+use crate::value_making::{mention_values, values_of};
 use crate::world_making::{numbers_of, world_of};
 use command_grammar::{GrammarLine, Synonym, standard_lines, words_said};
 use object_words::Strings;
@@ -29,7 +30,7 @@ use world_meaning::{
 /// An object, and the words that a command may name it by.
 #[derive(Drop)]
 pub struct Worded<'a> {
-    object: &'a Object,
+    pub object: &'a Object,
     words: Strings,
 }
 
@@ -110,21 +111,23 @@ fn named_of(
     Ok(strings)
 }
 
-/// The strings of a story of these objects and lines, and of what is said of them.
+/// The strings of a story of these objects and lines, of what is said of them, and of the kinds of value.
 fn strings_of(
     alloc: Global,
     worded: &[Worded<'_>],
     standard: &[GrammarLine],
     contents: &Contents,
+    declared: &Declared,
 ) -> Result<Strings, AllocError>
     requires standard { map line_meant standard.now ≡ standard_lines }
-    ensures { IfOk result (λ strings. strings ≡ strings_of (texts_named (all_worded worded.now) (story_lines (contents_meant contents.now).lines)) (origins_said (contents_meant contents.now))) }
+    ensures { IfOk result (λ strings. strings ≡ strings_of (texts_named (all_worded worded.now) (story_lines (contents_meant contents.now).lines)) (strings_behind declared.now (origins_said (contents_meant contents.now)))) }
 {
     let texts = contents.texts.as_slice();
     let rules = contents.rules.as_slice();
     let mut strings = named_of(alloc, worded, contents.lines.as_slice(), standard)?;
     mention_texts(alloc, &mut strings, texts)?;
     mention_rules(alloc, &mut strings, rules)?;
+    mention_values(alloc, &mut strings, declared.values.as_slice())?;
     Ok(strings)
 }
 
@@ -337,6 +340,7 @@ fn tables_but_codes(
             scenes,
         )?,
         codes: empty(alloc),
+        values: values_of(alloc, strings, declared, worded)?,
     })
 }
 
@@ -359,7 +363,7 @@ pub fn uncoded(
     let standard = standard.as_slice();
     let worded = with_words(alloc, contents.synonyms.as_slice(), tale.objects.as_slice())?;
     let worded = worded.as_slice();
-    let strings = strings_of(alloc, worded, standard, contents)?;
+    let strings = strings_of(alloc, worded, standard, contents, &tale.declared)?;
     let lines = grammar_of(alloc, &strings, contents.lines.as_slice(), standard)?;
     let (rules, listings) = (contents.rules.as_slice(), contents.listings.as_slice());
     let books = books_of(alloc, tale, rules, listings)?;

@@ -85,7 +85,7 @@ fn side_of(adjective: Adjective) -> PropertySide
             property,
             side: if adjective.denied { 2 } else { 0 },
         },
-        Quality::Visible | Quality::Touchable => PropertySide {
+        Quality::Valued(..) | Quality::Visible | Quality::Touchable => PropertySide {
             property: 0,
             side: 4,
         },

@@ -4,6 +4,9 @@ ghost use Rattle.std.specs.Prelude.{◌≡◌};
 use crate::field::{Field, read_fields, skip_fields, write_fields};
 use crate::rule_tables::RuleTables;
 use crate::table::Table;
+use crate::value_tables::{
+    FIRST_VERSION, SECOND_VERSION, ValueTables, read_values, skip_values, write_values,
+};
 use crate::world_tables::WorldTables;
 use std::alloc::{AllocError, Global};
 use world_meaning::{Exits, Listed, TextBytes};
@@ -64,7 +67,7 @@ impl Field for Entry {
     ghost lawful = { entry_layout.lawful };
 }
 
-/// The tables of a story, 1 to 13.
+/// The tables of a story.
 #[derive(Debug, Drop)]
 pub struct Tables {
     /// Table 1: names, words and texts.
@@ -79,25 +82,90 @@ pub struct Tables {
     pub rules: RuleTables,
     /// Table 13: what the story does: the descriptions, and the tests that codes name.
     pub codes: Table<TextBytes>,
+    /// Tables 14 and 15; empty where there is no kind of value.
+    pub values: ValueTables,
 }
 
-#[tactic(auto, unfolding(crate::specs::Layout::tables_layout))]
-impl Field for Tables {
-    ghost use Rattle.story_format.specs.Layout.{tables_layout};
+impl Tables {
+    ghost use Rattle.std.specs.Prelude.{◌++◌, IfOk, OnOk, IsTrue};
+    ghost use Rattle.story_format.specs.Formats.{left, seen};
+    ghost use Rattle.story_format.specs.Layout.{tables_layout, version_of};
 
-    ghost format = { tables_layout.format };
-
-    fn read(alloc: Global, bytes: &[u8]) -> Result<Option<(Tables, &[u8])>, AllocError> {
-        read_fields!(Tables, alloc, bytes, strings: Table<TextBytes>, world: WorldTables, objects: Table<Entry>, ways: Table<Exits>, rules: RuleTables, codes: Table<TextBytes>)
+    /// The tables of a version at the front of the bytes, and the bytes behind them, or `None` if they are cut.
+    #[tactic(auto, unfolding(crate::specs::Layout::tables_layout, crate::specs::Layout::first_layout))]
+    pub fn read(
+        alloc: Global,
+        version: u16,
+        bytes: &[u8],
+    ) -> Result<Option<(Tables, &[u8])>, AllocError>
+        ensures { IfOk result (λ found. seen found ≡ (tables_layout version).format.get bytes.now) }
+    {
+        let Some((strings, rest)) = Table::read(alloc, bytes)? else {
+            return Ok(None);
+        };
+        let Some((world, rest)) = WorldTables::read(alloc, rest)? else {
+            return Ok(None);
+        };
+        let Some((objects, rest)) = Table::read(alloc, rest)? else {
+            return Ok(None);
+        };
+        let Some((ways, rest)) = Table::read(alloc, rest)? else {
+            return Ok(None);
+        };
+        let Some((rules, rest)) = RuleTables::read(alloc, rest)? else {
+            return Ok(None);
+        };
+        let Some((codes, rest)) = Table::read(alloc, rest)? else {
+            return Ok(None);
+        };
+        let Some((values, rest)) = read_values(alloc, version, rest)? else {
+            return Ok(None);
+        };
+        let tables = Tables {
+            strings,
+            world,
+            objects,
+            ways,
+            rules,
+            codes,
+            values,
+        };
+        Ok(Some((tables, rest)))
     }
 
-    fn skip(bytes: &[u8]) -> Option<&[u8]> {
-        skip_fields!(bytes, Table<TextBytes>, WorldTables, Table<Entry>, Table<Exits>, RuleTables, Table<TextBytes>)
+    /// The bytes behind the tables of a version at the front, or `None` if they are cut. It takes no memory.
+    #[tactic(auto, unfolding(crate::specs::Layout::tables_layout, crate::specs::Layout::first_layout))]
+    pub fn skip(version: u16, bytes: &[u8]) -> Option<&[u8]>
+        ensures { left result ≡ (tables_layout version).format.skip bytes.now }
+    {
+        let rest =
+            skip_fields!(bytes, Table<TextBytes>, WorldTables, Table<Entry>, Table<Exits>, RuleTables, Table<TextBytes>)?;
+        skip_values(version, rest)
     }
 
-    fn write(&self, out: &mut Vec<u8>) -> Result<(), AllocError> {
-        write_fields!(self, out, strings, world, objects, ways, rules, codes)
+    /// Appends the tables' bytes, as a version has them.
+    #[tactic(auto, unfolding(crate::specs::Layout::tables_layout, crate::specs::Layout::first_layout))]
+    pub fn write(&self, version: u16, out: &mut Vec<u8>) -> Result<(), AllocError>
+        requires { IsTrue ((tables_layout version).format.fits self.now) }
+        ensures { OnOk result (out.new.items ≡ out.old.items ++ (tables_layout version).format.put self.now) }
+    {
+        self.strings.write(out)?;
+        self.world.write(out)?;
+        self.objects.write(out)?;
+        self.ways.write(out)?;
+        self.rules.write(out)?;
+        self.codes.write(out)?;
+        write_values(version, &self.values, out)
     }
 
-    ghost lawful = { tables_layout.lawful };
+    /// The version that a file of the tables has.
+    pub fn version(&self) -> u16
+        ensures { result ≡ version_of self.now }
+    {
+        if self.values.kinds.as_slice().is_empty() {
+            FIRST_VERSION
+        } else {
+            SECOND_VERSION
+        }
+    }
 }

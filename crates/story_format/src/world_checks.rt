@@ -123,7 +123,7 @@ fn are_below(count: usize, numbers: &[u8]) -> bool
     numbers.iter().all(|number| (*number as usize) < count)
 }
 
-fn is_right_grant(kinds: usize, granted: &Granted) -> bool
+pub fn is_right_grant(kinds: usize, granted: &Granted) -> bool
     ensures { result ≡ is_right_grant kinds granted.now }
 {
     let given = granted.kinds.as_slice();

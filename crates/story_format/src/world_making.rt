@@ -8,7 +8,8 @@ use crate::world_tables::{Variable, WorldTables};
 use std::alloc::{AllocError, Global};
 use world_meaning::{Declared, Granted, Listed};
 
-fn granted_to(alloc: Global, granted: &Granted) -> Result<Granted, AllocError>
+/// A copy of a property's kinds.
+pub fn granted_to(alloc: Global, granted: &Granted) -> Result<Granted, AllocError>
     ensures { IfOk result (λ copy. copy ≡ granted.now) }
 {
     Ok(Granted {

@@ -2,7 +2,7 @@
 ghost use Rattle.std.specs.Prelude.{◌≡◌, IfErr, IfOk, OnOk, ◌++◌};
 ghost use Rattle.story_format.specs.Contents.{contents_meant};
 ghost use Rattle.story_format.specs.Holding.{AreHeld, AreNotHeld, AreOf, IsHeld};
-ghost use Rattle.story_format.specs.Layout.{tables_layout};
+ghost use Rattle.story_format.specs.Layout.{tables_layout, version_of};
 ghost use Rattle.story_format.specs.Making.{tables_of};
 ghost use Rattle.story_format.specs.Spells.{IsStory, Spells, head};
 
@@ -17,18 +17,16 @@ use world_meaning::Tale;
 /// The bytes with which a story begins.
 pub const MAGIC: [u8; 4] = *b"I7ST";
 
-/// The version of the format.
-pub const VERSION: u16 = 1;
-
 /// The bytes of these tables' story.
 fn spelling(alloc: Global, tables: &Tables) -> Result<Vec<u8>, AllocError>
     requires { IsStory tables.now }
-    ensures { IfOk result (λ bytes. bytes.items ≡ head ++ tables_layout.format.put tables.now) }
+    ensures { IfOk result (λ bytes. bytes.items ≡ head (version_of tables.now) ++ (tables_layout (version_of tables.now)).format.put tables.now) }
 {
     let mut bytes = Vec::new(alloc);
     bytes.extend_from_slice(&MAGIC)?;
-    VERSION.write(&mut bytes)?;
-    tables.write(&mut bytes)?;
+    let version = tables.version();
+    version.write(&mut bytes)?;
+    tables.write(version, &mut bytes)?;
     Ok(bytes)
 }
 

@@ -10,7 +10,7 @@ world_at s mark = slice_index_or (worlds s) mark s.world
 
 -- no world at all
 abbrev pub nowhere : World
-nowhere = record { places = []; flags = []; numbers = []; variables = []; scenes = []; turns = 0; ended = None }
+nowhere = record { places = []; flags = []; numbers = []; values = []; variables = []; scenes = []; turns = 0; ended = None }
 
 -- a session has a world but while an action is done on it
 abbrev pub world_in : Option StoryWorld → World

@@ -18,6 +18,8 @@ pub enum Answer<'a> {
     /// Whether a scene happens, and whether it has begun.
     Scene(SceneNow),
     Text(Option<&'a [u8]>),
+    /// A value of a kind of value by its number, if there is one.
+    Value(Option<u8>),
 }
 
 /// The name of an object, or its number where it has none.
@@ -130,5 +132,6 @@ pub fn printed(alloc: Global, answer: &Answer<'_>) -> Result<String, AllocError>
         Answer::Place(place) => holder_told(alloc, *place),
         Answer::Scene(now) => format!(in alloc; "{} {}", now.happens, now.has_begun),
         Answer::Text(text) => given_told(alloc, *text),
+        Answer::Value(value) => code_told(alloc, value.map(|value| u16::from(value))),
     }
 }

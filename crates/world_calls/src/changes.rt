@@ -25,6 +25,11 @@ pub fn change_of(alloc: Global, call: &str, words: &mut Words<'_>) -> Option<Cha
             property: words.measure()?,
             value: words.value()?,
         },
+        "set_value" => Change::SetValue {
+            object: words.object()?,
+            kind: words.place()?,
+            value: words.place()?,
+        },
         "set_variable" => Change::SetVariable {
             variable: words.place()?,
             value: words.value()?,
@@ -57,6 +62,11 @@ pub fn changed<G: GroundMut>(ground: &mut G, change: Change) -> Result<(), World
             property,
             value,
         } => ground.set_number(object, property, value),
+        Change::SetValue {
+            object,
+            kind,
+            value,
+        } => ground.set_value(object, kind, value),
         Change::SetVariable { variable, value } => ground.set_variable(variable, value),
         Change::SetScene { scene, now } => ground.set_scene(scene, now),
         Change::Put {

@@ -19,6 +19,7 @@ fn fixed<'g, G: Ground>(ground: &'g G, call: &str, words: &mut Words<'_>) -> Opt
         "description" => Answer::Code(ground.description(words.object()?)),
         "room_beyond" => Answer::Object(ground.room_beyond(words.object()?, words.object()?)),
         "door_beyond" => Answer::Object(ground.door_beyond(words.object()?, words.object()?)),
+        "value_name" => Answer::Text(Some(ground.value_name(words.place()?, words.place()?))),
         "string" => Answer::Text(Some(ground.string(words.string()?))),
         _ => return None,
     })
@@ -30,6 +31,7 @@ fn played<'g, G: Ground>(ground: &'g G, call: &str, words: &mut Words<'_>) -> Op
         "holder" => Answer::Place(ground.holder(words.object()?)),
         "flag" => Answer::Truth(ground.flag(words.object()?, words.property()?)),
         "number" => Answer::Number(i64::from(ground.number(words.object()?, words.measure()?))),
+        "value" => Answer::Value(ground.value(words.object()?, words.place()?)),
         "variable" => Answer::Number(i64::from(ground.variable(words.place()?))),
         "scene" => Answer::Scene(ground.scene(words.place()?)),
         "turns" => Answer::Number(i64::from(ground.turns())),

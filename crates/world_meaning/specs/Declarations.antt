@@ -1,16 +1,17 @@
 -- What a source may declare besides its objects, and which properties objects of a kind have.
-use Rattle.std.specs.Prelude.{ℕ, ◌+◌, Bool, true, false, ◌&&◌, ◌==◌, nat_le, nat_lt, List, [], ◌∷◌, length, drop, map, slice_get, Option, Some, None, count_by, ℤ, pos, negsuc}
+use Rattle.std.specs.Prelude.{ℕ, ◌+◌, Bool, true, false, ◌&&◌, ◌==◌, nat_le, nat_lt, List, [], ◌∷◌, length, drop, filter, map, slice_get, Option, Some, None, count_by, ℤ, pos, negsuc}
 use Rattle.std.specs.List.{list_all, list_any}
 use Rattle.world_meaning.specs.Kinds.{built_in_parents, is_under_one}
 use Rattle.world_meaning.specs.Properties.{Property, built_in_properties}
 use Rattle.world_meaning.specs.declared.declared.Declared.{Declared}
 use Rattle.world_meaning.specs.declared.declared.Granted.{Granted}
+use Rattle.world_meaning.specs.declared.declared.ValueKind.{ValueKind}
 use Rattle.world_meaning.specs.declared.kinds.TheConstants.{ROOTS}
 use Rattle.world_meaning.specs.declared.tale.Object.{Object}
 
 -- the built-in kinds and properties alone
 unfoldable pub built_in_declared : Declared
-built_in_declared = record { kinds = built_in_parents; flags = map (λ p. record { kinds = p.kinds }) built_in_properties; numbers = []; variables = []; scenes = []; rulebooks = 0; actions = [] }
+built_in_declared = record { kinds = built_in_parents; flags = map (λ p. record { kinds = p.kinds }) built_in_properties; numbers = []; variables = []; scenes = []; rulebooks = 0; actions = []; values = [] }
 
 -- each number is above the one before it, and the first is not below next
 unfoldable pub are_rising : ℕ → List ℕ → Bool
@@ -72,13 +73,24 @@ abbrev pub is_number : ℤ → Bool
 is_number (pos n) = nat_lt n 2147483648
 is_number (negsuc n) = nat_lt n 2147483648
 
+-- ---- kinds of value
+
+-- the kinds that have it rise; it has a value at least, 100 at most
+abbrev pub is_right_value_kind : ℕ → ValueKind → Bool
+is_right_value_kind kinds q = is_right_grant kinds q.given && nat_le 1 (length q.names) && nat_le (length q.names) 100
+
+-- 100 kinds of value at most
+abbrev pub are_right_value_kinds : ℕ → List ValueKind → Bool
+are_right_value_kinds kinds values = nat_le (length values) 100 && list_all (is_right_value_kind kinds) values
+
 -- ---- all of it
 
--- the built-in kinds and properties with the author's, 100 variables, 50 scenes and 100 rulebooks at most, whatever actions
+-- the built-in kinds and properties with the author's, 100 variables, 50 scenes, 100 rulebooks and 100 kinds of value at most, whatever actions
 unfoldable pub is_well_declared : Declared → Bool
 is_well_declared d =
     are_right_kinds d.kinds && begin_with_properties d.flags built_in_properties && are_right_grants (length d.kinds) d.flags && are_right_grants (length d.kinds) d.numbers
     && nat_le (length d.variables) 100 && list_all is_number d.variables && nat_le (length d.scenes) 50 && nat_le d.rulebooks 100
+    && are_right_value_kinds (length d.kinds) d.values
 
 -- ---- what an object has
 
@@ -102,7 +114,19 @@ has_properties parents flags kind properties = are_rising 0 properties && list_a
 unfoldable pub count_of_numbers : List (Option ℕ) → List Granted → ℕ → ℕ
 count_of_numbers parents numbers kind = count_by (is_had parents kind) numbers
 
+-- of each kind of value that objects of a kind have, how many values it has
+unfoldable pub counts_had : List (Option ℕ) → List ValueKind → ℕ → List ℕ
+counts_had parents values kind = map (λ q. length q.names) (filter (λ q. is_had parents kind q.given) values)
+
+-- they are as many, and each is below the number in its place
+unfoldable pub are_each_below : List ℕ → List ℕ → Bool
+are_each_below [] [] = true
+are_each_below [] (n ∷ ns) = false
+are_each_below (count ∷ counts) [] = false
+are_each_below (count ∷ counts) (n ∷ ns) = nat_lt n count && are_each_below counts ns
+
 -- an object has what its kind has
 unfoldable pub suits_kind : Declared → Object → Bool
 suits_kind d o =
     has_properties d.kinds d.flags o.kind o.properties && (length o.numbers == count_of_numbers d.kinds d.numbers o.kind) && list_all is_number o.numbers
+    && are_each_below (counts_had d.kinds d.values o.kind) o.values

@@ -1,16 +1,25 @@
-//! What a source declares besides its objects: kinds, properties, variables, scenes, rulebooks and actions.
+//! What a source declares besides its objects: kinds, properties, variables, scenes, rulebooks, actions and kinds of value.
 ghost use Rattle.std.specs.Prelude.{◌≡◌, [], IfOk, map};
 ghost use Rattle.world_meaning.specs.Declarations.{built_in_declared};
 
 use crate::kinds::{KindNo, PROPERTIES, PropertyRow, built_in_parents};
 use crate::listed::Listed;
 use crate::needs::Needs;
+use crate::text::TextBytes;
 use std::alloc::{AllocError, Global};
 
 /// A property: the kinds that it is given to, rising.
 #[derive(Debug, Drop)]
 pub struct Granted {
     pub kinds: Listed<u8>,
+}
+
+/// A kind of value (*Writing with Inform*, 4.9): the names of its values, in order, and the kinds of which each object has
+/// one of them.
+#[derive(Debug, Drop)]
+pub struct ValueKind {
+    pub names: Listed<TextBytes>,
+    pub given: Granted,
 }
 
 /// What a source declares besides its objects.
@@ -30,6 +39,8 @@ pub struct Declared {
     pub rulebooks: usize,
     /// What each of the author's actions asks for, in the order of their sentences.
     pub actions: Listed<Needs>,
+    /// The kinds of value, by number.
+    pub values: Listed<ValueKind>,
 }
 
 fn granted_to(alloc: Global, kinds: &[u8]) -> Result<Granted, AllocError>
@@ -73,5 +84,6 @@ pub fn built_in_declared(alloc: Global) -> Result<Declared, AllocError>
         scenes: none(alloc),
         rulebooks: 0,
         actions: none(alloc),
+        values: none(alloc),
     })
 }

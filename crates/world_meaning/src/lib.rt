@@ -26,7 +26,7 @@ mod text;
 
 pub use article::{Article, is_article};
 pub use chain_laws::walks_tell_ends;
-pub use declared::{Declared, Granted, built_in_declared};
+pub use declared::{Declared, Granted, ValueKind, built_in_declared};
 pub use direction::{DIRECTIONS, Direction, DirectionRow};
 pub use exits::{Exits, Way};
 pub use fault::{Fault, FaultCode};

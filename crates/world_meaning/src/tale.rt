@@ -16,6 +16,8 @@ pub struct Object {
     pub properties: Listed<u8>,
     /// What its number properties are as the story begins, by their numbers.
     pub numbers: Listed<i32>,
+    /// Its values as the story begins, one of each kind of value that its kind has, by the numbers of these.
+    pub values: Listed<u8>,
 }
 
 /// What a source means.

@@ -1,6 +1,6 @@
 -- What keeps the lists of a world as long as its story says, and the player in a room.
 use Rattle.std.proofs.Common.{◌≡◌, ◌∙◌, sym, ap, refl, subst, ℕ, zero, suc, ◌+◌, ◌<◌, ◌≤◌, ◌≢◌, ℤ, Bool, true, eqb, List, [], ◌∷◌, length, map, arith, lit<, inl, inr, get_or-set_same, get_or-set_other}
-use Rattle.std.specs.Prelude.{Option, Some, None, ◌&&◌, ◌^◌, option_map, replicate, slice_get, slice_index_or, slice_set}
+use Rattle.std.specs.Prelude.{drop, Option, Some, None, ◌&&◌, ◌^◌, option_map, replicate, slice_get, slice_index_or, slice_set}
 use Rattle.std.specs.List.{range_with_len}
 use Rattle.std.proofs.Math.ListN.{length-set}
 use Rattle.std.proofs.lemmas.Bool.{eqb-true, eqb-false, cases_Bool, and_parts}
@@ -20,10 +20,10 @@ use Rattle.object_tree.proofs.Moves.{moved, tree_taken}
 use Rattle.object_tree.specs.Places.{holder_of, place_of}
 use Rattle.play_meaning.specs.Settings.{room_kind}
 use Rattle.play_meaning.specs.Turns.{most_turns}
-use Rattle.play_meaning.specs.Worlds.{World, next_turn, not_begun, set_flag, set_number, set_place, set_scene, set_variable}
+use Rattle.play_meaning.specs.Worlds.{World, next_turn, not_begun, set_flag, set_number, set_place, set_scene, set_value, set_variable}
 use Rattle.play_meaning.specs.declared.scene.SceneNow.{SceneNow}
 use Rattle.story_format.specs.Facts.{start_of}
-use Rattle.story_format.specs.InPlay.{is_of, is_of_in, start_flags, start_number, start_numbers, start_variable, start_variables, starts_true}
+use Rattle.story_format.specs.InPlay.{is_of, is_of_in, start_flags, start_number, start_numbers, start_values, start_values_from, start_variable, start_variables, starts_true}
 use Rattle.story_format.specs.Placed.{kinds_in, place_of as place_in, places_in}
 use Rattle.story_format.specs.Spells.{IsStory}
 use Rattle.story_format.specs.declared.tables.Entry.{Entry}
@@ -96,6 +96,10 @@ room_at_start : (t : Tables) → IsStory t → is_of t (start_of t) room_kind �
 unfolding sorts_of
 room_at_start t story = sym (told_of t.world.kinds room_kind t.objects (start_of t)) ∙ story_starts t story
 
+pub length_values : (t : Tables) (kind : ℕ) (entries : List Entry) (all : List (List ℕ)) → length (start_values_from t kind entries all) ≡ length entries
+length_values t kind [] all = refl
+length_values t kind (e ∷ entries) all = ap suc (length_values t kind entries (drop 1 all))
+
 pub kept_at_start : (t : Tables) → IsStory t → IsKept t (start_world t)
 unfolding start_world
 kept_at_start t story = record {
@@ -103,6 +107,7 @@ kept_at_start t story = record {
   objects = length-map t.objects place_in;
   flags = columns_made (start_flags t) (length t.world.flags) (length t.objects) (λ property. length-map t.objects (starts_true property));
   numbers = columns_made (start_numbers t) (length t.world.numbers) (length t.objects) (λ property. length-map t.objects (start_number t.world property));
+  values = columns_made (start_values t) (length t.values.kinds) (length t.objects) (λ kind. length_values t kind t.objects t.values.objects);
   variables = length-map t.world.variables start_variable;
   scenes = length_made (length t.rules.scenes);
   here = start_of t;
@@ -113,15 +118,15 @@ kept_at_start t story = record {
   holders = holders_of (places_in t.objects) t refl story;
 }
 
-pub kept_begun : (t u : Tables) (places : List (Option Place)) (flags : List (List Bool)) (numbers : List (List ℤ)) (variables : List ℤ) (scenes : List SceneNow) → u ≡ t
+pub kept_begun : (t u : Tables) (places : List (Option Place)) (flags : List (List Bool)) (numbers : List (List ℤ)) (values : List (List ℕ)) (variables : List ℤ) (scenes : List SceneNow) → u ≡ t
     → places ≡ places_in t.objects → flags ≡ map (start_flags t) (range_with_len 0 (length t.world.flags))
-    → numbers ≡ map (start_numbers t) (range_with_len 0 (length t.world.numbers)) → variables ≡ start_variables t → scenes ≡ replicate (length t.rules.scenes) not_begun
+    → numbers ≡ map (start_numbers t) (range_with_len 0 (length t.world.numbers)) → values ≡ map (start_values t) (range_with_len 0 (length t.values.kinds)) → variables ≡ start_variables t → scenes ≡ replicate (length t.rules.scenes) not_begun
     → IsStory t
-    → IsKept u (record { places = places; flags = flags; numbers = numbers; variables = variables; scenes = scenes; turns = 1; ended = None })
+    → IsKept u (record { places = places; flags = flags; numbers = numbers; values = values; variables = variables; scenes = scenes; turns = 1; ended = None })
 unfolding start_world
-kept_begun t u places flags numbers variables scenes same p f n v s story =
-    let w : World = record { places = places; flags = flags; numbers = numbers; variables = variables; scenes = scenes; turns = 1; ended = None } in
-    let begun : start_world t ≡ w = λ i. record { places = sym p i; flags = sym f i; numbers = sym n i; variables = sym v i; scenes = sym s i; turns = 1; ended = None } in
+kept_begun t u places flags numbers values variables scenes same p f n q v s story =
+    let w : World = record { places = places; flags = flags; numbers = numbers; values = values; variables = variables; scenes = scenes; turns = 1; ended = None } in
+    let begun : start_world t ≡ w = λ i. record { places = sym p i; flags = sym f i; numbers = sym n i; values = sym q i; variables = sym v i; scenes = sym s i; turns = 1; ended = None } in
     subst (λ (x : Tables). IsKept x w) (sym same) (subst (λ (x : World). IsKept t x) begun (kept_at_start t story))
 
 -- ---- changes of lists
@@ -150,6 +155,7 @@ flag_kept t w property o value k = record {
   objects = k.objects;
   flags = cells_kept w.flags (length t.world.flags) (length t.objects) property o value k.flags;
   numbers = k.numbers;
+  values = k.values;
   variables = k.variables;
   scenes = k.scenes;
   here = k.here;
@@ -167,6 +173,25 @@ number_kept t w property o value k = record {
   objects = k.objects;
   flags = k.flags;
   numbers = cells_kept w.numbers (length t.world.numbers) (length t.objects) property o value k.numbers;
+  values = k.values;
+  variables = k.variables;
+  scenes = k.scenes;
+  here = k.here;
+  room = k.room;
+  player = k.player;
+  turns = k.turns;
+  tree = k.tree;
+  holders = k.holders;
+}
+
+pub value_kept : (t : Tables) (w : World) (kind o value : ℕ) → IsKept t w → IsKept t (set_value kind o value w)
+unfolding set_value
+value_kept t w kind o value k = record {
+  story = k.story;
+  objects = k.objects;
+  flags = k.flags;
+  numbers = k.numbers;
+  values = cells_kept w.values (length t.values.kinds) (length t.objects) kind o value k.values;
   variables = k.variables;
   scenes = k.scenes;
   here = k.here;
@@ -183,6 +208,7 @@ variable_kept t w variable value k = record {
   objects = k.objects;
   flags = k.flags;
   numbers = k.numbers;
+  values = k.values;
   variables = length-set w.variables variable value ∙ k.variables;
   scenes = k.scenes;
   here = k.here;
@@ -199,6 +225,7 @@ scene_kept t w scene now k = record {
   objects = k.objects;
   flags = k.flags;
   numbers = k.numbers;
+  values = k.values;
   variables = k.variables;
   scenes = length-set w.scenes scene now ∙ k.scenes;
   here = k.here;
@@ -215,6 +242,7 @@ turn_kept t w fewer k = record {
   objects = k.objects;
   flags = k.flags;
   numbers = k.numbers;
+  values = k.values;
   variables = k.variables;
   scenes = k.scenes;
   here = k.here;
@@ -234,6 +262,7 @@ ending_kept t w text k = record {
   objects = k.objects;
   flags = k.flags;
   numbers = k.numbers;
+  values = k.values;
   variables = k.variables;
   scenes = k.scenes;
   here = k.here;
@@ -279,6 +308,7 @@ moved_kept t w o place here k room player tree within =
       objects = same ∙ k.objects;
       flags = k.flags;
       numbers = k.numbers;
+      values = k.values;
       variables = k.variables;
       scenes = k.scenes;
       here = here;

@@ -12,8 +12,9 @@ use Rattle.object_tree.proofs.Climbs.{climb_chain}
 use Rattle.play_meaning.specs.Seeing.{encloses, has_light, is_in_view, is_visible, is_visible_as, is_visible_thing, stands_here}
 use Rattle.play_meaning.specs.Settings.{Setting, direction_kind, room_kind, thing_kind}
 use Rattle.play_meaning.specs.StoryWorlds.{IsWorldOf}
-use Rattle.play_meaning.specs.Worlds.{World, chain, is_true_of, location_of, number_of, place_of, set_flag, set_number, set_place}
-use Rattle.story_format.specs.InPlay.{has_in}
+use Rattle.play_meaning.specs.Worlds.{World, chain, is_true_of, location_of, number_of, place_of, set_flag, set_number, set_place, set_value, value_of}
+use Rattle.std.proofs.lemmas.List.{length-map}
+use Rattle.story_format.specs.InPlay.{grants_in, has_in}
 use Rattle.story_format.specs.declared.tables.Entry.{Entry}
 use Rattle.story_format.specs.declared.tables.Tables.{Tables}
 use Rattle.world_store.specs.Rows.{AreColumns}
@@ -90,6 +91,13 @@ number_read t w property o value k has =
     let there = had_there t.world.kinds t.world.numbers property t.objects o has in
     cell_read w.numbers (length t.world.numbers) (length t.objects) property o value (pos 0) k.numbers there.1 there.0
 
+pub value_read : (t : Tables) (w : World) (kind o value : ℕ) → IsKept t w → (setting_of t).has_value o kind ≡ true → value_of (set_value kind o value w) kind o ≡ value
+unfolding value_of set_value setting_of
+value_read t w kind o value k has =
+    let there = had_there t.world.kinds (grants_in t.values) kind t.objects o has in
+    let many : length (grants_in t.values) ≡ length t.values.kinds = length-map t.values.kinds (λ q. q.given) in
+    cell_read w.values (length t.values.kinds) (length t.objects) kind o value 0 k.values (omega (arith, there.1, many)) there.0
+
 pub place_read : (t : Tables) (w : World) (o : ℕ) (place : Option Place) → IsKept t w → o < (setting_of t).count → place_of (set_place o place w) o ≡ place
 unfolding setting_of
 place_read t w o place k there = get_or-set_same w.places o place None (omega (arith, there, k.objects))
@@ -116,6 +124,10 @@ flags_left w property o of x value away = cell_left w.flags property of o x valu
 pub numbers_left : (w : World) (property o of x : ℕ) (value : ℤ) → (property ≢ of) ⊎ (o ≢ x) → number_of (set_number property o value w) of x ≡ number_of w of x
 unfolding number_of set_number
 numbers_left w property o of x value away = cell_left w.numbers property of o x value (pos 0) away
+
+pub values_left : (w : World) (kind o of x value : ℕ) → (kind ≢ of) ⊎ (o ≢ x) → value_of (set_value kind o value w) of x ≡ value_of w of x
+unfolding value_of set_value
+values_left w kind o of x value away = cell_left w.values kind of o x value 0 away
 
 -- ---- the dark
 

@@ -2,16 +2,16 @@
 use Rattle.std.proofs.Common.{◌≡◌, ◌∙◌, sym, ap, refl, subst, ℕ, ◌+◌, Bool, ℤ, List, [], ◌∷◌, ◌++◌}
 use Rattle.std.specs.Prelude.{◌<◌, Option, Some, slice_index_or, slice_set}
 use Rattle.play_meaning.specs.Turns.{most_turns}
-use Rattle.play_meaning.specs.Worlds.{World, end_with, is_true_of, next_turn, number_of, place_of, scene_of, set_flag, set_number, set_place, set_scene, set_variable, variable_of}
+use Rattle.play_meaning.specs.Worlds.{World, end_with, is_true_of, next_turn, number_of, place_of, scene_of, set_flag, set_number, set_place, set_scene, set_value, set_variable, value_of, variable_of}
 use Rattle.play_meaning.specs.declared.scene.SceneNow.{SceneNow}
 use Rattle.story_format.specs.declared.tables.Tables.{Tables}
 use Rattle.world_meaning.specs.declared.place.Place.{Place}
 use Rattle.world_store.specs.Pasts.{past_of, story_world, undone}
 use Rattle.world_store.specs.StoryWorlds.{AreKept, IsKept, IsStoryWorld, StoryWorld}
 use Rattle.world_store.specs.declared.remembering.Was.{Was}
-use Rattle.world_store.specs.declared.remembering.Was.TheVariants.{Flag, Number, Variable, Scene, Placed, Turns, Ended}
-use Rattle.world_store.proofs.Keeping.{ending_kept, flag_kept, number_kept, scene_kept, turn_kept, variable_kept}
-use Rattle.world_store.proofs.Pasts.{flag_back, kept_more, number_back, past_but_last, place_back, scene_back, variable_back}
+use Rattle.world_store.specs.declared.remembering.Was.TheVariants.{Flag, Number, Valued, Variable, Scene, Placed, Turns, Ended}
+use Rattle.world_store.proofs.Keeping.{ending_kept, flag_kept, number_kept, scene_kept, turn_kept, value_kept, variable_kept}
+use Rattle.world_store.proofs.Pasts.{flag_back, kept_more, number_back, past_but_last, place_back, scene_back, value_back, variable_back}
 
 -- what is kept behind it, and what is seen: the world that it made, and the one before it behind the others
 pub record IsLogged (t : Tables) (log : List Was) (v : World) (s : StoryWorld) (made : World) : Type 0 where
@@ -58,6 +58,18 @@ module _ (t : Tables) (log new : List Was) (w : World) (s : StoryWorld) (same : 
       (made ∙ ap (set_number property o value) world_same) written
       (ap (λ n. set_number property o n v) (read ∙ ap (λ x. number_of x property o) (sym world_same)) ∙ ap (set_number property o (number_of w property o)) made
       ∙ number_back w property o value)
+
+  pub value_logged : (kind o value was : ℕ) (values : List (List ℕ)) → was ≡ value_of s.world kind o
+      → values ≡ slice_set w.values kind (slice_set (slice_index_or w.values kind []) o value) → new ≡ log ++ Valued kind o was ∷ []
+      → IsLogged t new (record w { values = values }) s (set_value kind o value s.world)
+  unfolding set_value
+  value_logged kind o value was values read set written =
+      let v : World = record w { values = values } in
+      let made : v ≡ set_value kind o value w = ap (λ vs. record w { values = vs }) set in
+      logged t log new (Valued kind o was) w v s (set_value kind o value s.world) same is (subst (IsKept t) (sym made) (value_kept t w kind o value is.now))
+      (made ∙ ap (set_value kind o value) world_same) written
+      (ap (λ n. set_value kind o n v) (read ∙ ap (λ x. value_of x kind o) (sym world_same)) ∙ ap (set_value kind o (value_of w kind o)) made
+      ∙ value_back w kind o value)
 
   pub variable_logged : (variable at : ℕ) (value stored was : ℤ) (variables : List ℤ) → at ≡ variable → stored ≡ value → was ≡ variable_of s.world variable → variables ≡ slice_set w.variables at stored
       → new ≡ log ++ Variable variable was ∷ [] → IsLogged t new (record w { variables = variables }) s (set_variable variable value s.world)

@@ -3,7 +3,7 @@ use Rattle.std.proofs.Common.{◌≡◌, ◌∙◌, sym, ap, refl, subst, ℕ, z
 use Rattle.std.specs.Prelude.{Option, None, false, pos, slice_index_or, slice_set}
 use Rattle.std.proofs.lemmas.List.{set-get_or, set-set}
 use Rattle.std.proofs.lemmas.Option.{none-some, same_Some}
-use Rattle.play_meaning.specs.Worlds.{World, is_true_of, number_of, place_of, set_flag, set_number, set_place, set_scene, set_variable, scene_of, variable_of}
+use Rattle.play_meaning.specs.Worlds.{World, is_true_of, number_of, place_of, set_flag, set_number, set_place, set_scene, set_value, set_variable, scene_of, value_of, variable_of}
 use Rattle.play_meaning.specs.declared.scene.SceneNow.{SceneNow}
 use Rattle.story_format.specs.declared.tables.Tables.{Tables}
 use Rattle.world_store.specs.Pasts.{all_undone, past_of, story_world, undone}
@@ -93,6 +93,10 @@ flag_back w property o value = ap (λ flags. record w { flags = flags }) (cell_b
 pub number_back : (w : World) (property o : ℕ) (value : ℤ) → set_number property o (number_of w property o) (set_number property o value w) ≡ w
 unfolding number_of set_number
 number_back w property o value = ap (λ numbers. record w { numbers = numbers }) (cell_back w.numbers property o value (pos 0))
+
+pub value_back : (w : World) (kind o value : ℕ) → set_value kind o (value_of w kind o) (set_value kind o value w) ≡ w
+unfolding value_of set_value
+value_back w kind o value = ap (λ values. record w { values = values }) (cell_back w.values kind o value 0)
 
 pub variable_back : (w : World) (variable : ℕ) (value : ℤ) → set_variable variable (variable_of w variable) (set_variable variable value w) ≡ w
 variable_back w variable value = ap (λ variables. record w { variables = variables }) (set_back w.variables variable value (pos 0))

@@ -6,12 +6,13 @@ use Rattle.std.specs.List.{flat_map, list_all, range_with_len}
 use Rattle.std.proofs.lemmas.Bool.{ltb-true, cases_Bool, and_parts}
 use Rattle.std.proofs.lemmas.Int.{to_z-of_z}
 use Rattle.world_meaning.proofs.Options.{none_is}
-use Rattle.world_meaning.specs.Declarations.{has_property, is_number, suits_kind}
+use Rattle.world_meaning.specs.Declarations.{are_each_below, counts_had, has_property, is_number, suits_kind}
 use Rattle.world_meaning.specs.Kinds.{is_under}
 use Rattle.world_meaning.specs.WellMade.{are_closed, has_right_exits, is_closed, sorts_in}
 use Rattle.world_meaning.specs.declared.article.Article.{Article}
 use Rattle.world_meaning.specs.declared.article.Article.TheVariants as articles
 use Rattle.world_meaning.specs.declared.declared.Declared.{Declared}
+use Rattle.world_meaning.specs.declared.declared.Granted.{Granted}
 use Rattle.world_meaning.specs.declared.exits.Way.{Way}
 use Rattle.world_meaning.specs.declared.sorts.Sorts.{Sorts}
 use Rattle.world_meaning.specs.declared.tale.Object.{Object}
@@ -24,7 +25,7 @@ use Rattle.play_meaning.specs.PlainTales.{story_of_script}
 use Rattle.play_meaning.specs.Scripts.{says, undescribed}
 use Rattle.play_meaning.specs.Worlds.{World}
 use Rattle.play_meaning.specs.declared.action.ActionNow.{ActionNow}
-use Rattle.play_meaning.specs.Tales.{door_in as told_door, door_on as told_door_on, in_object, is_true_at_start, number_at_start, place_of_number, setting_of as told_setting, start_of}
+use Rattle.play_meaning.specs.Tales.{door_in as told_door, door_on as told_door_on, in_object, is_true_at_start, grants_of, number_at_start, place_among, setting_of as told_setting, start_of}
 use Rattle.command_grammar.specs.declared.synonym.Synonym.{Synonym}
 use Rattle.story_format.specs.Codes.{codes_told}
 use Rattle.story_format.specs.Contents.{Contents}
@@ -33,12 +34,13 @@ use Rattle.play_meaning.specs.Worlds.{not_begun}
 use Rattle.story_format.specs.RuleMaking.{codes_of_rules, rules_of, scene_entries}
 use Rattle.story_format.specs.Holding.{AreHeld, AreOf, IsHeld}
 use Rattle.story_format.specs.InPlay.{article_in, article_numbered, door_in, has_in, is_of_in, number_from, start_number, start_numbers, start_flags, start_variable, starts_true}
-use Rattle.story_format.specs.Making.{Worded, article_number, code_count, described_in, entries_of, entry_of, numbers_of, strings_with, tables_of, tables_with, text_of, variable_of, ways_of, worded, worded_at, worded_from, world_of}
+use Rattle.story_format.specs.Making.{Worded, article_number, code_count, described_in, entries_of, entry_of, numbers_of, strings_with, tables_of, tables_with, text_of, values_of, variable_of, ways_of, worded, worded_at, worded_from, world_of}
 use Rattle.story_format.specs.TaleScripts.{whole_grammar, whole_script}
 use Rattle.story_format.specs.declared.tables.Entry.{Entry}
 use Rattle.story_format.proofs.Carried.{exits_found, object_found, tale_carried}
 use Rattle.story_format.proofs.DeclaredLemmas.{declared_parts}
 use Rattle.story_format.proofs.EntryLemmas.{objects_back, objects_in, places_back}
+use Rattle.story_format.proofs.MadeValues.{tale_grants, value_kinds_counted, values_started}
 use Rattle.story_format.proofs.SceneLemmas.{length_scenes}
 use Rattle.story_format.proofs.Stories.{as_many_scenes}
 use Rattle.story_format.proofs.StoryLemmas.{all_at}
@@ -116,7 +118,7 @@ doors_found parents sorts strings ws o direction (Some w) e h =
 -- ---- what never changes
 
 settings_agree : (t : Tale) (c : Contents) → IsHeld t → AreHeld t c → SettingsAgree (setting_of (tables_of t c)) (told_setting t)
-unfolding setting_of told_setting tables_with world_of entry_of
+unfolding setting_of told_setting tables_with values_of world_of entry_of
 settings_agree t c held said =
     let carries = tale_carried t c held said in
     let ws = worded c.synonyms t.objects in
@@ -132,6 +134,9 @@ settings_agree t c held said =
       depth = λ kind. refl;
       has_flag = λ o property. said_at false (has_in parents t.declared.flags property) (λ object. has_property parents t.declared.flags object.kind property) refl (λ strings next w. refl) c.synonyms strings 0 0 t.objects o;
       has_number = λ o property. said_at false (has_in parents t.declared.numbers property) (λ object. has_property parents t.declared.numbers object.kind property) refl (λ strings next w. refl) c.synonyms strings 0 0 t.objects o;
+      has_value = λ o q. ap (λ (grants : List Granted). has_in parents grants q (slice_get (entries_of strings 0 ws) o)) (tale_grants t c)
+          ∙ said_at false (has_in parents (grants_of t.declared) q) (λ object. has_property parents (grants_of t.declared) object.kind q) refl (λ strings next w. refl) c.synonyms strings 0 0 t.objects o;
+      value_names = carries.value_names_are;
       room_beyond = carries.ways;
       door_beyond = λ room direction. doors_found parents (sorts_in t) strings ws room direction (slice_get ws room) refl exits ∙ ap (λ (objects : List Object). in_object None (told_door direction) (slice_get objects room)) back;
       has_description = carries.described;
@@ -142,13 +147,13 @@ settings_agree t c held said =
 -- an object's numbers fit their words
 numbers_right : (d : Declared) (object : Object) → suits_kind d object ≡ true → list_all is_number object.numbers ≡ true
 unfolding suits_kind
-numbers_right d object h = (and_parts _ (list_all is_number object.numbers) h).1
+numbers_right d object h = (and_parts _ (list_all is_number object.numbers) (and_parts _ (are_each_below (counts_had d.kinds d.values object.kind) object.values) h).0).1
 
 number_started : (d : Declared) (property : ℕ) (strings : List (List ℕ)) (next : ℕ) (w : Worded) → suits_kind d w.object ≡ true → start_number (world_of d) property (entry_of strings next w) ≡ number_at_start d property w.object
 unfolding world_of entry_of
 number_started d property strings next w h =
     elim (cases_Bool (has_property d.kinds d.numbers w.object.kind property)) [
-      | inl is ↦ rw is (numbers_back w.object.numbers (place_of_number d property w.object) (numbers_right d w.object h))
+      | inl is ↦ rw is (numbers_back w.object.numbers (place_among d.kinds d.numbers w.object.kind property) (numbers_right d w.object h))
       | inr isnt ↦ rw isnt refl
     ]
 
@@ -166,7 +171,7 @@ none_begun [] = refl
 none_begun (recurs ∷ scenes) = ap (λ all. not_begun ∷ all) (none_begun scenes)
 
 one_start : (t : Tale) (c : Contents) → IsHeld t → AreOf t c → start_world (tables_of t c) ≡ start_of t
-unfolding start_world start_of tables_with world_of rules_of
+unfolding start_world start_of tables_with values_of world_of rules_of
 one_start t c held of =
     let places = places_back (strings_with t c) 0 (worded c.synonyms t.objects) ∙ ap (λ (objects : List Object). map (λ object. object.place) objects) (objects_back c.synonyms 0 t.objects) in
     let variables = variables_back t.declared.variables (declared_parts t.declared held.made.declared).variables in
@@ -177,6 +182,7 @@ one_start t c held of =
       places = places i;
       flags = map (λ property. flags_started t c held property i) (range_with_len 0 (length t.declared.flags));
       numbers = map (λ property. numbers_started t c held property i) (range_with_len 0 (length t.declared.numbers));
+      values = map (λ q. values_started t c q i) (range_with_len 0 (value_kinds_counted t c i));
       variables = variables i;
       scenes = begun i;
       turns = 1;

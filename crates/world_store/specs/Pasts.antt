@@ -1,10 +1,10 @@
 -- The worlds before the changes that a log tells.
 use Rattle.std.specs.Prelude.{List, [], ◌∷◌}
-use Rattle.play_meaning.specs.Worlds.{World, set_flag, set_number, set_place, set_scene, set_variable}
+use Rattle.play_meaning.specs.Worlds.{World, set_flag, set_number, set_place, set_scene, set_value, set_variable}
 use Rattle.story_format.specs.declared.tables.Tables.{Tables}
 use Rattle.world_store.specs.StoryWorlds.{StoryWorld}
 use Rattle.world_store.specs.declared.remembering.Was.{Was}
-use Rattle.world_store.specs.declared.remembering.Was.TheVariants.{Flag, Number, Variable, Scene, Placed, Turns, Ended}
+use Rattle.world_store.specs.declared.remembering.Was.TheVariants.{Flag, Number, Valued, Variable, Scene, Placed, Turns, Ended}
 use Rattle.world_store.specs.declared.state.State.{State}
 
 -- the lists of a state are those of a world
@@ -13,6 +13,7 @@ world_of s = record {
   places = s.tree;
   flags = s.flags;
   numbers = s.numbers;
+  values = s.values;
   variables = s.variables.items;
   scenes = s.scenes.items;
   turns = s.turns;
@@ -23,6 +24,7 @@ world_of s = record {
 abbrev pub undone : Was → World → World
 undone (Flag property object value) w = set_flag property object value w
 undone (Number property object value) w = set_number property object value w
+undone (Valued kind object value) w = set_value kind object value w
 undone (Variable variable value) w = set_variable variable value w
 undone (Scene scene now) w = set_scene scene now w
 undone (Placed object place) w = set_place object place w

@@ -4,7 +4,7 @@ use Rattle.play_meaning.specs.Grounds.{Fixed}
 use Rattle.play_meaning.specs.Settings.{Setting}
 use Rattle.play_meaning.specs.Tales.{depth_of}
 use Rattle.story_format.specs.Facts.{description_code_of, name_of, way_of}
-use Rattle.story_format.specs.InPlay.{article_of, door_in, exits_of, has_flag, has_number, is_of}
+use Rattle.story_format.specs.InPlay.{article_of, door_in, exits_of, has_flag, has_number, has_value, is_of, value_names}
 use Rattle.story_format.specs.declared.tables.Tables.{Tables}
 
 unfoldable pub setting_of : Tables → Setting
@@ -16,6 +16,8 @@ setting_of t = record {
   depth = depth_of t.world.kinds;
   has_flag = has_flag t;
   has_number = has_number t;
+  has_value = has_value t;
+  value_names = value_names t;
   room_beyond = way_of t;
   door_beyond = λ room direction. door_in (exits_of t room) direction;
   has_description = λ o. is_some (description_code_of t o);

@@ -31,14 +31,15 @@ changed result made s = record s { world = behind result made s.world; past = re
 abbrev pub reverted : ℕ → StoryWorld → StoryWorld
 reverted mark s = record s { world = slice_index_or (worlds s) mark s.world; past = take mark s.past }
 
--- a world of a story: it says of each object where it is, whether each either-or property is true of it, and its number in each
--- number property; of each variable and each scene where it stands; the player is directly in a room; turns are counted no further
+-- a world of a story: it says of each object where it is, whether each either-or property is true of it, its number in each
+-- number property, and its value of each kind of value; of each variable and each scene where it stands; the player is directly in a room; turns are counted no further
 -- than numbers go; and objects hold each other, no chain of holders being endless
 pub record IsKept (t : Tables) (w : World) : Type 0 where
   pub story : IsStory t
   pub objects : length w.places ≡ length t.objects
   pub flags : AreColumns w.flags (length t.world.flags) (length t.objects)
   pub numbers : AreColumns w.numbers (length t.world.numbers) (length t.objects)
+  pub values : AreColumns w.values (length t.values.kinds) (length t.objects)
   pub variables : length w.variables ≡ length t.world.variables
   pub scenes : length w.scenes ≡ length t.rules.scenes
   pub here : ℕ

@@ -1,8 +1,9 @@
 //! What changes the world: each setter makes one change, where the rules of the kinds and of placing allow it. What that replaces
 //! is written in the log before it: where memory for that is refused, `Memory` is answered, and nothing changes.
-ghost use Rattle.std.specs.Prelude.{◌≡◌, ◌<◌, ◌∷◌, ◌++◌, [], ℕ, MatchResult, Some, length, nat_lt, true};
-ghost use Rattle.play_meaning.specs.Changes.{Allows, make_number, make_so, may_be_put, put_at, take_away};
+ghost use Rattle.std.specs.Prelude.{◌≡◌, ◌<◌, ◌&&◌, ◌∷◌, ◌++◌, [], ℕ, MatchResult, Some, length, nat_lt, true};
+ghost use Rattle.play_meaning.specs.Changes.{Allows, make_number, make_so, make_value, may_be_put, put_at, take_away};
 ghost use Rattle.play_meaning.specs.Settings.{kinds_of};
+ghost use Rattle.play_meaning.specs.Values.{is_value};
 ghost use Rattle.play_meaning.specs.Worlds.{chain, end_with, next_turn, place_of, set_scene, set_variable};
 ghost use Rattle.world_meaning.specs.Chains.{IsChain};
 ghost use Rattle.world_meaning.specs.Placing.{can_be_held, can_hold, keeps_player, may_be_taken};
@@ -58,6 +59,35 @@ impl World {
             return Err(WorldFault::Memory);
         };
         self.state.numbers.set(property, object, value);
+        Ok(())
+    }
+
+    /// Whether an object's kind has a value of this kind of value, and that has a value of this number.
+    fn may_have(&self, object: ObjNo, kind: u8, value: u8) -> bool
+        ensures { result ≡ ((setting_of self.now.tables).has_value object kind && is_value (setting_of self.now.tables) kind value) }
+    {
+        self.has_value(object, kind) && self.is_value(kind, value)
+    }
+
+    /// Gives an object a value of a kind of value, by their numbers. Misplaced where the object's kind has none of them, or the kind
+    /// of value has no such value.
+    #[tactic(auto, unfolding(play_meaning::specs::Worlds::set_value))]
+    pub fn set_value(&mut self, object: ObjNo, kind: u8, value: u8) -> Result<(), WorldFault>
+        ensures answer { Allows result ((setting_of self.old.tables).has_value object kind && is_value (setting_of self.old.tables) kind value) }
+        ensures world { self.new ≡ changed result (make_value (setting_of self.old.tables) (Some object) kind value self.old.world) self.old }
+    {
+        if !self.may_have(object, kind, value) {
+            return Err(WorldFault::Misplaced);
+        }
+        let was = Was::Valued {
+            kind,
+            object,
+            value: self.value_number(object, kind),
+        };
+        let Ok(()) = self.log.write(was) else {
+            return Err(WorldFault::Memory);
+        };
+        self.state.values.set(kind, object, value);
         Ok(())
     }
 

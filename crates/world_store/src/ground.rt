@@ -73,6 +73,16 @@ impl Ground for World {
         self.number(object, property)
     }
 
+    fn value(&self, object: ObjNo, kind: u8) -> Option<u8> {
+        self.value(object, kind)
+    }
+
+    #[tactic(auto, unfolding(crate::specs::StorySettings::setting_of))]
+    fn value_name(&self, kind: u8, value: u8) -> &[u8] {
+        self.story()
+            .value_name(usize::from(kind), usize::from(value))
+    }
+
     fn variable(&self, variable: u8) -> i32 {
         self.variable(variable)
     }
@@ -115,6 +125,10 @@ impl GroundMut for World {
 
     fn set_number(&mut self, object: ObjNo, property: u8, value: i32) -> Result<(), WorldFault> {
         self.set_number(object, property, value)
+    }
+
+    fn set_value(&mut self, object: ObjNo, kind: u8, value: u8) -> Result<(), WorldFault> {
+        self.set_value(object, kind, value)
     }
 
     fn set_variable(&mut self, variable: u8, value: i32) -> Result<(), WorldFault> {

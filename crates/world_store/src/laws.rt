@@ -4,7 +4,7 @@ ghost use Rattle.play_meaning.specs.PlainTales.{story_of_script};
 ghost use Rattle.play_meaning.specs.Seeing.{encloses, has_light, is_visible, root_of};
 ghost use Rattle.play_meaning.specs.Settings.{Setting, direction_kind, thing_kind};
 ghost use Rattle.play_meaning.specs.StoryWorlds.{IsWorldOf};
-ghost use Rattle.play_meaning.specs.Worlds.{World as PlayWorld, is_true_of, number_of, place_of, scene_of, set_flag, set_number, set_place, set_scene, set_variable, variable_of};
+ghost use Rattle.play_meaning.specs.Worlds.{World as PlayWorld, is_true_of, number_of, place_of, scene_of, set_flag, set_number, set_place, set_scene, set_value, set_variable, value_of, variable_of};
 ghost use Rattle.play_meaning.specs.declared.scene.SceneNow.{SceneNow};
 ghost use Rattle.story_format.specs.Contents.{Contents};
 ghost use Rattle.story_format.specs.Holding.{AreHeld, IsHeld};
@@ -48,6 +48,7 @@ pub fn changes_leave_others()
     ensures places { (w : PlayWorld) (o other : ℕ) (place : Option Place) → o ≢ other → place_of (set_place o place w) other ≡ place_of w other }
     ensures flags { (w : PlayWorld) (property o of x : ℕ) (value : Bool) → (property ≢ of) ⊎ (o ≢ x) → is_true_of (set_flag property o value w) of x ≡ is_true_of w of x }
     ensures numbers { (w : PlayWorld) (property o of x : ℕ) (value : ℤ) → (property ≢ of) ⊎ (o ≢ x) → number_of (set_number property o value w) of x ≡ number_of w of x }
+    ensures values { (w : PlayWorld) (q o of x value : ℕ) → (q ≢ of) ⊎ (o ≢ x) → value_of (set_value q o value w) of x ≡ value_of w of x }
 {}
 
 /// A mark brings the story back that it was taken of, whatever was added to its log since: after any changes that were asked for,
@@ -65,20 +66,22 @@ pub fn the_dark_hides()
 {}
 
 /// What is known of any world that is handed in: it says of each object where it is, whether each property is true of it,
-/// and its numbers, and the player is directly in a room; and so did the worlds before it.
+/// its numbers and its values, and the player is directly in a room; and so did the worlds before it.
 pub fn worlds_are_whole(world: &World)
     ensures { AreKept world.now.tables (worlds world.now) }
 {
     let _ = &world.state;
 }
 
-/// In a world of a story what is set is read: of objects that have the property, of where objects are, and of the variables and
+/// In a world of a story what is set is read: of objects that have the property or a value of the kind, of where objects are, and of the variables and
 /// scenes that are there.
 pub fn what_is_set_is_read(world: &World)
     ensures flags { (property o : ℕ) (value : Bool) → (setting_of world.now.tables).has_flag o property ≡ true
         → is_true_of (set_flag property o value world.now.world) property o ≡ value }
     ensures numbers { (property o : ℕ) (value : ℤ) → (setting_of world.now.tables).has_number o property ≡ true
         → number_of (set_number property o value world.now.world) property o ≡ value }
+    ensures values { (q o value : ℕ) → (setting_of world.now.tables).has_value o q ≡ true
+        → value_of (set_value q o value world.now.world) q o ≡ value }
     ensures places { (o : ℕ) (place : Option Place) → o < (setting_of world.now.tables).count
         → place_of (set_place o place world.now.world) o ≡ place }
     ensures variables { (variable : ℕ) (value : ℤ) → variable < length world.now.world.variables

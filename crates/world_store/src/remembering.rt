@@ -21,6 +21,12 @@ pub(crate) enum Was {
         object: ObjNo,
         value: i32,
     },
+    /// An object's value of a kind of value.
+    Valued {
+        kind: u8,
+        object: ObjNo,
+        value: u8,
+    },
     /// What a variable was.
     Variable {
         variable: u8,

@@ -12,13 +12,14 @@ use play_meaning::SceneNow;
 use std::alloc::{AllocError, Global};
 use world_meaning::TextBytes;
 
-/// Where the objects of a story are, what is true of them, their numbers, and where variables, scenes, the turn count
+/// Where the objects of a story are, what is true of them, their numbers and values, and where variables, scenes, the turn count
 /// and the ending stand.
 #[derive(Drop)]
 pub(crate) struct State {
     pub(crate) tree: Tree,
     pub(crate) flags: Columns<bool>,
     pub(crate) numbers: Columns<i32>,
+    pub(crate) values: Columns<u8>,
     pub(crate) variables: Vec<i32>,
     pub(crate) scenes: Vec<SceneNow>,
     pub(crate) turns: u32,
@@ -44,6 +45,7 @@ impl State {
             tree: self.tree.copy(alloc)?,
             flags: self.flags.copy(alloc)?,
             numbers: self.numbers.copy(alloc)?,
+            values: self.values.copy(alloc)?,
             variables: Vec::from_slice(alloc, self.variables.as_slice())?,
             scenes: Vec::from_slice(alloc, self.scenes.as_slice())?,
             turns: self.turns,
@@ -52,7 +54,7 @@ impl State {
     }
 
     /// Takes back a change that replaced this. What an object was held by before it is there, and no chain was endless.
-    #[tactic(auto, unfolding(play_meaning::specs::Worlds::set_flag, play_meaning::specs::Worlds::set_number))]
+    #[tactic(auto, unfolding(play_meaning::specs::Worlds::set_flag, play_meaning::specs::Worlds::set_number, play_meaning::specs::Worlds::set_value))]
     pub(crate) fn undo(&mut self, was: Was)
         requires holders { (thing holder : ℕ) → holder_of (undone was (world_of self.old)).places thing ≡ Some holder → holder < length self.old.tree }
         requires tree { IsTree (place_of (undone was (world_of self.old))) }
@@ -69,6 +71,11 @@ impl State {
                 object,
                 value,
             } => self.numbers.set(property, object, value),
+            Was::Valued {
+                kind,
+                object,
+                value,
+            } => self.values.set(kind, object, value),
             Was::Variable { variable, value } => {
                 write_at(&mut self.variables, Some(usize::from(variable)), value);
             }

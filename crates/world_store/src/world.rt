@@ -4,9 +4,10 @@ ghost use Rattle.std.specs.List.{list_any, range_with_len};
 ghost use Rattle.std.specs.Option.{option_map};
 ghost use Rattle.play_meaning.specs.Seeing.{encloses, is_held_by};
 ghost use Rattle.play_meaning.specs.Turns.{most_turns};
-ghost use Rattle.play_meaning.specs.Worlds.{chain, is_true_of, location_of, number_of, place_of, scene_of, variable_of};
+ghost use Rattle.play_meaning.specs.Values.{is_value, value_at};
+ghost use Rattle.play_meaning.specs.Worlds.{chain, is_true_of, location_of, number_of, place_of, scene_of, value_of, variable_of};
 ghost use Rattle.world_meaning.specs.Chains.{IsChain};
-ghost use Rattle.story_format.specs.InPlay.{exits_of, start_flags, start_numbers};
+ghost use Rattle.story_format.specs.InPlay.{exits_of, start_flags, start_numbers, start_values};
 ghost use Rattle.story_format.specs.Placed.{places_in};
 ghost use Rattle.story_format.specs.Spells.{IsStory};
 ghost use Rattle.world_store.specs.StartWorlds.{start_world};
@@ -76,6 +77,19 @@ fn start_numbers(alloc: Global, story: &Story) -> Result<Columns<i32>, AllocErro
     Ok(Columns::new(numbers, story.object_count() as u16, count))
 }
 
+/// The values with which the objects of a story begin.
+fn start_values(alloc: Global, story: &Story) -> Result<Columns<u8>, AllocError>
+    ensures { IfOk result (λ values. values ≡ map (start_values story.now) (range_with_len 0 (length story.now.values.kinds))) }
+{
+    let count = story.value_kind_count();
+    let mut values = Vec::new(alloc);
+    for kind in 0..count {
+        let column = story.values(alloc, kind)?;
+        values.extend_from_slice(column.as_slice())?;
+    }
+    Ok(Columns::new(values, story.object_count() as u16, count))
+}
+
 /// The tree of a story's objects as it begins.
 fn start_tree(alloc: Global, story: &Story) -> Result<Tree, AllocError>
     ensures tree { IfOk result (λ tree. tree ≡ places_in story.now.objects) }
@@ -107,6 +121,7 @@ impl World {
         let tree = start_tree(alloc, told)?;
         let flags = start_flags(alloc, told)?;
         let numbers = start_numbers(alloc, told)?;
+        let values = start_values(alloc, told)?;
         let variables = told.variables(alloc)?;
         let scenes = vec![in alloc; NOT_BEGUN; told.scene_count()]?;
         let atlas = Rc::new(alloc, Atlas::new(alloc, story)?)?;
@@ -114,6 +129,7 @@ impl World {
             tree,
             flags,
             numbers,
+            values,
             variables,
             scenes,
             turns: 1,
@@ -187,6 +203,25 @@ impl World {
         self.state.numbers.at(property, object, 0)
     }
 
+    /// Which of the values of a kind of value an object has, by their numbers; 0 where it has none of them.
+    #[tactic(auto, unfolding(play_meaning::specs::Worlds::value_of))]
+    pub(crate) fn value_number(&self, object: ObjNo, kind: u8) -> u8
+        ensures { result ≡ value_of self.now.world kind object }
+    {
+        self.state.values.at(kind, object, 0)
+    }
+
+    /// An object's value of a kind of value, by their numbers, where its kind has one.
+    pub fn value(&self, object: ObjNo, kind: u8) -> Option<u8>
+        ensures { result ≡ value_at (setting_of self.now.tables) self.now.world kind (Some object) }
+    {
+        if self.has_value(object, kind) {
+            Some(self.value_number(object, kind))
+        } else {
+            None
+        }
+    }
+
     /// A variable, by its number; 0 where there is none.
     pub fn variable(&self, variable: u8) -> i32
         ensures { result ≡ variable_of self.now.world variable }
@@ -257,6 +292,22 @@ impl World {
         ensures { result ≡ (setting_of self.now.tables).has_number object property }
     {
         self.story().has_number(object, usize::from(property))
+    }
+
+    /// Whether an object's kind has a value of the kind of value of a number.
+    #[tactic(auto, unfolding(crate::specs::StorySettings::setting_of))]
+    pub fn has_value(&self, object: ObjNo, kind: u8) -> bool
+        ensures { result ≡ (setting_of self.now.tables).has_value object kind }
+    {
+        self.story().has_value(object, usize::from(kind))
+    }
+
+    /// Whether a kind of value has a value of this number.
+    #[tactic(auto, unfolding(crate::specs::StorySettings::setting_of))]
+    pub(crate) fn is_value(&self, kind: u8, value: u8) -> bool
+        ensures { result ≡ is_value (setting_of self.now.tables) kind value }
+    {
+        usize::from(value) < self.story().value_count(usize::from(kind))
     }
 
     /// Whether a holder holds an object, at any depth.

@@ -33,6 +33,8 @@ pub enum Side {
 pub enum Quality {
     /// An either-or property by its number.
     Is(u8, Side),
+    /// A value of a kind of value, by the numbers of the kind and of the value.
+    Valued(u8, u8),
     Visible,
     Touchable,
 }

@@ -7,7 +7,7 @@ use crate::tree::object::{Description, Referent};
 use crate::tree::said::Text;
 use world_meaning::{Rel, TextBytes};
 
-/// A phrase without phrases of its own. Properties, variables and rulebooks go by their numbers.
+/// A phrase without phrases of its own. Properties, variables, rulebooks and kinds of value go by their numbers.
 #[derive(Debug, Drop)]
 pub enum Simple {
     Say(Text),
@@ -19,6 +19,8 @@ pub enum Simple {
     Move(Referent, Referent),
     NowNumber(u8, Referent, Number),
     NowVariable(u8, Number),
+    /// The object gets a value of a kind of value: `now the KIND OF VALUE of OBJECT is VALUE`, `now OBJECT is VALUE`.
+    NowValued(Referent, u8, u8),
     /// Silently or not, with the noun and the second noun.
     Try(bool, ActNo, Referent, Referent),
     Follow(u16),

@@ -15,6 +15,8 @@ pub enum Piece {
     /// The names of the objects that a description means.
     Listing(Naming, Description),
     DescriptionOf(Referent),
+    /// The name of the object's value of a kind of value.
+    ValueName(u8, Referent),
 }
 
 /// A piece, or those of `[if CONDITION]..[otherwise]..[end if]`, which has none inside it.

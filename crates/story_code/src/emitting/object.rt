@@ -82,6 +82,7 @@ fn put_quality(
     code.extend_from_slice(object)?;
     match quality {
         Quality::Is(property, side) => put(code, Instruction::Flag(property, asked_of(side))),
+        Quality::Valued(kind, value) => put(code, Instruction::Valued(kind, value)),
         Quality::Visible => put(code, Instruction::Visible),
         Quality::Touchable => put(code, Instruction::Touchable),
     }

@@ -183,6 +183,9 @@ fn emit_simple(
         Simple::NowVariable(variable, number) => {
             emit_now_variable(alloc, out, loops, *variable, number)
         }
+        Simple::NowValued(object, kind, value) => {
+            emit_of(alloc, out, object, Instruction::SetValue(*kind, *value))
+        }
         Simple::Try(silent, action, noun, second) => {
             emit_two(
                 alloc,

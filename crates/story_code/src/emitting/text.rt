@@ -105,5 +105,8 @@ fn emit_piece(
             out.push_test(Tested::Names(*naming, loops), test)
         }
         Piece::DescriptionOf(object) => emit_of(alloc, out, object, Instruction::Description),
+        Piece::ValueName(kind, object) => {
+            emit_of(alloc, out, object, Instruction::ValueName(*kind))
+        }
     }
 }

@@ -3,6 +3,7 @@ ghost use Rattle.std.specs.Prelude.{◌≡◌, ◌+◌, ◌≤◌, map, true};
 ghost use Rattle.play_meaning.specs.Meant.{adjective_meant, description_meant, object_meant, quality_meant};
 ghost use Rattle.story_code.specs.Fits.{adjective_fits, adjectives_fit, description_fits, is_there_fits, object_fits, objects_fit, test_fits, those_fit};
 
+use crate::named::value_count;
 use play_meaning::Counts;
 use play_meaning::tree::{Adjective, Description, Quality, Referent};
 use world_meaning::KindNo;
@@ -48,6 +49,7 @@ fn quality_fits(counts: &Counts, loops: u8, object: &Referent, quality: Quality,
 {
     let is_there = match quality {
         Quality::Is(property, _) => (property as u16) < counts.flags,
+        Quality::Valued(kind, value) => value < value_count(counts, kind),
         Quality::Visible | Quality::Touchable => true,
     };
     is_there && object_fits(counts, loops, object, room)

@@ -9,6 +9,7 @@ use crate::fitting::condition::condition_fits;
 use crate::fitting::number::number_fits;
 use crate::fitting::object::{OPERANDS, object_fits, objects_fit, test_fits};
 use crate::fitting::text::text_fits;
+use crate::named::value_count;
 use object_words::Strings;
 use play_meaning::tree::{Branch, Phrase, Simple};
 use play_meaning::{Counts, Use};
@@ -98,6 +99,9 @@ fn simple_fits(counts: &Counts, strings: &Strings, loops: u8, simple: &Simple) -
         }
         Simple::NowVariable(variable, number) => {
             (*variable as u16) < counts.variables && number_fits(counts, loops, number, OPERANDS)
+        }
+        Simple::NowValued(object, kind, value) => {
+            *value < value_count(counts, *kind) && object_fits(counts, loops, object, OPERANDS)
         }
         Simple::Try(_, action, noun, second) => {
             (action.get() as u16) < counts.actions

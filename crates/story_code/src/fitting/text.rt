@@ -9,6 +9,7 @@ ghost use Rattle.story_code.specs.Fits.{piece_fits, said_fits, text_fits};
 use crate::fitting::condition::condition_fits;
 use crate::fitting::number::number_fits;
 use crate::fitting::object::{OPERANDS, object_fits, test_fits};
+use crate::named::value_count;
 use object_words::Strings;
 use play_meaning::tree::{Piece, Said, Text};
 use play_meaning::{Counts, Use};
@@ -70,6 +71,9 @@ fn piece_fits(counts: &Counts, whose: Use, strings: &Strings, loops: u8, piece: 
         Piece::Listing(_, description) => test_fits(counts, loops, description),
         Piece::DescriptionOf(object) => {
             is_body(whose) && object_fits(counts, loops, object, OPERANDS)
+        }
+        Piece::ValueName(kind, object) => {
+            value_count(counts, *kind) > 0 && object_fits(counts, loops, object, OPERANDS)
         }
     }
 }
